@@ -3,7 +3,7 @@ a formatter writes another text than the definition of unit_text.py."""
 import collections
 import random
 
-from comparison import number, say_unknown, text
+from comparison import answers, number, say_unknown, text
 from look_up import LETTERS, PLACEHOLDER, locale_of
 from unit_text import (
     FORM, Format, Symbols, affixes_of, answer, chosen_pattern, number_of, plain_tables, rounded, text_of, with_sign,
@@ -39,6 +39,17 @@ def unit_lines(tags, count, seed):
 def answers_here(book, lines):
     """The answers of the definition to these lines."""
     return [answer(book, line) for line in lines]
+
+
+def say_otherwise(program, defined, shown):
+    """Asks the program for lines, each given with the answer of the definition, prints how many it answers otherwise, and the first of
+    them; answers whether there is none."""
+    found = answers(program, [line for line, _ in defined])
+    other = [(line, a, b) for (line, b), a in zip(defined, found) if a != b]
+    print(f"{len(defined)} lines are asked of the program; {len(other)} are answered otherwise than by the definition")
+    for line, a, b in other[:shown]:
+        print(f"line {line!r}\n  program    {a!r}\n  definition {b!r}")
+    return not other
 
 
 def spaced(pattern):

@@ -652,7 +652,7 @@ static void texts(void) {
     expect("minor version", legumeyet_minor(), LEGUMEYET_MINOR);
     expect_text("a text", legumeyet_error_text(LEGUMEYET_TAG, out, ROOM, &length), "no locale tag");
     for (error = -1; error < 200; error++) {
-        int is_known = (error >= LEGUMEYET_MEMORY && error <= LEGUMEYET_EXPONENT) || (error >= LEGUMEYET_BOOK_JSON && error <= LEGUMEYET_BOOK_CYCLE);
+        int is_known = (error >= LEGUMEYET_MEMORY && error <= LEGUMEYET_UNKEPT) || (error >= LEGUMEYET_BOOK_JSON && error <= LEGUMEYET_BOOK_CODE && error != 112);
         expect("a number's text", legumeyet_error_text(error, out, ROOM, &length), is_known ? LEGUMEYET_OK : LEGUMEYET_OPTION);
     }
     expect("no room", legumeyet_error_text(LEGUMEYET_TAG, out, 0, &length), LEGUMEYET_TOO_SMALL);

@@ -2,7 +2,8 @@
  * Legumeyet: numbers written as their readers write them, from C.
  *
  * A book has the tables that numbers are written with; that of the world's locales is in the library. From a book formatters are
- * opened, one for each locale tag, of plain numbers or of compact ones. A formatter writes numbers into bytes of the caller's:
+ * opened, one for each locale tag, of plain numbers, of compact ones, of percents or of amounts of money. A formatter writes numbers
+ * into bytes of the caller's:
  *
  *     legumeyet_book world = {0};
  *     legumeyet_decimal_formatter german = {0};
@@ -62,7 +63,7 @@ extern "C" {
 #define LEGUMEYET_VERSION 1
 
 /* The minor version, which rises when a function or a number is added. */
-#define LEGUMEYET_MINOR 1
+#define LEGUMEYET_MINOR 2
 
 /* The two arguments that a text with a NUL at its end is given by. */
 #define LEGUMEYET_TEXT(text) (const uint8_t *)(text), strlen(text)
@@ -84,9 +85,11 @@ enum {
     LEGUMEYET_UNREADABLE = 11,  /* under the formatter's symbols two numbers may have one text */
     LEGUMEYET_NOT_WRITTEN = 12, /* the formatter writes no number so, as `98,7654` in English */
     LEGUMEYET_EXPONENT = 13,    /* numbers of the magnitude of an exact form have another exponent, as 3 that of `1.2c5` in English */
+    LEGUMEYET_CODE = 14,        /* the text is no code of a currency, which is three letters `A` to `Z`, as `eur` */
+    LEGUMEYET_UNKEPT = 15,      /* the book is not kept, as by legumeyet_book_keep */
     /* Why a text is no book: the first faulty entry decides, and of an entry the least number. */
     LEGUMEYET_BOOK_JSON = 101,      /* the bytes are no JSON, as `[1` */
-    LEGUMEYET_BOOK_SHAPE = 102,     /* the value is not five arrays or six, as `[]`, or an entry has not its form */
+    LEGUMEYET_BOOK_SHAPE = 102,     /* the value is no book of arrays, nor a pair of one and of units, as `[]`, or an entry has not its form */
     LEGUMEYET_BOOK_TAG = 103,       /* a locale, or the parent of one, is refused, as `e` */
     LEGUMEYET_BOOK_SYSTEM = 104,    /* a name of a numbering system is not 3 to 8 lower-case letters and digits */
     LEGUMEYET_BOOK_TEXT = 105,      /* a tab or a line feed is in the text of a symbol or a pattern */
@@ -95,7 +98,9 @@ enum {
     LEGUMEYET_BOOK_TYPES = 108,     /* the types of patterns do not rise */
     LEGUMEYET_BOOK_EXPONENTS = 109, /* an exponent of patterns falls, is above its type, or is more than 15 below it */
     LEGUMEYET_BOOK_DUPLICATE = 110, /* an earlier entry of the array has the same key */
-    LEGUMEYET_BOOK_CYCLE = 111      /* the parents of a locale lead back to it */
+    LEGUMEYET_BOOK_CYCLE = 111,     /* the parents of a locale lead back to it */
+    LEGUMEYET_BOOK_UNIT = 113,      /* the place of the unit is not once in a pattern */
+    LEGUMEYET_BOOK_CODE = 114       /* the code of a currency is not three letters `A` to `Z` */
 };
 
 /* When grouping separators are written. */
@@ -112,6 +117,18 @@ enum {
     LEGUMEYET_WIDTH_LONG = 1   /* `1.6 thousand` */
 };
 
+/* For whom an amount is written. */
+enum {
+    LEGUMEYET_STYLE_STANDARD = 0,  /* in general: `-$5.00` in English */
+    LEGUMEYET_STYLE_ACCOUNTING = 1 /* in accounting: `($5.00)` */
+};
+
+/* How a currency is written. */
+enum {
+    LEGUMEYET_CURRENCY_SYMBOL = 0, /* by its symbol, or by its code where it has none: `$5.00` in English */
+    LEGUMEYET_CURRENCY_CODE = 1    /* by its code: `USD 5.00` */
+};
+
 /* Which sign is written; chosen by what the rounding left. */
 enum {
     LEGUMEYET_SIGN_KEEP = 0,        /* the one of the number as it was given: `+5` stays `+5` */
@@ -124,7 +141,7 @@ enum {
 
 /* Which multiple of the increment, at the position, a number is rounded to. */
 enum {
-    LEGUMEYET_ROUND_KEEP = 0,        /* it is not rounded */
+    LEGUMEYET_ROUND_KEEP = 0,        /* it is not rounded; an amount is rounded to the digits of its currency, a tie to the even one */
     LEGUMEYET_ROUND_EXPAND = 1,      /* away from zero */
     LEGUMEYET_ROUND_TRUNC = 2,       /* towards zero */
     LEGUMEYET_ROUND_CEIL = 3,        /* upwards */
@@ -133,7 +150,9 @@ enum {
     LEGUMEYET_ROUND_HALF_TRUNC = 6,  /* to the nearest, a tie towards zero */
     LEGUMEYET_ROUND_HALF_CEIL = 7,   /* to the nearest, a tie upwards */
     LEGUMEYET_ROUND_HALF_FLOOR = 8,  /* to the nearest, a tie downwards */
-    LEGUMEYET_ROUND_HALF_EVEN = 9    /* to the nearest, a tie to the even one */
+    LEGUMEYET_ROUND_HALF_EVEN = 9,   /* to the nearest, a tie to the even one */
+    LEGUMEYET_ROUND_CASH = 10,       /* only of amounts: to the digits of the currency in cash, a tie to the even one */
+    LEGUMEYET_ROUND_NONE = 11        /* only of amounts: it is not rounded */
 };
 
 /* What becomes of the zeros at the end of the fraction digits. */
@@ -149,7 +168,9 @@ enum {
     LEGUMEYET_PART_INTEGER = 3,  /* the integer digits with their separators */
     LEGUMEYET_PART_GROUP = 4,    /* a grouping separator, inside an INTEGER */
     LEGUMEYET_PART_DECIMAL = 5,  /* the decimal separator */
-    LEGUMEYET_PART_FRACTION = 6  /* the fraction digits */
+    LEGUMEYET_PART_FRACTION = 6, /* the fraction digits */
+    LEGUMEYET_PART_CURRENCY = 7, /* the currency */
+    LEGUMEYET_PART_PERCENT_SIGN = 8
 };
 
 /* A book of tables; see above, "A handle". */
@@ -170,9 +191,16 @@ typedef struct {
     bool is_open;
 } legumeyet_compact_formatter;
 
+/* A formatter of percents, or of amounts in one currency: `12.5%`, `-€1,234.50`. */
+typedef struct {
+    void *content;
+    bool is_open;
+} legumeyet_unit_formatter;
+
 /*
  * What is made of a number before it is written: it is rounded, then trimmed, then padded, and then its sign is chosen. Zeroed, the
- * number stays as it is. Of LEGUMEYET_ROUND_KEEP the position and the increment count for nothing.
+ * number stays as it is, and an amount has the digits of its currency. Of LEGUMEYET_ROUND_KEEP, LEGUMEYET_ROUND_CASH and
+ * LEGUMEYET_ROUND_NONE the position and the increment count for nothing.
  *
  * At most two fraction digits, and none that is not needed: the rounding LEGUMEYET_ROUND_HALF_EVEN, the position -2 and
  * LEGUMEYET_TRAILING_ZEROS_TRIM write 1.995 as `2`, 1.5 as `1.5` and 1.255 as `1.26`. With `minimum_fraction_digits` 1 too 1.995 is `2.0`.
@@ -222,7 +250,7 @@ const char *legumeyet_world_locale(size_t at);
  * Opens the book that a file is; legumeyet_book_open says what the file has. `path` ends with a NUL. What `book` had open is closed, where
  * the call returns 0.
  *
- * Returns 0; LEGUMEYET_FILE, and then errno says why the file cannot be read; LEGUMEYET_BOOK_JSON to LEGUMEYET_BOOK_CYCLE;
+ * Returns 0; LEGUMEYET_FILE, and then errno says why the file cannot be read; LEGUMEYET_BOOK_JSON to LEGUMEYET_BOOK_CODE;
  * LEGUMEYET_MEMORY.
  */
 int32_t legumeyet_book_open_file(const char *path, legumeyet_book *book);
@@ -233,7 +261,7 @@ int32_t legumeyet_book_open_file(const char *path, legumeyet_book *book);
  *
  * What `book` had open is closed, where the call returns 0. `[[],[],[],[],[]]` is the shortest book.
  *
- * Returns 0; LEGUMEYET_BOOK_JSON to LEGUMEYET_BOOK_CYCLE; LEGUMEYET_MEMORY.
+ * Returns 0; LEGUMEYET_BOOK_JSON to LEGUMEYET_BOOK_CODE; LEGUMEYET_MEMORY.
  */
 int32_t legumeyet_book_open(const uint8_t *json, size_t json_length, legumeyet_book *book);
 
@@ -254,6 +282,21 @@ int32_t legumeyet_book_close(legumeyet_book *book);
  * Returns 0; LEGUMEYET_CLOSED; LEGUMEYET_MEMORY.
  */
 int32_t legumeyet_book_keep(legumeyet_book *book);
+
+/*
+ * Counts the locales that a book has symbols of: how many legumeyet_book_locale has the tags of.
+ *
+ * Returns 0; LEGUMEYET_CLOSED.
+ */
+int32_t legumeyet_book_locale_count(legumeyet_book *book, size_t *count);
+
+/*
+ * Writes the tag of a locale of a book, as `de-AT`. They have the order of the book, and each is there once. Formatters can be opened of
+ * other tags too, as legumeyet_world_locale says.
+ *
+ * Returns 0; LEGUMEYET_CLOSED; LEGUMEYET_OPTION, where `index` is not below the count; LEGUMEYET_TOO_SMALL.
+ */
+int32_t legumeyet_book_locale(legumeyet_book *book, size_t index, uint8_t *out, size_t room, size_t *length);
 
 /*
  * Answers a request line, without its line feed: `en`, `plain`, `auto`, `keep`, `-`, `-987654.321` with tabs between by `ok`, a tab and
@@ -438,6 +481,92 @@ int32_t legumeyet_compact_formatter_shown(legumeyet_compact_formatter *formatter
  */
 int32_t legumeyet_compact_formatter_format_exact(legumeyet_compact_formatter *formatter, const uint8_t *number, size_t number_length,
                                                  const legumeyet_options *options, uint8_t *out, size_t room, size_t *length);
+
+/*
+ * Opens the formatter of percents for a locale tag: that of `en` writes 12.5 as `12.5%`, that of `tr` as `%12,5`.
+ *
+ * The book is kept, as by legumeyet_book_keep: the formatter borrows its tables, and has no copy of its own. What `formatter` had open is
+ * closed, where the call returns 0.
+ *
+ * Returns 0; LEGUMEYET_CLOSED, of the book; LEGUMEYET_UNKEPT; LEGUMEYET_OPTION, of the grouping; LEGUMEYET_TAG; LEGUMEYET_TABLE, where the
+ * book has no symbols, no digits or no percents for the tag; LEGUMEYET_MEMORY, also in place of the last two.
+ */
+int32_t legumeyet_percent_formatter_open(legumeyet_book *book, const uint8_t *tag, size_t tag_length, uint32_t grouping,
+                                         legumeyet_unit_formatter *formatter);
+
+/*
+ * Opens the formatter of amounts in one currency for a locale tag: that of `de-CH` and `CHF` writes -5 as `CHF-5.00`.
+ *
+ * `code` is three letters `A` to `Z`. A currency that the book does not know is written by its code, and has two digits. `style` is a
+ * LEGUMEYET_STYLE, and `width` a LEGUMEYET_CURRENCY. The book is kept, as legumeyet_percent_formatter_open says. What `formatter` had
+ * open is closed, where the call returns 0.
+ *
+ * Returns 0; LEGUMEYET_CLOSED, of the book; LEGUMEYET_UNKEPT; LEGUMEYET_OPTION, of the style, the width or the grouping; LEGUMEYET_CODE;
+ * LEGUMEYET_TAG; LEGUMEYET_TABLE, where the book has no symbols, no digits or no currencies for the tag; LEGUMEYET_MEMORY, also in place
+ * of the last two.
+ */
+int32_t legumeyet_currency_formatter_open(legumeyet_book *book, const uint8_t *tag, size_t tag_length, const uint8_t *code,
+                                          size_t code_length, uint32_t style, uint32_t width, uint32_t grouping,
+                                          legumeyet_unit_formatter *formatter);
+
+/* Closes a formatter of percents or of amounts. Returns 0; LEGUMEYET_CLOSED, where it was closed already. */
+int32_t legumeyet_unit_formatter_close(legumeyet_unit_formatter *formatter);
+
+/*
+ * Writes a decimal number that is given as text: in English 12.5 as `12.5%`, and -1234.5 with euros as `-€1,234.50`.
+ *
+ * Percents are written as they are given, with their digits: a ratio is multiplied by 100 first. An amount is rounded to the digits of
+ * its currency, and shown down to them: 1.005 dollars are `$1.00`, 5 are `$5.00`, 2.5 yen are `¥2`. With LEGUMEYET_ROUND_CASH 2.345
+ * francs are `CHF 2.35`, with LEGUMEYET_ROUND_NONE 5 dollars `$5`, and with another rounding an amount is rounded at the position as any
+ * number is. What comes after the rounding is that of any number: LEGUMEYET_TRAILING_ZEROS_TRIM writes 5 dollars as `$5`.
+ *
+ * Returns 0; LEGUMEYET_CLOSED; LEGUMEYET_OPTION, of the options; LEGUMEYET_NUMBER; LEGUMEYET_LIMIT; LEGUMEYET_MEMORY, which a number of
+ * eight digits at most takes only where it is rounded to multiples of 25; LEGUMEYET_TOO_SMALL.
+ */
+int32_t legumeyet_unit_formatter_format(legumeyet_unit_formatter *formatter, const uint8_t *number, size_t number_length,
+                                        const legumeyet_options *options, uint8_t *out, size_t room, size_t *length);
+
+/*
+ * Writes the number `mantissa` times ten to the power `exponent`: -12345 and -1 as `-€1,234.50` in English with euros.
+ *
+ * Returns as legumeyet_unit_formatter_format, but for LEGUMEYET_NUMBER.
+ */
+int32_t legumeyet_unit_formatter_format_i64(legumeyet_unit_formatter *formatter, int64_t mantissa, int16_t exponent,
+                                            const legumeyet_options *options, uint8_t *out, size_t room, size_t *length);
+
+/* Writes as legumeyet_unit_formatter_format_i64 does, of a number without a sign. */
+int32_t legumeyet_unit_formatter_format_u64(legumeyet_unit_formatter *formatter, uint64_t mantissa, int16_t exponent,
+                                            const legumeyet_options *options, uint8_t *out, size_t room, size_t *length);
+
+/*
+ * Writes a double, by the number that legumeyet_decimal_formatter_format_double writes it by: 2.675 dollars, whose exact value is a
+ * little less, are `$2.68`.
+ *
+ * Returns as legumeyet_unit_formatter_format, but for LEGUMEYET_LIMIT; LEGUMEYET_NUMBER of what is not finite.
+ */
+int32_t legumeyet_unit_formatter_format_double(legumeyet_unit_formatter *formatter, double number, const legumeyet_options *options,
+                                               uint8_t *out, size_t room, size_t *length);
+
+/*
+ * Writes as legumeyet_unit_formatter_format does, and lists the parts of the text in order of their beginning: of `-€1,234.50` the minus
+ * sign at 0 to 1, the currency at 1 to 4, the integer at 4 to 9, the group at 5 to 6, the decimal at 9 to 10 and the fraction at 10 to 12.
+ * `intervals`, `intervals_room` and `count` are those of legumeyet_decimal_formatter_format_parts.
+ *
+ * Returns as legumeyet_unit_formatter_format; LEGUMEYET_MEMORY of any number.
+ */
+int32_t legumeyet_unit_formatter_format_parts(legumeyet_unit_formatter *formatter, const uint8_t *number, size_t number_length,
+                                              const legumeyet_options *options, uint8_t *out, size_t room, size_t *length,
+                                              legumeyet_interval *intervals, size_t intervals_room, size_t *count);
+
+/*
+ * Reads a text back as the one number that the formatter writes so, and writes it as digits: in English with euros `-€1,234.50` as
+ * `-1234.50`. How many digits the currency has is not looked at: `€1.5` is 1.5.
+ *
+ * Returns 0; LEGUMEYET_CLOSED; LEGUMEYET_UTF8; LEGUMEYET_UNREADABLE; LEGUMEYET_NOT_WRITTEN, as of `$1.00`; LEGUMEYET_MEMORY of any text;
+ * LEGUMEYET_TOO_SMALL.
+ */
+int32_t legumeyet_unit_formatter_read(legumeyet_unit_formatter *formatter, const uint8_t *text, size_t text_length, uint8_t *out,
+                                      size_t room, size_t *length);
 
 /*
  * Writes what a number of these calls means, in English: of LEGUMEYET_TAG `no locale tag`.

@@ -1,22 +1,17 @@
 """The WebAssembly module of the library for C: its LLVM module, kept from its build, widened, compiled and linked by the kit's own tools."""
-import os
 import pathlib
 import re
-import runpy
 import shutil
-import subprocess
-import sys
 import tempfile
 
-from launching import building, sources
-from launching.common import RT, TOP, Fault, read_text, write_whole
+from launching import kit
+from launching.common import TOP, Fault, out_of
+from releasing import archive
 from releasing.common import said_by
 
 from .widening import widened
 
-BUILD_C = runpy.run_path(f"{TOP}/tools/build_c")
-CRATE, CPU, ARCHIVE = BUILD_C["CRATE"], BUILD_C["CPU"], BUILD_C["ARCHIVE"]
-KEPT = f"{TOP}/crates/{CRATE}/out/module.bc"
+KEPT = f"{out_of(archive.CRATE)}/module.bc"
 PARTS = pathlib.Path(TOP, "js/module")
 SOURCES = ("calls.c", "heap.c", "wide.c")
 # The crates that write and read numbers are compiled for speed, all others for size: there it costs no call more than a tenth.
@@ -37,9 +32,7 @@ exec '{toolchain}/bin/clang' "$@"
 
 def toolchain():
     """The kit's folder of tools."""
-    if shutil.which(RT) is None:
-        raise Fault(f"the command {RT} of the Rattle kit is not on the PATH")
-    return pathlib.Path(said_by(RT, "doc").splitlines()[-1]).parent / "toolchain"
+    return pathlib.Path(kit.folder(), "toolchain")
 
 
 def keeping(folder, kept):
@@ -58,24 +51,15 @@ def keeping(folder, kept):
 
 def kept_module():
     """The LLVM module of the proved crate, built where it is not of the sources as they are, with the static library that it becomes."""
-    key = f"{sources.key(CRATE, sources.checksums(CRATE))} {CPU}\n"
-    if os.path.isfile(KEPT) and read_text(f"{KEPT}.sources") == key:
+    if archive.is_made(KEPT):
         return KEPT
-    toolchain()
-    if not BUILD_C["are_of_gate"]():
-        building.build_libraries(CRATE)
     with tempfile.TemporaryDirectory(prefix="legumeyet-") as folder:
         folder = pathlib.Path(folder)
-        words, before = BUILD_C["command"](), sources.state(CRATE)
-        words[words.index("--toolchain") + 1] = str(keeping(folder / "toolchain", folder / "module.bc"))
-        ran = subprocess.run(words, cwd=f"{TOP}/crates/{CRATE}", stdin=subprocess.DEVNULL, stdout=sys.stderr, check=False)
-        if ran.returncode or sources.state(CRATE) != before:
-            raise Fault(f"{CRATE} was not built" if ran.returncode else "a source was touched while the build went on: call it again")
+        archive.build(keeping(folder / "toolchain", folder / "module.bc"))
         if not (folder / "module.bc").is_file():
             raise Fault("the kit gave its clang no module")
         shutil.move(folder / "module.bc", KEPT)
-    for made in (KEPT, ARCHIVE):
-        write_whole(f"{made}.sources", key)
+    archive.note_made(KEPT)
     return KEPT
 
 

@@ -1,11 +1,9 @@
 """The package for JavaScript: its files, the licences of what is inside, and the tar that `npm install` takes."""
 import json
-import runpy
 
-from releasing.common import TOP, committed, version
+from releasing.common import TOP, committed, version, write_tar
 from releasing.notices import licences
 
-WRITE_TAR = runpy.run_path(str(TOP / "tools/release"))["write_tar"]
 NAME = "legumeyet"
 LEFT_OUT = ("module/", "tests/", "example.js")
 LOCALES = TOP / "books/world-locales.txt"
@@ -31,4 +29,4 @@ def files_of(wasm):
 
 def write_package(path, files):
     """Writes the tar of the files, as npm has it."""
-    WRITE_TAR(path, "package", files)
+    write_tar(path, "package", files)

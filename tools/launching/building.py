@@ -16,7 +16,7 @@ import time
 from concurrent.futures import FIRST_COMPLETED, ThreadPoolExecutor, wait
 
 from . import sources
-from .common import MINUTES, OUT, PROGRAMS, RT, TOP, Fault, make_out, out_of, program_of, read_text, say
+from .common import COMMAND, MINUTES, OUT, PROGRAMS, RT, TOP, Fault, make_out, out_of, program_of, read_text, say
 from .guard import Guard
 from .trial import SHORT_CALLS
 
@@ -26,6 +26,8 @@ JOBS_OF_THE_FIRST = 4
 JOBS_OF_ANOTHER = 2
 # So many seconds of work count as what the shares say, before what was built does.
 TRUSTED = 600
+# Each 64-bit processor of the family runs what is compiled for this one. A program for newer ones alone has their level in it, to say so.
+EVERY_CPU, LEVEL = "x86-64", b"x86-64-v2"
 # The seconds that each took in a whole build on four processors, beside other work.
 SHARES = {
     "icu_locale_core_grammar": 26, "tinystr_words": 38, "writeable": 80, "icu_decimal_chains": 13,
@@ -38,7 +40,7 @@ SHARES = {
     "icu_decimal_plurals": 118, "icu_decimal_grouping": 44, "icu_decimal_plain": 283, "icu_decimal_patterns": 343,
     "icu_decimal_reading": 184, "icu_decimal_lenient": 150, "icu_decimal_formatter": 68,
     "icu_decimal_compact": 200, "icu_decimal": 81, "locale_numbers_tables": 220, "locale_numbers_book": 140,
-    "locale_numbers_requests": 90, "locale_numbers_answers": 150, "locale_numbers_world": 9, "locale_numbers": 240,
+    "locale_numbers_requests": 90, "locale_numbers_answers": 150, "locale_numbers_world": 30, "locale_numbers": 240,
     "locale_numbers_program": 180, "legumeyet_options": 71, "legumeyet": 300,
 }
 
@@ -156,11 +158,12 @@ def move(source, target):
 
 
 def words_of_rt(crate, jobs):
-    """The command that builds a crate. A program is run on a short call."""
+    """The command that builds a crate. A program is run on a short call; the command for people, which is packaged, is compiled for
+    every processor."""
     if crate not in PROGRAMS:
         return [RT, "lib", "--jobs", str(jobs)]
-    words = SHORT_CALLS[crate]
-    return [RT, "run", "--jobs", str(jobs), *(["--", *words] if words else [])]
+    words, everywhere = SHORT_CALLS[crate], ["--cpu", EVERY_CPU] if crate == COMMAND else []
+    return [RT, "run", "--jobs", str(jobs), *everywhere, *(["--", *words] if words else [])]
 
 
 def build(crate, jobs, sums, guard):
@@ -292,14 +295,15 @@ def build_all(crates, sums, guard, done):
         raise Fault(faults[0])
 
 
-def build_crates(tops, programs):
-    """Builds the libraries below these crates that are not built of the sources as they are, and the programs, and records of
-    which sources each program is."""
+def build_crates(tops, programs, libraries=()):
+    """Builds the libraries below these crates, and those of them that are named, where they are not built of the sources as they are,
+    and the programs, and records of which sources each program is."""
     sources.look_anew()
     before, sums = sources.state(*tops), sources.checksums(*tops)
     make_out()
     shutil.rmtree(ROOMS, ignore_errors=True)
-    wanted, done = [it for it in sources.whole(*tops) if it not in tops and not is_built(it, sums)], set()
+    used = {name for it in tops for name in sources.below(it)}
+    wanted, done = [it for it in sources.whole(*tops) if (it in used or it in libraries) and not is_built(it, sums)], set()
     try:
         with Guard(ROOMS) as guard:
             build_all([*wanted, *programs], sums, guard, done)
@@ -312,13 +316,19 @@ def build_crates(tops, programs):
         raise Fault("a source was touched while the build went on, so it is not known what was built: call --build again")
 
 
+def needs_level(program):
+    """Whether a program runs on newer processors alone, as the one that `rt ci` builds."""
+    with open(program, "rb") as file:
+        return LEVEL in file.read()
+
+
 def build_programs():
-    """Proves and builds the programs, where that is needed."""
+    """Proves and builds the programs, where that is needed: the command too where it does not run on every processor."""
     if shutil.which(RT) is None:
         raise Fault(f"the command {RT} of the Rattle kit is not on the PATH")
     with one_at_a_time():
         sources.look_anew()
-        programs = [name for name in PROGRAMS if sources.why_not_fresh(name)]
+        programs = [name for name in PROGRAMS if sources.why_not_fresh(name) or name == COMMAND and needs_level(program_of(name))]
         if not programs:
             say("both programs are proved and built, and no source has changed since")
             return
@@ -329,7 +339,7 @@ def build_programs():
         say(f"proved and built {' and '.join(program_of(it)[len(TOP) + 1:] for it in programs)}, in {(time.monotonic() - start) / 60:.0f} minutes")
 
 
-def build_libraries(crate):
-    """Proves and builds the libraries below a crate."""
+def build_libraries(*crates, with_them=False):
+    """Proves and builds the libraries below crates, and those of the crates that are libraries too where that is asked for."""
     with one_at_a_time():
-        build_crates([crate], [])
+        build_crates(crates, [], [it for it in crates if with_them and sources.is_library(it)])

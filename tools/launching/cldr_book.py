@@ -70,12 +70,20 @@ def kept_book(cache, text):
     return next(whole, None) if text else None
 
 
+def run_maker(folder, part, *more):
+    """Has books/make-cldr make the book of this data."""
+    words = [sys.executable, "-EsS", f"{TOP}/books/make-cldr", *more, "--from", folder, part]
+    return subprocess.run(words, stdin=subprocess.DEVNULL, stdout=subprocess.DEVNULL, stderr=subprocess.PIPE, errors="replace", check=False)
+
+
 def make(folder, cache, state, text):
-    """Makes the book of this data beside its place, names it and returns its path. Nothing is kept where it goes wrong."""
+    """Makes the book of this data beside its place, with units where the data has them, names it and returns its path. Nothing is kept
+    where it goes wrong."""
     part = f"{cache}/part-{os.getpid()}-book"
-    words = [sys.executable, "-EsS", f"{TOP}/books/make-cldr", "--from", folder, part]
     try:
-        ran = subprocess.run(words, stdin=subprocess.DEVNULL, stdout=subprocess.DEVNULL, stderr=subprocess.PIPE, errors="replace", check=False)
+        ran = run_maker(folder, part, "--units")
+        if ran.returncode:
+            ran = run_maker(folder, part)
         if ran.returncode:
             lines = ran.stderr.strip().splitlines() or [f"make-cldr ended with status {ran.returncode}"]
             raise Fault(f"no book was made of {folder}: {lines[-1].removeprefix('make-cldr: ')}")

@@ -27,6 +27,13 @@ def listed():
     return found
 
 
+def is_library(crate):
+    """Whether a crate is a library that other crates can use: no program, no library for C and no crate of tests."""
+    with open(f"{TOP}/crates.txt", encoding="utf-8", errors="surrogateescape") as lines:
+        is_for_c = any(it.partition("#")[0].partition(":")[0].split() == [crate, "staticlib"] for it in lines)
+    return os.path.isfile(f"{TOP}/crates/{crate}/src/lib.rt") and not is_for_c and not crate.endswith("_tests")
+
+
 def used_by(crate):
     """The names that a crate uses."""
     if crate not in listed():

@@ -1,4 +1,4 @@
-"""The version of what is released, the commit that it is made of, and commands that end in one line."""
+"""The version of what is released, the commit that it is made of, tars, and commands that end in one line."""
 import functools
 import gzip
 import io
@@ -6,6 +6,7 @@ import os
 import pathlib
 import re
 import subprocess
+import tarfile
 
 from launching.common import COMMAND, TOP, Fault
 
@@ -101,3 +102,18 @@ def compressed(data):
     with gzip.GzipFile(filename="", mode="wb", compresslevel=9, fileobj=raw, mtime=0) as file:
         file.write(data)
     return raw.getvalue()
+
+
+def write_tar(path, root, files):
+    """Writes a tar of files, each by its name with its bytes, or with the name that a link leads to, below a folder of it."""
+    raw, when = io.BytesIO(), int(commit("%ct"))
+    with tarfile.open(fileobj=raw, mode="w", format=tarfile.USTAR_FORMAT) as tar:
+        for name, data in sorted(files.items()):
+            it = tarfile.TarInfo(f"{root}/{name}")
+            it.mtime, it.mode = when, 0o644
+            if isinstance(data, str):
+                it.type, it.linkname, it.mode = tarfile.SYMTYPE, data, 0o777
+                data = b""
+            it.size = len(data)
+            tar.addfile(it, io.BytesIO(data))
+    path.write_bytes(compressed(raw.getvalue()))

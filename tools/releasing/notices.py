@@ -1,11 +1,9 @@
 """What of the kit is inside the library and the command, and the notices that go with their copies."""
 import functools
-import os
 import pathlib
 import re
-import subprocess
 
-from launching import sources
+from launching import kit, sources
 from launching.common import RT, Fault
 
 from .common import TOP
@@ -26,26 +24,19 @@ licences, it is here under the MIT licence. In a package the files that are name
 
 
 @functools.lru_cache
-def kit():
+def kit_folder():
     """The folder of the kit, or None where it is not installed."""
     try:
-        asked = subprocess.run([RT, "doc"], stdin=subprocess.DEVNULL, stdout=subprocess.PIPE, check=True)
-    except (OSError, subprocess.CalledProcessError):
+        return pathlib.Path(kit.folder())
+    except Fault:
         return None
-    return pathlib.Path(os.fsdecode(asked.stdout.strip())).parent
-
-
-def name_of_kit():
-    """The name of the kit that is installed, as `rattle-kit-13f`."""
-    said = subprocess.run([RT, "version"], stdin=subprocess.DEVNULL, stdout=subprocess.PIPE, check=True).stdout.decode()
-    return said.split()[0].rstrip(",:")
 
 
 def below(name):
     """The crates that one uses, of the repository or of the kit."""
     if name in sources.listed():
         return ["std", *sources.listed()[name]]
-    text = (kit() / f"rlibs/{name}.rlib/format").read_text(encoding="utf-8")
+    text = (kit_folder() / f"rlibs/{name}.rlib/format").read_text(encoding="utf-8")
     return re.findall(r"^dep (\S+)$", text, re.M)
 
 
@@ -62,7 +53,7 @@ def inside(top):
 
 def texts_of(name):
     """The licences of a crate of the kit, by their files: of a choice of two that of MIT."""
-    files = sorted((kit() / "rattle" / name).glob("LICENSE*"))
+    files = sorted((kit_folder() / "rattle" / name).glob("LICENSE*"))
     if any(it.name == "LICENSE-MIT" for it in files):
         files = [it for it in files if it.name != "LICENSE-APACHE"]
     return {it.name: it.read_bytes() for it in files}
@@ -70,7 +61,7 @@ def texts_of(name):
 
 def words_of(name):
     """What the README of a crate of the kit says of where it is from."""
-    path = kit() / "rattle" / name / "README.md"
+    path = kit_folder() / "rattle" / name / "README.md"
     text = " ".join(path.read_text(encoding="utf-8").split()) if path.is_file() else ""
     found = re.search(r"Rust crate `(\w+)` ([\d.]*\d)(?: \(([^),;`]*)[^)]*\))?", text)
     if found:
@@ -88,20 +79,20 @@ def made():
         where = " and ".join(it for it in INSIDE.values() if name in parts[it])
         named = ", ".join(f"`{name}/{file}`" for file in texts) or "the kit has none"
         rows.append(f"| `{name}` | {where} | {words_of(name)} | {named} |")
-    files[LIST] = PAGE.format(rows="\n".join(rows), kit=name_of_kit()).encode()
+    files[LIST] = PAGE.format(rows="\n".join(rows), kit=kit.name()).encode()
     return files
 
 
 def check():
     """Raises a Fault where the list is not as the kit has it. Without the kit that it is of nothing is looked at."""
     ours = (TOP / FOLDER / LIST).read_bytes()
-    if kit() is not None and f"here {name_of_kit()}, ".encode() in ours and ours != made()[LIST]:
+    if kit_folder() is not None and f"here {kit.name()}, ".encode() in ours and ours != made()[LIST]:
         raise Fault(f"{FOLDER}/{LIST} is not as the kit has it: tools/notices --write makes it")
 
 
 def write():
     """Writes the list anew. Raises a Fault without the kit."""
-    if kit() is None:
+    if kit_folder() is None:
         raise Fault(f"the command {RT} of the Rattle kit is not on the PATH")
     (TOP / FOLDER / LIST).write_bytes(made()[LIST])
 
@@ -117,7 +108,7 @@ def licences(library=None):
     beside a library."""
     files = {path.name: path.read_bytes() for path in (TOP / "LICENSE", TOP / "books/LICENSE-Unicode")}
     beside = pathlib.Path(library or TOP, FOLDER)
-    texts = made() if kit() is not None else below_folder(beside)
+    texts = made() if kit_folder() is not None else below_folder(beside)
     if len(texts) < 2:
         raise Fault(f"the command {RT} of the Rattle kit is not on the PATH: its crates' licences are missing")
     return {**files, **{f"{FOLDER}/{name}": text for name, text in texts.items()}}

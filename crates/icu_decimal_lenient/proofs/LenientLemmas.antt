@@ -1,5 +1,5 @@
 -- What is read exactly is read leniently, as the same decimal; what is read leniently is a text of the decimal, and what is not is one of none.
-use Rattle.std.proofs.Common.{◌≡◌, ◌⊎◌, inl, inr, ℕ, Bool, true, false, cond, List, refl, sym, ap, subst, ◌∙◌}
+use Rattle.std.proofs.Common.{◌≡◌, ◌⊎◌, inl, inr, ℕ, Bool, true, false, cond, List, refl, sym, ap, ◌∙◌}
 use Rattle.std.proofs.lemmas.Bool.{and_parts, false≢true}
 use Rattle.std.specs.Str.{IsUtf8, trim}
 use Rattle.fixed_decimal.specs.Number.{Number}

@@ -1,5 +1,5 @@
 -- What a call answers that reads a text in several ways.
-use Rattle.std.proofs.Common.{◌≡◌, ◌⊎◌, inl, inr, ℕ, Bool, true, false, cond, List, Result, Ok, Err, IfOk, IsErrOf, sym, ap, ◌∙◌}
+use Rattle.std.proofs.Common.{◌≡◌, ◌⊎◌, inl, inr, ℕ, Bool, true, false, cond, List, Option, None, Some, Result, Ok, Err, IfOk, IsErrOf, refl, sym, ap, ◌∙◌}
 use Rattle.std.proofs.lemmas.Bool.{and_parts, false≢true}
 use Rattle.std.specs.Str.{IsUtf8}
 use Rattle.fixed_decimal.specs.Number.{Number}
@@ -10,6 +10,7 @@ use Rattle.icu_decimal_plain.specs.PlainText.{Tables}
 use Rattle.icu_decimal_reading.specs.DecimalOfText.{IsAnswered, PlainReading, decimal, not_written, unreadable}
 use Rattle.icu_decimal_lenient.specs.LenientReading.{AreKept, HasNoTyped, IsTypedText, IsUnreadable, folded_reading, is_leniently_readable_by, lenient_reading, or_else, read_folded, with_folded}
 use Rattle.icu_decimal_lenient.specs.Folding.{folded_symbols, folded_text}
+use Rattle.icu_decimal_lenient.specs.KeptFolds.{folds_of}
 use Rattle.icu_decimal_reading.specs.Readable.{all_differ, is_readable_by}
 use Rattle.icu_decimal_reading.specs.ReadingLaws.{AreTables}
 use Rattle.icu_decimal_reading.specs.declared.error.ReadError.{ReadError}
@@ -42,6 +43,40 @@ kept_readable t folded kept =
 
 pub unreadable_reading : (t : Tables) (text : List ℕ) → is_leniently_readable_by t ≡ false → folded_reading t text ≡ unreadable
 unreadable_reading t text lacks = ap (λ b. cond b (read_folded (folded_symbols t) (folded_text t.digits text)) unreadable) lacks
+
+-- the digits of tables whose fold is kept
+pub kept_differ : (t : Tables) (folded : Symbols) → AreKept t folded → all_differ t.digits ≡ true
+kept_differ t folded kept = digits_differ t (sym kept.readable)
+
+-- what is kept where a test holds
+abbrev symbols_or : Symbols → Option Symbols → Symbols
+symbols_or other None = other
+symbols_or other (Some folded) = folded
+
+some_kept : (b : Bool) (folded fold : Symbols) → Some folded ≡ cond b (Some fold) None → (b ≡ true) × (folded ≡ fold)
+some_kept true folded fold e = (refl, ap (symbols_or folded) e)
+some_kept false folded fold e = absurd (none_some e)
+  where
+    none_some : Some folded ≡ None → ⊥
+    none_some e = cc
+
+pub folds_kept : (t : Tables) (folded : Symbols) → Some folded ≡ (folds_of t).symbols → AreKept t folded
+folds_kept t folded e =
+    let parts = some_kept (is_leniently_readable_by t) folded (folded_symbols t) e in
+    record { readable = parts.0; folds = parts.1 }
+
+none_kept : (b : Bool) (fold : Symbols) → None ≡ cond b (Some fold) None → b ≡ false
+none_kept true fold e = absurd (none_some e)
+  where
+    none_some : None ≡ Some fold → ⊥
+    none_some e = cc
+none_kept false fold e = refl
+
+pub no_folds_kept : (t : Tables) (text : List ℕ) → None ≡ (folds_of t).symbols → folded_reading t text ≡ unreadable
+no_folds_kept t text e = unreadable_reading t text (none_kept (is_leniently_readable_by t) (folded_symbols t) e)
+
+pub folds_readable : (t : Tables) (folded : Symbols) → Some folded ≡ (folds_of t).symbols → is_leniently_readable_by t ≡ true
+folds_readable t folded e = (folds_kept t folded e).readable
 
 -- symbols that are not readable
 pub lacks_reading : (t : Tables) (text : List ℕ) → false ≡ is_readable_by t → lenient_reading t text ≡ unreadable

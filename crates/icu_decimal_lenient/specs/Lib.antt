@@ -1,3 +1,4 @@
 pub mod Folding
+pub mod KeptFolds
 pub mod LenientLaws
 pub mod LenientReading

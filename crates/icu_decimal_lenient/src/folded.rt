@@ -16,7 +16,11 @@ use std::alloc::Global;
 
 // A folded text, read without groups, else with all of them.
 #[tactic(auto, using(crate::proofs::LenientStepLemmas::answered_first, crate::proofs::LenientStepLemmas::answered_second))]
-fn read_grouped(alloc: Global, folded: &DecimalSymbols, text: &str) -> Result<Decimal, ReadError>
+pub(crate) fn read_grouped(
+    alloc: Global,
+    folded: &DecimalSymbols,
+    text: &str,
+) -> Result<Decimal, ReadError>
     requires { is_readable_by (with_folded Never folded.now) ≡ true }
     ensures unreadable { ¬ (IsErrOf result ReadError.Unreadable) }
     ensures reading { IsAnswered result (read_either folded.now text.now) }

@@ -22,8 +22,8 @@ use std::marker::Model;
 /// A form field makes them once, and reads with them at each key.
 #[derive(Debug, Drop)]
 pub struct LenientTables<'b> {
-    tables: DecimalTables<'b>,
-    folded: DecimalSymbols,
+    pub(crate) tables: DecimalTables<'b>,
+    pub(crate) folded: DecimalSymbols,
 }
 
 impl<'b> Model for LenientTables<'b> {

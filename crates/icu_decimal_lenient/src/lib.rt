@@ -14,9 +14,12 @@
 mod filling;
 mod folded;
 mod folding;
+mod kept;
 pub mod laws;
 mod lenient;
 mod readable;
+mod steps;
 
+pub use kept::FoldedSymbols;
 pub use lenient::{LenientTables, read_lenient};
 pub use readable::is_leniently_readable;

@@ -22,6 +22,7 @@ pub mod parts;
 mod patterns;
 mod reader;
 mod sign_affixes;
+pub mod steps;
 mod tables;
 mod unit;
 

@@ -6,11 +6,13 @@ ghost use Rattle.icu_decimal_plain.specs.BorrowedTables.{borrowed_tables};
 ghost use Rattle.icu_decimal_reading.specs.DecimalOfText.{HasManyDigits};
 ghost use Rattle.icu_decimal_reading.specs.Readable.{is_readable_by};
 ghost use Rattle.icu_dimension_affixes.specs.HeldReaders.{pair_of, reader_of};
-ghost use Rattle.icu_dimension_affixes.specs.HeldUnits.{settings_of};
-ghost use Rattle.icu_dimension_affixes.specs.UnitReading.{AreReaderTexts, HasManyBetween, HasNoDecimal, HasNoNumberBetween, HasNoUnsigned, IsSignedText, IsUnitText, IsUnsignedText, HasManyIn, do_differ, is_clear, is_unit_readable_by, reader_texts};
+ghost use Rattle.icu_dimension_affixes.specs.HeldUnits.{name_of, settings_of};
+ghost use Rattle.icu_dimension_affixes.specs.UnitReading.{AreReaderTexts, HasManyBetween, HasNoDecimal, HasNoNumberBetween, HasNoUnsigned, IsSignedText, IsUnitText, IsUnsignedText, HasManyIn, do_differ, is_clear, is_unit_readable_by, pair_for, reader_texts};
 
+use crate::patterns::UnitPattern;
 use crate::sign_affixes::{SignAffixes, sign_affixes};
 use crate::tables::UnitTables;
+use crate::unit::Unit;
 use fixed_decimal::{Decimal, Sign};
 use icu_decimal_plain::DecimalTables;
 use icu_decimal_reading::ReadError;
@@ -18,13 +20,12 @@ use icu_decimal_reading::digits::has_none;
 use std::alloc::{AllocError, Global};
 use std::marker::Model;
 
-/// What numbers with a unit are read with: the tables, which it borrows, and the affixes of each sign, which it has put
-/// together once.
+/// What numbers with a unit are read with: the tables, and the affixes of each sign, which it has put together once.
 ///
-/// That of English and `€` reads `-€1,234.50` as -1234.50.
+/// That of English and `€` reads `-€1,234.50` as -1234.50. It borrows only what the tables of decimals borrow.
 #[derive(Debug, Drop)]
 pub struct UnitReader<'b> {
-    decimals: &'b DecimalTables<'b>,
+    decimals: DecimalTables<'b>,
     none: SignAffixes,
     minus: SignAffixes,
     plus: SignAffixes,
@@ -39,7 +40,7 @@ impl<'b> Model for UnitReader<'b> {
     ghost use Rattle.icu_dimension_affixes.specs.HeldReaders.{pair_of};
 
     ghost view = { λ r. record {
-      tables = borrowed_tables r.decimals.now;
+      tables = borrowed_tables r.decimals;
       pairs = record { none = pair_of r.none; minus = pair_of r.minus; plus = pair_of r.plus };
     } };
 }
@@ -186,8 +187,8 @@ fn are_texts(
     let _plus_after = plus.after.as_str();
 }
 
-// Whether no digit is in the affixes.
-fn are_clear(digits: &[char; 10], affixes: &SignAffixes) -> bool
+/// Whether no digit of a table is in the affixes: none of ASCII is in `-€` and the empty text. It does not allocate.
+pub fn are_clear(digits: &[char; 10], affixes: &SignAffixes) -> bool
     ensures { result ≡ is_clear digits.now (pair_of affixes.now) }
 {
     has_none(digits, affixes.before.as_str()) && has_none(digits, affixes.after.as_str())
@@ -200,8 +201,8 @@ fn is_same_text(one: &str, other: &str) -> bool
     one == other
 }
 
-// Whether the affixes differ.
-fn are_apart(one: &SignAffixes, other: &SignAffixes) -> bool
+/// Whether the affixes differ: `-€` and the empty text, and `€` and the empty text, do. It does not allocate.
+pub fn are_apart(one: &SignAffixes, other: &SignAffixes) -> bool
     ensures { result ≡ do_differ (pair_of one.now) (pair_of other.now) }
 {
     !(is_same_text(one.before.as_str(), other.before.as_str())
@@ -209,21 +210,38 @@ fn are_apart(one: &SignAffixes, other: &SignAffixes) -> bool
 }
 
 impl<'b> UnitReader<'b> {
+    /// The reader of what is written with these tables of decimals, this pattern and this unit: of English, `¤` before
+    /// the number and `€` it reads `-€1,234.50`. It borrows neither the pattern nor the unit.
+    ///
+    /// It allocates for each affix that is not empty. `AllocError`: out of memory.
+    pub fn of_parts<'l>(
+        alloc: Global,
+        decimals: &'l DecimalTables<'b>,
+        pattern: &'l UnitPattern,
+        unit: Unit<'l>,
+    ) -> Result<Self, AllocError>
+        ensures { IfOk result (λ reader. reader ≡ reader_texts
+            (record { tables = borrowed_tables decimals.now; pattern = pattern.now; unit = name_of unit.entry })) }
+    {
+        let tables = UnitTables::new(&*decimals, pattern, unit);
+        let none = sign_affixes(alloc, &tables, Sign::None)?;
+        let minus = sign_affixes(alloc, &tables, Sign::Negative)?;
+        let plus = sign_affixes(alloc, &tables, Sign::Positive)?;
+        Ok(UnitReader {
+            decimals: *decimals,
+            none,
+            minus,
+            plus,
+        })
+    }
+
     /// The reader of what these tables write: those of English and `€` read `-€1,234.50`.
     ///
     /// It allocates for each affix that is not empty. `AllocError`: out of memory.
     pub fn try_new(alloc: Global, tables: &UnitTables<'b>) -> Result<Self, AllocError>
         ensures { IfOk result (λ reader. reader ≡ reader_texts (settings_of tables.now)) }
     {
-        let none = sign_affixes(alloc, tables, Sign::None)?;
-        let minus = sign_affixes(alloc, tables, Sign::Negative)?;
-        let plus = sign_affixes(alloc, tables, Sign::Positive)?;
-        Ok(UnitReader {
-            decimals: tables.decimals,
-            none,
-            minus,
-            plus,
-        })
+        UnitReader::of_parts(alloc, tables.decimals, tables.pattern, tables.unit)
     }
 
     /// Whether texts can be read back: in English with `€` they can.
@@ -234,13 +252,25 @@ impl<'b> UnitReader<'b> {
         ensures value { result ≡ is_unit_readable_by self.now }
         ensures texts { AreReaderTexts self.now }
     {
-        are_texts(self.decimals, &self.none, &self.minus, &self.plus);
+        are_texts(&self.decimals, &self.none, &self.minus, &self.plus);
         let digits = self.decimals.digits();
-        icu_decimal_reading::is_readable(self.decimals)
+        icu_decimal_reading::is_readable(&self.decimals)
             && ((are_clear(digits, &self.none)
                 && (are_clear(digits, &self.minus) && are_clear(digits, &self.plus)))
                 && (are_apart(&self.none, &self.minus)
                     && (are_apart(&self.none, &self.plus) && are_apart(&self.minus, &self.plus))))
+    }
+
+    /// The affixes of a sign, with the unit in its place: of English and `€`, `-€` and the empty text of a minus sign. It
+    /// does not allocate.
+    pub fn affixes(&self, sign: Sign) -> &SignAffixes
+        ensures { pair_of result.now ≡ pair_for self.now.pairs sign }
+    {
+        match sign {
+            Sign::None => &self.none,
+            Sign::Negative => &self.minus,
+            Sign::Positive => &self.plus,
+        }
     }
 
     /// As `read`, of a reader that is known to be readable: of English and `€`, `-€1,234.50` is -1234.50.
@@ -257,7 +287,7 @@ impl<'b> UnitReader<'b> {
     {
         read_any(
             alloc,
-            self.decimals,
+            &self.decimals,
             &self.none,
             &self.minus,
             &self.plus,

@@ -15,11 +15,13 @@ use fixed_decimal::Sign;
 use icu_decimal_symbols::DecimalSymbols;
 use std::alloc::{AllocError, Global};
 
-// What is written before the number, and after it.
+/// What is written before a number and after it, with its unit: `-€` and the empty text.
 #[derive(Debug, Drop)]
-pub(crate) struct SignAffixes {
-    pub(crate) before: String,
-    pub(crate) after: String,
+pub struct SignAffixes {
+    /// What is written before it: `-€`.
+    pub before: String,
+    /// What is written after it: the empty text.
+    pub after: String,
 }
 
 // The prefix that a sign has in these symbols.

@@ -41,13 +41,28 @@ impl<'b> UnitTables<'b> {
         }
     }
 
+    /// The tables of the formatter of decimals. It does not allocate.
+    pub fn decimals(&self) -> &'b DecimalTables<'b>
+        ensures { borrowed_tables result.now ≡ (settings_of self.now).tables }
+    {
+        self.decimals
+    }
+
+    /// The unit: `€`, a currency. It does not allocate.
+    pub fn unit(&self) -> Unit<'b>
+        ensures { name_of result ≡ (settings_of self.now).unit }
+    {
+        self.unit
+    }
+
     /// The decimal with its unit as it is written: -1234.5 as `-€1,234.5` in English. It does not allocate.
     ///
-    /// The decimal is written as it is given, with its digits: 12.50 with a percent sign is `12.50%`.
+    /// The decimal is written as it is given, with its digits: 12.50 with a percent sign is `12.50%`. What is given borrows
+    /// what these tables borrow, and not the tables.
     ///
     /// Source: UTS 35, part 3 (numbers), number patterns.
-    pub fn format<'l>(&'l self, value: &'l Decimal) -> FormattedUnit<'l>
-        ensures { result ≡ unit_formatted (settings_of self.now) value.now }
+    pub fn format(self, value: &'b Decimal) -> FormattedUnit<'b>
+        ensures { result ≡ unit_formatted (settings_of self.entry) value.now }
     {
         let number = self.decimals.format_unsigned(&value.absolute);
         let symbols = self.decimals.symbols();

@@ -1,12 +1,33 @@
--- Rows of docs/units.md on the digits of currencies, so that a wrong definition does not pass.
-use Rattle.std.proofs.Common.{◌≡◌, ◌*◌, ◌^◌, refl, arith}
+-- Rows of docs/units.md on the codes and the digits of currencies, so that a wrong definition does not pass.
+use Rattle.std.proofs.Common.{◌≡◌, ◌*◌, ◌^◌, [], codes, false, true, refl, arith}
 use Rattle.fixed_decimal.specs.Rounding.{IsRounded}
 use Rattle.fixed_decimal.specs.declared.UnsignedRoundingMode.TheVariants.{HalfEven}
+use Rattle.icu_dimension_fractions.specs.CurrencyCodes.{is_currency_code}
 use Rattle.icu_dimension_fractions.specs.Fractions.{fraction_for, increment_of, last_place, step}
 use Rattle.icu_dimension_fractions.specs.declared.fraction.CurrencyUsage.TheVariants.{Standard, Cash}
 use Rattle.icu_dimension_fractions.specs.declared.fraction.Fraction.{Fraction}
 use Rattle.icu_dimension_fractions.specs.declared.fraction.FractionInfo.{FractionInfo}
 use Rattle.icu_dimension_fractions.specs.declared.increment.FractionIncrement.TheVariants.{MultiplesOf1, MultiplesOf5, MultiplesOf50}
+
+-- Three capitals, and nothing else.
+
+is_one : is_currency_code (codes "CHF") ≡ true
+is_one = refl
+
+is_small : is_currency_code (codes "chf") ≡ false
+is_small = refl
+
+is_long : is_currency_code (codes "EURO") ≡ false
+is_long = refl
+
+is_short : is_currency_code (codes "CH") ≡ false
+is_short = refl
+
+is_nothing : is_currency_code [] ≡ false
+is_nothing = refl
+
+has_a_digit : is_currency_code (codes "US1") ≡ false
+has_a_digit = refl
 
 -- Where the last digit is: two digits after the point, none, three.
 

@@ -1,4 +1,5 @@
-pub mod Fractions
+pub mod CurrencyCodes
 pub mod FractionLaws
 pub mod FractionRounding
+pub mod Fractions
 pub mod RoundedDigit

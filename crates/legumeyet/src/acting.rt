@@ -5,10 +5,12 @@ ghost use Rattle.std.specs.Prelude.{◌≤◌};
 use crate::book_text::{book_of, read_text};
 use crate::environment::tag_for;
 use crate::input::put_input;
-use crate::numbers::{Asked, put_number, put_texts};
-use crate::report::{tell_fields, tell_parts, tell_tag};
+use crate::numbers::{Asked, put_number, put_text, put_texts};
+use crate::report::{tell_code, tell_fields, tell_parts, tell_tag};
 use clap::ArgMatches;
-use legumeyet_options::{Fields, front_of, is_asked, whole_rounding};
+use icu_locale_core::DataLocale;
+use legumeyet_options::{Fields, UnitStyle, front_of, is_asked, unit_form, whole_rounding};
+use locale_numbers::prelude::CurrencyCode;
 use locale_numbers::{
     Answers, Book, ProgramFault, RunError, Tracked, WORLD_LOCALES, run, world_text,
 };
@@ -170,7 +172,10 @@ fn act_by_text(rt: &HostRuntime, text: &[u8], fronts: &Fronts<'_, '_>) -> Result
 // Does what is asked for by the book that the words name, or by that of all locales.
 fn act_asked(rt: &HostRuntime, fronts: &Fronts<'_, '_>) -> Result<u8, ProgramFault> {
     match fronts.matches.get_str("book") {
-        None => act_by_text(rt, world_text().as_bytes(), fronts),
+        None => match world_text(rt.alloc()) {
+            Ok(text) => act_by_text(rt, text.as_bytes(), fronts),
+            Err(_) => Err(ProgramFault::Run(RunError::Memory)),
+        },
         Some(path) => match read_text(rt, path) {
             Ok(text) => act_by_text(rt, &text, fronts),
             Err(fault) => Err(fault),
@@ -178,34 +183,98 @@ fn act_asked(rt: &HostRuntime, fronts: &Fronts<'_, '_>) -> Result<u8, ProgramFau
     }
 }
 
-// The front of each number's request line.
-fn front_by(alloc: Global, matches: &ArgMatches<'_>, tag: &str) -> Result<String, AllocError> {
-    let rounding = whole_rounding(alloc, word(matches, "round", "-"))?;
+// How percents or amounts are written, where they are asked for.
+fn style_of(matches: &ArgMatches<'_>) -> Option<UnitStyle> {
+    if matches.get_flag("percent") {
+        return Some(UnitStyle::Percent);
+    }
+    matches.get_str("currency")?;
+    if matches.get_flag("accounting") {
+        Some(UnitStyle::Accounting)
+    } else if matches.get_flag("code") {
+        Some(UnitStyle::Code)
+    } else {
+        Some(UnitStyle::Currency)
+    }
+}
+
+// A form: that of percents or amounts, after a word, or else another.
+fn form_by(
+    alloc: Global,
+    matches: &ArgMatches<'_>,
+    before: &str,
+    other: &str,
+) -> Result<String, AllocError> {
+    match style_of(matches) {
+        Some(style) => unit_form(alloc, before, style, word(matches, "currency", "")),
+        None => String::from_str(alloc, other),
+    }
+}
+
+// The rounding field of each number's request line.
+fn rounding_by(alloc: Global, matches: &ArgMatches<'_>) -> Result<String, AllocError> {
+    if matches.get_flag("cash") {
+        String::from_str(alloc, "cash")
+    } else {
+        whole_rounding(alloc, word(matches, "round", "-"))
+    }
+}
+
+// The front of each number's request line, by a form and a rounding.
+fn front_with(
+    alloc: Global,
+    matches: &ArgMatches<'_>,
+    tag: &str,
+    form: &str,
+    rounding: &str,
+) -> Result<String, AllocError> {
     let fields = Fields {
         tag,
-        form: word(matches, "form", "plain"),
+        form,
         grouping: word(matches, "grouping", "auto"),
         sign: word(matches, "sign", "keep"),
-        rounding: rounding.as_str(),
+        rounding,
     };
     front_of(alloc, &fields)
 }
 
+// The front of each number's request line.
+fn front_by(alloc: Global, matches: &ArgMatches<'_>, tag: &str) -> Result<String, AllocError> {
+    let form = form_by(alloc, matches, "", word(matches, "form", "plain"))?;
+    let rounding = rounding_by(alloc, matches)?;
+    front_with(alloc, matches, tag, form.as_str(), rounding.as_str())
+}
+
 // The front of each request line of a text that is read by a form.
-fn reading_by(
+fn reading_with(
     alloc: Global,
     matches: &ArgMatches<'_>,
     tag: &str,
-    form: &'static str,
+    form: &str,
 ) -> Result<String, AllocError> {
     let fields = Fields {
         tag,
         form,
         grouping: word(matches, "grouping", "auto"),
         sign: "keep",
-        rounding: "-",
+        rounding: if matches.get_flag("cash") {
+            "cash"
+        } else {
+            "-"
+        },
     };
     front_of(alloc, &fields)
+}
+
+// The front of each request line of a text that is read: a percent or an amount exactly, or else by a form.
+fn reading_by(
+    alloc: Global,
+    matches: &ArgMatches<'_>,
+    tag: &str,
+    other: &'static str,
+) -> Result<String, AllocError> {
+    let form = form_by(alloc, matches, "read-", other)?;
+    reading_with(alloc, matches, tag, form.as_str())
 }
 
 // The tag and the three fronts that the words say.
@@ -222,9 +291,20 @@ fn has_parts(form: &str) -> bool {
     form == "plain" || form == "short" || form == "long"
 }
 
+// Whether the code of a currency that the words name, if they do, is three capitals.
+fn has_code(matches: &ArgMatches<'_>) -> bool {
+    match matches.get_str("currency") {
+        Some(code) => CurrencyCode::try_from_str(code).is_ok(),
+        None => true,
+    }
+}
+
 // Does what the words ask for by a book, where their fronts are those of requests, and returns the status.
 fn act_checked(rt: &HostRuntime, fronts: &Fronts<'_, '_>) -> Result<u8, ProgramFault> {
     let form = word(fronts.matches, "form", "plain");
+    if !has_code(fronts.matches) {
+        return Ok(tell_code(rt, word(fronts.matches, "currency", "")));
+    }
     if !is_asked(fronts.exact.as_bytes()) {
         return Ok(tell_tag(rt));
     }
@@ -239,8 +319,47 @@ fn act_checked(rt: &HostRuntime, fronts: &Fronts<'_, '_>) -> Result<u8, ProgramF
     act_asked(rt, fronts)
 }
 
-// Lists the locales of the book of all locales.
-fn list_locales(rt: &HostRuntime) -> Result<u8, ProgramFault> {
+// Writes the tag of a locale in a line of its own.
+fn put_locale<W: Write>(
+    rt: &HostRuntime,
+    locale: &DataLocale,
+    out: &mut W,
+) -> Result<(), ProgramFault> {
+    match format!(in rt.alloc(); "{locale}") {
+        Ok(tag) => put_text(out, tag.as_bytes()),
+        Err(_) => Err(ProgramFault::Run(RunError::Memory)),
+    }
+}
+
+// Lists the locales that a book has symbols for, in its order.
+fn list_of_book(rt: &HostRuntime, book: &Book) -> Result<u8, ProgramFault> {
+    let mut out = rt.stdout();
+    for index in 0..book.locale_count() {
+        if let Some(locale) = book.locale(index) {
+            put_locale(rt, locale, &mut out)?;
+        }
+    }
+    Ok(0)
+}
+
+// Lists the locales of the book of a file.
+fn list_of_file(rt: &HostRuntime, path: &str) -> Result<u8, ProgramFault> {
+    let text = read_text(rt, path)?;
+    match book_of(rt.alloc(), &text) {
+        Ok(book) => {
+            let listed = list_of_book(rt, &book);
+            drop(book);
+            listed
+        }
+        Err(fault) => Err(fault),
+    }
+}
+
+// Lists the locales of the book that the words name, or of that of all locales.
+fn list_locales(rt: &HostRuntime, matches: &ArgMatches<'_>) -> Result<u8, ProgramFault> {
+    if let Some(path) = matches.get_str("book") {
+        return list_of_file(rt, path);
+    }
     match rt.stdout().write_all(WORLD_LOCALES.as_bytes()) {
         Ok(()) => Ok(0),
         Err(_) => Err(ProgramFault::Run(RunError::Write)),
@@ -250,7 +369,7 @@ fn list_locales(rt: &HostRuntime) -> Result<u8, ProgramFault> {
 /// Does what the words ask for, and returns the status.
 pub fn act(rt: &HostRuntime, matches: &ArgMatches<'_>) -> Result<u8, ProgramFault> {
     if matches.get_flag("locales") {
-        return list_locales(rt);
+        return list_locales(rt, matches);
     }
     let texts = match make_fronts(rt, matches) {
         Ok(texts) => texts,

@@ -40,8 +40,8 @@ fn answer_to(
     Ok(said)
 }
 
-// Writes a text and a line feed.
-fn put_text<W: Write>(out: &mut W, text: &[u8]) -> Result<(), ProgramFault>
+/// Writes a text and a line feed.
+pub fn put_text<W: Write>(out: &mut W, text: &[u8]) -> Result<(), ProgramFault>
     ensures output { OnOk result (Appends (W.contents out.old) (W.contents out.new) (text.now ++ line_feed ∷ [])) }
 {
     let Ok(()) = out.write_all(text) else {

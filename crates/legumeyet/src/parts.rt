@@ -3,15 +3,24 @@
 ghost use Rattle.std.specs.Prelude.{◌≡◌, false};
 
 use fixed_decimal::ParseError;
-use icu_decimal::options::{CompactDecimalFormatterOptions, DecimalFormatterOptions};
+use icu_decimal::options::{
+    CompactDecimalFormatterOptions, DecimalFormatterOptions, GroupingStrategy,
+};
 use icu_decimal::{CompactDecimalFormatter, DecimalFormatter, DecimalFormatterPreferences};
+use icu_dimension::{
+    CurrencyCode, CurrencyFormatter, CurrencyFormatterOptions, CurrencyStyle, CurrencyUsage,
+    CurrencyWidth, PercentFormatter, PercentFormatterOptions,
+};
 use locale_numbers::prelude::{Book, Decimal, PartsSink, Writeable};
 use locale_numbers::{ProgramFault, RunError};
-use locale_numbers_answers::{change, read_number};
+use locale_numbers_answers::{change, choose_sign, read_number};
 use locale_numbers_book::read_preferences;
-use locale_numbers_requests::{Form, PatternLength, Request, read_request};
-use std::alloc::AllocError;
+use locale_numbers_requests::{
+    AmountStyle, Form, PatternLength, Request, RoundingAsked, SignAsked, UnitAsked, read_request,
+};
+use std::alloc::{AllocError, Global};
 use std::io::Write;
+use std::mem;
 
 // Writes a piece of a line.
 fn put_piece<W: Write>(piece: &[u8], out: &mut W) -> Result<(), ProgramFault> {
@@ -38,20 +47,14 @@ fn put_held<W: Write>(sink: &PartsSink, out: &mut W) -> Result<(), ProgramFault>
     Ok(())
 }
 
-// The number that a request asks to write for a text: read, rounded and with its sign; `None` where the text says none.
-fn number_of(
-    rt: &HostRuntime,
-    request: &Request<'_>,
-    text: &[u8],
-) -> Result<Option<Decimal>, AllocError> {
+// The number of a text; `None` where it says none.
+fn number_of(rt: &HostRuntime, text: &[u8]) -> Result<Option<Decimal>, AllocError> {
     let mut number = Decimal::zero(rt.alloc());
     match read_number(&mut number, text) {
-        Ok(()) => {}
-        Err(ParseError::Memory) => return Err(AllocError),
-        Err(_) => return Ok(None),
+        Ok(()) => Ok(Some(number)),
+        Err(ParseError::Memory) => Err(AllocError),
+        Err(_) => Ok(None),
     }
-    change(&mut number, request.rounding, request.sign)?;
-    Ok(Some(number))
 }
 
 // Fills a sink with the text of a number by a plain formatter, where the book has one.
@@ -118,8 +121,8 @@ fn fill_by_length(
     }
 }
 
-// Fills a sink with the text of a number as a request asks for it.
-fn fill(
+// Fills a sink with the text of a percent, where the book has a formatter for it.
+fn fill_percent(
     book: &Book,
     preferences: DecimalFormatterPreferences,
     request: &Request<'_>,
@@ -128,11 +131,112 @@ fn fill(
 ) -> Result<(), AllocError>
     requires ready { sink.old.refused ≡ false }
 {
+    let options = PercentFormatterOptions {
+        grouping_strategy: Some(request.grouping),
+    };
+    let Ok(formatter) = PercentFormatter::try_new_unstable(book, preferences, options) else {
+        return Ok(());
+    };
+    match formatter.format(number).write_to(sink) {
+        Ok(()) => Ok(()),
+        Err(_) => Err(AllocError),
+    }
+}
+
+// How amounts in a style are written.
+fn amount_options(style: AmountStyle, grouping: GroupingStrategy) -> CurrencyFormatterOptions {
+    let (style, width) = match style {
+        AmountStyle::Standard => (CurrencyStyle::Standard, CurrencyWidth::Short),
+        AmountStyle::Accounting => (CurrencyStyle::Accounting, CurrencyWidth::Short),
+        AmountStyle::Code => (CurrencyStyle::Standard, CurrencyWidth::IsoCode),
+    };
+    CurrencyFormatterOptions {
+        style,
+        width,
+        grouping_strategy: Some(grouping),
+    }
+}
+
+// Rounds an amount as it is asked, to the digits of its currency where nothing else is.
+fn round_amount(
+    alloc: Global,
+    formatter: &CurrencyFormatter<'_>,
+    rounding: RoundingAsked,
+    amount: &mut Decimal,
+) -> Result<(), AllocError> {
+    let usage = match rounding {
+        RoundingAsked::Unrounded => CurrencyUsage::Standard,
+        RoundingAsked::Cash => CurrencyUsage::Cash,
+        RoundingAsked::At(_, _, _) => return change(amount, rounding, SignAsked::Keep),
+    };
+    let given = mem::replace(amount, Decimal::zero(alloc));
+    match formatter.rounded(given, usage) {
+        Ok(rounded) => {
+            drop(mem::replace(amount, rounded));
+            Ok(())
+        }
+        Err(refused) => {
+            drop(refused);
+            Err(AllocError)
+        }
+    }
+}
+
+// Fills a sink with the text of an amount of a currency, where the book has a formatter for it.
+fn fill_amount(
+    alloc: Global,
+    book: &Book,
+    preferences: DecimalFormatterPreferences,
+    options: CurrencyFormatterOptions,
+    code: CurrencyCode,
+    request: &Request<'_>,
+    amount: &mut Decimal,
+    sink: &mut PartsSink,
+) -> Result<(), AllocError>
+    requires ready { sink.old.refused ≡ false }
+{
+    let Ok(formatter) = CurrencyFormatter::try_new_unstable(book, preferences, code, options) else {
+        return Ok(());
+    };
+    round_amount(alloc, &formatter, request.rounding, amount)?;
+    choose_sign(amount, request.sign);
+    match formatter.format(amount).write_to(sink) {
+        Ok(()) => Ok(()),
+        Err(_) => Err(AllocError),
+    }
+}
+
+// Fills a sink with the text of a number as a request asks for it.
+fn fill(
+    alloc: Global,
+    book: &Book,
+    preferences: DecimalFormatterPreferences,
+    request: &Request<'_>,
+    number: &mut Decimal,
+    sink: &mut PartsSink,
+) -> Result<(), AllocError>
+    requires ready { sink.old.refused ≡ false }
+{
+    if let Form::Unit(UnitAsked::Currency(style, code)) = request.form {
+        let options = amount_options(style, request.grouping);
+        return fill_amount(
+            alloc,
+            book,
+            preferences,
+            options,
+            code,
+            request,
+            number,
+            sink,
+        );
+    }
+    change(number, request.rounding, request.sign)?;
     match request.form {
         Form::Plain => fill_plain(book, preferences, request, number, sink),
         Form::Compact(length) => {
             fill_by_length(book, preferences, length, request, number, sink)
         }
+        Form::Unit(UnitAsked::Percent) => fill_percent(book, preferences, request, number, sink),
         _ => Ok(()),
     }
 }
@@ -153,8 +257,8 @@ fn fill_text(
     let Some(preferences) = read_preferences(rt.alloc(), request.tag)? else {
         return Ok(());
     };
-    match number_of(rt, &request, text)? {
-        Some(number) => fill(book, preferences, &request, &number, sink),
+    match number_of(rt, text)? {
+        Some(mut number) => fill(rt.alloc(), book, preferences, &request, &mut number, sink),
         None => Ok(()),
     }
 }

@@ -63,6 +63,14 @@ pub fn tell_tag(rt: &HostRuntime) -> u8 {
     2
 }
 
+/// Tells that the code of a currency is none, and returns the status.
+pub fn tell_code(rt: &HostRuntime, code: &str) -> u8 {
+    let _ = eprintln!(rt;
+        "error: --currency {code}: the code of a currency is three capitals, as EUR"
+    );
+    2
+}
+
 /// Tells that a sign or a rounding is none, or that the form takes none, and returns the status.
 pub fn tell_fields(rt: &HostRuntime, form: &str, sign: &str, rounding: &str) -> u8 {
     let _ = eprintln!(rt;
@@ -73,6 +81,8 @@ pub fn tell_fields(rt: &HostRuntime, form: &str, sign: &str, rounding: &str) -> 
 
 /// Tells that a form has no parts, and returns the status.
 pub fn tell_parts(rt: &HostRuntime, form: &str) -> u8 {
-    let _ = eprintln!(rt; "error: --form {form} --parts: parts are for plain, short and long");
+    let _ = eprintln!(rt;
+        "error: --form {form} --parts: parts are for plain, short and long, --currency and --percent"
+    );
     2
 }

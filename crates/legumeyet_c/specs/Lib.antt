@@ -1,10 +1,15 @@
 pub mod Answering
 pub mod CompactWriting
 pub mod DecimalWriting
+pub mod HeldUnits
 pub mod Kinds
+pub mod Locales
 pub mod Opening
 pub mod Owned
 pub mod Places
 pub mod Reading
+pub mod UnitOpening
+pub mod UnitReading
+pub mod UnitWriting
 pub mod Views
 pub mod Writing

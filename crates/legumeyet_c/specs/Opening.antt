@@ -18,7 +18,7 @@ use Rattle.legumeyet_c_values.specs.Choices.{both_of}
 use Rattle.legumeyet_c_values.specs.declared.Width.{Width}
 use Rattle.legumeyet_c_values.specs.declared.Width.TheVariants.{Short, Long}
 use Rattle.legumeyet_c_values.specs.declared.CallError.{CallError}
-use Rattle.legumeyet_c_values.specs.declared.CallError.TheVariants.{Memory, Closed, UnknownOption, Tag, Table, Book}
+use Rattle.legumeyet_c_values.specs.declared.CallError.TheVariants.{Memory, Closed, UnknownOption, Tag, Table, Code, Book}
 use Rattle.legumeyet_c.specs.Kinds.{book_in, is_kept}
 use Rattle.legumeyet_c.specs.declared.content.Content.{Content}
 
@@ -50,6 +50,7 @@ abbrev pub IsTagFault : {T : Type 0} → Result T FormatterError → List ℕ �
 IsTagFault found tag Tag = ¬ (IsUtf8 tag) ⊎ (found ≡ Err formatter.Tag)
 IsTagFault found tag Table = found ≡ Err formatter.Table
 IsTagFault found tag Memory = Unit {0}
+IsTagFault found tag Code = found ≡ Err formatter.Code
 IsTagFault found tag _ = ⊥
 
 -- what an open book finds for a known choice and a tag

@@ -5,11 +5,13 @@ use Rattle.std.specs.Prelude.{Option}
 use Rattle.icu_decimal.specs.CompactTables.{CompactTables}
 use Rattle.icu_decimal.specs.PlainText.{Tables}
 use Rattle.locale_numbers.specs.Book.{BookTables}
-use Rattle.legumeyet_c.specs.Kinds.{book_in, compact_in, decimal_in}
+use Rattle.legumeyet_c.specs.HeldUnits.{HeldUnit}
+use Rattle.legumeyet_c.specs.Kinds.{book_in, compact_in, decimal_in, unit_in}
 use Rattle.legumeyet_c.specs.declared.content.Content.{Content}
 use Rattle.legumeyet_c.specs.declared.handles.BookHandle.{BookHandle}
 use Rattle.legumeyet_c.specs.declared.handles.CompactHandle.{CompactHandle}
 use Rattle.legumeyet_c.specs.declared.handles.DecimalHandle.{DecimalHandle}
+use Rattle.legumeyet_c.specs.declared.handles.UnitHandle.{UnitHandle}
 
 abbrev pub book_open : BookHandle → Option BookTables
 book_open handle = book_in handle.handle.pointer.value
@@ -19,6 +21,9 @@ decimal_open handle = decimal_in handle.handle.pointer.value
 
 abbrev pub compact_open : CompactHandle → Option CompactTables
 compact_open handle = compact_in handle.handle.pointer.value
+
+abbrev pub unit_open : UnitHandle → Option HeldUnit
+unit_open handle = unit_in handle.handle.pointer.value
 
 -- ---- of any kind
 
@@ -30,3 +35,6 @@ decimal_content handle = handle.handle.pointer.value
 
 abbrev pub compact_content : CompactHandle → Option Content
 compact_content handle = handle.handle.pointer.value
+
+abbrev pub unit_content : UnitHandle → Option Content
+unit_content handle = handle.handle.pointer.value

@@ -1,10 +1,11 @@
 //! What an open handle has.
 
-ghost use Rattle.std.specs.Prelude.{◌≡◌, IfSome, Some, None, false, option_map, refl};
-ghost use Rattle.legumeyet_c.specs.Kinds.{book_in, compact_in, decimal_in, is_kept};
+ghost use Rattle.std.specs.Prelude.{◌≡◌, IfSome, Some, None, false, is_some, option_map, refl};
+ghost use Rattle.legumeyet_c.specs.Kinds.{book_in, compact_in, decimal_in, is_kept, unit_in};
 
 use crate::compact_tables::HeldCompactTables;
 use crate::decimal_tables::DecimalTables;
+use crate::held_units::HeldUnits;
 use locale_numbers::Book;
 
 /// What an open handle has: a book, or the tables of a formatter.
@@ -18,6 +19,8 @@ pub enum Content {
     Decimal(DecimalTables),
     /// What compact numbers are written with.
     Compact(HeldCompactTables),
+    /// What percents or amounts are written with.
+    Unit(HeldUnits),
     /// Nothing yet: no handle has it open.
     Nothing,
 }
@@ -45,11 +48,16 @@ pub(crate) trait Held: Drop {
 
 // The book of a content, where it is kept.
 pub(crate) fn kept_in(content: &Content) -> Option<&'static Book>
-    ensures { IfSome result (λ kept. book_in (Some content.now) ≡ Some kept.now) }
+    ensures value { IfSome result (λ kept. book_in (Some content.now) ≡ Some kept.now) }
+    ensures whether { is_some result ≡ is_kept (Some content.now) }
 {
     match content {
         Content::Kept(book) => Some(*book),
-        Content::Book(_) | Content::Decimal(_) | Content::Compact(_) | Content::Nothing => None,
+        Content::Book(_)
+        | Content::Decimal(_)
+        | Content::Compact(_)
+        | Content::Unit(_)
+        | Content::Nothing => None,
     }
 }
 
@@ -60,7 +68,7 @@ impl Held for Book {
         match content {
             Content::Book(book) => Some(book),
             Content::Kept(book) => Some(*book),
-            Content::Decimal(_) | Content::Compact(_) | Content::Nothing => None,
+            Content::Decimal(_) | Content::Compact(_) | Content::Unit(_) | Content::Nothing => None,
         }
     }
 
@@ -77,7 +85,11 @@ impl Held for DecimalTables {
     fn held_by(content: &Content) -> Option<&DecimalTables> {
         match content {
             Content::Decimal(tables) => Some(tables),
-            Content::Book(_) | Content::Kept(_) | Content::Compact(_) | Content::Nothing => None,
+            Content::Book(_)
+            | Content::Kept(_)
+            | Content::Compact(_)
+            | Content::Unit(_)
+            | Content::Nothing => None,
         }
     }
 
@@ -94,12 +106,37 @@ impl Held for HeldCompactTables {
     fn held_by(content: &Content) -> Option<&HeldCompactTables> {
         match content {
             Content::Compact(tables) => Some(tables),
-            Content::Book(_) | Content::Kept(_) | Content::Decimal(_) | Content::Nothing => None,
+            Content::Book(_)
+            | Content::Kept(_)
+            | Content::Decimal(_)
+            | Content::Unit(_)
+            | Content::Nothing => None,
         }
     }
 
     fn into_content(self) -> Content {
         Content::Compact(self)
+    }
+
+    ghost closed = { refl };
+}
+
+impl Held for HeldUnits {
+    ghost held_in = { unit_in };
+
+    fn held_by(content: &Content) -> Option<&HeldUnits> {
+        match content {
+            Content::Unit(units) => Some(units),
+            Content::Book(_)
+            | Content::Kept(_)
+            | Content::Decimal(_)
+            | Content::Compact(_)
+            | Content::Nothing => None,
+        }
+    }
+
+    fn into_content(self) -> Content {
+        Content::Unit(self)
     }
 
     ghost closed = { refl };

@@ -23,3 +23,10 @@ pub struct CompactHandle {
     /// What is behind it.
     pub handle: Handle,
 }
+
+/// A formatter of percents or of amounts of money, or a closed handle: `legumeyet_unit_formatter`.
+#[repr(C)]
+pub struct UnitHandle {
+    /// What is behind it.
+    pub handle: Handle,
+}

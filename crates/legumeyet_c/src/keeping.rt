@@ -21,7 +21,7 @@ fn keep(alloc: Global, content: Box<Content>) -> (Box<Content>, Result<(), CallE
     match &*content {
         Content::Kept(_) => return (content, Ok(())),
         Content::Book(_) => (),
-        Content::Decimal(_) | Content::Compact(_) | Content::Nothing => {
+        Content::Decimal(_) | Content::Compact(_) | Content::Unit(_) | Content::Nothing => {
             return (content, Err(CallError::Closed));
         }
     }

@@ -73,6 +73,7 @@ fn find_for<T: Found>(
         Err(FormatterError::Tag) => Err(CallError::Tag),
         Err(FormatterError::Table) => Err(CallError::Table),
         Err(FormatterError::Memory) => Err(CallError::Memory),
+        Err(FormatterError::Code) => Err(CallError::Code),
     }
 }
 

@@ -96,9 +96,11 @@ fn read_content<R: Reader>(
 {
     match content {
         Content::Decimal(tables) => read_with::<R>(alloc, tables, text),
-        Content::Book(_) | Content::Kept(_) | Content::Compact(_) | Content::Nothing => {
-            Err(CallError::Closed)
-        }
+        Content::Book(_)
+        | Content::Kept(_)
+        | Content::Compact(_)
+        | Content::Unit(_)
+        | Content::Nothing => Err(CallError::Closed),
     }
 }
 

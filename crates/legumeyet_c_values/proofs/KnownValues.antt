@@ -1,14 +1,17 @@
 -- Values from outside that a wrong definition of numbers does not survive: the enums of include/legumeyet.h.
 use Rattle.std.proofs.Common.{arith, ◌≡◌, ◌*◌, ◌^◌, [], ◌∷◌, Some, None, Ok, Err, refl}
-use Rattle.std.specs.Prelude.{pos, negsuc}
+use Rattle.std.specs.Prelude.{codes, pos, negsuc}
 use Rattle.fixed_decimal.specs.declared.RoundingIncrement.TheVariants.{MultiplesOf1, MultiplesOf25}
 use Rattle.fixed_decimal.specs.declared.SignDisplay.TheVariants as display
 use Rattle.fixed_decimal.specs.declared.SignedRoundingMode.TheVariants.{Unsigned, HalfFloor}
 use Rattle.fixed_decimal.specs.declared.UnsignedRoundingMode.TheVariants.{Expand, HalfEven}
 use Rattle.icu_decimal_symbols.specs.declared.options.GroupingStrategy.TheVariants as grouping
+use Rattle.icu_dimension_fractions.specs.declared.CurrencyUsage.TheVariants.{Cash, Standard}
 use Rattle.locale_numbers_tables.specs.declared.BookError.TheVariants as book
 use Rattle.legumeyet_c_values.specs.CallErrors.{answer_of}
-use Rattle.legumeyet_c_values.specs.Choices.{PadsEndTo, PadsStartTo, choice_of, choices_of, count_of, grouping_of, increment_of, mode_of, sign_of, trimming_of}
+use Rattle.legumeyet_c_values.specs.Choices.{PadsEndTo, PadsStartTo, choice_of, choices_of, count_of, grouping_of, increment_of, mode_of, no_change, sign_of, trimming_of}
+use Rattle.legumeyet_c_values.specs.Parts.{kind_of}
+use Rattle.legumeyet_c_values.specs.Units.{amount_choices_of, unit_choices_of}
 use Rattle.legumeyet_c_values.specs.declared.call_error.CallError.TheVariants as call
 use Rattle.legumeyet_c_values.specs.declared.choices.Options.{Options}
 use Rattle.legumeyet_c_values.specs.declared.choices.TrailingZeros.TheVariants.{Keep, Trim}
@@ -25,6 +28,15 @@ returns_too_small = refl
 returns_exponent : answer_of (Err call.Exponent) ≡ pos 13
 returns_exponent = refl
 
+returns_code : answer_of (Err call.Code) ≡ pos 14
+returns_code = refl
+
+returns_unkept : answer_of (Err call.Unkept) ≡ pos 15
+returns_unkept = refl
+
+returns_unit : answer_of (Err (call.Book book.Unit)) ≡ pos 113
+returns_unit = refl
+
 returns_json : answer_of (Err (call.Book book.Json)) ≡ pos 101
 returns_json = refl
 
@@ -34,6 +46,14 @@ returns_cycle = refl
 -- out of memory has one number, whatever it was wanted for
 returns_memory : answer_of (Err (call.Book book.Memory)) ≡ answer_of (Err call.Memory)
 returns_memory = refl
+
+-- ---- parts
+
+part_of_currency : kind_of (codes "currency") ≡ 7
+part_of_currency = refl
+
+part_of_percent : kind_of (codes "percentSign") ≡ 8
+part_of_percent = refl
 
 -- ---- options
 
@@ -122,6 +142,28 @@ counted = refl
 
 reserved_is_refused : choices_of (record zeroed { reserved = 0 ∷ 1 ∷ [] }) ≡ None
 reserved_is_refused = refl
+
+-- an amount has the digits of its currency, unless another rounding is asked for
+zeroed_fits : amount_choices_of zeroed ≡ Some (record { usage = Some Standard; choices = no_change (pos 0) })
+zeroed_fits = refl
+
+cash_fits : amount_choices_of (record zeroed { rounding = 10 }) ≡ Some (record { usage = Some Cash; choices = no_change (pos 0) })
+cash_fits = refl
+
+as_given_stays : amount_choices_of (record zeroed { rounding = 11 }) ≡ Some (record { usage = None; choices = no_change (pos 0) })
+as_given_stays = refl
+
+amount_mode_unknown : amount_choices_of (record zeroed { rounding = 12 }) ≡ None
+amount_mode_unknown = refl
+
+-- a percent has no digits of its own, nor cash
+percent_stays : unit_choices_of None zeroed ≡ Some (record { usage = None; choices = no_change (pos 0) })
+percent_stays = refl
+
+percent_has_no_cash : unit_choices_of None (record zeroed { rounding = 10 }) ≡ None
+percent_has_no_cash = refl
+
+-- ---- padding
 
 -- 7.5 has its digits at the places 32767 and 32768: padded to three integer digits and two fraction digits it is 007.50
 padded_in_front : PadsStartTo (pos 3) (record { count = 75 * 10 ^ 32767; low = 32767; high = 32768 }) (record { count = 75 * 10 ^ 32767; low = 32767; high = 32770 })

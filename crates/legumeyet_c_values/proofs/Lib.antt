@@ -1,3 +1,4 @@
+pub mod DoublesLemmas
 mod KnownValues
 pub mod ListingLemmas
 pub mod NumbersLemmas

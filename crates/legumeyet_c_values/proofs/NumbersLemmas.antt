@@ -1,16 +1,18 @@
 -- Numbers that are given: changed as options say, and faults that are not that a text is too long.
-use Rattle.std.proofs.Common.{arith, ◌≡◌, ◌≢◌, ℕ, ℤ, List, Option, Some, None, Result, Ok, Err, IfOk, IfErr, refl, sym, subst, inl, inr}
+use Rattle.std.proofs.Common.{arith, ◌≡◌, ◌≢◌, ℕ, ℤ, List, Option, Some, None, Result, Ok, Err, IfOk, IfErr, IsTrue, refl, sym, subst, inl, inr}
+use Rattle.std.specs.Float.{float_is_finite}
 use Rattle.std.specs.Float.Ieee.{Float}
 use Rattle.fixed_decimal.specs.Number.{Number}
 use Rattle.fixed_decimal.specs.SignedText.{ReadsSigned}
-use Rattle.fixed_decimal.specs.Shifts.{IsShifted, KeepsPlaces}
-use Rattle.fixed_decimal.specs.SignedValue.{SignedValue, OnAbsolute}
+use Rattle.fixed_decimal.specs.Shifts.{KeepsPlaces}
+use Rattle.fixed_decimal.specs.SignedValue.{SignedValue}
 use Rattle.fixed_decimal.specs.WholeNumbers.{IsSignedWhole}
+use Rattle.fixed_decimal.proofs.SignedReadOnceLemmas.{signed_is_text, signed_not_beyond}
 use Rattle.legumeyet_c_values.specs.Choices.{Changes, IsChangeRefused, no_change}
-use Rattle.legumeyet_c_values.specs.Numbers.{Gives, IsChangeFault, IsCompactNumberFault, IsDoubleFault, IsNumberFault, IsOfDouble, IsScaled, IsScaledFault, IsSignificand}
+use Rattle.legumeyet_c_values.specs.Numbers.{Gives, IsChangeFault, IsCompactNumberFault, IsDoubleFault, IsNumberFault, IsOfDouble, IsScaled, IsScaledFault, IsSignificand, ReadsSome, SpellsDouble}
 use Rattle.legumeyet_c_values.specs.declared.choices.Choices.{Choices}
 use Rattle.legumeyet_c_values.specs.declared.call_error.CallError.{CallError}
-use Rattle.legumeyet_c_values.specs.declared.call_error.CallError.TheVariants.{Limit, TooSmall}
+use Rattle.legumeyet_c_values.specs.declared.call_error.CallError.TheVariants.{Memory, Number as NoNumber, Limit, TooSmall}
 
 -- of a fault that is not that a text is too long, none is in a change either
 change_fault_other : (choices : Option Choices) (is_given : SignedValue Number → Type 0) (fault : CallError → Type 0)
@@ -65,25 +67,23 @@ refuses chosen choices is_given fault old (Err error) is given refused =
     subst (λ (c : Option Choices). IsChangeFault c is_given fault error) (sym is)
     (inr (record { given = old; given_is = given; refused = refused }))
 
--- a whole number that is moved by a power of ten
-pub moved_scales : (mantissa exponent : ℤ) (whole : SignedValue Number) (outcome : Result (SignedValue Number) CallError)
-    → IsSignedWhole mantissa whole → IfOk outcome (λ value. OnAbsolute (IsShifted exponent) whole value)
-    → IfOk outcome (λ value. IsScaled mantissa exponent value)
-moved_scales mantissa exponent whole (Ok value) is shifted = record { whole = whole; is_whole = is; shifted = shifted }
-moved_scales mantissa exponent whole (Err error) is shifted = tt
-
--- and one that cannot be moved so far
-pub moved_fails : (mantissa exponent : ℤ) (whole : SignedValue Number) (outcome : Result (SignedValue Number) CallError)
-    → IsSignedWhole mantissa whole → IfErr outcome (λ error. (error ≡ Limit) × (¬ (KeepsPlaces exponent whole.absolute)))
-    → IfErr outcome (λ error. IsScaledFault mantissa exponent error)
-moved_fails mantissa exponent whole (Ok value) is beyond = tt
-moved_fails mantissa exponent whole (Err error) is beyond =
+-- a whole number that cannot be moved so far by a power of ten
+pub moved_fails : (mantissa exponent : ℤ) (whole : SignedValue Number) (error : CallError)
+    → IsSignedWhole mantissa whole → (error ≡ Limit) × (¬ (KeepsPlaces exponent whole.absolute)) → IsScaledFault mantissa exponent error
+moved_fails mantissa exponent whole error is beyond =
     subst (λ (e : CallError). IsScaledFault mantissa exponent e) (sym beyond.0) (record { whole = whole; is_whole = is; beyond = beyond.1 })
+
+-- why the digits of a finite double give no number, which spell one
+pub digits_fail : (number : Float) (text : List ℕ) (error : CallError) → IsTrue (float_is_finite number) → SpellsDouble number text → ReadsSome text → IsNumberFault text error
+    → IsDoubleFault number error
+digits_fail number text NoNumber finite spells some fault = absurd (signed_is_text text some.number fault some.reads)
+digits_fail number text Limit finite spells some fault = absurd (signed_not_beyond text some.number some.reads fault)
+digits_fail number text Memory finite spells some fault = record { finite = finite; text = text; spells = spells; long = fault }
+digits_fail number text _ finite spells some fault = absurd fault
 
 -- no fault of a double is that a text is too long
 double_other : (number : Float) (error : CallError) → IsDoubleFault number error → error ≢ TooSmall
-double_other number error (inl is) = λ same. absurd (cc (is.0, same))
-double_other number error (inr caused) = λ same. subst (λ (e : CallError). IsNumberFault caused.text e) same caused.fault
+double_other number error caused = λ same. subst (λ (e : CallError). IsDoubleFault number e) same caused
 
 pub double_fault_other : (choices : Option Choices) (number : Float) (error : CallError)
     → IsChangeFault choices (IsOfDouble number) (IsDoubleFault number) error → error ≢ TooSmall

@@ -6,7 +6,7 @@ use Rattle.locale_numbers_tables.specs.BookError.{number_of as book_number}
 use Rattle.locale_numbers_tables.specs.declared.BookError.{BookError}
 use Rattle.locale_numbers_tables.specs.declared.BookError.TheVariants as book
 use Rattle.legumeyet_c_values.specs.declared.call_error.CallError.{CallError}
-use Rattle.legumeyet_c_values.specs.declared.call_error.CallError.TheVariants.{Memory, Closed, TooSmall, UnknownOption, Tag, Table, Number, Limit, Range, NoUtf8, Unreadable, NotWritten, Exponent, Book}
+use Rattle.legumeyet_c_values.specs.declared.call_error.CallError.TheVariants.{Memory, Closed, TooSmall, UnknownOption, Tag, Table, Number, Limit, Range, NoUtf8, Unreadable, NotWritten, Exponent, Code, Unkept, Book}
 
 -- a book's number and 100; out of memory is told as one number, whatever it was wanted for
 abbrev pub book_answer : BookError → ℤ
@@ -28,6 +28,8 @@ number_of NoUtf8 = pos 10
 number_of Unreadable = pos 11
 number_of NotWritten = pos 12
 number_of Exponent = pos 13
+number_of Code = pos 14
+number_of Unkept = pos 15
 number_of (Book error) = book_answer error
 
 -- 0 of a call that was not refused
@@ -48,6 +50,8 @@ book_text book.Exponents = codes "no book: exponents of patterns"
 book_text book.Duplicate = codes "no book: a key that stands twice"
 book_text book.Cycle = codes "no book: parents that lead back"
 book_text book.Memory = codes "out of memory"
+book_text book.Unit = codes "no book: a pattern without one place for its unit"
+book_text book.Code = codes "no book: the code of a currency"
 
 -- what an error means, in English
 abbrev pub text_of : CallError → List ℕ
@@ -64,4 +68,6 @@ text_of NoUtf8 = codes "no UTF-8"
 text_of Unreadable = codes "symbols under which two numbers may have one text"
 text_of NotWritten = codes "no number is written so"
 text_of Exponent = codes "an exponent that numbers of this magnitude have not"
+text_of Code = codes "no code of a currency"
+text_of Unkept = codes "the book is not kept"
 text_of (Book error) = book_text error

@@ -4,3 +4,4 @@ pub mod Information
 pub mod Numbers
 pub mod Parts
 pub mod Putting
+pub mod Units

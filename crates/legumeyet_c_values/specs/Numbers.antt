@@ -68,23 +68,32 @@ IsScaledFault mantissa exponent _ = ⊥
 abbrev pub SpellsDouble : Float → List ℕ → Type 0
 SpellsDouble number text = parse_float binary64 text ≡ Some number
 
--- the number of such a text, without the zeros at its end
+-- the number of such a text of a finite double, without the zeros at its end
 pub record IsOfDouble (number : Float) (value : SignedValue Number) : Type 0 where
+  pub finite : IsTrue (float_is_finite number)
   pub text : List ℕ
   pub spells : SpellsDouble number text
   pub read : SignedValue Number
   pub reads : ReadsSigned text read
   pub trims : OnAbsolute TrimsEnd read value
 
--- a double gives no number: it is not finite, or its text gives none
-pub record IsTextFault (number : Float) (error : CallError) : Type 0 where
+-- such a text spells a decimal
+pub record ReadsSome (text : List ℕ) : Type 0 where
+  pub number : SignedValue Number
+  pub reads : ReadsSigned text number
+
+-- such a text of a finite double spells a number of more than eight digits
+pub record IsLongDouble (number : Float) : Type 0 where
   pub finite : IsTrue (float_is_finite number)
   pub text : List ℕ
   pub spells : SpellsDouble number text
-  pub fault : IsNumberFault text error
+  pub long : ReadsLongSigned text
 
+-- only a double that is not finite gives no number; memory is wanted only for more than eight digits
 abbrev pub IsDoubleFault : Float → CallError → Type 0
-IsDoubleFault number error = ((error ≡ NoNumber) × IsFalse (float_is_finite number)) ⊎ IsTextFault number error
+IsDoubleFault number NoNumber = IsFalse (float_is_finite number)
+IsDoubleFault number Memory = IsLongDouble number
+IsDoubleFault number _ = ⊥
 
 -- ---- compact numbers
 

@@ -22,6 +22,8 @@ kind_of name =
     else if bytes_eq name (codes "group") then 4
     else if bytes_eq name (codes "decimal") then 5
     else if bytes_eq name (codes "fraction") then 6
+    else if bytes_eq name (codes "currency") then 7
+    else if bytes_eq name (codes "percentSign") then 8
     else 0
 
 -- a part as C has it, by bytes

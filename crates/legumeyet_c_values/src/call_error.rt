@@ -35,6 +35,10 @@ pub enum CallError {
     NotWritten,
     /// Numbers of this magnitude have another exponent.
     Exponent,
+    /// The text is no code of a currency.
+    Code,
+    /// The book is not kept.
+    Unkept,
     /// The bytes are no book.
     Book(BookError),
 }
@@ -56,6 +60,8 @@ fn book_number(error: BookError) -> i32
         BookError::Duplicate => 110,
         BookError::Cycle => 111,
         BookError::Memory => 1,
+        BookError::Unit => 113,
+        BookError::Code => 114,
     }
 }
 
@@ -76,6 +82,8 @@ fn book_text(error: BookError) -> &'static str
         BookError::Duplicate => "no book: a key that stands twice",
         BookError::Cycle => "no book: parents that lead back",
         BookError::Memory => "out of memory",
+        BookError::Unit => "no book: a pattern without one place for its unit",
+        BookError::Code => "no book: the code of a currency",
     }
 }
 
@@ -98,6 +106,8 @@ impl CallError {
             CallError::Unreadable => 11,
             CallError::NotWritten => 12,
             CallError::Exponent => 13,
+            CallError::Code => 14,
+            CallError::Unkept => 15,
             CallError::Book(error) => book_number(error),
         }
     }
@@ -120,6 +130,8 @@ impl CallError {
             CallError::Unreadable => "symbols under which two numbers may have one text",
             CallError::NotWritten => "no number is written so",
             CallError::Exponent => "an exponent that numbers of this magnitude have not",
+            CallError::Code => "no code of a currency",
+            CallError::Unkept => "the book is not kept",
             CallError::Book(error) => book_text(error),
         }
     }
@@ -135,7 +147,7 @@ pub fn answer(outcome: Result<(), CallError>) -> i32
     }
 }
 
-/// The error that has this number: `Tag` of 5, and none of 14.
+/// The error that has this number: `Tag` of 5, and none of 16.
 pub fn error_of(number: i32) -> Option<CallError>
     ensures value { IfSome result (λ error. number ≡ number_of error) }
     ensures none { IsNone result → IsNoError number }
@@ -154,6 +166,8 @@ pub fn error_of(number: i32) -> Option<CallError>
         11 => Some(CallError::Unreadable),
         12 => Some(CallError::NotWritten),
         13 => Some(CallError::Exponent),
+        14 => Some(CallError::Code),
+        15 => Some(CallError::Unkept),
         101 => Some(CallError::Book(BookError::Json)),
         102 => Some(CallError::Book(BookError::Shape)),
         103 => Some(CallError::Book(BookError::Tag)),
@@ -165,6 +179,8 @@ pub fn error_of(number: i32) -> Option<CallError>
         109 => Some(CallError::Book(BookError::Exponents)),
         110 => Some(CallError::Book(BookError::Duplicate)),
         111 => Some(CallError::Book(BookError::Cycle)),
+        113 => Some(CallError::Book(BookError::Unit)),
+        114 => Some(CallError::Book(BookError::Code)),
         _ => None,
     }
 }

@@ -34,6 +34,10 @@ fn kind_by(name: &str) -> u32
         5
     } else if name == b"fraction".as_slice() {
         6
+    } else if name == b"currency".as_slice() {
+        7
+    } else if name == b"percentSign".as_slice() {
+        8
     } else {
         0
     }

@@ -18,10 +18,15 @@ mod intervals;
 mod numbers;
 mod parts;
 mod putting;
+mod units;
 
 pub use call_error::{CallError, answer, error_of};
 pub use choices::{Choices, Options, TrailingZeros, Width, choice_by, grouping_by};
 pub use intervals::Interval;
-pub use numbers::{compact_of_text, number_of_f64, number_of_i64, number_of_text, number_of_u64};
+pub use numbers::{
+    compact_of_text, number_of_f64, number_of_i64, number_of_text, number_of_u64, read_double,
+    read_number, scaled, scaled_unsigned,
+};
 pub use parts::put_parts;
 pub use putting::{put, put_bytes};
+pub use units::{UnitChoices, unit_number};

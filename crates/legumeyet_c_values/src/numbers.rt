@@ -1,13 +1,14 @@
 //! The numbers that calls are given.
 
-ghost use Rattle.std.specs.Prelude.{◌≡◌, ◌+◌, ◌<◌, ◌≤◌, pos, Some, None, true, false, IfOk, IfErr};
+ghost use Rattle.std.specs.Prelude.{◌≡◌, ◌+◌, ◌<◌, ◌≤◌, pos, Some, None, true, false, IfOk, IfErr, OnOk, IsTrue};
+ghost use Rattle.std.specs.Float.{float_is_finite};
 ghost use Rattle.fixed_decimal.specs.CompactText.{ReadsCompact};
 ghost use Rattle.fixed_decimal.specs.Number.{place};
 ghost use Rattle.fixed_decimal.specs.Shifts.{IsShifted, KeepsPlaces, fall, rise};
 ghost use Rattle.fixed_decimal.specs.SignedText.{ReadsSigned};
 ghost use Rattle.fixed_decimal.specs.SignedValue.{OnAbsolute};
 ghost use Rattle.legumeyet_c_values.specs.Choices.{choices_of};
-ghost use Rattle.legumeyet_c_values.specs.Numbers.{Gives, GivesCompact, IsChangeFault, IsCompactNumberFault, IsDoubleFault, IsNumberFault, IsOfDouble, IsScaled, IsScaledFault, IsSignificand};
+ghost use Rattle.legumeyet_c_values.specs.Numbers.{Gives, GivesCompact, IsChangeFault, IsCompactNumberFault, IsDoubleFault, IsNumberFault, IsOfDouble, IsScaled, IsScaledFault, IsSignificand, ReadsSome, SpellsDouble};
 
 use crate::call_error::CallError;
 use crate::choices::{Choices, Options};
@@ -15,8 +16,8 @@ use fixed_decimal::{CompactDecimal, Decimal, ParseError, UnsignedDecimal};
 use ryu::Buffer;
 use std::alloc::Global;
 
-// The number that a text spells.
-fn read_number(alloc: Global, text: &[u8]) -> Result<Decimal, CallError>
+/// The number that a text spells: 1.5 of `1.5`.
+pub fn read_number(alloc: Global, text: &[u8]) -> Result<Decimal, CallError>
     ensures value { IfOk result (λ value. ReadsSigned text.now value) }
     ensures fault { IfErr result (λ error. IsNumberFault text.now error) }
 {
@@ -79,51 +80,76 @@ fn keeps_places(number: &UnsignedDecimal, exponent: i16) -> bool
     above && below
 }
 
-// A whole number times a power of ten, its digits shown with it.
-fn moved(whole: Decimal, exponent: i16) -> Result<Decimal, CallError>
-    ensures value { IfOk result (λ value. OnAbsolute (IsShifted exponent) whole value) }
+// Moves a whole number by a power of ten, its digits shown with it. `Limit`: a digit would be beyond the magnitudes, and
+// the number stays.
+fn move_by(whole: &mut Decimal, exponent: i16) -> Result<(), CallError>
+    ensures value { OnOk result (OnAbsolute (IsShifted exponent) whole.old whole.new) }
     ensures fault { IfErr result
-        (λ error. (error ≡ CallError.Limit) × (¬ (KeepsPlaces exponent whole.absolute))) }
+        (λ error. (error ≡ CallError.Limit) × (¬ (KeepsPlaces exponent whole.old.absolute))) }
 {
     if keeps_places(&whole.absolute, exponent) {
-        Ok(whole.multiplied_pow10(exponent))
+        whole.absolute.multiply_pow10(exponent);
+        Ok(())
     } else {
         Err(CallError::Limit)
     }
 }
 
-// An integer times a power of ten.
-fn scaled(alloc: Global, mantissa: i64, exponent: i16) -> Result<Decimal, CallError>
+/// An integer times a power of ten: 1.5 of 15 and -1.
+pub fn scaled(alloc: Global, mantissa: i64, exponent: i16) -> Result<Decimal, CallError>
     ensures value { IfOk result (λ value. IsScaled mantissa exponent value) }
     ensures fault { IfErr result (λ error. IsScaledFault mantissa exponent error) }
 {
-    let Ok(whole) = Decimal::from_i64(alloc, mantissa) else {
+    let Ok(mut whole) = Decimal::from_i64(alloc, mantissa) else {
         return Err(CallError::Memory);
     };
-    moved(whole, exponent)
+    match move_by(&mut whole, exponent) {
+        Ok(()) => Ok(whole),
+        Err(error) => Err(error),
+    }
 }
 
-// An integer without a sign times a power of ten.
-fn scaled_unsigned(alloc: Global, mantissa: u64, exponent: i16) -> Result<Decimal, CallError>
+/// An integer without a sign times a power of ten: 1.5 of 15 and -1.
+pub fn scaled_unsigned(alloc: Global, mantissa: u64, exponent: i16) -> Result<Decimal, CallError>
     ensures value { IfOk result (λ value. IsScaled (pos mantissa) exponent value) }
     ensures fault { IfErr result (λ error. IsScaledFault (pos mantissa) exponent error) }
 {
-    let Ok(whole) = Decimal::from_u64(alloc, mantissa) else {
+    let Ok(mut whole) = Decimal::from_u64(alloc, mantissa) else {
         return Err(CallError::Memory);
     };
-    moved(whole, exponent)
+    match move_by(&mut whole, exponent) {
+        Ok(()) => Ok(whole),
+        Err(error) => Err(error),
+    }
 }
 
-// The number of a double's digits, without the zero after the point of a whole one.
-fn read_double(alloc: Global, number: f64) -> Result<Decimal, CallError>
+// The digits of a finite double, which give it back.
+fn digits_of(buffer: &mut Buffer, number: f64) -> &str
+    requires { IsTrue (float_is_finite number) }
+    ensures spells { SpellsDouble number result.now }
+    ensures reads { ReadsSome result.now }
+{
+    let bits = number.to_bits();
+    if bits == 0 {
+        "0"
+    } else if bits == 0x8000_0000_0000_0000 {
+        "-0"
+    } else {
+        buffer.format_finite(number)
+    }
+}
+
+/// The number of a double's digits, without the zero after the point of a whole one: 5 of 5.0. `Number`: it is not
+/// finite.
+pub fn read_double(alloc: Global, number: f64) -> Result<Decimal, CallError>
     ensures value { IfOk result (λ value. IsOfDouble number value) }
     ensures fault { IfErr result (λ error. IsDoubleFault number error) }
 {
     if !number.is_finite() {
         return Err(CallError::Number);
     }
-    let mut digits = Buffer::new();
-    match read_number(alloc, digits.format_finite(number).as_bytes()) {
+    let mut buffer = Buffer::new();
+    match read_number(alloc, digits_of(&mut buffer, number).as_bytes()) {
         Ok(value) => Ok(value.trimmed_end()),
         Err(error) => Err(error),
     }

@@ -1,11 +1,13 @@
--- Known values: names of locales, as `locale -a` lists them and POSIX has them, with their tags; roundings; answers.
+-- Known values: names of locales, as `locale -a` lists them and POSIX has them, with their tags; roundings; forms of amounts; answers.
 use Rattle.std.proofs.Common.{◌≡◌, [], refl}
-use Rattle.std.specs.Prelude.{None, Some, codes}
+use Rattle.std.specs.Prelude.{◌++◌, None, Some, codes}
 use Rattle.std.specs.Str.{chars}
 use Rattle.locale_numbers_requests.specs.Request.{fields}
 use Rattle.legumeyet_options.specs.LocaleName.{tag_of}
 use Rattle.legumeyet_options.specs.Outcomes.{text_said}
 use Rattle.legumeyet_options.specs.Roundings.{whole_rounding}
+use Rattle.legumeyet_options.specs.UnitForms.{style_word}
+use Rattle.legumeyet_options.specs.declared.unit_forms.UnitStyle.TheVariants.{Percent, Accounting}
 
 name_of_german : tag_of (codes "de_DE") ≡ codes "de-DE"
 unfolding chars lib.Utf8.encode
@@ -63,3 +65,9 @@ said_short = refl
 
 said_refused : text_said (fields (codes "err\tnumber")) ≡ None
 said_refused = refl
+
+form_of_percents : style_word Percent ++ [] ≡ codes "percent"
+form_of_percents = refl
+
+form_of_accounts : codes "read-" ++ (style_word Accounting ++ codes "EUR") ≡ codes "read-accounting-EUR"
+form_of_accounts = refl

@@ -3,3 +3,4 @@ pub mod Line
 pub mod LocaleName
 pub mod Outcomes
 pub mod Roundings
+pub mod UnitForms

@@ -26,6 +26,13 @@ Reading:
   grouping, so that each number has one text: for texts that a program wrote. The forms are
   read-lenient and read.
 
+Money and percents:
+  --currency EUR writes an amount: 1.234,50 € under de. The code is three capitals; one that the book
+  does not know is written by itself. The amount is rounded to the digits of the currency, half to
+  even, or with --cash to what is paid in cash, or as --round says. --accounting is for accounts:
+  ($5.00). --code writes EUR in place of €. --percent writes a number as it is given: 12.5 is 12.5%.
+  With either of these --read takes a text only as it is written, as --read-exact does.
+
 Rounding:
   --round -2 rounds to hundredths, 0 to whole numbers, 3 to thousands. A mode may follow, and then an
   increment: -2,floor and -2,half-even,5. The modes are expand, trunc, ceil, floor, half-expand,
@@ -63,6 +70,9 @@ Examples:
 
   $ legumeyet --tag de --form long 1234567
   1,2 Millionen
+
+  $ legumeyet --tag de --currency EUR 1234.5
+  1.234,50 €
 
   $ legumeyet --tag de --round -2 --parts -1234.567
   -1.234,57

@@ -71,6 +71,51 @@ fn round<'a>(alloc: Global) -> Arg<'a> {
         .help("Rounds first: -2 to hundredths, -2,floor down, -2,half-even,5 to multiples of 0.05")
 }
 
+fn currency<'a>(alloc: Global) -> Result<Arg<'a>, AllocError> {
+    Arg::new(alloc, "currency")
+        .short('c')
+        .long("currency")
+        .value_name("CODE")
+        .help("Writes amounts of this currency, as EUR, rounded to its digits")
+        .conflicts_with("form")
+}
+
+fn accounting<'a>(alloc: Global) -> Result<Arg<'a>, AllocError> {
+    Arg::new(alloc, "accounting")
+        .long("accounting")
+        .action(ArgAction::SetTrue)
+        .help("Writes amounts as accounts have them: in English -5 dollars are ($5.00)")
+        .requires_arg("currency")
+}
+
+fn code<'a>(alloc: Global) -> Result<Arg<'a>, AllocError> {
+    Arg::new(alloc, "code")
+        .long("code")
+        .action(ArgAction::SetTrue)
+        .help("Writes the code of the currency, EUR, in place of its symbol")
+        .requires_arg("currency")?
+        .conflicts_with("accounting")
+}
+
+fn cash<'a>(alloc: Global) -> Result<Arg<'a>, AllocError> {
+    Arg::new(alloc, "cash")
+        .long("cash")
+        .action(ArgAction::SetTrue)
+        .help("Rounds amounts to what is paid in cash: 2.34 Swiss francs are 2.35")
+        .requires_arg("currency")?
+        .conflicts_with("round")
+}
+
+fn percent<'a>(alloc: Global) -> Result<Arg<'a>, AllocError> {
+    Arg::new(alloc, "percent")
+        .short('p')
+        .long("percent")
+        .action(ArgAction::SetTrue)
+        .help("Writes percents: 12.5 is 12.5% in English")
+        .conflicts_with("form")?
+        .conflicts_with("currency")
+}
+
 fn read<'a>(alloc: Global) -> Arg<'a> {
     Arg::new(alloc, "read")
         .long("read")
@@ -95,7 +140,7 @@ fn parts<'a>(alloc: Global) -> Result<Arg<'a>, AllocError> {
     Arg::new(alloc, "parts")
         .long("parts")
         .action(ArgAction::SetTrue)
-        .help("Prints each text and then its parts, a line each, in plain, short or long form")
+        .help("Prints each text and then its parts, a line each; not for exact and reading forms")
         .conflicts_with("read")?
         .conflicts_with("read-exact")
 }
@@ -108,17 +153,17 @@ fn book<'a>(alloc: Global) -> Arg<'a> {
         .help("A book of tables in place of that of all locales")
 }
 
-// They are those of the world's book: another book names no locales.
 fn locales<'a>(alloc: Global) -> Result<Arg<'a>, AllocError> {
     Arg::new(alloc, "locales")
         .long("locales")
         .action(ArgAction::SetTrue)
-        .help("Lists the locales of the book of all locales")
+        .help(
+            "Lists the locales of the book of all locales, or those that the book of --book has symbols for",
+        )
         .conflicts_with("numbers")?
         .conflicts_with("read")?
         .conflicts_with("read-exact")?
-        .conflicts_with("parts")?
-        .conflicts_with("book")
+        .conflicts_with("parts")
 }
 
 // A line names all that is asked for.
@@ -133,6 +178,8 @@ fn lines<'a>(alloc: Global) -> Result<Arg<'a>, AllocError> {
         .conflicts_with("grouping")?
         .conflicts_with("sign")?
         .conflicts_with("round")?
+        .conflicts_with("currency")?
+        .conflicts_with("percent")?
         .conflicts_with("read")?
         .conflicts_with("read-exact")?
         .conflicts_with("parts")?
@@ -165,28 +212,56 @@ fn numbers<'a>(alloc: Global) -> Result<Arg<'a>, AllocError> {
         .required_unless_present("lines")
 }
 
-// All of them, in the order in which help lists them.
+// Puts an option behind others, where it was made.
+fn put<'a>(args: &mut Vec<Arg<'a>>, made: Result<Arg<'a>, AllocError>) -> Result<(), AllocError> {
+    match made {
+        Ok(arg) => Ok(args.push(arg)?),
+        Err(refused) => Err(refused),
+    }
+}
+
+// Puts those that say what is written, in the order in which help lists them.
+fn put_written<'a>(alloc: Global, args: &mut Vec<Arg<'a>>) -> Result<(), AllocError> {
+    put(args, numbers(alloc))?;
+    put(args, Ok(tag(alloc)))?;
+    put(args, Ok(form(alloc)))?;
+    put(args, currency(alloc))?;
+    put(args, accounting(alloc))?;
+    put(args, code(alloc))?;
+    put(args, cash(alloc))?;
+    put(args, percent(alloc))?;
+    put(args, Ok(grouping(alloc)))?;
+    put(args, Ok(sign(alloc)))?;
+    put(args, Ok(round(alloc)))
+}
+
+// Puts the others after them.
+fn put_others<'a>(alloc: Global, args: &mut Vec<Arg<'a>>) -> Result<(), AllocError> {
+    put(args, Ok(read(alloc)))?;
+    put(args, Ok(read_exact(alloc)))?;
+    put(args, parts(alloc))?;
+    put(args, Ok(book(alloc)))?;
+    put(args, locales(alloc))?;
+    put(args, lines(alloc))?;
+    put(args, capacity(alloc))
+}
+
+// Puts all of them, in the order in which help lists them.
+fn put_all<'a>(alloc: Global, args: &mut Vec<Arg<'a>>) -> Result<(), AllocError> {
+    put_written(alloc, args)?;
+    put_others(alloc, args)
+}
+
+// All of them.
 fn all_args<'a>(alloc: Global) -> Result<Vec<Arg<'a>>, AllocError> {
-    let numbers = numbers(alloc)?;
-    let parts = parts(alloc)?;
-    let locales = locales(alloc)?;
-    let lines = lines(alloc)?;
-    let capacity = capacity(alloc)?;
-    Ok(vec![in alloc;
-        numbers,
-        tag(alloc),
-        form(alloc),
-        grouping(alloc),
-        sign(alloc),
-        round(alloc),
-        read(alloc),
-        read_exact(alloc),
-        parts,
-        book(alloc),
-        locales,
-        lines,
-        capacity,
-    ]?)
+    let mut args = Vec::new(alloc);
+    match put_all(alloc, &mut args) {
+        Ok(()) => Ok(args),
+        Err(refused) => {
+            drop(args);
+            Err(refused)
+        }
+    }
 }
 
 // The command before its options.

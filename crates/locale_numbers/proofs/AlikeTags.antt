@@ -23,20 +23,25 @@ use Rattle.locale_numbers_book.specs.Tables.{chain_in, symbols_under, digits_und
 use Rattle.locale_numbers_answers.specs.LenientAnswer.{lenient_with}
 use Rattle.locale_numbers_answers.specs.NumberReading.{reading_of}
 use Rattle.locale_numbers_answers.specs.ReadAnswer.{read_with}
-use Rattle.locale_numbers_requests.specs.Request.{Asked, tab, fields, form_named, grouping_named, sign_named, takes, request_by, request_in, request_of}
+use Rattle.locale_numbers_answers.specs.UnitAnswer.{read_unit_with, unit_to}
+use Rattle.locale_numbers_requests.specs.FormField.{form_named}
+use Rattle.locale_numbers_requests.specs.Request.{Asked, tab, fields, grouping_named, sign_named, takes, request_by, request_in, request_of}
 use Rattle.locale_numbers_requests.specs.Cutting.{is_separator}
 use Rattle.locale_numbers_requests.specs.RoundingField.{rounding_named}
 use Rattle.locale_numbers_requests.specs.declared.SignAsked.{SignAsked}
 use Rattle.locale_numbers_requests.specs.declared.RoundingAsked.{RoundingAsked}
 use Rattle.locale_numbers_requests.specs.declared.Form.{Form}
-use Rattle.locale_numbers_requests.specs.declared.Form.TheVariants.{Plain, Compact, Exact, Read, ReadLenient}
+use Rattle.locale_numbers_requests.specs.declared.Form.TheVariants.{Plain, Compact, Exact, Read, ReadLenient, Unit, ReadUnit}
 use Rattle.locale_numbers_requests.specs.declared.PatternLength.{PatternLength}
+use Rattle.locale_numbers_requests.specs.declared.UnitAsked.{UnitAsked}
+use Rattle.locale_numbers.specs.FoundUnit.{found_unit}
 use Rattle.locale_numbers.specs.CompactAnswer.{compact_with, found_compact, patterns_under}
 use Rattle.locale_numbers_answers.specs.CompactReading.{compact_reading_of}
 use Rattle.locale_numbers_book.specs.Wanted.{wanted_of}
 use Rattle.locale_numbers.specs.Answer.{found_in, in_latin, answer_with, answer_to, exact_to, answer_tagged, answer_asked}
 use Rattle.locale_numbers.proofs.FoundCompactLemmas.{compact_alike}
 use Rattle.locale_numbers.proofs.FoundLemmas.{found_alike}
+use Rattle.locale_numbers.proofs.FoundUnitLemmas.{unit_alike}
 use Rattle.locale_numbers_book.proofs.WantedLemmas.{asks_of}
 use Rattle.locale_numbers.specs.Laws.{AreAlike, AlikeTagsAreAnsweredAlike, NormalTextIsAnsweredAlike}
 
@@ -169,6 +174,11 @@ compact_same book m n a length grouping =
     compact_alike (chain_in book) (symbols_under book) (digits_under book) (rules_under book) (patterns_under length book) grouping (preferences_of m) (preferences_of n)
     (locales_same m n a) a.numbering_system
 
+unit_same : (book : BookTables) (m n : TagMeaning) → AreAlike m n → (unit : UnitAsked) (grouping : GroupingStrategy)
+    → found_unit unit book (preferences_of m) grouping ≡ found_unit unit book (preferences_of n) grouping
+unit_same book m n a unit grouping =
+    unit_alike book (preferences_of m) (preferences_of n) (locales_same m n a) a.numbering_system grouping unit
+
 asks_alike : (book : BookTables) (text other : List ℕ) (m n : TagMeaning) → AreAlike m n → AreAnsweredAlike book text other (Some (preferences_of m)) (Some (preferences_of n))
 asks_alike book text other m n a Plain grouping sign rounding digits =
     ap (λ found. answer_to (answer_with found) sign rounding (reading_of digits)) (found_same book m n a grouping)
@@ -180,6 +190,10 @@ asks_alike book text other m n a Read grouping sign rounding digits = ap (λ fou
 asks_alike book text other m n a ReadLenient grouping sign rounding digits =
     ap (λ found. lenient_with found (found_in book (in_latin (preferences_of m)) grouping) digits) (found_same book m n a grouping)
     ∙ ap (λ latin. lenient_with (found_in book (preferences_of n) grouping) latin digits) (latin_same book m n a grouping)
+asks_alike book text other m n a (Unit unit) grouping sign rounding digits =
+    ap (λ found. unit_to found sign rounding (reading_of digits)) (unit_same book m n a unit grouping)
+asks_alike book text other m n a (ReadUnit unit) grouping sign rounding digits =
+    ap (λ found. read_unit_with found rounding digits) (unit_same book m n a unit grouping)
 
 pub alike_tags : AlikeTagsAreAnsweredAlike
 alike_tags book text other rest m n first second a =

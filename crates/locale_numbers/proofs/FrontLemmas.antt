@@ -17,7 +17,7 @@ use Rattle.locale_numbers_book.specs.Book.{BookTables}
 use Rattle.locale_numbers_cache.specs.LastRead.{Remembered}
 use Rattle.locale_numbers.specs.Answer.{answer_asked, answer_in, answer_of, answer_tagged, refused}
 use Rattle.locale_numbers.specs.FormatterKeys.{key_asked, key_of, key_tagged, key_with, kind_of}
-use Rattle.locale_numbers.specs.Front.{FitsForm, HasKeyThat, answer_behind, answer_front, answer_keyed, asked_behind, asked_text, front_asked, front_of, key_behind, key_front, key_keyed}
+use Rattle.locale_numbers.specs.Front.{FitsForm, FitsKey, HasKeyThat, answer_behind, answer_front, answer_keyed, asked_behind, asked_text, front_asked, front_of, key_behind, key_front, key_keyed}
 use Rattle.locale_numbers_requests.specs.Request.{Asked, fields, request_by, request_in, request_of, tab, takes, with_text}
 use Rattle.locale_numbers_book.specs.Wanted.{wanted_of}
 use Rattle.locale_numbers.specs.declared.formatter_key.FormatterKey.{FormatterKey}
@@ -26,7 +26,7 @@ use Rattle.locale_numbers_requests.specs.declared.Refusal.TheVariants as refusal
 use Rattle.locale_numbers_requests.specs.declared.SignAsked.{SignAsked}
 use Rattle.locale_numbers_requests.specs.declared.RoundingAsked.{RoundingAsked}
 use Rattle.locale_numbers_requests.specs.declared.Form.{Form}
-use Rattle.locale_numbers_requests.specs.declared.Form.TheVariants.{Plain, Compact, Exact, Read, ReadLenient}
+use Rattle.locale_numbers_requests.specs.declared.Form.TheVariants.{Plain, Compact, Exact, Read, ReadLenient, Unit, ReadUnit}
 
 -- ---- the fields
 
@@ -179,6 +179,8 @@ answered_in (Compact length) book p asked key text = refl
 answered_in (Exact length) book p asked key text = refl
 answered_in Read book p asked key text = refl
 answered_in ReadLenient book p asked key text = refl
+answered_in (Unit unit) book p asked key text = refl
+answered_in (ReadUnit unit) book p asked key text = refl
 
 answered_by : (book : BookTables) (asked : Asked) (key : Option FormatterKey) (wanted : Option Preferences) (text : List ℕ)
     → answer_tagged book wanted (texted asked text) ≡ answer_keyed book (fronted asked key) (option_map (key_with asked.form asked.grouping) wanted) text
@@ -227,9 +229,9 @@ front_read bytes asked wanted key read prefers made =
     ∙ sym (ap front_asked read)
     ∙ with_no_text (request_of bytes)
 
-fits_by : (asked : Asked) (wanted : Option Preferences) → IfSome (option_map (key_with asked.form asked.grouping) wanted) (λ key. key.kind ≡ kind_of asked.form)
+fits_by : (asked : Asked) (wanted : Option Preferences) → IfSome (option_map (key_with asked.form asked.grouping) wanted) (FitsKey asked.form)
 fits_by asked None = tt
-fits_by asked (Some p) = refl
+fits_by asked (Some p) = record { kind = refl; code = refl }
 
 fits : (asked : Option Asked) → IfSome (front_asked asked) FitsForm
 fits None = tt

@@ -11,18 +11,22 @@ use Rattle.locale_numbers.specs.Answer.{answer_in, answer_to, exact_to, refused}
 use Rattle.locale_numbers_answers.specs.Changing.{MayGrowRead, ReadsMore}
 use Rattle.locale_numbers.specs.CompactAnswer.{found_compact}
 use Rattle.locale_numbers_answers.specs.CompactReading.{compact_reading_of}
-use Rattle.locale_numbers.specs.FormatterKeys.{kind_of}
-use Rattle.locale_numbers.specs.KeptFormatters.{answer_of_kind}
-use Rattle.locale_numbers.specs.Front.{FitsForm, HasKeyThat, MayTakeBehind, MayTakeIn, MayTakeKeyed, answer_behind, answer_keyed, asked_behind, if_text}
+use Rattle.locale_numbers_answers.specs.UnitAnswer.{MayGrowUnit, read_unit_with, unit_to}
+use Rattle.locale_numbers.specs.FoundUnit.{found_unit}
+use Rattle.locale_numbers.specs.FormatterKeys.{code_of, kind_of, unit_code, unit_kind}
+use Rattle.locale_numbers.specs.KeptFormatters.{IsOfUnit, answer_of_kind, found_keyed}
+use Rattle.locale_numbers.specs.Front.{FitsForm, FitsKey, HasKeyThat, MayTakeBehind, MayTakeIn, MayTakeKeyed, answer_behind, answer_keyed, asked_behind, if_text}
 use Rattle.locale_numbers_answers.specs.NumberReading.{reading_of}
 use Rattle.locale_numbers_requests.specs.Request.{Asked}
+use Rattle.locale_numbers.proofs.KeptLemmas.{kind_of_unit, unit_keyed}
 use Rattle.locale_numbers.specs.declared.formatter_key.FormatterKey.{FormatterKey}
 use Rattle.locale_numbers.specs.declared.front.Front.{Front}
 use Rattle.locale_numbers_requests.specs.declared.Refusal.TheVariants as refusal
 use Rattle.locale_numbers_requests.specs.declared.Form.{Form}
-use Rattle.locale_numbers_requests.specs.declared.Form.TheVariants.{Plain, Compact, Exact}
+use Rattle.locale_numbers_requests.specs.declared.Form.TheVariants.{Plain, Compact, Exact, Unit, ReadUnit}
 use Rattle.locale_numbers_requests.specs.declared.PatternLength.{PatternLength}
 use Rattle.locale_numbers_requests.specs.declared.RoundingAsked.{RoundingAsked}
+use Rattle.locale_numbers_requests.specs.declared.UnitAsked.{UnitAsked}
 
 -- a form that writes a number: in plain form, or in compact form
 abbrev WritesNumber : Form → Type 0
@@ -30,13 +34,13 @@ WritesNumber form = (form ≡ Plain) ⊎ ((length : PatternLength) × (form ≡ 
 
 -- the answer to a number goes by the kind of its form
 number_in : (form : Form) (book : BookTables) (p : Preferences) (asked : Asked) → WritesNumber form
-    → answer_in form book p asked ≡ answer_to (answer_of_kind (kind_of form) book p asked.grouping) asked.sign asked.rounding (reading_of asked.text)
+    → answer_in form book p asked ≡ answer_to (answer_of_kind (kind_of form) (code_of form) book p asked.grouping) asked.sign asked.rounding (reading_of asked.text)
 number_in form book p asked (inl plain) =
     ap (λ f. answer_in f book p asked) plain
-    ∙ ap (λ f. answer_to (answer_of_kind (kind_of f) book p asked.grouping) asked.sign asked.rounding (reading_of asked.text)) (sym plain)
+    ∙ ap (λ f. answer_to (answer_of_kind (kind_of f) (code_of f) book p asked.grouping) asked.sign asked.rounding (reading_of asked.text)) (sym plain)
 number_in form book p asked (inr compact) =
     ap (λ f. answer_in f book p asked) compact.1
-    ∙ ap (λ f. answer_to (answer_of_kind (kind_of f) book p asked.grouping) asked.sign asked.rounding (reading_of asked.text)) (sym compact.1)
+    ∙ ap (λ f. answer_to (answer_of_kind (kind_of f) (code_of f) book p asked.grouping) asked.sign asked.rounding (reading_of asked.text)) (sym compact.1)
 
 -- and so does what may want memory
 number_may_take : (form : Form) (book : BookTables) (key : FormatterKey) (rounding : RoundingAsked) (text : List ℕ) (value : SignedValue Number) → WritesNumber form
@@ -50,9 +54,9 @@ module _ (book : BookTables) (asked : Option Front) (front : Front) (key : Forma
   answer_formed : answer_behind book asked text ≡ if_text text (answer_in front.form book key.preferences (asked_behind front key text))
   answer_formed = ap (λ a. answer_behind book a text) is ∙ ap (λ k. if_text text (answer_keyed book front k text)) keyed
 
-  -- the key is of the kind of the form
-  kind_fits : IfSome asked FitsForm → key.kind ≡ kind_of front.form
-  kind_fits fits = subst (λ k. IfSome k (λ (x : FormatterKey). x.kind ≡ kind_of front.form)) keyed (subst (λ a. IfSome a FitsForm) is fits)
+  -- the key is of the kind of the form, and has its code
+  pub key_fits : IfSome asked FitsForm → FitsKey front.form key
+  key_fits fits = subst (λ k. IfSome k (FitsKey front.form)) keyed (subst (λ a. IfSome a FitsForm) is fits)
 
   -- what holds of the front's key holds of this one
   pub of_key : (P : FormatterKey → Type 0) → HasKeyThat P asked → P key
@@ -60,11 +64,12 @@ module _ (book : BookTables) (asked : Option Front) (front : Front) (key : Forma
 
   -- to a number
   pub answer_number : WritesNumber front.form → IfSome asked FitsForm
-      → answer_behind book asked text ≡ if_text text (answer_to (answer_of_kind key.kind book key.preferences key.grouping) front.sign front.rounding (reading_of text))
+      → answer_behind book asked text ≡ if_text text (answer_to (answer_of_kind key.kind key.code book key.preferences key.grouping) front.sign front.rounding (reading_of text))
   answer_number form fits =
       answer_formed
       ∙ ap (λ answer. if_text text answer) (number_in front.form book key.preferences (asked_behind front key text) form)
-      ∙ ap (λ kind. if_text text (answer_to (answer_of_kind kind book key.preferences key.grouping) front.sign front.rounding (reading_of text))) (sym (kind_fits fits))
+      ∙ ap (λ kind. if_text text (answer_to (answer_of_kind kind (code_of front.form) book key.preferences key.grouping) front.sign front.rounding (reading_of text))) (sym (key_fits fits).kind)
+      ∙ ap (λ code. if_text text (answer_to (answer_of_kind key.kind code book key.preferences key.grouping) front.sign front.rounding (reading_of text))) (sym (key_fits fits).code)
 
   -- to the text of an exact form
   pub answer_exact : (length : PatternLength) (shown : List ℕ) → front.form ≡ Exact length → is_utf8 text ≡ true → shown ≡ text
@@ -74,6 +79,42 @@ module _ (book : BookTables) (asked : Option Front) (front : Front) (key : Forma
       ∙ ap (λ f. if_text text (answer_in f book key.preferences (asked_behind front key text))) form
       ∙ ap (λ b. if b then exact_to (found_compact length book key.preferences key.grouping) front.sign (compact_reading_of text) else refused refusal.Shape) utf8
       ∙ ap (λ t. exact_to (found_compact length book key.preferences key.grouping) front.sign (compact_reading_of t)) (sym whole)
+
+  -- to a number with a unit, and to a text with one
+  pub found_fits : (unit : UnitAsked) → key.kind ≡ unit_kind unit → key.code ≡ unit_code unit
+      → found_keyed key.kind key.code book key.preferences key.grouping ≡ found_unit unit book key.preferences key.grouping
+  found_fits unit kind code =
+      ap (λ k. found_keyed k key.code book key.preferences key.grouping) kind
+      ∙ ap (λ c. found_keyed (unit_kind unit) c book key.preferences key.grouping) code
+      ∙ unit_keyed unit book key.preferences key.grouping
+
+  -- the key of a form with a unit
+  pub unit_fits : (unit : UnitAsked) → front.form ≡ Unit unit → IfSome asked FitsForm → FitsKey (Unit unit) key
+  unit_fits unit form fits = subst (λ f. FitsKey f key) form (key_fits fits)
+
+  pub read_unit_fits : (unit : UnitAsked) → front.form ≡ ReadUnit unit → IfSome asked FitsForm → FitsKey (ReadUnit unit) key
+  read_unit_fits unit form fits = subst (λ f. FitsKey f key) form (key_fits fits)
+
+  pub is_of_unit : (unit : UnitAsked) → key.kind ≡ unit_kind unit → IsOfUnit key.kind
+  is_of_unit unit kind = subst IsOfUnit (sym kind) (kind_of_unit unit)
+
+  pub answer_unit : (unit : UnitAsked) → front.form ≡ Unit unit → IfSome asked FitsForm
+      → answer_behind book asked text ≡ if_text text (unit_to (found_keyed key.kind key.code book key.preferences key.grouping) front.sign front.rounding (reading_of text))
+  answer_unit unit form fits =
+      let fitting = unit_fits unit form fits in
+      answer_formed
+      ∙ ap (λ f. if_text text (answer_in f book key.preferences (asked_behind front key text))) form
+      ∙ ap (λ found. if_text text (unit_to found front.sign front.rounding (reading_of text))) (sym (found_fits unit fitting.kind fitting.code))
+
+  pub answer_read_unit : (unit : UnitAsked) (shown : List ℕ) → front.form ≡ ReadUnit unit → IfSome asked FitsForm → is_utf8 text ≡ true → shown ≡ text
+      → answer_behind book asked text ≡ read_unit_with (found_keyed key.kind key.code book key.preferences key.grouping) front.rounding shown
+  answer_read_unit unit shown form fits utf8 whole =
+      let fitting = read_unit_fits unit form fits in
+      answer_formed
+      ∙ ap (λ f. if_text text (answer_in f book key.preferences (asked_behind front key text))) form
+      ∙ ap (λ b. if b then read_unit_with (found_unit unit book key.preferences key.grouping) front.rounding text else refused refusal.Shape) utf8
+      ∙ ap (λ found. read_unit_with found front.rounding text) (sym (found_fits unit fitting.kind fitting.code))
+      ∙ ap (read_unit_with (found_keyed key.kind key.code book key.preferences key.grouping) front.rounding) (sym whole)
 
   -- ---- the memory
 
@@ -86,3 +127,14 @@ module _ (book : BookTables) (asked : Option Front) (front : Front) (key : Forma
 
     pub exact_may_take_behind : (length : PatternLength) (shown : List ℕ) → front.form ≡ Exact length → shown ≡ text → ReadsLongCompact shown → MayTakeBehind book asked text value
     exact_may_take_behind length shown form whole long = may_take (subst (λ f. MayTakeIn f book key front.rounding text value) (sym form) (subst ReadsLongCompact whole long))
+
+    pub unit_may_take_behind : (unit : UnitAsked) → front.form ≡ Unit unit → IfSome asked FitsForm
+        → ReadsMore text value ⊎ MayGrowUnit (found_keyed key.kind key.code book key.preferences key.grouping) front.rounding (reading_of text) → MayTakeBehind book asked text value
+    unit_may_take_behind unit form fits wants =
+        let fitting = unit_fits unit form fits in
+        may_take (subst (λ f. MayTakeIn f book key front.rounding text value) (sym form)
+        (subst (λ found. ReadsMore text value ⊎ MayGrowUnit found front.rounding (reading_of text)) (found_fits unit fitting.kind fitting.code) wants))
+
+    -- any text that is read back with a unit
+    pub read_unit_may_take_behind : (unit : UnitAsked) → front.form ≡ ReadUnit unit → is_utf8 text ≡ true → MayTakeBehind book asked text value
+    read_unit_may_take_behind unit form utf8 = may_take (subst (λ f. MayTakeIn f book key front.rounding text value) (sym form) utf8)

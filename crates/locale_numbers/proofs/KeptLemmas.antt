@@ -1,5 +1,5 @@
 -- Which tables the formatter of a key has, and what is answered where there are none.
-use Rattle.std.proofs.Common.{◌≡◌, ℕ, List, [], ◌∷◌, Some, Result, Ok, Err, is_ok, false, refl, ap, ◌∙◌, slice_get}
+use Rattle.std.proofs.Common.{◌≡◌, ℕ, List, [], ◌∷◌, Option, Some, Result, Ok, Err, is_ok, false, refl, ap, ◌∙◌, slice_get, sym, subst}
 use Rattle.std.specs.Map.{keys_of}
 use Rattle.std.specs.Prelude.{option_map}
 use Rattle.fixed_decimal.specs.Number.{Number}
@@ -13,16 +13,31 @@ use Rattle.icu_decimal.specs.FoundTables.{found_tables}
 use Rattle.icu_decimal.specs.Identifiers.{Identifier}
 use Rattle.icu_decimal.specs.PlainText.{Tables}
 use Rattle.icu_decimal.specs.Symbols.{Symbols}
+use Rattle.icu_dimension.specs.UnitText.{UnitSettings, unit_decimal_text}
+use Rattle.icu_dimension.specs.declared.FractionInfo.{FractionInfo}
+use Rattle.locale_numbers_answers.specs.NumberReading.{number}
+use Rattle.locale_numbers_answers.specs.UnitAnswer.{MayGrowBy, MayGrowUnit, UnitFound, fraction_asked, read_unit_with, unit_changed, unit_with, unit_written}
 use Rattle.locale_numbers_book.specs.Book.{BookTables}
 use Rattle.locale_numbers_book.specs.Tables.{symbols_under, digits_under, chain_in}
 use Rattle.locale_numbers_cache.specs.Cached.{Cached, IsFirst}
-use Rattle.locale_numbers.specs.Answer.{answer_with, found_in, refused}
+use Rattle.locale_numbers.specs.Answer.{answer_with, found_in, refused, written}
 use Rattle.locale_numbers.specs.CompactAnswer.{compact_with, found_compact}
-use Rattle.locale_numbers.specs.FormatterKeys.{finds_kind}
-use Rattle.locale_numbers.specs.KeptFormatters.{answer_of_kind}
+use Rattle.locale_numbers.specs.FormatterKeys.{finds, finds_kind, unit_code, unit_kind}
+use Rattle.locale_numbers.specs.FoundUnit.{found_amounts, found_unit}
+use Rattle.locale_numbers.specs.KeptFormatters.{HasKind, IsMadeFor, IsOfUnit, answer_of_kind, found_keyed}
+use Rattle.locale_numbers.specs.UnitHeld.{WritesUnit}
+use Rattle.locale_numbers.specs.declared.formatter_key.FormatterKey.{FormatterKey}
 use Rattle.locale_numbers.specs.declared.formatter_key.Kind.{Kind}
-use Rattle.locale_numbers.specs.declared.formatter_key.Kind.TheVariants.{Plain, Compact, Lenient}
+use Rattle.locale_numbers.specs.declared.formatter_key.Kind.TheVariants.{Plain, Compact, Lenient, Percent, Amount}
+use Rattle.locale_numbers.specs.declared.kept_formatter.KeptFormatter.{KeptFormatter}
+use Rattle.locale_numbers.specs.declared.kept_formatter.KeptFormatter.TheVariants as kept
+use Rattle.locale_numbers.specs.declared.kept_formatter.PlainFormatter.{PlainFormatter}
+use Rattle.locale_numbers.specs.declared.unit_formatter.UnitFormatter.{UnitFormatter}
 use Rattle.locale_numbers_requests.specs.declared.Refusal.TheVariants as refusal
+use Rattle.locale_numbers_requests.specs.declared.RoundingAsked.{RoundingAsked}
+use Rattle.locale_numbers_requests.specs.declared.SignAsked.{SignAsked}
+use Rattle.locale_numbers_requests.specs.declared.UnitAsked.{UnitAsked}
+use Rattle.locale_numbers_requests.specs.declared.UnitAsked.TheVariants as asked
 
 -- tables that answer as a book does are found as in the book
 pub found_by : (chain : DataLocaleMeaning → List DataLocaleMeaning) (symbols : Identifier → Result Symbols DataError) (digits : Identifier → Result (List ℕ) DataError) (book : BookTables) (p : Preferences) (grouping : GroupingStrategy) (options : DecimalFormatterOptions) (found : Result Tables DataError)
@@ -51,11 +66,17 @@ none_compact : (found : Result CompactTables DataError) (value : SignedValue Num
 none_compact (Ok tables) value none = absurd (cc)
 none_compact (Err error) value none = refl
 
-pub none_of_kind : (kind : Kind) (book : BookTables) (p : Preferences) (grouping : GroupingStrategy) (value : SignedValue Number)
-    → finds_kind kind book p grouping ≡ false → answer_of_kind kind book p grouping value ≡ refused refusal.Table
-none_of_kind Plain book p grouping value none = none_plain (found_in book p grouping) value none
-none_of_kind (Compact length) book p grouping value none = none_compact (found_compact length book p grouping) value none
-none_of_kind Lenient book p grouping value none = none_plain (found_in book p grouping) value none
+none_unit : (found : Result UnitFound DataError) (value : SignedValue Number) → is_ok found ≡ false → unit_written found value ≡ refused refusal.Table
+none_unit (Ok found) value none = absurd (cc)
+none_unit (Err error) value none = refl
+
+pub none_of_kind : (kind : Kind) (code : Option (List ℕ)) (book : BookTables) (p : Preferences) (grouping : GroupingStrategy) (value : SignedValue Number)
+    → finds_kind kind code book p grouping ≡ false → answer_of_kind kind code book p grouping value ≡ refused refusal.Table
+none_of_kind Plain code book p grouping value none = none_plain (found_in book p grouping) value none
+none_of_kind (Compact length) code book p grouping value none = none_compact (found_compact length book p grouping) value none
+none_of_kind Lenient code book p grouping value none = none_plain (found_in book p grouping) value none
+none_of_kind Percent code book p grouping value none = none_unit (found_unit asked.Percent book p grouping) value none
+none_of_kind (Amount style) code book p grouping value none = none_unit (found_amounts style code book p grouping) value none
 
 -- the key of the first entry is the first key
 pub first_key : {K F : Type 0} (cache : Cached K F) (key : K) (kept : F) → slice_get cache.entries 0 ≡ Some (key, kept) → IsFirst key cache
@@ -64,3 +85,86 @@ first_key {K = K} {F = F} cache key kept first = at cache.entries first
     at : (entries : List (K × F)) → slice_get entries 0 ≡ Some (key, kept) → slice_get (keys_of entries) 0 ≡ Some key
     at [] none = cc
     at (entry ∷ entries) is = ap (option_map (λ e. e.0)) is
+
+-- ---- the kind and the code of a unit
+
+pub unit_keyed : (unit : UnitAsked) (book : BookTables) (p : Preferences) (grouping : GroupingStrategy)
+    → found_keyed (unit_kind unit) (unit_code unit) book p grouping ≡ found_unit unit book p grouping
+unit_keyed asked.Percent book p grouping = refl
+unit_keyed (asked.Currency style code) book p grouping = refl
+
+pub kind_of_unit : (unit : UnitAsked) → IsOfUnit (unit_kind unit)
+kind_of_unit asked.Percent = tt
+kind_of_unit (asked.Currency style code) = tt
+
+-- where none is found, a number and a text with a unit are refused
+none_found_with : (found : Result UnitFound DataError) (sign : SignAsked) (rounding : RoundingAsked) (value : SignedValue Number) → is_ok found ≡ false → unit_with found sign rounding value ≡ refused refusal.Table
+none_found_with (Ok found) sign rounding value none = absurd (cc)
+none_found_with (Err error) sign rounding value none = refl
+
+none_found_read : (found : Result UnitFound DataError) (rounding : RoundingAsked) (text : List ℕ) → is_ok found ≡ false → read_unit_with found rounding text ≡ refused refusal.Table
+none_found_read (Ok found) rounding text none = absurd (cc)
+none_found_read (Err error) rounding text none = refl
+
+module _ (book : BookTables) (key : FormatterKey) where
+  -- what the key finds
+  abbrev keyed : Result UnitFound DataError
+  keyed = found_keyed key.kind key.code book key.preferences key.grouping
+
+  none_by : (kind : Kind) → IsOfUnit kind → finds_kind kind key.code book key.preferences key.grouping ≡ false
+      → is_ok (found_keyed kind key.code book key.preferences key.grouping) ≡ false
+  none_by Plain of none = absurd of
+  none_by (Compact length) of none = absurd of
+  none_by Lenient of none = absurd of
+  none_by Percent of none = none
+  none_by (Amount style) of none = none
+
+  pub none_with_unit : IsOfUnit key.kind → finds book key ≡ false → (sign : SignAsked) (rounding : RoundingAsked) (value : SignedValue Number) → unit_with keyed sign rounding value ≡ refused refusal.Table
+  none_with_unit of none sign rounding value = none_found_with keyed sign rounding value (none_by key.kind of none)
+
+  pub none_read_unit : IsOfUnit key.kind → finds book key ≡ false → (rounding : RoundingAsked) (text : List ℕ) → read_unit_with keyed rounding text ≡ refused refusal.Table
+  none_read_unit of none rounding text = none_found_read keyed rounding text (none_by key.kind of none)
+
+  -- a formatter of the key is one of numbers with a unit
+  abbrev MadeAs : KeptFormatter → Result UnitFound DataError → Type 0
+  MadeAs (kept.Plain plain) found = ⊥
+  MadeAs (kept.Compact formatter) found = ⊥
+  MadeAs (kept.Lenient reader) found = ⊥
+  MadeAs (kept.Units formatter) found = WritesUnit found formatter
+
+  made_by : (kind : Kind) (formatter : KeptFormatter) → IsOfUnit kind → HasKind kind key.code book key.preferences key.grouping formatter
+      → MadeAs formatter (found_keyed kind key.code book key.preferences key.grouping)
+  made_by Plain formatter of made = absurd of
+  made_by (Compact length) formatter of made = absurd of
+  made_by Lenient formatter of made = absurd of
+  made_by Percent (kept.Plain plain) of made = made
+  made_by Percent (kept.Compact formatter) of made = made
+  made_by Percent (kept.Lenient reader) of made = made
+  made_by Percent (kept.Units formatter) of made = made
+  made_by (Amount style) (kept.Plain plain) of made = made
+  made_by (Amount style) (kept.Compact formatter) of made = made
+  made_by (Amount style) (kept.Lenient reader) of made = made
+  made_by (Amount style) (kept.Units formatter) of made = made
+
+  pub unit_is_made : (formatter : UnitFormatter) → IsOfUnit key.kind → IsMadeFor book key (kept.Units formatter) → WritesUnit keyed formatter
+  unit_is_made formatter of made = made_by key.kind (kept.Units formatter) of made
+
+  pub not_plain : (plain : PlainFormatter) → IsOfUnit key.kind → IsMadeFor book key (kept.Plain plain) → ⊥
+  not_plain plain of made = made_by key.kind (kept.Plain plain) of made
+
+-- ---- the answer of a formatter that is found
+
+-- what is written by the parts of a formatter
+pub shown_by : (found : Result UnitFound DataError) (held : UnitFound) (settings : UnitSettings) (digits : Option FractionInfo) → found ≡ Ok held → settings ≡ held.settings → digits ≡ held.digits
+    → (sign : SignAsked) (rounding : RoundingAsked) (value : SignedValue Number)
+    → unit_with found sign rounding value ≡ written (unit_decimal_text settings (unit_changed digits rounding sign value))
+shown_by found held settings digits is same alike sign rounding value =
+    ap (λ f. unit_with f sign rounding value) is
+    ∙ ap (λ s. written (unit_decimal_text s (unit_changed held.digits rounding sign value))) (sym same)
+    ∙ ap (λ d. written (unit_decimal_text settings (unit_changed d rounding sign value))) (sym alike)
+
+-- and what may want memory then
+pub grows_by : (found : Result UnitFound DataError) (held : UnitFound) (digits : Option FractionInfo) → found ≡ Ok held → digits ≡ held.digits
+    → (rounding : RoundingAsked) (value : SignedValue Number) → MayGrowBy (fraction_asked digits rounding) rounding value → MayGrowUnit found rounding (number value)
+grows_by found held digits is alike rounding value grows =
+    subst (λ f. MayGrowUnit f rounding (number value)) (sym is) (subst (λ d. MayGrowBy (fraction_asked d rounding) rounding value) alike grows)

@@ -29,6 +29,7 @@ book = record {
   short = (of_locale en, english.patterns) ∷ [];
   long = [];
   parents = None;
+  units = None;
 }
 
 abbrev asked : Asked

@@ -10,12 +10,15 @@ use Rattle.icu_locale_core.specs.Subtags.{Text}
 use Rattle.icu_locale_core.specs.TagPreferences.{DataLocaleMeaning, Preferences, language_priority}
 use Rattle.locale_numbers_book.specs.TagReading.{tag_of}
 use Rattle.locale_numbers_book.specs.Wanted.{wanted_of}
-use Rattle.locale_numbers.specs.FormatterKeys.{same_grouping, same_kind}
+use Rattle.locale_numbers.specs.FormatterKeys.{code_of, kind_of, same_grouping, same_kind}
 use Rattle.locale_numbers.specs.Laws.{joined_fields}
 use Rattle.locale_numbers.specs.Words.{words_said, capacity_named}
 use Rattle.locale_numbers.specs.declared.formatter_key.Kind.TheVariants as kind
 use Rattle.icu_decimal.specs.declared.options.GroupingStrategy.TheVariants.{Auto, Always}
+use Rattle.locale_numbers_requests.specs.declared.AmountStyle.TheVariants.{Standard, Code}
+use Rattle.locale_numbers_requests.specs.declared.Form.TheVariants as form
 use Rattle.locale_numbers_requests.specs.declared.PatternLength.TheVariants.{Short, Long}
+use Rattle.locale_numbers_requests.specs.declared.UnitAsked.TheVariants.{Percent, Currency}
 
 -- ---- what tags ask for
 
@@ -119,6 +122,20 @@ three_fields = refl
 -- `auto` and `always` group alike, and are two all the same
 two_groupings : same_grouping Auto Always ≡ false
 two_groupings = refl
+
+-- two ways of writing an amount are two
+two_ways : same_kind (kind.Amount Standard) (kind.Amount Code) ≡ false
+two_ways = refl
+
+one_way : same_kind (kind.Amount Standard) (kind.Amount Standard) ≡ true
+one_way = refl
+
+-- what is read back has the kind and the code of what is written
+one_unit : kind_of (form.ReadUnit Percent) ≡ kind_of (form.Unit Percent)
+one_unit = refl
+
+euros : code_of (form.ReadUnit (Currency Code (codes "EUR"))) ≡ Some (codes "EUR")
+euros = refl
 
 two_lengths : same_kind (kind.Compact Short) (kind.Compact Long) ≡ false
 two_lengths = refl

@@ -5,6 +5,7 @@ pub mod FoundCompactLemmas
 pub mod FoundLemmas
 pub mod FoundSound
 pub mod FoundTexts
+pub mod FoundUnitLemmas
 pub mod FrontLemmas
 pub mod FrontMemory
 pub mod KeptLemmas
@@ -16,3 +17,4 @@ pub mod PrintedSizes
 pub mod ReadingTrips
 pub mod SameKeyLemmas
 pub use Rattle.locale_numbers_answers.proofs.CompactAnswerLemmas
+pub mod UnitTrips

@@ -9,6 +9,7 @@ use Rattle.fixed_decimal.specs.SignedValue.{SignedValue}
 use Rattle.fixed_decimal.specs.TextLaws.{IsDecimal}
 use Rattle.fixed_decimal.proofs.SignedReadOnceLemmas.{signed_printed}
 use Rattle.icu_decimal.specs.declared.error.DataError.{DataError}
+use Rattle.icu_decimal.specs.declared.options.GroupingStrategy.{GroupingStrategy}
 use Rattle.icu_decimal.specs.declared.options.GroupingStrategy.TheVariants.{Auto, Always}
 use Rattle.icu_decimal.specs.Choice.{first_found}
 use Rattle.icu_decimal.specs.CompactTables.{CompactTables}
@@ -17,7 +18,8 @@ use Rattle.icu_decimal.specs.FoundTables.{with_digits, with_symbols}
 use Rattle.icu_decimal.specs.Identifiers.{digits_identifiers, symbols_identifiers}
 use Rattle.icu_decimal.specs.KeptEntries.{CompactTable}
 use Rattle.icu_decimal.specs.Folding.{plain_digits}
-use Rattle.icu_decimal.specs.LenientReading.{folded_reading, or_else}
+use Rattle.icu_decimal.specs.LenientLaws.{EachGroupingIsLenient, under}
+use Rattle.icu_decimal.specs.LenientReading.{folded_reading, lenient_reading, or_else}
 use Rattle.icu_decimal.specs.PlainReading.{IsPlainText, PlainReading, decimal, not_written, plain_reading, unreadable}
 use Rattle.icu_decimal.specs.PlainText.{Tables, decimal_text}
 use Rattle.icu_decimal.specs.ReadingLaws.{HasOneReading as HasOnePlainReading, ReadIsWrittenAgain as TextIsWrittenAgain, TextsHaveOneDecimal, WrittenReadsBack as TextReadsBack}
@@ -30,16 +32,28 @@ use Rattle.locale_numbers.specs.Answer.{answer_asked, answer_in, answer_tagged, 
 use Rattle.locale_numbers_answers.specs.Changing.{changed, signed_as}
 use Rattle.locale_numbers.specs.CompactAnswer.{compact_with, exact_with, found_compact, patterns_under}
 use Rattle.locale_numbers_answers.specs.CompactReading.{CompactReading, compact_beyond, compact_nothing, compact_number, compact_reading_of}
-use Rattle.locale_numbers.specs.Laws.{AutoIsAnsweredAsAlways, FindsTables, ReadIsReadLeniently, ReadIsWrittenAgain, RoundedIsWrittenAgain, WrittenReadsBack, grouped_by, lenient_request, plain_request, reading_request}
+use Rattle.locale_numbers.specs.Laws.{AutoIsAnsweredAsAlways, EachGroupingIsReadLeniently, FindsTables, ReadIsReadLeniently, ReadIsWrittenAgain, RoundedIsWrittenAgain, WrittenReadsBack, grouped_by, lenient_request, plain_request, reading_request}
 use Rattle.locale_numbers_answers.specs.LenientAnswer.{lenient_with, reading_by, second_of, where_found}
 use Rattle.locale_numbers_answers.specs.NumberReading.{Reading, beyond, nothing, number, reading_of}
 use Rattle.locale_numbers_answers.specs.ReadAnswer.{read_answer, read_with}
+use Rattle.locale_numbers_answers.specs.UnitAnswer.{UnitFound, read_unit_with, unit_to}
+use Rattle.icu_dimension.specs.FoundUnits.{amount_settings, percent_settings, then_found, unit_locales, with_own}
+use Rattle.icu_dimension.specs.ProvidedUnits.{AmountTexts, PercentTexts, SymbolText}
+use Rattle.icu_dimension.specs.UnitChoice.{amounts_found, fractions_found, name_found, percent_found}
+use Rattle.icu_dimension.specs.UnitPatterns.{PatternTexts, chosen}
+use Rattle.icu_dimension.specs.UnitText.{UnitName}
+use Rattle.icu_dimension.specs.declared.FractionInfo.{FractionInfo}
+use Rattle.icu_dimension.specs.declared.UnitKind.TheVariants as kind
+use Rattle.locale_numbers_book.specs.TagFormatters.{currencies_in, percents_in}
+use Rattle.locale_numbers.specs.FoundUnit.{as_amounts, as_percents, found_unit, way_of, width_of}
+use Rattle.locale_numbers_requests.specs.declared.UnitAsked.{UnitAsked}
+use Rattle.locale_numbers_requests.specs.declared.UnitAsked.TheVariants.{Percent, Currency}
 use Rattle.locale_numbers_requests.specs.Request.{Asked}
 use Rattle.locale_numbers_book.specs.Wanted.{wanted_of}
 use Rattle.locale_numbers_requests.specs.declared.Refusal.{Refusal}
 use Rattle.locale_numbers_requests.specs.declared.Refusal.TheVariants as refusal
 use Rattle.locale_numbers_requests.specs.declared.Form.{Form}
-use Rattle.locale_numbers_requests.specs.declared.Form.TheVariants.{Plain, Compact, Exact, Read, ReadLenient}
+use Rattle.locale_numbers_requests.specs.declared.Form.TheVariants.{Plain, Compact, Exact, Read, ReadLenient, Unit, ReadUnit}
 use Rattle.locale_numbers_requests.specs.declared.PatternLength.{PatternLength}
 use Rattle.locale_numbers_requests.specs.declared.RoundingAsked.{RoundingAsked}
 use Rattle.locale_numbers_requests.specs.declared.RoundingAsked.TheVariants.{Unrounded}
@@ -140,6 +154,62 @@ twins_exactly one two twins sign compact_beyond = refl
 twins_exactly one two twins sign (compact_number value) =
     twins_exact one two twins (record { significand = signed_as sign value.significand; exponent = value.exponent })
 
+-- the same of what numbers with a unit are written with
+data AreUnitTwins : Result UnitFound DataError → Result UnitFound DataError → Type 0 where
+  unit_found : (symbols : Symbols) (digits : List ℕ) (pattern : PatternTexts) (unit : UnitName) (fractions : Option FractionInfo)
+      → AreUnitTwins
+      (Ok (record { settings = record { tables = record { symbols = symbols; digits = digits; strategy = Auto }; pattern = pattern; unit = unit }; digits = fractions }))
+      (Ok (record { settings = record { tables = record { symbols = symbols; digits = digits; strategy = Always }; pattern = pattern; unit = unit }; digits = fractions }))
+  unit_failed : (error : DataError) → AreUnitTwins (Err error) (Err error)
+
+-- with the symbols of an entry's own, or those of plain text
+own_twins : (own : Option Symbols) (symbols : Symbols) (digits : List ℕ) (pattern : PatternTexts) (unit : UnitName) (fractions : Option FractionInfo)
+    → AreUnitTwins
+    (Ok (record { settings = record { tables = with_own own (record { symbols = symbols; digits = digits; strategy = Auto }); pattern = pattern; unit = unit }; digits = fractions }))
+    (Ok (record { settings = record { tables = with_own own (record { symbols = symbols; digits = digits; strategy = Always }); pattern = pattern; unit = unit }; digits = fractions }))
+own_twins None symbols digits pattern unit fractions = unit_found symbols digits pattern unit fractions
+own_twins (Some own) symbols digits pattern unit fractions = unit_found own digits pattern unit fractions
+
+percent_twins : (one two : Result Tables DataError) → AreTwins one two → (percents : Result PercentTexts DataError)
+    → AreUnitTwins
+    (as_percents (then_found one (λ t. then_found percents (λ e. Ok (percent_settings t e)))))
+    (as_percents (then_found two (λ t. then_found percents (λ e. Ok (percent_settings t e)))))
+percent_twins one two (found symbols digits) (Ok e) = own_twins e.symbols symbols digits e.pattern (record { kind = kind.Percent; text = e.sign }) None
+percent_twins one two (found symbols digits) (Err error) = unit_failed error
+percent_twins one two (failed error) percents = unit_failed error
+
+amount_twins : (one two : Result Tables DataError) → AreTwins one two → (amounts : Result AmountTexts DataError) (name : Result SymbolText DataError) (fractions : Result FractionInfo DataError)
+    → AreUnitTwins
+    (as_amounts (then_found one (λ t. then_found amounts (λ e. then_found name (λ n. then_found fractions (λ f. Ok (record { unit = amount_settings t e n; fractions = f })))))))
+    (as_amounts (then_found two (λ t. then_found amounts (λ e. then_found name (λ n. then_found fractions (λ f. Ok (record { unit = amount_settings t e n; fractions = f })))))))
+amount_twins one two (found symbols digits) (Ok e) (Ok n) (Ok f) = own_twins e.symbols symbols digits (chosen e.patterns n.ends) (record { kind = kind.Currency; text = n.text }) (Some f)
+amount_twins one two (found symbols digits) (Ok e) (Ok n) (Err error) = unit_failed error
+amount_twins one two (found symbols digits) (Ok e) (Err error) fractions = unit_failed error
+amount_twins one two (found symbols digits) (Err error) name fractions = unit_failed error
+amount_twins one two (failed error) amounts name fractions = unit_failed error
+
+unit_twins_of : (unit : UnitAsked) (book : BookTables) (p : Preferences) → AreUnitTwins (found_unit unit book p Auto) (found_unit unit book p Always)
+unit_twins_of Percent book p =
+    percent_twins (found_in book p Auto) (found_in book p Always) (twins_of book p)
+    (percent_found (percents_in book).percents (unit_locales (percents_in book).decimals p) p.numbering_system)
+unit_twins_of (Currency style code) book p =
+    amount_twins (found_in book p Auto) (found_in book p Always) (twins_of book p)
+    (amounts_found (way_of style) (currencies_in book).currencies (currencies_in book).accounts (unit_locales (currencies_in book).decimals p) p.numbering_system code)
+    (name_found (width_of style) (currencies_in book).symbols (unit_locales (currencies_in book).decimals p) code)
+    (fractions_found (currencies_in book).fractions code)
+
+twins_with_unit : (one two : Result UnitFound DataError) → AreUnitTwins one two → (sign : SignAsked) (rounding : RoundingAsked) (reading : Reading)
+    → unit_to one sign rounding reading ≡ unit_to two sign rounding reading
+twins_with_unit one two twins sign rounding nothing = refl
+twins_with_unit one two twins sign rounding beyond = refl
+twins_with_unit one two (unit_found symbols digits pattern unit fractions) sign rounding (number value) = refl
+twins_with_unit one two (unit_failed error) sign rounding (number value) = refl
+
+twins_read_unit : (one two : Result UnitFound DataError) → AreUnitTwins one two → (rounding : RoundingAsked) (text : List ℕ)
+    → read_unit_with one rounding text ≡ read_unit_with two rounding text
+twins_read_unit one two (unit_found symbols digits pattern unit fractions) rounding text = refl
+twins_read_unit one two (unit_failed error) rounding text = refl
+
 auto_in : (book : BookTables) (p : Preferences) (asked : Asked) (form : Form)
     → answer_in form book p (grouped_by Auto asked) ≡ answer_in form book p (grouped_by Always asked)
 auto_in book p asked Plain =
@@ -154,6 +224,10 @@ auto_in book p asked Read = twins_read (found_in book p Auto) (found_in book p A
 auto_in book p asked ReadLenient =
     twins_lenient (found_in book p Auto) (found_in book p Always) (found_in book (in_latin p) Auto) (found_in book (in_latin p) Always)
     (twins_of book p) (twins_of book (in_latin p)) asked.text
+auto_in book p asked (Unit unit) =
+    twins_with_unit (found_unit unit book p Auto) (found_unit unit book p Always) (unit_twins_of unit book p) asked.sign asked.rounding (reading_of asked.text)
+auto_in book p asked (ReadUnit unit) =
+    twins_read_unit (found_unit unit book p Auto) (found_unit unit book p Always) (unit_twins_of unit book p) asked.rounding asked.text
 
 auto_tagged : (book : BookTables) (asked : Asked) (p : Option Preferences)
     → answer_tagged book p (grouped_by Auto asked) ≡ answer_tagged book p (grouped_by Always asked)
@@ -162,6 +236,26 @@ auto_tagged book asked (Some p) = auto_in book p asked asked.form
 
 pub auto_is_always : AutoIsAnsweredAsAlways
 auto_is_always book asked = auto_tagged book asked (wanted_of asked.tag)
+
+-- what is found under another grouping differs in nothing else
+abbrev regrouped : GroupingStrategy → Result Tables DataError → Result Tables DataError
+regrouped grouping (Ok tables) = Ok (under grouping tables)
+regrouped grouping (Err error) = Err error
+
+regrouped_digits : (one other : GroupingStrategy) (symbols : Symbols) (answer : Result (List ℕ) DataError)
+    → with_digits other symbols answer ≡ regrouped other (with_digits one symbols answer)
+regrouped_digits one other symbols (Ok digits) = refl
+regrouped_digits one other symbols (Err error) = refl
+
+regrouped_symbols : (one other : GroupingStrategy) (book : BookTables) (p : Preferences) (answer : Result Symbols DataError)
+    → with_symbols other (digits_under book) p answer ≡ regrouped other (with_symbols one (digits_under book) p answer)
+regrouped_symbols one other book p (Ok symbols) =
+    regrouped_digits one other symbols (first_found (digits_under book) (digits_identifiers p.numbering_system symbols.strings.numsys))
+regrouped_symbols one other book p (Err error) = refl
+
+found_regrouped : (one other : GroupingStrategy) (book : BookTables) (p : Preferences)
+    → found_in book p other ≡ regrouped other (found_in book p one)
+found_regrouped one other book p = regrouped_symbols one other book p (first_found (symbols_under book) (symbols_identifiers (chain_in book) p))
 
 -- ---- requests whose tables are found
 
@@ -205,6 +299,23 @@ module _ (book : BookTables) (asked : Asked) (tables : Tables) (finds : FindsTab
       ap (λ p. answer_tagged book p (reading_request asked text)) finds.tag
       ∙ ap (λ found. read_with found text) finds.found
 
+  -- and what the request with another grouping reads
+  regrouped_found : (grouping : GroupingStrategy) (text : List ℕ)
+      → answer_asked book (Some (reading_request (grouped_by grouping asked) text)) ≡ read_answer (plain_reading (under grouping tables) text)
+  regrouped_found grouping text =
+      ap (λ p. answer_tagged book p (reading_request (grouped_by grouping asked) text)) finds.tag
+      ∙ ap (λ found. read_with found text) (found_regrouped asked.grouping grouping book finds.preferences)
+      ∙ ap (λ found. read_with (regrouped grouping found) text) finds.found
+
+  -- what is read leniently is answered
+  lenient_found : (text : List ℕ) (value : SignedValue Number) → lenient_reading tables text ≡ decimal value
+      → answer_asked book (Some (lenient_request asked text)) ≡ written (signed_text_of value)
+  lenient_found text value is =
+      let latin : Result Tables DataError = found_in book (in_latin finds.preferences) asked.grouping in
+      ap (λ p. answer_tagged book p (lenient_request asked text)) finds.tag
+      ∙ ap (λ found. lenient_with found latin text) finds.found
+      ∙ ap read_answer (read_first tables (second_of tables latin) text value is)
+
   plain_found : (rounding : RoundingAsked) (digits : List ℕ) (value : SignedValue Number) → reading_of digits ≡ number value
       → answer_asked book (Some (plain_request asked rounding digits)) ≡ written (decimal_text tables (changed rounding Keep value))
   plain_found rounding digits value is =
@@ -247,6 +358,13 @@ read_again one again book asked tables text digits finds same =
     let plain = read_plainly book asked tables finds one text read.value read.is in
     plain_found book asked tables finds Unrounded digits read.value (sent_again book asked tables finds text digits read plain.decimal)
     ∙ ap written (again tables text read.value read.is)
+
+pub each_grouping_is_read : EachGroupingIsLenient → EachGroupingIsReadLeniently
+each_grouping_is_read lenient book asked tables grouping text digits finds readable utf8 same =
+    let other : Tables = under grouping tables in
+    let read = read_by other text digits (plain_reading other text) refl (sym (regrouped_found book asked tables finds grouping text) ∙ same) in
+    lenient_found book asked tables finds text read.value (lenient tables grouping text read.value finds.are utf8 readable read.is)
+    ∙ ap written read.printed
 
 pub reads_back : TextReadsBack → WrittenReadsBack
 reads_back back book asked tables value finds readable is =

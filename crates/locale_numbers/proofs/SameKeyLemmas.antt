@@ -1,16 +1,21 @@
 -- The test of two keys is true exactly where they are one, so any other such test is the same.
-use Rattle.std.proofs.Common.{◌≡◌, Bool, refl, ap, Decides}
+use Rattle.std.proofs.Common.{◌≡◌, ℕ, Bool, List, Option, Some, None, refl, ap, Decides}
+use Rattle.std.specs.Option.{option_eq}
+use Rattle.std.specs.Str.{bytes_eq}
+use Rattle.std.specs.Cmp.Lexicographic.{bytes_decides}
 use Rattle.std.proofs.lemmas.Bool.Decides.{Decides-and, Decides-like, same_from_decides}
 use Rattle.icu_decimal.specs.declared.options.GroupingStrategy.{GroupingStrategy}
 use Rattle.icu_decimal.specs.declared.options.GroupingStrategy.TheVariants.{Auto, Never, Always, Min2}
 use Rattle.icu_locale_core.specs.SamePreferences.{same_preferences}
 use Rattle.icu_locale_core.specs.TagPreferences.{Preferences}
 use Rattle.icu_locale_core.proofs.SameLemmas.{same_locale_preferences, texts_decide}
-use Rattle.locale_numbers.specs.FormatterKeys.{same_grouping, same_keys, same_kind, same_length}
+use Rattle.locale_numbers.specs.FormatterKeys.{same_grouping, same_keys, same_kind, same_length, same_style}
 use Rattle.locale_numbers.specs.Laws.{TellsKeys}
 use Rattle.locale_numbers.specs.declared.formatter_key.FormatterKey.{FormatterKey}
 use Rattle.locale_numbers.specs.declared.formatter_key.Kind.{Kind}
-use Rattle.locale_numbers.specs.declared.formatter_key.Kind.TheVariants.{Plain, Compact, Lenient}
+use Rattle.locale_numbers.specs.declared.formatter_key.Kind.TheVariants.{Plain, Compact, Lenient, Percent, Amount}
+use Rattle.locale_numbers_requests.specs.declared.AmountStyle.{AmountStyle}
+use Rattle.locale_numbers_requests.specs.declared.AmountStyle.TheVariants.{Standard, Accounting, Code}
 use Rattle.locale_numbers_requests.specs.declared.PatternLength.{PatternLength}
 use Rattle.locale_numbers_requests.specs.declared.PatternLength.TheVariants.{Short, Long}
 
@@ -19,6 +24,24 @@ lengths_decide Short Short = (λ e. refl, λ e. refl)
 lengths_decide Short Long = (λ e. cc, λ e. cc)
 lengths_decide Long Short = (λ e. cc, λ e. cc)
 lengths_decide Long Long = (λ e. refl, λ e. refl)
+
+styles_decide : (a b : AmountStyle) → Decides (same_style a b) (a ≡ b)
+styles_decide Standard Standard = (λ e. refl, λ e. refl)
+styles_decide Standard Accounting = (λ e. cc, λ e. cc)
+styles_decide Standard Code = (λ e. cc, λ e. cc)
+styles_decide Accounting Standard = (λ e. cc, λ e. cc)
+styles_decide Accounting Accounting = (λ e. refl, λ e. refl)
+styles_decide Accounting Code = (λ e. cc, λ e. cc)
+styles_decide Code Standard = (λ e. cc, λ e. cc)
+styles_decide Code Accounting = (λ e. cc, λ e. cc)
+styles_decide Code Code = (λ e. refl, λ e. refl)
+
+abbrev style_or : AmountStyle → Kind → AmountStyle
+style_or other (Amount s) = s
+style_or other Plain = other
+style_or other (Compact l) = other
+style_or other Lenient = other
+style_or other Percent = other
 
 kinds_decide : (a b : Kind) → Decides (same_kind a b) (a ≡ b)
 kinds_decide Plain Plain = (λ e. refl, λ e. refl)
@@ -29,6 +52,22 @@ kinds_decide (Compact l) Lenient = (λ e. cc, λ e. cc)
 kinds_decide Lenient Plain = (λ e. cc, λ e. cc)
 kinds_decide Lenient (Compact m) = (λ e. cc, λ e. cc)
 kinds_decide Lenient Lenient = (λ e. refl, λ e. refl)
+kinds_decide Plain Percent = (λ e. cc, λ e. cc)
+kinds_decide Plain (Amount s) = (λ e. cc, λ e. cc)
+kinds_decide (Compact l) Percent = (λ e. cc, λ e. cc)
+kinds_decide (Compact l) (Amount s) = (λ e. cc, λ e. cc)
+kinds_decide Lenient Percent = (λ e. cc, λ e. cc)
+kinds_decide Lenient (Amount s) = (λ e. cc, λ e. cc)
+kinds_decide Percent Plain = (λ e. cc, λ e. cc)
+kinds_decide Percent (Compact m) = (λ e. cc, λ e. cc)
+kinds_decide Percent Lenient = (λ e. cc, λ e. cc)
+kinds_decide Percent Percent = (λ e. refl, λ e. refl)
+kinds_decide Percent (Amount s) = (λ e. cc, λ e. cc)
+kinds_decide (Amount s) Plain = (λ e. cc, λ e. cc)
+kinds_decide (Amount s) (Compact m) = (λ e. cc, λ e. cc)
+kinds_decide (Amount s) Lenient = (λ e. cc, λ e. cc)
+kinds_decide (Amount s) Percent = (λ e. cc, λ e. cc)
+kinds_decide (Amount s) (Amount t) = (λ e. ap Amount ((styles_decide s t).0 e), λ e. (styles_decide s t).1 (ap (style_or s) e))
 kinds_decide (Compact l) (Compact m) = (λ e. ap Compact ((lengths_decide l m).0 e), λ e. (lengths_decide l m).1 (cc))
 
 groupings_decide : (a b : GroupingStrategy) → Decides (same_grouping a b) (a ≡ b)
@@ -55,12 +94,23 @@ preferences_decide a b = Decides-like (same_preferences a b)
     (λ e. (ap (λ p. p.locale) e, ap (λ p. p.numbering_system) e))
     (Decides-and _ _ (same_locale_preferences a.locale b.locale) (texts_decide a.numbering_system b.numbering_system))
 
+abbrev code_or : List ℕ → Option (List ℕ) → List ℕ
+code_or other (Some code) = code
+code_or other None = other
+
+codes_decide : (s t : Option (List ℕ)) → Decides (option_eq bytes_eq s t) (s ≡ t)
+codes_decide None None = (λ e. refl, λ e. refl)
+codes_decide None (Some t) = (λ e. cc, λ e. cc)
+codes_decide (Some s) None = (λ e. cc, λ e. cc)
+codes_decide (Some s) (Some t) = (λ e. ap Some ((bytes_decides s t).0 e), λ e. (bytes_decides s t).1 (ap (code_or s) e))
+
 pub keys_decide : (one other : FormatterKey) → Decides (same_keys one other) (one ≡ other)
 keys_decide one other = Decides-like (same_keys one other)
-    (λ h i. record { preferences = h.0 i; kind = h.1.0 i; grouping = h.1.1 i })
-    (λ e. (ap (λ k. k.preferences) e, (ap (λ k. k.kind) e, ap (λ k. k.grouping) e)))
+    (λ h i. record { preferences = h.0 i; kind = h.1.0 i; code = h.1.1.0 i; grouping = h.1.1.1 i })
+    (λ e. (ap (λ k. k.preferences) e, (ap (λ k. k.kind) e, (ap (λ k. k.code) e, ap (λ k. k.grouping) e))))
     (Decides-and _ _ (preferences_decide one.preferences other.preferences)
-    (Decides-and _ _ (kinds_decide one.kind other.kind) (groupings_decide one.grouping other.grouping)))
+    (Decides-and _ _ (kinds_decide one.kind other.kind)
+    (Decides-and _ _ (codes_decide one.code other.code) (groupings_decide one.grouping other.grouping))))
 
 pub test_is : (same : FormatterKey → FormatterKey → Bool) → TellsKeys same → same ≡ same_keys
 test_is same tells = λ i one other. same_from_decides (same one other) (same_keys one other) (tells one other) (keys_decide one other) i

@@ -10,6 +10,7 @@ use Rattle.icu_locale_core.specs.TagPreferences.{Preferences}
 use Rattle.locale_numbers_book.specs.Book.{BookTables}
 use Rattle.locale_numbers_book.specs.TagFormatters.{found_plain}
 use Rattle.locale_numbers.specs.CompactAnswer.{compact_with, found_compact}
+use Rattle.locale_numbers.specs.FoundUnit.{found_unit}
 pub use Rattle.locale_numbers_answers.specs.AnswerLine.{refused, written}
 pub use Rattle.locale_numbers_answers.specs.CompactAnswer.{exact_to}
 use Rattle.locale_numbers_answers.specs.CompactReading.{compact_reading_of}
@@ -17,10 +18,11 @@ pub use Rattle.locale_numbers_answers.specs.NumberAnswer.{answer_to, answer_with
 use Rattle.locale_numbers_answers.specs.LenientAnswer.{lenient_with}
 use Rattle.locale_numbers_answers.specs.NumberReading.{reading_of}
 use Rattle.locale_numbers_answers.specs.ReadAnswer.{read_with}
+use Rattle.locale_numbers_answers.specs.UnitAnswer.{read_unit_with, unit_to}
 use Rattle.locale_numbers_requests.specs.Request.{Asked, request_of}
 use Rattle.locale_numbers_book.specs.Wanted.{wanted_of}
 use Rattle.locale_numbers_requests.specs.declared.Form.{Form}
-use Rattle.locale_numbers_requests.specs.declared.Form.TheVariants.{Plain, Compact, Exact, Read, ReadLenient}
+use Rattle.locale_numbers_requests.specs.declared.Form.TheVariants.{Plain, Compact, Exact, Read, ReadLenient, Unit, ReadUnit}
 use Rattle.locale_numbers_requests.specs.declared.Refusal.TheVariants as refusal
 
 -- the tables of a book that preferences find, with a grouping
@@ -42,6 +44,9 @@ answer_in (Exact length) book preferences asked =
 answer_in Read book preferences asked = read_with (found_in book preferences asked.grouping) asked.text
 answer_in ReadLenient book preferences asked =
     lenient_with (found_in book preferences asked.grouping) (found_in book (in_latin preferences) asked.grouping) asked.text
+answer_in (Unit unit) book preferences asked =
+    unit_to (found_unit unit book preferences asked.grouping) asked.sign asked.rounding (reading_of asked.text)
+answer_in (ReadUnit unit) book preferences asked = read_unit_with (found_unit unit book preferences asked.grouping) asked.rounding asked.text
 
 -- the answer by what the tag prefers, where it is a tag
 abbrev pub answer_tagged : BookTables → Option Preferences → Asked → List ℕ

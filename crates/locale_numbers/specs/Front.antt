@@ -11,12 +11,14 @@ use Rattle.locale_numbers_book.specs.Book.{BookTables}
 use Rattle.locale_numbers.specs.Answer.{answer_in, found_in, in_latin, refused}
 pub use Rattle.locale_numbers_answers.specs.AnswerLine.{if_text}
 use Rattle.locale_numbers_answers.specs.Changing.{MayGrowRead, ReadsMore}
-use Rattle.locale_numbers.specs.FormatterKeys.{key_in, key_with, kind_of}
+use Rattle.locale_numbers.specs.FormatterKeys.{code_of, key_in, key_with, kind_of}
 use Rattle.locale_numbers_answers.specs.NumberReading.{reading_of}
 use Rattle.locale_numbers_answers.specs.LenientAnswer.{MayAllocateWith}
 use Rattle.locale_numbers_answers.specs.ReadAnswer.{HasManyDigitsWith}
+use Rattle.locale_numbers_answers.specs.UnitAnswer.{MayGrowUnit}
 use Rattle.locale_numbers_requests.specs.Request.{Asked, request_of, with_text}
 use Rattle.locale_numbers_book.specs.Wanted.{wanted_of}
+use Rattle.locale_numbers.specs.FoundUnit.{found_unit}
 use Rattle.locale_numbers.specs.declared.formatter_key.FormatterKey.{FormatterKey}
 use Rattle.locale_numbers.specs.declared.front.Front.{Front}
 use Rattle.locale_numbers_requests.specs.declared.Refusal.TheVariants as refusal
@@ -38,9 +40,13 @@ front_asked (Some asked) =
 abbrev pub front_of : List ℕ → Option Front
 front_of bytes = front_asked (request_of bytes)
 
--- the key is of the kind of the form
+-- the key is of the kind of the form, and has its code
+pub record FitsKey (form : Form) (key : FormatterKey) : Type 0 where
+  pub kind : key.kind ≡ kind_of form
+  pub code : key.code ≡ code_of form
+
 abbrev pub FitsForm : Front → Type 0
-FitsForm front = IfSome front.key (λ key. key.kind ≡ kind_of front.form)
+FitsForm front = IfSome front.key (FitsKey front.form)
 
 -- this holds of the front's key, where it has one
 abbrev pub HasKeyThat : (FormatterKey → Type 0) → Option Front → Type 0
@@ -85,7 +91,7 @@ key_behind front text = key_if_text text (key_front front text)
 -- a text that may want memory, beside its answer and its formatter. To write a number: one that says a number of more than eight digits, and
 -- of more than the one that is there, or one whose number a rounding to multiples of 25 may lengthen. In an exact form: one that says a
 -- number of more than eight digits. To be read back: one with more than eight digits of the tables. To be read leniently: this too, and one
--- that is folded.
+-- that is folded. To be read back with a unit: any text, since what it is read with may be put together for it.
 abbrev pub MayTakeIn : Form → BookTables → FormatterKey → RoundingAsked → List ℕ → SignedValue Number → Type 0
 MayTakeIn form.Plain book key rounding text value = ReadsMore text value ⊎ MayGrowRead rounding (reading_of text)
 MayTakeIn (form.Compact length) book key rounding text value = ReadsMore text value ⊎ MayGrowRead rounding (reading_of text)
@@ -93,6 +99,9 @@ MayTakeIn (form.Exact length) book key rounding text value = ReadsLongCompact te
 MayTakeIn form.Read book key rounding text value = (is_utf8 text ≡ true) × HasManyDigitsWith (found_in book key.preferences key.grouping) text
 MayTakeIn form.ReadLenient book key rounding text value =
     (is_utf8 text ≡ true) × MayAllocateWith (found_in book key.preferences key.grouping) (found_in book (in_latin key.preferences) key.grouping) text
+MayTakeIn (form.Unit unit) book key rounding text value =
+    ReadsMore text value ⊎ MayGrowUnit (found_unit unit book key.preferences key.grouping) rounding (reading_of text)
+MayTakeIn (form.ReadUnit unit) book key rounding text value = is_utf8 text ≡ true
 
 -- the same behind a front, by its key: where its tag is none, no text wants memory
 abbrev pub MayTakeKeyed : BookTables → Front → Option FormatterKey → List ℕ → SignedValue Number → Type 0

@@ -10,6 +10,7 @@ use Rattle.fixed_decimal.specs.Number.{Number}
 use Rattle.fixed_decimal.specs.SignedValue.{SignedValue}
 use Rattle.fixed_decimal.specs.SignedText.{signed_text_of}
 use Rattle.fixed_decimal.specs.TextLaws.{IsDecimal}
+use Rattle.icu_decimal.specs.LenientReading.{is_leniently_readable_by}
 use Rattle.icu_decimal.specs.PlainText.{Tables, decimal_text}
 use Rattle.icu_decimal.specs.Readable.{is_readable_by}
 use Rattle.icu_decimal.specs.ReadingLaws.{AreTables}
@@ -129,6 +130,13 @@ ReadIsWrittenAgain = (book : BookTables) (asked : Asked) (tables : Tables) (text
 abbrev pub ReadIsReadLeniently : Type 0
 ReadIsReadLeniently = (book : BookTables) (asked : Asked) (text digits : List ℕ)
     → answer_asked book (Some (reading_request asked text)) ≡ written digits
+    → answer_asked book (Some (lenient_request asked text)) ≡ written digits
+
+-- and so is a text that is read under another grouping, where the symbols are leniently readable
+abbrev pub EachGroupingIsReadLeniently : Type 0
+EachGroupingIsReadLeniently = (book : BookTables) (asked : Asked) (tables : Tables) (grouping : GroupingStrategy) (text digits : List ℕ)
+    → FindsTables book asked tables → is_leniently_readable_by tables ≡ true → IsUtf8 text
+    → answer_asked book (Some (reading_request (grouped_by grouping asked) text)) ≡ written digits
     → answer_asked book (Some (lenient_request asked text)) ≡ written digits
 
 -- the text of each decimal is UTF-8

@@ -1,5 +1,6 @@
 -- What a reader must believe: the answers to request lines.
 pub mod CompactAnswer
+pub mod FoundUnit
 pub mod Answer
 -- Keys of formatters, and how many are made.
 pub mod FormatterKeys
@@ -8,6 +9,7 @@ pub mod Words
 pub mod Fault
 pub mod Program
 -- What private steps follow.
+pub mod UnitHeld
 pub mod KeptFormatters
 pub mod Front
 pub mod LineState
@@ -17,6 +19,7 @@ pub mod SameKeys
 pub mod Laws
 pub mod Printed
 pub mod PrintedLaws
+pub mod UnitLaws
 -- Of the inner crates: books.
 pub use Rattle.locale_numbers_book.specs.Book
 pub use Rattle.locale_numbers_book.specs.BookError
@@ -39,6 +42,7 @@ pub use Rattle.locale_numbers_cache.specs.Recent
 -- Of the inner crates: what a request line asks, and the words that refuse it.
 pub use Rattle.locale_numbers_requests.specs.Cutting
 pub use Rattle.locale_numbers_requests.specs.Digits
+pub use Rattle.locale_numbers_requests.specs.FormField
 pub use Rattle.locale_numbers_requests.specs.Refusal
 pub use Rattle.locale_numbers_requests.specs.Request
 pub use Rattle.locale_numbers_requests.specs.RoundingField
@@ -46,6 +50,7 @@ pub use Rattle.locale_numbers_requests.specs.RoundingField
 pub use Rattle.locale_numbers_answers.specs.AnswerLine
 pub use Rattle.locale_numbers_answers.specs.AnswerSink
 pub use Rattle.locale_numbers_answers.specs.AnswerSinkLaws
+pub use Rattle.locale_numbers_answers.specs.AmountRounding
 pub use Rattle.locale_numbers_answers.specs.Changing
 pub use Rattle.locale_numbers_answers.specs.CompactReading
 pub use Rattle.locale_numbers_answers.specs.Laws as AnswerLaws
@@ -53,6 +58,8 @@ pub use Rattle.locale_numbers_answers.specs.LenientAnswer
 pub use Rattle.locale_numbers_answers.specs.NumberReading
 pub use Rattle.locale_numbers_answers.specs.ReadAnswer
 pub use Rattle.locale_numbers_answers.specs.Rounded
+pub use Rattle.locale_numbers_answers.specs.UnitAnswer
+pub use Rattle.locale_numbers_answers.specs.UnitReadings
 -- Of the inner crates: lines, readers and writers.
 pub use Rattle.locale_numbers_lines.specs.ByteIo
 pub use Rattle.locale_numbers_lines.specs.Growth

@@ -67,13 +67,22 @@ preferences_are a b h =
     let system : a.numbering_system ≡ b.numbering_system = texts a.numbering_system b.numbering_system p.1 in
     λ i. record { locale = locale i; numbering_system = system i }
 
-module _ (kinds : Kind → Kind → Bool) (groupings : GroupingStrategy → GroupingStrategy → Bool) (kind_is : (a b : Kind) → kinds a b ≡ true → a ≡ b) (grouping_is : (a b : GroupingStrategy) → groupings a b ≡ true → a ≡ b) where
-  -- keys whose preferences, kinds and groupings are `==` are one
-  pub keys_are : (one other : FormatterKey) → same_preferences one.preferences other.preferences && (kinds one.kind other.kind && groupings one.grouping other.grouping) ≡ true → one ≡ other
+codes_are : (eq : Text → Text → Bool) → ((a b : Text) → eq a b ≡ true → a ≡ b) → (s t : Option Text) → option_eq eq s t ≡ true → s ≡ t
+codes_are eq is None None h = refl
+codes_are eq is None (Some t) h = cc
+codes_are eq is (Some s) None h = cc
+codes_are eq is (Some s) (Some t) h = ap Some (is s t h)
+
+module _ (kinds : Kind → Kind → Bool) (codes : Text → Text → Bool) (groupings : GroupingStrategy → GroupingStrategy → Bool) (kind_is : (a b : Kind) → kinds a b ≡ true → a ≡ b) (code_is : (a b : Text) → codes a b ≡ true → a ≡ b) (grouping_is : (a b : GroupingStrategy) → groupings a b ≡ true → a ≡ b) where
+  -- keys whose preferences, kinds, codes and groupings are `==` are one
+  pub keys_are : (one other : FormatterKey)
+      → same_preferences one.preferences other.preferences && (kinds one.kind other.kind && (option_eq codes one.code other.code && groupings one.grouping other.grouping)) ≡ true → one ≡ other
   keys_are one other h =
-      let p = and_parts (same_preferences one.preferences other.preferences) (kinds one.kind other.kind && groupings one.grouping other.grouping) h in
-      let q = and_parts (kinds one.kind other.kind) (groupings one.grouping other.grouping) p.1 in
+      let p = and_parts (same_preferences one.preferences other.preferences) (kinds one.kind other.kind && (option_eq codes one.code other.code && groupings one.grouping other.grouping)) h in
+      let q = and_parts (kinds one.kind other.kind) (option_eq codes one.code other.code && groupings one.grouping other.grouping) p.1 in
+      let r = and_parts (option_eq codes one.code other.code) (groupings one.grouping other.grouping) q.1 in
       let preferences : one.preferences ≡ other.preferences = preferences_are one.preferences other.preferences p.0 in
       let kind : one.kind ≡ other.kind = kind_is one.kind other.kind q.0 in
-      let grouping : one.grouping ≡ other.grouping = grouping_is one.grouping other.grouping q.1 in
-      λ i. record { preferences = preferences i; kind = kind i; grouping = grouping i }
+      let code : one.code ≡ other.code = codes_are codes code_is one.code other.code r.0 in
+      let grouping : one.grouping ≡ other.grouping = grouping_is one.grouping other.grouping r.1 in
+      λ i. record { preferences = preferences i; kind = kind i; code = code i; grouping = grouping i }

@@ -14,6 +14,7 @@ use crate::kept_formatter::MadeFormatter;
 use crate::lenient_answer::answer_lenient;
 use crate::number_answer::answer_number;
 use crate::read_answer::answer_read;
+use crate::unit_answer::{answer_read_unit, answer_unit};
 use fixed_decimal::Decimal;
 use locale_numbers_answers::{write_refusal, write_refusal_or_shape};
 use locale_numbers_book::Book;
@@ -90,6 +91,23 @@ pub(crate) fn answer_behind_front<'a, F: Formatters<'a>>(
             };
             answer_lenient(alloc, formatters, key, is_held, text, out)
         }
+        Form::Unit(_) => answer_unit(
+            alloc,
+            value,
+            formatters,
+            key,
+            is_held,
+            front.sign,
+            front.rounding,
+            text,
+            out,
+        ),
+        Form::ReadUnit(_) => {
+            let Some(text) = as_text(text) else {
+                return write_refusal(out, Refusal::Shape);
+            };
+            answer_read_unit(alloc, formatters, key, is_held, front.rounding, text, out)
+        }
     }
 }
 
@@ -127,7 +145,8 @@ fn answer_whole_line<'a, F: Formatters<'a>>(
 /// tab and `-987,654.321`. With the form `short` and the text `1650` it is answered by `ok`, `1.6K` and
 /// `1.6c3`, the value shown, with tabs between; with `exact-short` and `-1.20c6` by `ok`, a tab and
 /// `-1.20M`; with `read` and `-987,654.321` by `ok`, a tab and `-987654.321`; with `read-lenient` and
-/// `.5` by `ok`, a tab and `0.5`. A line that is refused is
+/// `.5` by `ok`, a tab and `0.5`. Under the sample book of units `currency-EUR` and `-1234.5` are answered by `ok`, a tab
+/// and `-€1,234.50`, and `read-currency-EUR` with this text by `ok`, a tab and `-1234.50`. A line that is refused is
 /// answered by `err`, a tab and the first word that applies: `shape`, `tag`, `number`, `limit`,
 /// `table`, `range`, `exponent`, `unreadable`, `not-written`; an empty line by `shape`. A line feed in it
 /// is an ordinary byte. Allocates. `AllocError`: out of memory. Tags are the whole locale tags of

@@ -5,7 +5,7 @@ ghost use Rattle.locale_numbers.specs.FormatterKeys.{key_with};
 ghost use Rattle.locale_numbers.specs.Front.{asked_text, front_of};
 ghost use Rattle.locale_numbers_requests.specs.Request.{request_of};
 
-use crate::formatter_key::{FormatterKey, kind_of_form};
+use crate::formatter_key::{FormatterKey, code_of_form, kind_of_form};
 use icu_decimal::DecimalFormatterPreferences;
 use icu_decimal::options::GroupingStrategy;
 use locale_numbers_book::read_preferences;
@@ -40,15 +40,16 @@ pub(crate) fn cut_text(line: &[u8]) -> (&[u8], &[u8])
 // The key of what a tag prefers, a form and a grouping.
 fn hashed_key(
     preferences: Option<DecimalFormatterPreferences>,
-    form: Form,
+    form: &Form,
     grouping: GroupingStrategy,
 ) -> Option<Hashed<FormatterKey>>
-    ensures { result ≡ option_map (key_with form grouping) preferences }
+    ensures { result ≡ option_map (key_with form.now grouping) preferences }
 {
     match preferences {
         Some(preferences) => Some(Hashed::new(FormatterKey {
             preferences,
             kind: kind_of_form(form),
+            code: code_of_form(form),
             grouping,
         })),
         None => None,
@@ -65,11 +66,12 @@ pub(crate) fn read_front(alloc: Global, bytes: &[u8]) -> Result<Option<Front>, A
         return Ok(None);
     };
     let preferences = read_preferences(alloc, request.tag)?;
+    let key = hashed_key(preferences, &request.form, request.grouping);
     Ok(Some(Front {
         form: request.form,
         sign: request.sign,
         rounding: request.rounding,
-        key: hashed_key(preferences, request.form, request.grouping),
+        key,
     }))
 }
 

@@ -13,6 +13,7 @@ use crate::formatter_key::{FormatterKey, Kind};
 use crate::formatters::Formatters;
 use crate::lenient_reader::lenient_reader;
 use crate::tables::Tables;
+use crate::unit_formatter::{UnitFormatter, made_amounts, made_percents};
 use icu_decimal::options::{CompactDecimalFormatterOptions, DecimalFormatterOptions};
 use icu_decimal::provider::DataError;
 use icu_decimal::{CompactDecimalFormatter, DecimalFormatter, is_readable};
@@ -39,6 +40,8 @@ pub(crate) enum KeptFormatter<'a> {
     Compact(CompactDecimalFormatter<'a>),
     /// One that reads what people type.
     Lenient(LenientReader<'a>),
+    /// One of numbers with a unit.
+    Units(UnitFormatter<'a>),
 }
 
 // One that makes the formatters of keys, with these tables.
@@ -104,7 +107,8 @@ pub(crate) fn compact_formatter<'a, T: Tables>(
 
 // The formatter of a key; `None` where the book lacks one of its tables.
 //
-// One that is to be kept asks whether its symbols are readable, and folds those that are read leniently.
+// One that is to be kept asks whether its symbols are readable, folds those that are read leniently, and puts together
+// what texts with a unit are read with.
 fn formatter_by<'a, T: Tables>(
     alloc: Global,
     tables: &'a T,
@@ -128,10 +132,19 @@ fn formatter_by<'a, T: Tables>(
             Some(reader) => Some(KeptFormatter::Lenient(reader)),
             None => None,
         },
+        Kind::Percent => match made_percents(alloc, tables, &key, asks) {
+            Some(unit) => Some(KeptFormatter::Units(unit)),
+            None => None,
+        },
+        Kind::Amount(style) => match made_amounts(alloc, tables, style, &key, asks) {
+            Some(unit) => Some(KeptFormatter::Units(unit)),
+            None => None,
+        },
     }
 }
 
-/// One that is kept is asked once whether its symbols are readable, and folds once those that it reads leniently with.
+/// One that is kept is asked once whether its symbols are readable, folds once those that it reads leniently with, and
+/// puts together once what it reads texts with a unit with.
 impl<'a, T: Tables> Maker<Hashed<FormatterKey>, KeptFormatter<'a>> for FormatterMaker<'a, T> {
     ghost use Rattle.locale_numbers.specs.FormatterKeys.{finds};
     ghost use Rattle.locale_numbers.specs.KeptFormatters.{IsKeptFor};

@@ -4,8 +4,9 @@
 ghost use Rattle.locale_numbers.specs.Answer.{found_in};
 ghost use Rattle.locale_numbers.specs.CompactAnswer.{found_compact};
 ghost use Rattle.locale_numbers.specs.FormatterKeys.{same_keys};
-ghost use Rattle.locale_numbers.specs.Laws.{AlikeTagsAreAnsweredAlike, NormalTextIsAnsweredAlike, AutoIsAnsweredAsAlways, AreTexts, FoundTablesAreTexts, LinesAskTheirFields, ReadIsReadLeniently, ReadIsWrittenAgain, RoundedIsWrittenAgain, TellsKeys, WrittenIsUtf8, WrittenReadsBack};
+ghost use Rattle.locale_numbers.specs.Laws.{AlikeTagsAreAnsweredAlike, NormalTextIsAnsweredAlike, AutoIsAnsweredAsAlways, AreTexts, EachGroupingIsReadLeniently, FoundTablesAreTexts, LinesAskTheirFields, ReadIsReadLeniently, ReadIsWrittenAgain, RoundedIsWrittenAgain, TellsKeys, WrittenIsUtf8, WrittenReadsBack};
 ghost use Rattle.locale_numbers.specs.PrintedLaws.{FoundTablesAreSound, IsSoundWhereFound, PrintedIsAnswered, PrintedIsNear, PrintedIsWrittenAgain, PrintedKeepsOrder, PrintedPrintsItself, ZeroIsPrintedForZero};
+ghost use Rattle.locale_numbers.specs.UnitLaws.{ReadUnitIsWrittenAgain, WrittenUnitIsUtf8, WrittenUnitReadsBack};
 ghost use Rattle.locale_numbers_requests.specs.declared.PatternLength.TheVariants.{Short, Long};
 
 use crate::formatter_key::{FormatterKey, Kind};
@@ -14,15 +15,17 @@ use crate::tables::Tables;
 use icu_decimal::laws::compact::{
     held_entries_are_sound, shown_forms_are_answered, shown_values_are_compact,
 };
+use icu_decimal::laws::lenient::exact_is_lenient;
 use icu_decimal::laws::reading::{
     both_trips, plain_reading_is_the_reading, texts_are_utf8, texts_have_one_decimal,
 };
 use icu_decimal::laws::shown::{exact_forms_of_shown_values, tables_show_values};
 use icu_decimal::options::GroupingStrategy;
 use icu_decimal::{DecimalFormatterPreferences, is_readable};
+use icu_dimension::laws::units::texts_have_one_decimal as unit_texts_have_one_decimal;
 pub use locale_numbers_answers::laws::{
-    compact_texts_have_one_reading, requests_are_at_magnitude, roundings_have_one_end,
-    texts_have_one_reading,
+    amounts_have_one_end, compact_texts_have_one_reading, requests_are_at_magnitude,
+    roundings_have_one_end, texts_have_one_reading, unit_texts_have_one_reading,
 };
 use locale_numbers_book::laws::{tables_are_sound, tables_are_texts};
 pub use locale_numbers_book::laws::{
@@ -80,6 +83,7 @@ pub fn found_tables_are_texts<T: Tables>(
     let key = FormatterKey {
         preferences,
         kind: Kind::Plain,
+        code: None,
         grouping,
     };
     if let Ok(formatter) = plain_formatter(tables, key) {
@@ -101,6 +105,15 @@ pub fn read_is_written_again()
 pub fn read_is_read_leniently()
     ensures { ReadIsReadLeniently }
 {}
+
+/// Where the symbols are leniently readable, a text that `read` answers by a number with one grouping, `read-lenient`
+/// answers by the same one with each: with `en`, `1234` has the answer `1234` to `read` with `never`, and to
+/// `read-lenient` with `always`.
+pub fn each_grouping_is_read_leniently()
+    ensures { EachGroupingIsReadLeniently }
+{
+    exact_is_lenient();
+}
 
 /// What is written of a number is UTF-8, as each field of a line is: with `en` that of -987654.321 is `-987,654.321`.
 pub fn written_is_utf8()
@@ -124,6 +137,34 @@ pub fn rounded_is_written_again()
 {
     plain_reading_is_the_reading();
     texts_have_one_decimal();
+}
+
+/// The text of each decimal with its unit is UTF-8, as a field of a line is: the one of -1234.5 with `€` in English is
+/// `-€1,234.5`.
+pub fn written_unit_is_utf8()
+    ensures { WrittenUnitIsUtf8 }
+{
+    texts_are_utf8();
+    unit_texts_have_one_decimal();
+}
+
+/// The number that a line answers for a text with a unit, sent as it is with the same rounding, is written as that text:
+/// under `en` `read-currency-EUR` with `-€1,234.50` answers `-1234.50`, and `currency-EUR` with this `-€1,234.50`.
+pub fn read_unit_is_written_again()
+    ensures { ReadUnitIsWrittenAgain }
+{
+    unit_texts_have_one_reading();
+    unit_texts_have_one_decimal();
+}
+
+/// Where texts with the unit can be read, what a line writes is read back, under the same rounding, as the number that
+/// was written: under `en` `currency-EUR` with `1234.505` writes `€1,234.50`, and `read-currency-EUR` reads this as
+/// 1234.50.
+pub fn written_unit_reads_back()
+    ensures { WrittenUnitReadsBack }
+{
+    unit_texts_have_one_reading();
+    unit_texts_have_one_decimal();
 }
 
 /// What formatters are kept under is told apart exactly where preferences, kinds of tables or groupings differ: `en`
@@ -196,6 +237,7 @@ fn found_tables_are_sound<T: Tables>(
     let key = FormatterKey {
         preferences,
         kind: Kind::Compact(length),
+        code: None,
         grouping,
     };
     if let Ok(formatter) = compact_formatter(tables, length, key) {

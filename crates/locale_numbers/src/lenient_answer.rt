@@ -58,6 +58,8 @@ pub(crate) fn answer_lenient<'a, F: Formatters<'a>>(
     }
     match formatters.found(key) {
         KeptFormatter::Lenient(reader) => write_lenient_answer(alloc, reader, text, out),
-        KeptFormatter::Plain(_) | KeptFormatter::Compact(_) => unreachable!(),
+        KeptFormatter::Plain(_) | KeptFormatter::Compact(_) | KeptFormatter::Units(_) => {
+            unreachable!()
+        }
     }
 }

@@ -47,6 +47,7 @@ fn latin_formatter<'a, T: Tables>(
         FormatterKey {
             preferences,
             kind: key.kind,
+            code: None,
             grouping: key.grouping,
         },
     )

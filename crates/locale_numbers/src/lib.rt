@@ -34,17 +34,21 @@ mod read_answer;
 mod running;
 mod starting;
 mod tables;
+mod unit_answer;
+mod unit_formatter;
 mod words;
 
 pub use answering::answer;
 pub use answers::Answers;
 pub use fault::ProgramFault;
-pub use locale_numbers_book::{Book, BookError, FormatterError, SAMPLE_BOOK};
+pub use locale_numbers_book::{Book, BookError, FormatterError, SAMPLE_BOOK, SAMPLE_UNITS_BOOK};
 pub use locale_numbers_lines::{
     ByteReadFault, ByteReader, ByteWriteFault, ByteWriter, Report, RunError, Tracked,
 };
-pub use locale_numbers_requests::{Form, PatternLength, RoundingAsked, SignAsked};
-pub use locale_numbers_world::{WORLD_BOOK, WORLD_LOCALES, world_tags, world_text};
+pub use locale_numbers_requests::{
+    AmountStyle, Form, PatternLength, RoundingAsked, SignAsked, UnitAsked,
+};
+pub use locale_numbers_world::{WORLD_LOCALES, world_tags, world_text};
 pub use program_run::program;
 pub use running::run;
 pub use starting::start;

@@ -18,7 +18,7 @@ use crate::kept_formatter::KeptFormatter;
 use fixed_decimal::{Decimal, ParseError};
 use locale_numbers_answers::{
     change, read_number, write_compact_answer, write_plain_answer, write_refusal,
-    write_refusal_or_shape,
+    write_refusal_or_shape, write_with_unit,
 };
 use locale_numbers_cache::Hashed;
 use locale_numbers_requests::{Refusal, RoundingAsked, SignAsked};
@@ -38,6 +38,7 @@ fn write_answer_of_formatter(
         KeptFormatter::Plain(plain) => write_plain_answer(&plain.formatter, value, out),
         KeptFormatter::Compact(compact) => write_compact_answer(compact, value, out),
         KeptFormatter::Lenient(reader) => write_plain_answer(reader.formatter(), value, out),
+        KeptFormatter::Units(unit) => write_with_unit(unit.numbers.parts().tables, value, out),
     }
 }
 
@@ -53,10 +54,10 @@ fn write_answer_of_key<'a, F: Formatters<'a>>(
     requires ready { F.is_ready formatters.old }
     requires held { IsTrue is_held.old → F.holds formatters.old key.now }
     ensures text { OnOk result (string_bytes out.new
-        ≡ string_bytes out.old ++ answer_of_kind key.now.kind (F.book formatters.old)
+        ≡ string_bytes out.old ++ answer_of_kind key.now.kind key.now.code (F.book formatters.old)
         key.now.preferences key.now.grouping value.old) }
     ensures err { OnErr result (Grows (string_bytes out.old) (string_bytes out.new)) }
-    ensures room { HasRoom out.old (answer_of_kind key.now.kind (F.book formatters.old)
+    ensures room { HasRoom out.old (answer_of_kind key.now.kind key.now.code (F.book formatters.old)
         key.now.preferences key.now.grouping value.old)
         → ¬ (F.may_take_memory formatters.old key.now) → IsOk result }
     ensures counted { OnOk result ((more : List (Option FormatterKey)) →
@@ -90,7 +91,7 @@ pub(crate) fn answer_number<'a, F: Formatters<'a>>(
     requires held { IsTrue is_held.old → F.holds formatters.old key.now }
     ensures text { OnOk result (string_bytes out.new
         ≡ string_bytes out.old ++ if_text text.now (answer_to
-        (answer_of_kind key.now.kind (F.book formatters.old) key.now.preferences key.now.grouping) sign rounding
+        (answer_of_kind key.now.kind key.now.code (F.book formatters.old) key.now.preferences key.now.grouping) sign rounding
         (reading_of text.now))) }
     ensures err { OnErr result (Grows (string_bytes out.old) (string_bytes out.new)) }
 
@@ -98,7 +99,7 @@ pub(crate) fn answer_number<'a, F: Formatters<'a>>(
     // than eight digits, and of more than `value` had, may be out of memory, and a rounding to multiples of 25 that may
     // lengthen one of eight.
     ensures room { HasRoom out.old (if_text text.now (answer_to
-        (answer_of_kind key.now.kind (F.book formatters.old) key.now.preferences key.now.grouping) sign rounding
+        (answer_of_kind key.now.kind key.now.code (F.book formatters.old) key.now.preferences key.now.grouping) sign rounding
         (reading_of text.now)))
         → ¬ (F.may_take_memory formatters.old key.now) → ¬ (ReadsMore text.now value.old)
         → ¬ (MayGrowRead rounding (reading_of text.now)) → IsOk result }

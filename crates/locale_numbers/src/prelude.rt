@@ -7,7 +7,12 @@ pub use icu_decimal::{
     AbstractFormatter, CompactDecimalFormatter, DecimalFormatter, LenientTables, read_lenient,
     read_plain,
 };
+pub use icu_dimension::parts::{CURRENCY, PERCENT_SIGN};
+pub use icu_dimension::{
+    CurrencyCode, CurrencyFormatter, CurrencyFormatterOptions, CurrencyStyle, CurrencyUsage,
+    CurrencyWidth, PercentFormatter, PercentFormatterOptions,
+};
 pub use icu_locale_core::Locale;
-pub use locale_numbers_book::{Book, BookError, FormatterError, SAMPLE_BOOK};
-pub use locale_numbers_world::{WORLD_BOOK, WORLD_LOCALES, world_tags, world_text};
+pub use locale_numbers_book::{Book, BookError, FormatterError, SAMPLE_BOOK, SAMPLE_UNITS_BOOK};
+pub use locale_numbers_world::{WORLD_LOCALES, world_tags, world_text};
 pub use writeable::{Affixed, Part, PartsSink, Sink, TextSink, Writeable};

@@ -1,3 +1,4 @@
+pub mod AmountLemmas
 pub mod AnswerLineLemmas
 pub mod CompactAnswerLemmas
 pub mod CompactReadingLemmas
@@ -13,4 +14,6 @@ pub mod PartsLemmas
 pub mod ReadingLemmas
 pub mod RoundedLemmas
 pub mod TextLemmas
+pub mod UnitLemmas
+pub mod UnitReadingsLemmas
 pub mod ValueLemmas

@@ -8,11 +8,12 @@ use Rattle.fixed_decimal.specs.declared.SignedRoundingMode.{SignedRoundingMode}
 use Rattle.icu_decimal.specs.declared.options.GroupingStrategy.{GroupingStrategy}
 use Rattle.locale_numbers_answers.specs.Laws.{IsAtMagnitude, RequestsAreAtMagnitude}
 use Rattle.locale_numbers_requests.specs.Cutting.{cut_at}
-use Rattle.locale_numbers_requests.specs.Request.{Asked, fields, form_named, grouping_named, request_by, request_in, sign_named, takes}
+use Rattle.locale_numbers_requests.specs.FormField.{form_named}
+use Rattle.locale_numbers_requests.specs.Request.{Asked, fields, grouping_named, request_by, request_in, sign_named, takes}
 use Rattle.locale_numbers_requests.specs.RoundingField.{above_zero, below_zero, comma, increment_named, is_size, mode_named, position_named, rounding_by, rounding_in, rounding_named, size_named}
 use Rattle.locale_numbers_requests.specs.declared.Form.{Form}
 use Rattle.locale_numbers_requests.specs.declared.RoundingAsked.{RoundingAsked}
-use Rattle.locale_numbers_requests.specs.declared.RoundingAsked.TheVariants.{Unrounded, At}
+use Rattle.locale_numbers_requests.specs.declared.RoundingAsked.TheVariants.{Unrounded, Cash, At}
 use Rattle.locale_numbers_requests.specs.declared.SignAsked.{SignAsked}
 use Rattle.fixed_decimal.specs.NumberText.{minus, spelled}
 use Rattle.std.specs.Prelude.{◌==◌, codes}
@@ -71,11 +72,12 @@ words_placed (p ∷ m ∷ i ∷ []) r is = placed_rounding (position_named p) (m
 words_placed (p ∷ m ∷ i ∷ other ∷ others) r is = absurd (cc)
 
 rounding_placed : (word : List ℕ) (r : RoundingAsked) → rounding_named word ≡ Some r → IsAtMagnitude r
-rounding_placed word r is = by (bytes_eq word (codes "-")) is
+rounding_placed word r is = by (bytes_eq word (codes "-")) (bytes_eq word (codes "cash")) is
   where
-    by : (b : Bool) → (if b then Some Unrounded else rounding_in (cut_at comma word)) ≡ Some r → IsAtMagnitude r
-    by true same = let one : Unrounded ≡ r = cc in subst IsAtMagnitude one tt
-    by false same = words_placed (cut_at comma word) r same
+    by : (b c : Bool) → (if b then Some Unrounded else if c then Some Cash else rounding_in (cut_at comma word)) ≡ Some r → IsAtMagnitude r
+    by true c same = let one : Unrounded ≡ r = cc in subst IsAtMagnitude one tt
+    by false true same = let one : Cash ≡ r = cc in subst IsAtMagnitude one tt
+    by false false same = words_placed (cut_at comma word) r same
 
 -- ---- requests
 

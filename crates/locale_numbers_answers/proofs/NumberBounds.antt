@@ -11,6 +11,7 @@ use Rattle.fixed_decimal.specs.SignedRounding.{size_mode}
 use Rattle.fixed_decimal.specs.SignedValue.{SignedValue}
 use Rattle.fixed_decimal.specs.TextLaws.{IsDecimal}
 use Rattle.fixed_decimal.specs.declared.UnsignedRoundingMode.{UnsignedRoundingMode}
+use Rattle.fixed_decimal.specs.declared.UnsignedRoundingMode.TheVariants.{HalfEven}
 use Rattle.fixed_decimal.specs.declared.RoundingIncrement.{RoundingIncrement}
 use Rattle.fixed_decimal.specs.declared.SignedRoundingMode.{SignedRoundingMode}
 use Rattle.fixed_decimal.specs.declared.Sign.{Sign}
@@ -22,10 +23,15 @@ use Rattle.locale_numbers_answers.specs.Laws.{IsAtMagnitude}
 use Rattle.locale_numbers_answers.specs.NumberReading.{number, reading_of}
 use Rattle.locale_numbers_answers.specs.Rounded.{limited, multiple_of, rounded, rounded_size}
 use Rattle.locale_numbers_requests.specs.declared.RoundingAsked.{RoundingAsked}
-use Rattle.locale_numbers_requests.specs.declared.RoundingAsked.TheVariants.{Unrounded, At}
+use Rattle.locale_numbers_requests.specs.declared.RoundingAsked.TheVariants.{Unrounded, Cash, At}
 use Rattle.locale_numbers_requests.specs.declared.SignAsked.{SignAsked}
 use Rattle.locale_numbers_requests.specs.declared.SignAsked.TheVariants.{Keep, Show}
 use Rattle.locale_numbers_answers.proofs.LawsLemmas.{one_reading}
+use Rattle.icu_dimension_fractions.specs.FractionRounding.{RoundsToFraction}
+use Rattle.icu_dimension_fractions.specs.Fractions.{increment_of, last_place, step}
+use Rattle.icu_dimension_fractions.specs.declared.Fraction.{Fraction}
+use Rattle.locale_numbers_answers.specs.AmountRounding.{amount_rounded, amount_size}
+use Rattle.locale_numbers_answers.proofs.AmountLemmas.{increment_positive, size_once as one_size, size_right as amount_once}
 use Rattle.locale_numbers_answers.proofs.RoundedLemmas.{multiple_right, rounds_as, size_right, unit_positive}
 
 -- ---- counts at a place
@@ -118,8 +124,29 @@ size_is_number mode increment at old is below =
 pub changed_is_decimal : (rounding : RoundingAsked) (sign : SignAsked) (value : SignedValue Number) → IsAtMagnitude rounding → IsDecimal value → IsDecimal (changed rounding sign value)
 changed_is_decimal Unrounded Keep value at is = is
 changed_is_decimal Unrounded (Show display) value at is = is
+changed_is_decimal Cash Keep value at is = is
+changed_is_decimal Cash (Show display) value at is = is
 changed_is_decimal (At position mode increment) Keep value at is = size_is_number (size_mode value.sign mode) increment (place position) value.absolute is at
 changed_is_decimal (At position mode increment) (Show display) value at is = size_is_number (size_mode value.sign mode) increment (place position) value.absolute is at
+
+amount_multiple : (f : Fraction) (n : ℕ) → IsMultiple (step f) (limited (multiple_of HalfEven (step f) n))
+amount_multiple f n =
+    limited_multiple (step f) (multiple_of HalfEven (step f) n) (rounded_multiple HalfEven (step f) n (multiple_of HalfEven (step f) n) (multiple_right HalfEven (step f) n (increment_positive f.increment (last_place f))))
+
+-- what is left of an amount that is rounded to the digits of a currency
+pub amount_is_decimal : (f : Fraction) (value : SignedValue Number) → IsDecimal value → IsDecimal (amount_rounded f value)
+amount_is_decimal f value is =
+    let once = amount_once f value.absolute in
+    let keeps = once.keeps in
+    let ones = is.ones in
+    let top = once.lowest 65535 (let high = is.high in omega (arith, high)) (limit_places (amount_size f value.absolute).count (limited_below (multiple_of HalfEven (step f) value.absolute.count))) in
+    record {
+      low = omega arith;
+      ones = omega (arith, keeps, ones);
+      high = omega (arith, top);
+      whole = multiple_whole (increment_of f.increment) (last_place f) (last_place f) (amount_size f value.absolute).count (omega arith) (amount_multiple f value.absolute.count);
+      below = once.holds;
+    }
 
 -- ---- the same rounding again
 
@@ -137,6 +164,24 @@ size_again mode first increment at old =
       high = record { keeps = omega arith; position = once.high.position; holds = once.high.holds; lowest = λ h least position under. least };
     }
 
+-- the same digits of a currency again
+amount_stays : (f : Fraction) (old : Number) → RoundsToFraction f (amount_size f old) (amount_size f old)
+amount_stays f old = record {
+  taken = record {
+    multiple = (amount_size f old).count;
+    rounded = exact HalfEven (step f) (amount_size f old).count (amount_multiple f old.count);
+    is = inl (limited_below (multiple_of HalfEven (step f) old.count), refl);
+  };
+  low = refl;
+  keeps = omega arith;
+  holds = (amount_once f old).holds;
+  lowest = λ h over below. over;
+}
+
+pub amount_again : (f : Fraction) (old : Number) → amount_size f (amount_size f old) ≡ amount_size f old
+amount_again f old =
+    one_size f (amount_size f old) (amount_size f (amount_size f old)) (amount_size f old) (amount_once f (amount_size f old)) (amount_stays f old)
+
 rounded_again : (mode : SignedRoundingMode) (first : UnsignedRoundingMode) (increment : RoundingIncrement) (position : ℤ) (sign : Sign) (old : Number)
     → rounded mode increment (place position) (record { sign = sign; absolute = rounded_size first increment (place position) old })
     ≡ record { sign = sign; absolute = rounded_size first increment (place position) old }
@@ -146,5 +191,6 @@ rounded_again mode first increment position sign old =
 
 pub changed_again : (rounding : RoundingAsked) (sign : SignAsked) (value : SignedValue Number) → changed rounding Keep (changed rounding sign value) ≡ changed rounding sign value
 changed_again Unrounded sign value = refl
+changed_again Cash sign value = refl
 changed_again (At position mode increment) Keep value = rounded_again mode (size_mode value.sign mode) increment position value.sign value.absolute
 changed_again (At position mode increment) (Show display) value = rounded_again mode (size_mode value.sign mode) increment position _ value.absolute

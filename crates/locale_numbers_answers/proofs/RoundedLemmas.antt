@@ -63,7 +63,7 @@ multiple_right mode unit n p = at (n % unit == 0) refl
         let some : n % unit ≢ 0 = grind (arith, nat_tests) in
         picks mode unit (n / unit) (n % unit) n whole (omega (arith, some)) (mod-lt n p) (takes_upper mode unit (n % unit) (n / unit)) refl
 
-limited_right : (n limit : ℕ) → ((n < limit) × (cond (nat_lt n limit) n 0 ≡ n)) ⊎ ((limit ≤ n) × (cond (nat_lt n limit) n 0 ≡ 0))
+pub limited_right : (n limit : ℕ) → ((n < limit) × (cond (nat_lt n limit) n 0 ≡ n)) ⊎ ((limit ≤ n) × (cond (nat_lt n limit) n 0 ≡ 0))
 limited_right n limit = at (nat_lt n limit) refl
   where
     at : (b : Bool) → nat_lt n limit ≡ b → ((n < limit) × (cond b n 0 ≡ n)) ⊎ ((limit ≤ n) × (cond b n 0 ≡ 0))
@@ -72,11 +72,11 @@ limited_right n limit = at (nat_lt n limit) refl
 
 -- ---- the highest place
 
-below_power : (n : ℕ) → n < 10 ^ n
+pub below_power : (n : ℕ) → n < 10 ^ n
 below_power zero = omega arith
 below_power (suc n) = omega (arith, below_power n, pow-suc 10 n)
 
-holding_keeps : (more from count : ℕ) → from ≤ holding_from more from count
+pub holding_keeps : (more from count : ℕ) → from ≤ holding_from more from count
 holding_keeps zero from count = omega arith
 holding_keeps (suc more) from count = at (nat_lt count (10 ^ (from + 1))) (holding_keeps more (suc from) count)
   where
@@ -84,7 +84,7 @@ holding_keeps (suc more) from count = at (nat_lt count (10 ^ (from + 1))) (holdi
     at true next = omega arith
     at false next = omega (arith, next)
 
-holding_holds : (more from count : ℕ) → count < 10 ^ (from + more + 1) → count < 10 ^ (holding_from more from count + 1)
+pub holding_holds : (more from count : ℕ) → count < 10 ^ (from + more + 1) → count < 10 ^ (holding_from more from count + 1)
 holding_holds zero from count h = subst (λ k. count < 10 ^ k) (let e : from + 0 + 1 ≡ from + 1 = omega arith in e) h
 holding_holds (suc more) from count h = at (nat_lt count (10 ^ (from + 1))) refl (holding_holds more (suc from) count (subst (λ k. count < 10 ^ k) (let e : from + suc more + 1 ≡ suc from + more + 1 = omega arith in e) h))
   where
@@ -104,7 +104,7 @@ lower_of : (more from count h : ℕ) (b : Bool) → nat_lt count (10 ^ (from + 1
 lower_of more from count h true is l next = l
 lower_of more from count h false is l next = next (grind (arith, nat_tests))
 
-holding_lowest : (more from count h : ℕ) → from ≤ h → count < 10 ^ (h + 1) → holding_from more from count ≤ h
+pub holding_lowest : (more from count h : ℕ) → from ≤ h → count < 10 ^ (h + 1) → holding_from more from count ≤ h
 holding_lowest zero from count h l under = l
 holding_lowest (suc more) from count h l under =
     lower_of more from count h (nat_lt count (10 ^ (from + 1))) refl l (λ over. holding_lowest more (suc from) count h (past from count h l under over) under)

@@ -14,11 +14,12 @@ use Rattle.locale_numbers_answers.specs.Rounded.{rounded}
 use Rattle.locale_numbers_requests.specs.declared.SignAsked.{SignAsked}
 use Rattle.locale_numbers_requests.specs.declared.SignAsked.TheVariants.{Keep, Show}
 use Rattle.locale_numbers_requests.specs.declared.RoundingAsked.{RoundingAsked}
-use Rattle.locale_numbers_requests.specs.declared.RoundingAsked.TheVariants.{Unrounded, At}
+use Rattle.locale_numbers_requests.specs.declared.RoundingAsked.TheVariants.{Unrounded, Cash, At}
 
--- a number rounded as it is asked
+-- a number rounded as it is asked; the digits of cash are those of a currency, and another number has none
 abbrev pub rounded_as : RoundingAsked → SignedValue Number → SignedValue Number
 rounded_as Unrounded value = value
+rounded_as Cash value = value
 rounded_as (At position mode increment) value = rounded mode increment (place position) value
 
 -- a number with the sign that is asked for
@@ -33,6 +34,7 @@ changed rounding sign value = signed_as sign (rounded_as rounding value)
 -- a rounding that may want memory, of this number; only one to multiples of 25 may
 abbrev pub MayGrow : RoundingAsked → SignedValue Number → Type 0
 MayGrow Unrounded value = ⊥
+MayGrow Cash value = ⊥
 MayGrow (At position mode increment) value = MayGrowBy (Round position mode increment) value
 
 -- of the number that a text says

@@ -10,12 +10,18 @@ use Rattle.fixed_decimal.specs.SignedText.{ReadsSigned, IsBeyondSigned, IsNoSign
 use Rattle.fixed_decimal.specs.SignedValue.{SignedValue}
 use Rattle.fixed_decimal.specs.declared.RoundingIncrement.{RoundingIncrement}
 use Rattle.fixed_decimal.specs.declared.SignedRoundingMode.{SignedRoundingMode}
+use Rattle.icu_decimal.specs.PlainReading.{PlainReading}
+use Rattle.icu_dimension_affixes.specs.UnitReading.{AreReaderTexts, IsUnitReading, ReaderTexts}
+use Rattle.icu_dimension_fractions.specs.FractionRounding.{RoundsAmount}
+use Rattle.icu_dimension_fractions.specs.declared.Fraction.{Fraction}
+use Rattle.locale_numbers_answers.specs.AmountRounding.{amount_rounded}
 use Rattle.locale_numbers_answers.specs.CompactReading.{CompactReading, compact_beyond, compact_nothing, compact_number, compact_reading_of}
 use Rattle.locale_numbers_answers.specs.NumberReading.{Reading, number, beyond, nothing, reading_of}
 use Rattle.locale_numbers_answers.specs.Rounded.{rounded}
+use Rattle.locale_numbers_answers.specs.UnitReadings.{unit_reading}
 use Rattle.locale_numbers_requests.specs.Request.{Asked, request_of}
 use Rattle.locale_numbers_requests.specs.declared.RoundingAsked.{RoundingAsked}
-use Rattle.locale_numbers_requests.specs.declared.RoundingAsked.TheVariants.{Unrounded, At}
+use Rattle.locale_numbers_requests.specs.declared.RoundingAsked.TheVariants.{Unrounded, Cash, At}
 
 -- ---- numbers
 
@@ -38,6 +44,11 @@ IsCompactReading text compact_nothing = IsNoCompactText text
 abbrev pub HasOneCompactReading : Type 0
 HasOneCompactReading = (text : List ℕ) (reading : CompactReading) → IsCompactReading text reading ↔ (reading ≡ compact_reading_of text)
 
+-- a text with a unit has one reading, and the function answers it; texts are what every reader has
+abbrev pub HasOneUnitReading : Type 0
+HasOneUnitReading = (r : ReaderTexts) (text : List ℕ) (reading : PlainReading) → AreReaderTexts r
+    → IsUnitReading r text reading ↔ (reading ≡ unit_reading r text)
+
 -- ---- roundings
 
 -- a rounding of a number names one number, and the function answers it
@@ -45,9 +56,14 @@ abbrev pub HasOneRounding : Type 0
 HasOneRounding = (mode : SignedRoundingMode) (increment : RoundingIncrement) (position : ℤ) (old new : SignedValue Number)
     → RoundsSigned mode increment (place position) old new ↔ (new ≡ rounded mode increment (place position) old)
 
+-- a rounding of an amount to the digits of a currency names one amount, and the function answers it
+abbrev pub HasOneAmount : Type 0
+HasOneAmount = (f : Fraction) (old new : SignedValue Number) → RoundsAmount f old new ↔ (new ≡ amount_rounded f old)
+
 -- the position of a rounding is one of the magnitudes -32768 to 32767, as that of every field is
 abbrev pub IsAtMagnitude : RoundingAsked → Type 0
 IsAtMagnitude Unrounded = Unit {0}
+IsAtMagnitude Cash = Unit {0}
 IsAtMagnitude (At position mode increment) = place position < 65536
 
 -- and so is the rounding of each line that is a request

@@ -5,10 +5,13 @@ pub mod NumberAnswer
 pub mod CompactAnswer
 pub mod ReadAnswer
 pub mod LenientAnswer
+pub mod UnitAnswer
 -- What the answers go by, which a law makes needless to believe.
 pub mod NumberReading
 pub mod CompactReading
 pub mod Rounded
+pub mod AmountRounding
+pub mod UnitReadings
 -- What private steps follow.
 pub mod AnswerSink
 pub mod AnswerSinkLaws

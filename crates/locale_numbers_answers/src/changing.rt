@@ -8,12 +8,12 @@ use locale_numbers_requests::{RoundingAsked, SignAsked};
 use std::alloc::AllocError;
 
 // Rounds a number, where that is asked for.
-fn round(value: &mut Decimal, rounding: RoundingAsked) -> Result<(), AllocError>
+pub(crate) fn round(value: &mut Decimal, rounding: RoundingAsked) -> Result<(), AllocError>
     ensures value { OnOk result (value.new ≡ rounded_as rounding value.old) }
     ensures room { OnErr result (MayGrow rounding value.old) }
 {
     match rounding {
-        RoundingAsked::Unrounded => Ok(()),
+        RoundingAsked::Unrounded | RoundingAsked::Cash => Ok(()),
         RoundingAsked::At(position, mode, increment) => {
             value.round_with_mode_and_increment(position, mode, increment)
         }

@@ -1,6 +1,9 @@
 //! Laws over the definitions that an answer goes by. Each function is a proof: it answers nothing.
 
-ghost use Rattle.locale_numbers_answers.specs.Laws.{HasOneReading, HasOneCompactReading, HasOneRounding, RequestsAreAtMagnitude};
+ghost use Rattle.locale_numbers_answers.specs.Laws.{HasOneReading, HasOneCompactReading, HasOneAmount, HasOneRounding, HasOneUnitReading, RequestsAreAtMagnitude};
+
+use icu_decimal::laws::reading::{both_trips as plain_trips, plain_reading_is_the_reading};
+use icu_dimension_affixes::laws::both_trips as unit_trips;
 
 /// Each text spells one number, or one beyond the limits, or none: what the relations of `fixed_decimal` say of a text
 /// is what the answer to a line goes by. `-12.30` spells -12.30, `1e32768` one beyond the limits, and `5.` none.
@@ -14,10 +17,26 @@ pub fn compact_texts_have_one_reading()
     ensures { HasOneCompactReading }
 {}
 
+/// Each text has one reading under a pattern and a unit, and the answer to a line goes by it: what the relation of
+/// `icu_dimension` says of a text. In English with `€` `-€1,234.50` is -1234.50, and `$1.00` is none.
+pub fn unit_texts_have_one_reading()
+    ensures { HasOneUnitReading }
+{
+    plain_reading_is_the_reading();
+    plain_trips();
+    unit_trips();
+}
+
 /// Each rounding of a number has one end: what the relation of `fixed_decimal` names is what the answer to a line goes
 /// by. By `-2,half-trunc,25` the end of -7.235 is -7.25.
 pub fn roundings_have_one_end()
     ensures { HasOneRounding }
+{}
+
+/// Each rounding of an amount to the digits of a currency has one end, and the answer to a line goes by it: of 2.345 by
+/// multiples of 5 of the second digit it is 2.35.
+pub fn amounts_have_one_end()
+    ensures { HasOneAmount }
 {}
 
 /// What a request line rounds is at a magnitude from -32768 to 32767, as the laws of rounded numbers ask for: of

@@ -1,15 +1,18 @@
--- Worked rows of `specs/Tables.antt`: what known books have.
+-- Worked rows of `specs/Tables.antt`: what known books have, and their locales.
 use Rattle.std.proofs.Common.{◌≡◌, ◌∷◌, [], codes, Some, None, Ok, Err, refl}
 use Rattle.icu_locale_core.specs.TagPreferences.{DataLocaleMeaning}
 use Rattle.icu_decimal.specs.declared.error.DataError.{DataError}
 use Rattle.icu_decimal.specs.Identifiers.{of_both, of_system}
+use Rattle.icu_decimal.specs.Symbols.{english_symbols}
 use Rattle.locale_numbers_book.specs.Book.{BookTables}
-use Rattle.locale_numbers_book.specs.Tables.{chain_in, digits_under}
+use Rattle.locale_numbers_book.specs.SampleBook as sample
+use Rattle.locale_numbers_book.specs.SampleBook.{sample_tables}
+use Rattle.locale_numbers_book.specs.Tables.{chain_in, digits_under, locales_in, usual_locales}
 
 -- ---- tables
 
 abbrev latin_alone : BookTables
-latin_alone = record { symbols = []; digits = (codes "latn", codes "0123456789") ∷ []; rules = []; short = []; long = []; parents = None }
+latin_alone = record { symbols = []; digits = (codes "latn", codes "0123456789") ∷ []; rules = []; short = []; long = []; parents = None; units = None }
 
 abbrev english : DataLocaleMeaning
 english = record { language = codes "en"; script = None; region = None; variant = None; subdivision = None }
@@ -36,3 +39,12 @@ whole_locale = refl
 -- an empty one lets it be cut
 cut_locale : chain_in (record latin_alone { parents = Some [] }) american ≡ american ∷ english ∷ []
 cut_locale = refl
+
+-- ---- locales
+
+-- those of the sample book; an entry of a system is not counted
+sample_locales : locales_in sample_tables ≡ sample.english ∷ sample.egyptian ∷ []
+sample_locales = refl
+
+with_a_system : usual_locales ((of_both (codes "thai") english, english_symbols) ∷ (of_both [] american, english_symbols) ∷ []) ≡ american ∷ []
+with_a_system = refl

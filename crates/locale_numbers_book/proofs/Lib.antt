@@ -1,4 +1,6 @@
 pub mod FormLemmas
+pub mod PairLemmas
+pub mod LocaleLemmas
 pub mod ParentLemmas
 pub mod ReadTables
 pub mod SoundLemmas
@@ -6,7 +8,10 @@ pub mod BookLemmas
 pub mod BookChains
 pub mod KnownFaults
 pub mod KnownBooks
+pub mod KnownPairs
 pub mod WantedLemmas
 pub mod FormatterLemmas
+pub mod UnitLemmas
 pub mod SampleLemmas
+pub mod SampleUnitsLemmas
 pub mod TextTables

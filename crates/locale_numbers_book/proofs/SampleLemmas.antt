@@ -64,12 +64,15 @@ sample_is_book : IsBook sample sample_tables
 unfolding data_locale_of tag_of whole_after headed_after body_after with_piece chars is_utf8 encode_utf8
 sample_is_book = record {
   sound = refl;
-  symbols = refl;
-  digits = refl;
-  rules = refl;
-  short = refl;
-  long = refl;
-  parents = refl;
+  arrays = record {
+    symbols = refl;
+    digits = refl;
+    rules = refl;
+    short = refl;
+    long = refl;
+    parents = refl;
+  };
+  units = tt;
 }
 
 pub sample_is_known : SampleBookIsKnown

@@ -19,12 +19,13 @@ use Rattle.locale_numbers_tables.specs.declared.BookError.TheVariants.{Shape, Ta
 use Rattle.locale_numbers_tables.specs.CompactEntries.{Row, compact_entry, compact_of, has_plain_patterns, rise_from, row_in, row_with, rows_in, rows_of, table_made, zero_of}
 use Rattle.locale_numbers_tables.specs.Entries.{all_of, entry_key, field_at, has_count}
 use Rattle.locale_numbers_tables.specs.Faults.{compact_fault, compact_faults, digits_faults, first_broken, first_fault_behind, has_compact_shape, has_locale, rules_faults, symbols_faults}
-use Rattle.locale_numbers_book.specs.Form.{has_form, items_at}
+use Rattle.locale_numbers_book.specs.Form.{book_half, has_form, items_at}
 use Rattle.locale_numbers_tables.specs.Fields.{size_in, system_or_none_in}
 use Rattle.locale_numbers_tables.specs.Keys.{same_key}
 use Rattle.locale_numbers_book.specs.Laws.{AreSoundTables, BookTablesAreSound, IsSoundTable}
 use Rattle.locale_numbers_book.specs.ParentEntries.{parents_faults}
 use Rattle.locale_numbers_tables.proofs.CompactLemmas.{table_meant}
+use Rattle.locale_numbers_book.proofs.BookLemmas.{sound_book}
 use Rattle.locale_numbers_book.proofs.ReadTables.{read_whole}
 
 -- ---- numbers of rows
@@ -178,8 +179,9 @@ no_fault_of false a b c d e p none = absurd (cc)
 
 pub tables_sound : BookTablesAreSound
 tables_sound value book is =
-    let none = no_fault_of (has_form value) (symbols_faults (items_at 0 value)) (digits_faults (items_at 1 value)) (rules_faults (items_at 2 value)) (compact_faults (items_at 3 value)) (compact_faults (items_at 4 value))
-    (parents_faults [] (items_at 5 value)) is.sound in (
-      sound_items (items_at 3 value) [] book.short (read_whole same_key (all_of compact_entry (items_at 3 value)) book.short is.short) none.fourth,
-      sound_items (items_at 4 value) [] book.long (read_whole same_key (all_of compact_entry (items_at 4 value)) book.long is.long) none.fifth,
+    let alone = book_half value in
+    let none = no_fault_of (has_form alone) (symbols_faults (items_at 0 alone)) (digits_faults (items_at 1 alone)) (rules_faults (items_at 2 alone)) (compact_faults (items_at 3 alone)) (compact_faults (items_at 4 alone))
+    (parents_faults [] (items_at 5 alone)) (sound_book value is.sound) in (
+      sound_items (items_at 3 alone) [] book.short (read_whole same_key (all_of compact_entry (items_at 3 alone)) book.short is.arrays.short) none.fourth,
+      sound_items (items_at 4 alone) [] book.long (read_whole same_key (all_of compact_entry (items_at 4 alone)) book.long is.arrays.long) none.fifth,
     )

@@ -1,5 +1,5 @@
--- When a JSON value is a book, and which tables are in it.
--- Defined in docs/books.md, "The form".
+-- When a JSON value is a book, and which tables and units are in it.
+-- Defined in docs/books.md, "The form" and "Units".
 -- Cited by `Book::from_json`.
 -- A book has six arrays, and the entry and the table of each are imported.
 use Rattle.std.specs.Prelude.{◌≡◌, ℕ, List, Option, Some, None, option_and_then}
@@ -17,10 +17,11 @@ use Rattle.locale_numbers_tables.specs.Entries.{all_of, field_at, symbols_entry,
 use Rattle.locale_numbers_tables.specs.RulesEntries.{rules_entry}
 use Rattle.locale_numbers_tables.specs.CompactEntries.{compact_entry}
 use Rattle.locale_numbers_book.specs.ParentEntries.{parent_entry}
-use Rattle.locale_numbers_book.specs.Form.{book_fault, items_at}
 use Rattle.locale_numbers_tables.specs.Keys.{same_data_locale, same_key, table_in}
+use Rattle.locale_numbers_units.specs.Units.{AreUnits, UnitsTables}
+use Rattle.locale_numbers_book.specs.Form.{book_fault, book_half, items_at, units_half}
 
--- the tables of a book
+-- the tables of a book, and its units where it has some
 pub record BookTables : Type 0 where
   pub symbols : List (Identifier × Symbols)
   pub digits : List (Text × List ℕ)
@@ -28,13 +29,25 @@ pub record BookTables : Type 0 where
   pub short : List (Identifier × CompactTable)
   pub long : List (Identifier × CompactTable)
   pub parents : Option (List Entry)
+  pub units : Option UnitsTables
 
--- a value is a book: it has no fault, and these are its arrays; without a sixth it has no parents
-pub record IsBook (value : Data) (tables : BookTables) : Type 0 where
-  pub sound : book_fault value ≡ None
+-- the tables are those of five arrays or six; without a sixth there are no parents
+pub record HasTables (value : Data) (tables : BookTables) : Type 0 where
   pub symbols : table_in same_key symbols_entry (items_at 0 value) ≡ Some tables.symbols
   pub digits : table_in bytes_eq digits_entry (items_at 1 value) ≡ Some tables.digits
   pub rules : table_in same_data_locale rules_entry (items_at 2 value) ≡ Some tables.rules
   pub short : table_in same_key compact_entry (items_at 3 value) ≡ Some tables.short
   pub long : table_in same_key compact_entry (items_at 4 value) ≡ Some tables.long
   pub parents : option_and_then (all_of parent_entry) (field_at as_array 5 value) ≡ tables.parents
+
+-- units are those of five arrays, and without these there are none
+abbrev pub HasUnits : Option Data → Option UnitsTables → Type 0
+HasUnits None None = Unit {0}
+HasUnits (Some value) (Some units) = AreUnits (items_at 0 value) (items_at 1 value) (items_at 2 value) (items_at 3 value) (items_at 4 value) units
+HasUnits value units = ⊥
+
+-- a value is a book: it has no fault, and these are the tables of its arrays, and its units
+pub record IsBook (value : Data) (tables : BookTables) : Type 0 where
+  pub sound : book_fault value ≡ None
+  pub arrays : HasTables (book_half value) tables
+  pub units : HasUnits (units_half value) tables.units

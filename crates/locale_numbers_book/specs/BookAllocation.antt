@@ -1,11 +1,12 @@
 -- Where the reading of a whole book may run out of memory: never at a fault that is found before memory is asked for.
--- Defined in docs/books.md, "Faults"; entries of tables in `Allocation.antt` of `locale_numbers_tables`.
+-- Defined in docs/books.md, "Faults"; entries of tables in `Allocation.antt` of `locale_numbers_tables`, those of units in `locale_numbers_units`.
 -- Cited by the steps of `Book::from_json`.
-use Rattle.std.specs.Prelude.{Bool, not, ◌&&◌, ◌||◌, List, [], is_some}
+use Rattle.std.specs.Prelude.{Bool, not, ◌&&◌, ◌||◌, List, [], Option, None, Some, is_some}
 use Rattle.serde_json.specs.Data.{Data, Items}
 use Rattle.locale_numbers_parents.specs.Parents.{Entry}
 use Rattle.locale_numbers_tables.specs.Allocation.{begins_with, compact_may_grow, digits_may_grow, locale_may_grow, rules_may_grow, symbols_may_grow}
-use Rattle.locale_numbers_book.specs.Form.{has_form, items_at}
+use Rattle.locale_numbers_units.specs.Units.{units_may_grow}
+use Rattle.locale_numbers_book.specs.Form.{book_half, has_form, has_units_form, items_at, units_half}
 use Rattle.locale_numbers_book.specs.ParentEntries.{has_parent_shape, parent_fault}
 
 -- parents, behind these: an entry of two texts, of which a locale may take memory, or one that has no fault
@@ -18,7 +19,19 @@ arrays_may_grow symbols digits rules short long parents =
     begins_with symbols_may_grow symbols || begins_with digits_may_grow digits || begins_with rules_may_grow rules
     || begins_with compact_may_grow short || begins_with compact_may_grow long || begins_with (parent_may_grow []) parents
 
--- a book: arrays that are so
-abbrev pub book_may_grow : Data → Bool
-book_may_grow value =
+-- a book alone: five arrays or six that are so
+abbrev pub alone_may_grow : Data → Bool
+alone_may_grow value =
     has_form value && arrays_may_grow (items_at 0 value) (items_at 1 value) (items_at 2 value) (items_at 3 value) (items_at 4 value) (items_at 5 value)
+
+-- five arrays of units that are so
+abbrev pub five_may_grow : Data → Bool
+five_may_grow units = units_may_grow (items_at 0 units) (items_at 1 units) (items_at 2 units) (items_at 3 units) (items_at 4 units)
+
+-- with units: where both have their form, and one of them is so
+abbrev pub halves_may_grow : Data → Option Data → Bool
+halves_may_grow book None = alone_may_grow book
+halves_may_grow book (Some units) = has_form book && has_units_form units && (alone_may_grow book || five_may_grow units)
+
+abbrev pub book_may_grow : Data → Bool
+book_may_grow value = halves_may_grow (book_half value) (units_half value)

@@ -1,9 +1,9 @@
 -- Laws of the definitions: which tags and data locales are read, when two keys are one, which tables of patterns are made, when a value
--- is a book, that its symbols and digits are texts, that its chains of parents end, and which tables the sample book has.
--- Defined in docs/books.md, "Tags", "The form", "Parents", "Faults" and "The sample book".
+-- is a book, with units or without, that its symbols and digits are texts, that its chains of parents end, and which tables the sample books have.
+-- Defined in docs/books.md, "Tags", "The form", "Units", "Parents", "Faults" and "The sample books".
 -- Cited by the functions of `laws.rt`.
 -- Each law is about definitions of other files, so the imports are many.
-use Rattle.std.specs.Prelude.{◌≡◌, ◌↔◌, ℕ, List, Option, Some, Ok}
+use Rattle.std.specs.Prelude.{◌≡◌, ◌↔◌, ℕ, false, List, Option, None, Some, Ok}
 use Rattle.std.specs.List.{AllByRecursion}
 use Rattle.std.specs.Bool.{Decides}
 use Rattle.serde_json.specs.Data.{Data}
@@ -19,11 +19,15 @@ use Rattle.icu_decimal.specs.ReadingLaws.{AreTables}
 use Rattle.icu_decimal.specs.SmallEntries.{AreSmall}
 use Rattle.icu_decimal.specs.Symbols.{Symbols}
 use Rattle.icu_decimal.specs.declared.options.GroupingStrategy.{GroupingStrategy}
-use Rattle.locale_numbers_book.specs.Book.{BookTables, IsBook}
+use Rattle.locale_numbers_book.specs.Book.{BookTables, HasTables, IsBook}
+use Rattle.locale_numbers_book.specs.BookAllocation.{alone_may_grow, book_may_grow}
+use Rattle.locale_numbers_book.specs.Form.{alone_fault, book_fault}
 use Rattle.locale_numbers_book.specs.Json.{Reads}
 use Rattle.locale_numbers_book.specs.SampleBook.{sample_tables}
-use Rattle.locale_numbers_book.specs.declared.sample_book.TheConstants.{SAMPLE_BOOK}
+use Rattle.locale_numbers_book.specs.SampleUnitsBook.{sample_units_tables}
+use Rattle.locale_numbers_book.specs.declared.sample_book.TheConstants.{SAMPLE_BOOK, SAMPLE_UNITS_BOOK}
 use Rattle.locale_numbers_tables.specs.CompactEntries.{table_made}
+use Rattle.locale_numbers_tables.specs.Entries.{has_count}
 use Rattle.locale_numbers_tables.specs.Keys.{same_key}
 use Rattle.locale_numbers_book.specs.Tables.{digits_under, parent_under, steps_in, symbols_under}
 use Rattle.locale_numbers_tables.specs.TagReading.{tag_of, data_locale_of}
@@ -47,6 +51,17 @@ TablesAreMade = (zero : Option Patterns) (given : List TypePatterns) (table : Co
 -- a value is one book at most
 abbrev pub IsOneBook : Type 0
 IsOneBook = (value : Data) (book other : BookTables) → IsBook value book → IsBook value other → book ≡ other
+
+-- five arrays or six without a fault, these tables, and no units
+pub record IsBookAlone (value : Data) (book : BookTables) : Type 0 where
+  pub sound : alone_fault value ≡ None
+  pub arrays : HasTables value book
+  pub units : book.units ≡ None
+
+-- a value that is no array of two items has the fault of five arrays or six, and is the book of these, without units
+abbrev pub OldBooksStay : Type 0
+OldBooksStay = (value : Data) → has_count 2 value ≡ false
+    → (book_fault value ≡ alone_fault value) × (book_may_grow value ≡ alone_may_grow value) × ((book : BookTables) → IsBook value book ↔ IsBookAlone value book)
 
 -- the types of a table rise, and its numbers fit into bytes
 pub record IsSoundTable (table : CompactTable) : Type 0 where
@@ -75,3 +90,7 @@ BookChainsEnd = (value : Data) (book : BookTables) → IsBook value book → (lo
 -- the text of the sample book is a book, and its tables are those that are written out
 abbrev pub SampleBookIsKnown : Type 0
 SampleBookIsKnown = (value : Data) × Reads SAMPLE_BOOK.now value × IsBook value sample_tables
+
+-- and so is that of the sample book with units
+abbrev pub SampleUnitsBookIsKnown : Type 0
+SampleUnitsBookIsKnown = (value : Data) × Reads SAMPLE_UNITS_BOOK.now value × IsBook value sample_units_tables

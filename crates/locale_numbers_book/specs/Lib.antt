@@ -4,6 +4,7 @@ pub mod Form
 pub mod ParentEntries
 pub mod Book
 pub mod SampleBook
+pub mod SampleUnitsBook
 pub mod Refusal
 -- What a reader must believe: what is in a book under an identifier, and the formatters that it has for a tag.
 pub mod Tables
@@ -25,3 +26,5 @@ pub use Rattle.locale_numbers_tables.specs.Fields
 pub use Rattle.locale_numbers_tables.specs.Keys
 pub use Rattle.locale_numbers_tables.specs.RulesEntries
 pub use Rattle.locale_numbers_tables.specs.TagReading
+-- Of the inner crate of units: entries and tables.
+pub use Rattle.locale_numbers_units.specs.Units

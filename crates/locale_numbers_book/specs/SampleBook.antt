@@ -1,5 +1,5 @@
 -- The tables of the sample book, written out.
--- Defined in docs/books.md, "The sample book".
+-- Defined in docs/books.md, "The sample books".
 -- Cited by the law `sample_book_is_known`, through Laws.antt.
 use Rattle.std.specs.Prelude.{ℕ, ◌+◌, List, [], ◌∷◌, codes, map, Option, None, Some, option_map, option_to_list}
 use Rattle.icu_locale_core.specs.Subtags.{Text}
@@ -80,4 +80,5 @@ sample_tables = record {
   short = (of_locale english, english_short) ∷ [];
   long = (of_locale english, english_long) ∷ [];
   parents = None;
+  units = None;
 }

@@ -1,9 +1,9 @@
 -- The tables that a book has for preferences, and the formatters that it has for a tag: those of the tables that are found for what
 -- the tag prefers, with default options.
--- Defined in docs/books.md, "Choosing tables" and "Formatters of a tag".
--- Cited by the three makers of formatters of `Book`, and by the answer to a line.
+-- Defined in docs/books.md, "Choosing tables", "Choosing units" and "Formatters of a tag".
+-- Cited by the five makers of formatters of `Book`, and by the answer to a line.
 -- It finds tables of each kind and names each error, so it imports them all.
-use Rattle.std.specs.Prelude.{ℕ, Option, Some, None, Result, Ok, Err}
+use Rattle.std.specs.Prelude.{ℕ, Option, Some, None, Result, Ok, Err, if◌then◌else◌}
 use Rattle.icu_decimal.specs.CompactTables.{CompactTables}
 use Rattle.icu_decimal.specs.FoundCompactTables.{found_compact_tables}
 use Rattle.icu_decimal.specs.FoundTables.{found_tables}
@@ -12,13 +12,19 @@ use Rattle.icu_decimal.specs.KeptEntries.{CompactTable}
 use Rattle.icu_decimal.specs.PlainText.{Tables}
 use Rattle.icu_decimal.specs.declared.error.DataError.{DataError}
 use Rattle.icu_decimal.specs.declared.options.GroupingStrategy.{GroupingStrategy}
+use Rattle.icu_dimension.specs.CurrencyCodes.{is_currency_code}
+use Rattle.icu_dimension.specs.FoundUnits.{CurrencySettings, found_currency, found_percent}
+use Rattle.icu_dimension.specs.UnitSources.{CurrencySource, DecimalSource, PercentSource}
+use Rattle.icu_dimension.specs.UnitText.{UnitSettings}
+use Rattle.icu_dimension.specs.declared.CurrencyFormatterOptions.{CurrencyFormatterOptions}
+use Rattle.icu_dimension.specs.declared.PercentFormatterOptions.{PercentFormatterOptions}
 use Rattle.icu_locale_core.specs.Subtags.{Text}
 use Rattle.icu_locale_core.specs.TagPreferences.{Preferences}
 use Rattle.locale_numbers_book.specs.Book.{BookTables}
-use Rattle.locale_numbers_book.specs.Tables.{symbols_under, digits_under, rules_under, short_under, long_under, chain_in}
+use Rattle.locale_numbers_book.specs.Tables.{accounts_under, chain_in, currencies_under, currency_symbols_under, digits_under, fractions_under, long_under, parent_under, percents_under, rules_under, short_under, steps_in, symbols_under}
 use Rattle.locale_numbers_book.specs.Wanted.{wanted_of}
 use Rattle.locale_numbers_book.specs.declared.formatter_error.FormatterError.{FormatterError}
-use Rattle.locale_numbers_book.specs.declared.formatter_error.FormatterError.TheVariants.{Tag, Table, Memory}
+use Rattle.locale_numbers_book.specs.declared.formatter_error.FormatterError.TheVariants.{Tag, Table, Memory, Code}
 
 -- ---- for preferences
 
@@ -30,6 +36,38 @@ found_plain book preferences grouping = found_tables (chain_in book) (symbols_un
 abbrev pub found_beside : (Identifier → Result CompactTable DataError) → BookTables → Preferences → Option GroupingStrategy → Result CompactTables DataError
 found_beside patterns book preferences grouping =
     found_compact_tables (chain_in book) (symbols_under book) (digits_under book) (rules_under book) patterns preferences grouping
+
+-- ---- of units
+
+-- what a book has of plain numbers, as a provider
+abbrev pub decimals_in : BookTables → DecimalSource
+decimals_in book = record {
+  next = parent_under book;
+  limit = steps_in book.parents;
+  symbols = symbols_under book;
+  digits = digits_under book;
+}
+
+-- and of percents and of amounts
+abbrev pub percents_in : BookTables → PercentSource
+percents_in book = record { decimals = decimals_in book; percents = percents_under book }
+
+abbrev pub currencies_in : BookTables → CurrencySource
+currencies_in book = record {
+  decimals = decimals_in book;
+  currencies = currencies_under book;
+  accounts = accounts_under book;
+  symbols = currency_symbols_under book;
+  fractions = fractions_under book;
+}
+
+-- what percents are written with
+abbrev pub percent_found_in : BookTables → Preferences → Option GroupingStrategy → Result UnitSettings DataError
+percent_found_in book preferences grouping = found_percent (percents_in book) preferences grouping
+
+-- what amounts of a currency are written with
+abbrev pub currency_found_in : BookTables → Preferences → Text → CurrencyFormatterOptions → Result CurrencySettings DataError
+currency_found_in book preferences code options = found_currency (currencies_in book) preferences code options
 
 -- ---- for a tag
 
@@ -58,9 +96,21 @@ short_for book tag = compact_for (short_under book) book tag
 abbrev pub long_for : BookTables → Text → Result CompactTables FormatterError
 long_for book tag = compact_for (long_under book) book tag
 
+-- percents
+abbrev pub percent_for : BookTables → Text → PercentFormatterOptions → Result UnitSettings FormatterError
+percent_for book tag options = found_by (λ preferences. percent_found_in book preferences options.grouping_strategy) (wanted_of tag)
+
+-- amounts of a currency, which a text of three capitals names
+abbrev pub currency_for : BookTables → Text → Text → CurrencyFormatterOptions → Result CurrencySettings FormatterError
+currency_for book tag code options =
+    if is_currency_code code
+    then found_by (λ preferences. currency_found_in book preferences code options) (wanted_of tag)
+    else Err Code
+
 -- ---- the numbers of the errors
 
 abbrev pub formatter_error_number : FormatterError → ℕ
 formatter_error_number Tag = 1
 formatter_error_number Table = 2
 formatter_error_number Memory = 3
+formatter_error_number Code = 4

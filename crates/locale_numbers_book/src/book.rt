@@ -1,29 +1,31 @@
 //! A book of tables.
 
-ghost use Rattle.std.specs.Prelude.{◌≡◌, true, IfOk, IsErrOf, IfErr};
+ghost use Rattle.std.specs.Prelude.{◌≡◌, true, IfOk, IsErrOf, IfErr, None, OnOk, option_map};
 ghost use Rattle.serde_json.specs.Data.{Data};
 ghost use Rattle.serde_json.specs.View.{view};
-ghost use Rattle.locale_numbers_book.specs.Arrays.{fault_in, may_grow_in, value_of_arrays};
-ghost use Rattle.locale_numbers_book.specs.Book.{IsBook};
+ghost use Rattle.locale_numbers_book.specs.Arrays.{fault_in, fault_of_both, may_grow_in, may_grow_of_both, units_fault_in, units_may_grow_in, value_of_arrays, value_of_both, value_of_units};
+ghost use Rattle.locale_numbers_book.specs.Book.{HasTables, HasUnits, IsBook};
 ghost use Rattle.locale_numbers_book.specs.Form.{book_fault};
 ghost use Rattle.locale_numbers_book.specs.Json.{Reads};
 ghost use Rattle.locale_numbers_book.specs.Refusal.{IsRefused};
 ghost use Rattle.locale_numbers_book.specs.BookAllocation.{book_may_grow};
 ghost use Rattle.locale_numbers_tables.specs.Telling.{IsTold};
 
-use crate::json::{Arrays, arrays_of, parents_in, value_of};
+use crate::json::{Arrays, BookArrays, book_arrays_of, parents_in, units_in, value_of};
 use icu_decimal::plurals::PluralRules;
 use icu_decimal::provider::{CompactPatterns, DataIdentifier, DecimalSymbols};
 use icu_locale_core::DataLocale;
 use locale_numbers_parents::Parents;
 use locale_numbers_tables::{BookError, Seed, Table, table_of};
+use locale_numbers_units::{UnitArrays, Units};
 use serde_json::Value;
 use std::alloc::Global;
 use std::marker::Model;
 use tinystr::TinyAsciiStr;
 
-/// Tables of symbols, of digits, of plural rules and of short and long patterns, and the parents of locales, as a JSON
-/// text names them. `SAMPLE_BOOK` names the symbols of `en`, whose separators are `.` and `,`, and no parents.
+/// Tables of symbols, of digits, of plural rules and of short and long patterns, the parents of locales, and the units
+/// that percents and amounts of money are written with, as a JSON text names them. `SAMPLE_BOOK` names the symbols of
+/// `en`, whose separators are `.` and `,`, and no parents and no units.
 pub struct Book {
     pub(crate) symbols: Table<DataIdentifier, DecimalSymbols>,
     pub(crate) digits: Table<TinyAsciiStr<8>, [char; 10]>,
@@ -31,6 +33,7 @@ pub struct Book {
     pub(crate) short: Table<DataIdentifier, CompactPatterns>,
     pub(crate) long: Table<DataIdentifier, CompactPatterns>,
     pub(crate) parents: Option<Parents>,
+    pub(crate) units: Option<Units>,
 }
 
 impl Model for Book {
@@ -45,6 +48,7 @@ impl Model for Book {
       short = b.short.map.entries;
       long = b.long.map.entries;
       parents = b.parents;
+      units = b.units;
     } };
 }
 
@@ -59,31 +63,34 @@ impl Drop for Book {
             short: _short,
             long: _long,
             parents: _parents,
+            units: _units,
         } = self;
     }
 }
 
-// The book of these arrays, its tables hashed by this seed.
+// The book of these arrays, its tables hashed by this seed, and without units.
 #[tactic(auto, using(crate::proofs::BookLemmas::or_second, crate::proofs::BookLemmas::or_third, crate::proofs::BookLemmas::or_fourth, crate::proofs::BookLemmas::or_fifth, crate::proofs::BookLemmas::or_sixth))]
 fn tables_of(alloc: Global, seed: Seed, arrays: Arrays) -> Result<Book, BookError>
-    ensures value { IfOk result (IsBook (value_of_arrays arrays)) }
+    ensures value { IfOk result (HasTables (value_of_arrays arrays)) }
+    ensures sound { OnOk result (fault_in arrays ≡ None) }
+    ensures alone { IfOk result (λ book. book.units ≡ None) }
     ensures fault { IfErr result (λ fault. IsTold (fault_in arrays) fault) }
     ensures room { IsErrOf result BookError.Memory → may_grow_in arrays ≡ true }
 {
     let Arrays {
-        symbols,
-        digits,
-        rules,
-        short,
-        long,
-        parents,
+        first,
+        second,
+        third,
+        fourth,
+        fifth,
+        sixth,
     } = arrays;
-    let symbols = table_of(alloc, seed, symbols)?;
-    let digits = table_of(alloc, seed, digits)?;
-    let rules = table_of(alloc, seed, rules)?;
-    let short = table_of(alloc, seed, short)?;
-    let long = table_of(alloc, seed, long)?;
-    match parents_in(alloc, parents) {
+    let symbols = table_of(alloc, seed, first)?;
+    let digits = table_of(alloc, seed, second)?;
+    let rules = table_of(alloc, seed, third)?;
+    let short = table_of(alloc, seed, fourth)?;
+    let long = table_of(alloc, seed, fifth)?;
+    match parents_in(alloc, sixth) {
         Ok(parents) => Ok(Book {
             symbols,
             digits,
@@ -91,7 +98,47 @@ fn tables_of(alloc: Global, seed: Seed, arrays: Arrays) -> Result<Book, BookErro
             short,
             long,
             parents,
+            units: None,
         }),
+        Err(fault) => Err(fault),
+    }
+}
+
+// Gives a book the units of arrays that may be missing.
+fn add_units(
+    alloc: Global,
+    seed: Seed,
+    book: &mut Book,
+    arrays: Option<UnitArrays>,
+) -> Result<(), BookError>
+    ensures units { OnOk result (HasUnits (option_map value_of_units arrays) book.new.units) }
+    ensures same { OnOk result (book.new ≡ record book.old { units = book.new.units }) }
+    ensures sound { OnOk result (units_fault_in arrays ≡ None) }
+    ensures fault { IfErr result (λ fault. IsTold (units_fault_in arrays) fault) }
+    ensures room { IsErrOf result BookError.Memory → units_may_grow_in arrays ≡ true }
+{
+    match units_in(alloc, seed, arrays) {
+        Ok(units) => {
+            book.units = units;
+            Ok(())
+        }
+        Err(fault) => Err(fault),
+    }
+}
+
+// The book of these arrays and these units: the faults of the book are told before those of the units.
+#[tactic(auto, using(crate::proofs::BookLemmas::or_units))]
+fn both_of(alloc: Global, seed: Seed, arrays: BookArrays) -> Result<Book, BookError>
+    ensures value { IfOk result (IsBook (value_of_both arrays)) }
+    ensures fault { IfErr result (λ fault. IsTold (fault_of_both arrays) fault) }
+    ensures room { IsErrOf result BookError.Memory → may_grow_of_both arrays ≡ true }
+{
+    let BookArrays { book, units } = arrays;
+    match tables_of(alloc, seed, book) {
+        Ok(mut book) => match add_units(alloc, seed, &mut book, units) {
+            Ok(()) => Ok(book),
+            Err(fault) => Err(fault),
+        },
         Err(fault) => Err(fault),
     }
 }
@@ -105,8 +152,8 @@ fn book_of(alloc: Global, seed: Seed, value: Value) -> Result<Book, BookError>
     // A value of another form is never reported as out of memory.
     ensures room { IsErrOf result BookError.Memory → book_may_grow (view value) ≡ true }
 {
-    match arrays_of(alloc, value) {
-        Some(arrays) => match tables_of(alloc, seed, arrays) {
+    match book_arrays_of(alloc, value) {
+        Some(arrays) => match both_of(alloc, seed, arrays) {
             Ok(book) => Ok(book),
             Err(fault) => Err(fault),
         },
@@ -119,11 +166,15 @@ impl Book {
     ///
     /// An array of five arrays: of symbols, each under a data locale and a system or none, of digits, of plural rules,
     /// and of short and long patterns; and of a sixth or none, of locales and their parents. `SAMPLE_BOOK` is one,
-    /// `[[],[],[],[],[]]` the shortest. It allocates. The form and the faults are defined in docs/books.md.
+    /// `[[],[],[],[],[]]` the shortest. A book with units is a pair of such an array and of the five arrays of its
+    /// units, as `SAMPLE_UNITS_BOOK`; the shortest is `[[[],[],[],[],[]],[[],[],[],[],[]]]`. It allocates. The form and
+    /// the faults are defined in docs/books.md.
     ///
     /// - Json: the bytes have no reading as JSON, as `[1`.
-    /// - Shape: the value is not an array of five arrays or six, as `[]`. Else the first faulty entry decides, and in an entry the
-    ///   first of Shape to Cycle that applies: Cycle of `[[],[],[],[],[],[["en","en"]]]`.
+    /// - Shape: the value is neither an array of five arrays or six nor such a pair, as `[]`.
+    /// - Shape to Cycle, Unit, Code: else the first faulty entry decides, those of the book before those of the units,
+    ///   and in an entry the least number: Cycle of `[[],[],[],[],[],[["en","en"]]]`, Code of
+    ///   `[[[],[],[],[],[]],[[],[],[],[],[["CH",2,1,2,5]]]]`.
     /// - Memory: out of memory.
     pub fn from_json(alloc: Global, bytes: &[u8]) -> Result<Book, BookError>
         ensures value { IfOk result (λ book. (value : Data) × Reads bytes.now value × IsBook value book) }

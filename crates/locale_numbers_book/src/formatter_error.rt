@@ -19,10 +19,13 @@ pub enum FormatterError {
     /// Out of memory, as for a tag of two variants: `de-1996-fonipa`.
     #[error("out of memory")]
     Memory,
+    /// The text that should name a currency is not three capitals, as `eur` or `EURO`.
+    #[error("no code of a currency")]
+    Code,
 }
 
 impl FormatterError {
-    /// The number of the error: 1 of `Tag`, 2 of `Table`, 3 of `Memory`. It does not allocate.
+    /// The number of the error: 1 of `Tag`, 2 of `Table`, 3 of `Memory`, 4 of `Code`. It does not allocate.
     pub fn number(&self) -> u8
         ensures { result ≡ formatter_error_number self.now }
     {
@@ -30,6 +33,7 @@ impl FormatterError {
             FormatterError::Tag => 1,
             FormatterError::Table => 2,
             FormatterError::Memory => 3,
+            FormatterError::Code => 4,
         }
     }
 }

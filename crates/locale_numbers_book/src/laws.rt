@@ -1,6 +1,6 @@
 //! Laws of the definitions, each the contract of a function that does nothing.
 
-ghost use Rattle.locale_numbers_book.specs.Laws.{TagsAreRead, DataLocalesAreRead, KeysAreOneWhereEqual, TablesAreMade, IsOneBook, BookTablesAreSound, BookTablesAreTexts, BookChainsEnd, SampleBookIsKnown};
+ghost use Rattle.locale_numbers_book.specs.Laws.{TagsAreRead, DataLocalesAreRead, KeysAreOneWhereEqual, TablesAreMade, IsOneBook, OldBooksStay, BookTablesAreSound, BookTablesAreTexts, BookChainsEnd, SampleBookIsKnown, SampleUnitsBookIsKnown};
 
 pub use locale_numbers_parents::laws::cycles_are_met;
 
@@ -33,6 +33,13 @@ pub fn is_one_book()
     ensures { IsOneBook }
 {}
 
+/// A book of five arrays or six is what it was before books had units: a value that is no array of two items has the
+/// fault of such arrays, and as a book their tables and no units. So `[[],[],[],[],[]]` is the book without tables, and
+/// seven arrays are none.
+pub fn old_books_stay()
+    ensures { OldBooksStay }
+{}
+
 /// The types of each table of patterns of a book rise strictly, each exponent fits its type, and both fit into bytes:
 /// in `SAMPLE_BOOK` the types 3 and 6 of `en`.
 pub fn tables_are_sound()
@@ -55,4 +62,10 @@ pub fn chains_end()
 /// `arab` and `thai`, the English plural rules and the English patterns, short and long.
 pub fn sample_book_is_known()
     ensures { SampleBookIsKnown }
+{}
+
+/// The sample book with units is a book with these tables, these units and no others: symbols, percents and amounts of
+/// `de`, `de-CH`, `en`, `he` and `tr`, and the digits of CHF, JPY and KWD.
+pub fn sample_units_book_is_known()
+    ensures { SampleUnitsBookIsKnown }
 {}

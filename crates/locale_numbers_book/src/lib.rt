@@ -1,4 +1,4 @@
-//! Books: tables of symbols, digits, plural rules and patterns as a JSON text names them, which formatters borrow.
+//! Books: tables of symbols, digits, plural rules, patterns and units as a JSON text names them, which formatters borrow.
 //!
 //! From `SAMPLE_BOOK` the preferences of `ar-EG-u-nu-thai` get the Arabic separators of the entry `ar-EG` and the
 //! digits of the entry `thai`; those of `en` get `.`, `,` and the digits of `latn`, which its symbols name.
@@ -9,13 +9,16 @@ mod book;
 mod formatter_error;
 mod json;
 pub mod laws;
+mod locales;
 mod providers;
 mod sample_book;
 mod tag_formatters;
 mod tag_reader;
+mod unit_formatters;
+mod unit_providers;
 
 pub use book::{Book, book_from};
 pub use formatter_error::FormatterError;
 pub use locale_numbers_tables::BookError;
-pub use sample_book::SAMPLE_BOOK;
+pub use sample_book::{SAMPLE_BOOK, SAMPLE_UNITS_BOOK};
 pub use tag_reader::read_preferences;

@@ -18,7 +18,7 @@ use icu_decimal::provider::{
 use icu_locale_core::DataLocale;
 
 // What is there, or that nothing is.
-fn found<T>(there: Option<&T>) -> Result<&T, DataError>
+pub(crate) fn found<T>(there: Option<&T>) -> Result<&T, DataError>
     ensures { result_map_both (λ table. table.now) (λ error. error) result ≡ answered (option_copied there.entry) }
 {
     there.ok_or(DataError::IdentifierNotFound)

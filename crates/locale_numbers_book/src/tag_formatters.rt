@@ -21,7 +21,7 @@ use icu_decimal::{CompactDecimalFormatter, DecimalFormatter, DecimalFormatterPre
 use std::alloc::Global;
 
 // What a tag prefers.
-fn preferences_of_tag(
+pub(crate) fn preferences_of_tag(
     alloc: Global,
     tag: &str,
 ) -> Result<DecimalFormatterPreferences, FormatterError>

@@ -1,11 +1,12 @@
 //! Writes a number for German readers, in its parts too, and reads what they type; writes it for Hindi and Arabic readers,
-//! whole and short.
+//! whole and short; and writes an amount of money and a percent, and reads the amount back.
 
 #![tactic(auto)]
 
 use anyhow::Result;
 use locale_numbers::prelude::{
-    Book, Decimal, DecimalFormatter, PartsSink, ReadError, Writeable, read_lenient, world_text,
+    Book, CurrencyFormatter, CurrencyFormatterOptions, CurrencyUsage, Decimal, DecimalFormatter,
+    PartsSink, PercentFormatterOptions, ReadError, Writeable, read_lenient, world_text,
 };
 
 /// A report: the number's text, and each part of it.
@@ -41,6 +42,27 @@ fn print_label(rt: &HostRuntime, book: &Book, tag: &str, number: &Decimal) -> Re
     Ok(())
 }
 
+/// An amount, and the number that its text is.
+fn print_amount(rt: &HostRuntime, euros: &CurrencyFormatter<'_>, amount: &Decimal) -> Result<()> {
+    let text = euros.format_to_string(rt.alloc(), amount)?;
+    let read = euros.read(rt.alloc(), text.as_str())?;
+    println!(rt; "{text} is {read}")?;
+    Ok(())
+}
+
+/// A bill: an amount in euros, rounded to their cents, and a share in percent.
+fn print_bill(rt: &HostRuntime, book: &Book, tag: &str) -> Result<()> {
+    let options = CurrencyFormatterOptions::default();
+    let euros = book.currency_formatter(rt.alloc(), tag, "EUR", options)?;
+    let given = Decimal::try_from_str(rt.alloc(), "-1234.5")?;
+    let amount = euros.rounded(given, CurrencyUsage::Standard)?;
+    print_amount(rt, &euros, &amount)?;
+    let percents = book.percent_formatter(rt.alloc(), tag, PercentFormatterOptions::default())?;
+    let share = Decimal::try_from_str(rt.alloc(), "12.5")?;
+    println!(rt; "{}", percents.format(&share))?;
+    Ok(())
+}
+
 /// All of them, by a book of all locales.
 fn print_all(rt: &HostRuntime, book: &Book, number: &Decimal) -> Result<()> {
     let german = book.formatter(rt.alloc(), "de")?;
@@ -49,12 +71,15 @@ fn print_all(rt: &HostRuntime, book: &Book, number: &Decimal) -> Result<()> {
     print_field(rt, &german, "1234,50")?;
     print_field(rt, &german, "98.7654")?;
     print_label(rt, book, "hi", number)?;
-    print_label(rt, book, "ar-EG", number)
+    print_label(rt, book, "ar-EG", number)?;
+    print_bill(rt, book, "de")?;
+    print_bill(rt, book, "de-CH")
 }
 
 fn main(rt: HostRuntime) -> Result<()> {
     let number = Decimal::try_from_str(rt.alloc(), "-987654.321")?;
-    let book = Book::from_json(rt.alloc(), world_text().as_bytes())?;
+    let text = world_text(rt.alloc())?;
+    let book = Book::from_json(rt.alloc(), text.as_bytes())?;
     let printed = print_all(&rt, &book, &number);
     drop(book);
     printed

@@ -4,11 +4,14 @@ use Rattle.fixed_decimal.specs.declared.SignedRoundingMode.TheVariants.{Unsigned
 use Rattle.fixed_decimal.specs.declared.UnsignedRoundingMode.TheVariants.{HalfTrunc}
 use Rattle.fixed_decimal.specs.declared.RoundingIncrement.TheVariants.{MultiplesOf25}
 use Rattle.icu_decimal_symbols.specs.declared.options.GroupingStrategy.TheVariants.{Auto, Min2}
+use Rattle.locale_numbers_requests.specs.FormField.{form_named}
 use Rattle.locale_numbers_requests.specs.Request.{tab, fields, request_in, grouping_named, sign_named}
 use Rattle.locale_numbers_requests.specs.RoundingField.{position_named, rounding_named}
-use Rattle.locale_numbers_requests.specs.declared.request.Form.TheVariants.{Plain, Read, ReadLenient}
+use Rattle.locale_numbers_requests.specs.declared.form_field.Form.TheVariants.{Plain, Read, ReadLenient, Unit, ReadUnit}
+use Rattle.locale_numbers_requests.specs.declared.form_field.AmountStyle.TheVariants.{Standard, Accounting, Code}
+use Rattle.locale_numbers_requests.specs.declared.form_field.UnitAsked.TheVariants.{Percent, Currency}
 use Rattle.locale_numbers_requests.specs.declared.sign_field.SignAsked.TheVariants.{Keep}
-use Rattle.locale_numbers_requests.specs.declared.rounding_field.RoundingAsked.TheVariants.{Unrounded, At}
+use Rattle.locale_numbers_requests.specs.declared.rounding_field.RoundingAsked.TheVariants.{Unrounded, Cash, At}
 
 -- ---- request lines
 
@@ -54,6 +57,68 @@ short_word = refl
 
 no_such_sign : sign_named (codes "plus") ≡ None
 no_such_sign = refl
+
+-- ---- units
+
+percent_line : request_in (codes "tr" ∷ codes "percent" ∷ codes "auto" ∷ codes "keep" ∷ codes "-" ∷ codes "-12.5" ∷ [])
+    ≡ Some (record { tag = codes "tr"; form = Unit Percent; grouping = Auto; sign = Keep; rounding = Unrounded; text = codes "-12.5" })
+percent_line = refl
+
+amount_line : request_in (codes "en" ∷ codes "currency-EUR" ∷ codes "auto" ∷ codes "keep" ∷ codes "-" ∷ codes "1234.5" ∷ [])
+    ≡ Some (record { tag = codes "en"; form = Unit (Currency Standard (codes "EUR")); grouping = Auto; sign = Keep; rounding = Unrounded; text = codes "1234.5" })
+amount_line = refl
+
+accounting_word : form_named (codes "accounting-USD") ≡ Some (Unit (Currency Accounting (codes "USD")))
+accounting_word = refl
+
+code_word : form_named (codes "code-QQQ") ≡ Some (Unit (Currency Code (codes "QQQ")))
+code_word = refl
+
+read_amount_word : form_named (codes "read-code-CHF") ≡ Some (ReadUnit (Currency Code (codes "CHF")))
+read_amount_word = refl
+
+-- a code is three capitals
+small_code : form_named (codes "currency-eur") ≡ None
+small_code = refl
+
+long_code : form_named (codes "currency-EURO") ≡ None
+long_code = refl
+
+no_code : form_named (codes "currency-") ≡ None
+no_code = refl
+
+only_a_code : form_named (codes "EUR") ≡ None
+only_a_code = refl
+
+other_word : form_named (codes "names-EUR") ≡ None
+other_word = refl
+
+-- only an amount has digits of cash, written or read
+cash_line : request_in (codes "en" ∷ codes "currency-CHF" ∷ codes "auto" ∷ codes "keep" ∷ codes "cash" ∷ codes "2.345" ∷ [])
+    ≡ Some (record { tag = codes "en"; form = Unit (Currency Standard (codes "CHF")); grouping = Auto; sign = Keep; rounding = Cash; text = codes "2.345" })
+cash_line = refl
+
+read_cash_line : request_in (codes "en" ∷ codes "read-currency-CHF" ∷ codes "auto" ∷ codes "keep" ∷ codes "cash" ∷ codes "2.35" ∷ [])
+    ≡ Some (record { tag = codes "en"; form = ReadUnit (Currency Standard (codes "CHF")); grouping = Auto; sign = Keep; rounding = Cash; text = codes "2.35" })
+read_cash_line = refl
+
+percent_in_cash : request_in (codes "en" ∷ codes "percent" ∷ codes "auto" ∷ codes "keep" ∷ codes "cash" ∷ codes "1" ∷ []) ≡ None
+percent_in_cash = refl
+
+plain_in_cash : request_in (codes "en" ∷ codes "plain" ∷ codes "auto" ∷ codes "keep" ∷ codes "cash" ∷ codes "1" ∷ []) ≡ None
+plain_in_cash = refl
+
+exact_in_cash : request_in (codes "en" ∷ codes "exact-short" ∷ codes "auto" ∷ codes "keep" ∷ codes "cash" ∷ codes "1c3" ∷ []) ≡ None
+exact_in_cash = refl
+
+read_percent_with_a_rounding : request_in (codes "en" ∷ codes "read-percent" ∷ codes "auto" ∷ codes "keep" ∷ codes "0,trunc,1" ∷ codes "5%" ∷ []) ≡ None
+read_percent_with_a_rounding = refl
+
+read_amount_with_a_rounding : request_in (codes "en" ∷ codes "read-currency-EUR" ∷ codes "auto" ∷ codes "keep" ∷ codes "0,trunc,1" ∷ codes "5" ∷ []) ≡ None
+read_amount_with_a_rounding = refl
+
+read_amount_with_a_sign : request_in (codes "en" ∷ codes "read-currency-EUR" ∷ codes "auto" ∷ codes "auto" ∷ codes "-" ∷ codes "5" ∷ []) ≡ None
+read_amount_with_a_sign = refl
 
 -- ---- roundings
 

@@ -1,6 +1,7 @@
 -- What a reader must believe: request lines, and the words that refuse them.
 pub mod Cutting
 pub mod Digits
+pub mod FormField
 pub mod Request
 pub mod RoundingField
 pub mod Refusal

@@ -2,20 +2,20 @@
 -- Defined in docs/requests.md, "Request line".
 -- Cited by `answer` and `run`, through Answer.antt, and by `read_request`.
 -- Three of the six fields are types with cases, and the cases of each are imported beside it.
-use Rattle.std.specs.Prelude.{ℕ, Bool, true, false, ◌&&◌, if◌then◌else◌, List, [], ◌∷◌, Option, Some, None, codes}
+use Rattle.std.specs.Prelude.{ℕ, Bool, true, false, not, ◌&&◌, ◌||◌, if◌then◌else◌, List, [], ◌∷◌, Option, Some, None, codes}
 use Rattle.std.specs.Str.{bytes_eq, is_utf8}
 use Rattle.fixed_decimal.specs.declared.SignDisplay.TheVariants as display
 use Rattle.icu_decimal_symbols.specs.declared.options.GroupingStrategy.{GroupingStrategy}
 use Rattle.icu_decimal_symbols.specs.declared.options.GroupingStrategy.TheVariants.{Auto, Never, Always, Min2}
 use Rattle.locale_numbers_requests.specs.Cutting.{cut_at}
-use Rattle.locale_numbers_requests.specs.RoundingField.{rounding_named}
+use Rattle.locale_numbers_requests.specs.FormField.{form_named}
+use Rattle.locale_numbers_requests.specs.RoundingField.{is_cash, keeps_digits, rounding_named}
 use Rattle.locale_numbers_requests.specs.declared.sign_field.SignAsked.{SignAsked}
 use Rattle.locale_numbers_requests.specs.declared.sign_field.SignAsked.TheVariants.{Keep, Show}
 use Rattle.locale_numbers_requests.specs.declared.rounding_field.RoundingAsked.{RoundingAsked}
-use Rattle.locale_numbers_requests.specs.declared.rounding_field.RoundingAsked.TheVariants.{Unrounded, At}
-use Rattle.locale_numbers_requests.specs.declared.request.Form.{Form}
-use Rattle.locale_numbers_requests.specs.declared.request.Form.TheVariants.{Plain, Compact, Exact, Read, ReadLenient}
-use Rattle.locale_numbers_requests.specs.declared.request.PatternLength.TheVariants.{Short, Long}
+use Rattle.locale_numbers_requests.specs.declared.form_field.Form.{Form}
+use Rattle.locale_numbers_requests.specs.declared.form_field.Form.TheVariants.{Plain, Compact, Exact, Read, ReadLenient, Unit, ReadUnit}
+use Rattle.locale_numbers_requests.specs.declared.form_field.UnitAsked.TheVariants.{Percent, Currency}
 
 -- the code of a tab
 abbrev pub tab : ℕ
@@ -24,18 +24,6 @@ tab = 9
 -- the fields of a line: the pieces between its tabs
 abbrev pub fields : List ℕ → List (List ℕ)
 fields line = cut_at tab line
-
--- the form that a word names
-abbrev pub form_named : List ℕ → Option Form
-form_named word =
-    if bytes_eq word (codes "plain") then Some Plain
-    else if bytes_eq word (codes "short") then Some (Compact Short)
-    else if bytes_eq word (codes "long") then Some (Compact Long)
-    else if bytes_eq word (codes "exact-short") then Some (Exact Short)
-    else if bytes_eq word (codes "exact-long") then Some (Exact Long)
-    else if bytes_eq word (codes "read") then Some Read
-    else if bytes_eq word (codes "read-lenient") then Some ReadLenient
-    else None
 
 -- the grouping that a word names
 abbrev pub grouping_named : List ℕ → Option GroupingStrategy
@@ -62,19 +50,18 @@ abbrev pub keeps_sign : SignAsked → Bool
 keeps_sign Keep = true
 keeps_sign (Show display) = false
 
--- nothing is rounded
-abbrev pub keeps_digits : RoundingAsked → Bool
-keeps_digits Unrounded = true
-keeps_digits (At position mode increment) = false
-
 -- whether a form takes a sign and a rounding: an exact form shows the digits that are given, so nothing is rounded there; what
--- is read back is the number that was written or typed, so neither is chosen there
+-- is read back is the number that was written or typed, so neither is chosen there; only an amount of money has digits of cash
 abbrev pub takes : Form → SignAsked → RoundingAsked → Bool
-takes Plain sign rounding = true
-takes (Compact length) sign rounding = true
+takes Plain sign rounding = not (is_cash rounding)
+takes (Compact length) sign rounding = not (is_cash rounding)
 takes (Exact length) sign rounding = keeps_digits rounding
 takes Read sign rounding = keeps_sign sign && keeps_digits rounding
 takes ReadLenient sign rounding = keeps_sign sign && keeps_digits rounding
+takes (Unit Percent) sign rounding = not (is_cash rounding)
+takes (Unit (Currency style code)) sign rounding = true
+takes (ReadUnit Percent) sign rounding = keeps_sign sign && keeps_digits rounding
+takes (ReadUnit (Currency style code)) sign rounding = keeps_sign sign && (keeps_digits rounding || is_cash rounding)
 
 -- a request as it is asked: a tag, a form, a grouping, a sign, a rounding and the text of a number
 pub record Asked : Type 0 where

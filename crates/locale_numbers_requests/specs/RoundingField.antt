@@ -2,7 +2,7 @@
 -- Defined in docs/requests.md, "Rounding and sign".
 -- Cited by `answer` and `run`, through Request.antt.
 -- Each of the three words of a rounding is a type with cases, and the cases are imported beside it.
-use Rattle.std.specs.Prelude.{◌==◌, ◌&&◌, not, nat_le, ℕ, ℤ, pos, neg_ℤ, Bool, false, if◌then◌else◌, List, [], ◌∷◌, Option, Some, None, codes}
+use Rattle.std.specs.Prelude.{◌==◌, ◌&&◌, not, nat_le, ℕ, ℤ, pos, neg_ℤ, Bool, true, false, if◌then◌else◌, List, [], ◌∷◌, Option, Some, None, codes}
 use Rattle.std.specs.List.{list_all}
 use Rattle.std.specs.Str.{bytes_eq}
 use Rattle.fixed_decimal.specs.NumberText.{minus, digit_zero, spelled}
@@ -14,7 +14,7 @@ use Rattle.fixed_decimal.specs.declared.RoundingIncrement.TheVariants.{Multiples
 use Rattle.locale_numbers_requests.specs.Digits.{is_digit}
 use Rattle.locale_numbers_requests.specs.Cutting.{cut_at}
 use Rattle.locale_numbers_requests.specs.declared.rounding_field.RoundingAsked.{RoundingAsked}
-use Rattle.locale_numbers_requests.specs.declared.rounding_field.RoundingAsked.TheVariants.{Unrounded, At}
+use Rattle.locale_numbers_requests.specs.declared.rounding_field.RoundingAsked.TheVariants.{Unrounded, Cash, At}
 
 -- the code of a comma
 abbrev pub comma : ℕ
@@ -79,6 +79,21 @@ abbrev pub rounding_in : List (List ℕ) → Option RoundingAsked
 rounding_in (position ∷ mode ∷ increment ∷ []) = rounding_by (position_named position) (mode_named mode) (increment_named increment)
 rounding_in _ = None
 
--- what a field rounds: nothing, or what its three words say
+-- what a field rounds: what the form rounds by itself, an amount to the digits of cash, or what its three words say
 abbrev pub rounding_named : List ℕ → Option RoundingAsked
-rounding_named word = if bytes_eq word (codes "-") then Some Unrounded else rounding_in (cut_at comma word)
+rounding_named word =
+    if bytes_eq word (codes "-") then Some Unrounded
+    else if bytes_eq word (codes "cash") then Some Cash
+    else rounding_in (cut_at comma word)
+
+-- nothing is said of a rounding
+abbrev pub keeps_digits : RoundingAsked → Bool
+keeps_digits Unrounded = true
+keeps_digits Cash = false
+keeps_digits (At position mode increment) = false
+
+-- the digits of cash are asked for
+abbrev pub is_cash : RoundingAsked → Bool
+is_cash Unrounded = false
+is_cash Cash = true
+is_cash (At position mode increment) = false

@@ -15,6 +15,7 @@
 
 mod cutting;
 mod digits;
+mod form_field;
 mod refusal;
 mod request;
 mod rounding_field;
@@ -23,7 +24,8 @@ mod word_table;
 
 pub use cutting::{cut_field, cut_last};
 pub use digits::{are_digits, capped_number};
+pub use form_field::{AmountStyle, Form, PatternLength, UnitAsked};
 pub use refusal::Refusal;
-pub use request::{Form, PatternLength, Request, as_text, is_text, read_request};
+pub use request::{Request, as_text, is_text, read_request};
 pub use rounding_field::RoundingAsked;
 pub use sign_field::SignAsked;

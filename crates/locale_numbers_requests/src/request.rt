@@ -2,39 +2,16 @@
 
 ghost use Rattle.std.specs.Prelude.{◌≡◌, true, false, ◌∷◌, [], ◌↔◌, length, IsSome, IfSome, MatchOption, Some, None};
 ghost use Rattle.std.specs.Str.{is_utf8};
-ghost use Rattle.locale_numbers_requests.specs.Request.{fields, form_named, grouping_named, keeps_digits, keeps_sign, request_of, takes, with_text};
+ghost use Rattle.locale_numbers_requests.specs.Request.{fields, grouping_named, request_of, takes, with_text};
 
 use crate::cutting::cut_field;
-use crate::rounding_field::{RoundingAsked, rounding_named};
-use crate::sign_field::{SignAsked, sign_named};
+use crate::form_field::{Form, UnitAsked, form_named};
+use crate::rounding_field::{RoundingAsked, is_cash, keeps_digits, rounding_named};
+use crate::sign_field::{SignAsked, keeps_sign, sign_named};
 use crate::word_table::value_beside;
 use icu_decimal_symbols::options::GroupingStrategy;
 
 const TAB: u8 = b'\t';
-
-/// Which patterns a compact number is written with.
-#[derive(Clone, Copy, PartialEq, Eq, Hash)]
-pub enum PatternLength {
-    /// The short ones, as of `1.6K`.
-    Short,
-    /// The long ones, as of `1.6 thousand`.
-    Long,
-}
-
-/// What is written for a number.
-#[derive(Clone, Copy)]
-pub enum Form {
-    /// Its digits, grouped.
-    Plain,
-    /// What it is shown as in patterns of this length, and the value shown.
-    Compact(PatternLength),
-    /// Its digits and its exponent, as they are, in patterns of this length.
-    Exact(PatternLength),
-    /// The number itself, read back from such a text.
-    Read,
-    /// The number itself, read from what people type.
-    ReadLenient,
-}
 
 /// What a request line asks of whatever text it has.
 #[derive(Clone, Copy)]
@@ -49,24 +26,6 @@ pub struct Request<'a> {
     pub sign: SignAsked,
     /// What is rounded.
     pub rounding: RoundingAsked,
-}
-
-// The words of forms.
-const FORMS: [(&[u8], Form); 7] = [
-    (b"plain", Form::Plain),
-    (b"short", Form::Compact(PatternLength::Short)),
-    (b"long", Form::Compact(PatternLength::Long)),
-    (b"exact-short", Form::Exact(PatternLength::Short)),
-    (b"exact-long", Form::Exact(PatternLength::Long)),
-    (b"read", Form::Read),
-    (b"read-lenient", Form::ReadLenient),
-];
-
-// The form that a field names.
-fn form_named(word: &[u8]) -> Option<Form>
-    ensures { result ≡ form_named word.now }
-{
-    value_beside(&FORMS, word)
 }
 
 // The words of groupings.
@@ -84,28 +43,20 @@ fn grouping_named(word: &[u8]) -> Option<GroupingStrategy>
     value_beside(&GROUPINGS, word)
 }
 
-// Whether the sign is that of the text.
-fn keeps_sign(sign: SignAsked) -> bool
-    ensures { result ≡ keeps_sign sign }
-{
-    matches!(sign, SignAsked::Keep)
-}
-
-// Whether nothing is rounded.
-fn keeps_digits(rounding: RoundingAsked) -> bool
-    ensures { result ≡ keeps_digits rounding }
-{
-    matches!(rounding, RoundingAsked::Unrounded)
-}
-
 // Whether a form takes a sign and a rounding.
-fn takes(form: Form, sign: SignAsked, rounding: RoundingAsked) -> bool
-    ensures { result ≡ takes form sign rounding }
+fn takes(form: &Form, sign: SignAsked, rounding: RoundingAsked) -> bool
+    ensures { result ≡ takes form.now sign rounding }
 {
     match form {
-        Form::Plain | Form::Compact(_) => true,
+        Form::Plain | Form::Compact(_) | Form::Unit(UnitAsked::Percent) => !is_cash(rounding),
+        Form::Unit(UnitAsked::Currency(_, _)) => true,
         Form::Exact(_) => keeps_digits(rounding),
-        Form::Read | Form::ReadLenient => keeps_sign(sign) && keeps_digits(rounding),
+        Form::Read | Form::ReadLenient | Form::ReadUnit(UnitAsked::Percent) => {
+            keeps_sign(sign) && keeps_digits(rounding)
+        }
+        Form::ReadUnit(UnitAsked::Currency(_, _)) => {
+            keeps_sign(sign) && (keeps_digits(rounding) || is_cash(rounding))
+        }
     }
 }
 
@@ -172,7 +123,7 @@ pub fn read_request(line: &[u8]) -> Option<Request<'_>>
     let grouping = grouping_named(six.grouping)?;
     let sign = sign_named(six.sign)?;
     let rounding = rounding_named(six.rounding)?;
-    if !takes(form, sign, rounding) {
+    if !takes(&form, sign, rounding) {
         return None;
     }
     Some(Request {

@@ -1,7 +1,7 @@
 //! The rounding that a request asks for: a position, a mode and an increment, or none.
 
 ghost use Rattle.std.specs.Prelude.{◌≡◌, ◌≤◌, ◌∷◌, [], ◌↔◌, length, IsSome, IfSome};
-ghost use Rattle.locale_numbers_requests.specs.RoundingField.{comma, is_size, size_named, position_named, mode_named, increment_named, rounding_in, rounding_named};
+ghost use Rattle.locale_numbers_requests.specs.RoundingField.{comma, is_cash, keeps_digits, is_size, size_named, position_named, mode_named, increment_named, rounding_in, rounding_named};
 ghost use Rattle.locale_numbers_requests.specs.Cutting.{cut_at};
 
 use crate::cutting::cut_field;
@@ -14,8 +14,10 @@ const COMMA: u8 = b',';
 /// What is rounded.
 #[derive(Clone, Copy)]
 pub enum RoundingAsked {
-    /// Nothing.
+    /// What the form rounds by itself: an amount of money to the digits of its currency, and else nothing.
     Unrounded,
+    /// An amount of money, to the digits that its currency has in cash.
+    Cash,
     /// The number, at a position, by a mode, to multiples of an increment.
     At(i16, SignedRoundingMode, RoundingIncrement),
 }
@@ -121,13 +123,30 @@ fn three_words(field: &[u8]) -> Option<(&[u8], &[u8], &[u8])>
     }
 }
 
-// What a field rounds, where it is known: `-`, or a position, a mode and an increment between commas, as
+// Whether nothing is said of a rounding.
+pub(crate) fn keeps_digits(rounding: RoundingAsked) -> bool
+    ensures { result ≡ keeps_digits rounding }
+{
+    matches!(rounding, RoundingAsked::Unrounded)
+}
+
+// Whether the digits of cash are asked for.
+pub(crate) fn is_cash(rounding: RoundingAsked) -> bool
+    ensures { result ≡ is_cash rounding }
+{
+    matches!(rounding, RoundingAsked::Cash)
+}
+
+// What a field rounds, where it is known: `-`, `cash`, or a position, a mode and an increment between commas, as
 // `-2,half-even,5`.
 pub(crate) fn rounding_named(field: &[u8]) -> Option<RoundingAsked>
     ensures { result ≡ rounding_named field.now }
 {
     if field == b"-".as_slice() {
         return Some(RoundingAsked::Unrounded);
+    }
+    if field == b"cash".as_slice() {
+        return Some(RoundingAsked::Cash);
     }
     let (position, mode, increment) = three_words(field)?;
     let position = position_named(position)?;

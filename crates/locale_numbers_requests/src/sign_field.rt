@@ -1,7 +1,7 @@
 //! The sign that a request asks for.
 
 ghost use Rattle.std.specs.Prelude.{◌≡◌};
-ghost use Rattle.locale_numbers_requests.specs.Request.{sign_named};
+ghost use Rattle.locale_numbers_requests.specs.Request.{keeps_sign, sign_named};
 
 use crate::word_table::value_beside;
 use fixed_decimal::SignDisplay;
@@ -30,4 +30,11 @@ pub(crate) fn sign_named(word: &[u8]) -> Option<SignAsked>
     ensures { result ≡ sign_named word.now }
 {
     value_beside(&SIGNS, word)
+}
+
+// Whether the sign is that of the text.
+pub(crate) fn keeps_sign(sign: SignAsked) -> bool
+    ensures { result ≡ keeps_sign sign }
+{
+    matches!(sign, SignAsked::Keep)
 }

@@ -1,5 +1,5 @@
 //! The books that lines name.
-use locale_numbers::SAMPLE_BOOK;
+use locale_numbers::{SAMPLE_BOOK, SAMPLE_UNITS_BOOK};
 
 // The sample book, with English grouped by three and then by two.
 const THREE_TWO: &str = r#"[[["en","","latn","-","","+","",".",",",3,2,1],
@@ -91,6 +91,7 @@ const THAI_BEHIND: &str = r#"[[["en","","latn","-","","+","",".",",",3,3,1],
 pub fn book_named(name: &str) -> Option<&'static str> {
     match name {
         "sample" => Some(SAMPLE_BOOK),
+        "units" => Some(SAMPLE_UNITS_BOOK),
         "three-two" => Some(THREE_TWO),
         "two-in-front" => Some(TWO_IN_FRONT),
         "not-grouped" => Some(NOT_GROUPED),

@@ -5,6 +5,11 @@ use icu_decimal::provider::{
     DecimalCompactShortV1, DecimalDigitsV1, DecimalSymbols, DecimalSymbolsV1, ParentProvider,
     PluralsCardinalV1,
 };
+use icu_dimension::FractionInfo;
+use icu_dimension::provider::{
+    AmountPatterns, CurrencyAccountingV1, CurrencyEssentialsV1, CurrencyFractionsV1,
+    CurrencySymbol, CurrencySymbolsV1, PercentEssentialsV1, PercentPattern,
+};
 use icu_locale_core::DataLocale;
 use locale_numbers::{Book, Tables};
 use std::cell::Cell;
@@ -78,6 +83,56 @@ impl<'b> DataProvider<DecimalCompactLongV1> for Counting<'b> {
     }
 }
 
+impl<'b> DataProvider<PercentEssentialsV1> for Counting<'b> {
+    ghost use Rattle.locale_numbers.specs.Tables.{percents_under};
+
+    ghost table = { λ s id. percents_under s.book.now id };
+
+    fn load(&self, id: &DataIdentifier) -> Result<&PercentPattern, DataError> {
+        DataProvider::<PercentEssentialsV1>::load(self.book, id)
+    }
+}
+
+impl<'b> DataProvider<CurrencyEssentialsV1> for Counting<'b> {
+    ghost use Rattle.locale_numbers.specs.Tables.{currencies_under};
+
+    ghost table = { λ s id. currencies_under s.book.now id };
+
+    fn load(&self, id: &DataIdentifier) -> Result<&AmountPatterns, DataError> {
+        DataProvider::<CurrencyEssentialsV1>::load(self.book, id)
+    }
+}
+
+impl<'b> DataProvider<CurrencyAccountingV1> for Counting<'b> {
+    ghost use Rattle.locale_numbers.specs.Tables.{accounts_under};
+
+    ghost table = { λ s id. accounts_under s.book.now id };
+
+    fn load(&self, id: &DataIdentifier) -> Result<&AmountPatterns, DataError> {
+        DataProvider::<CurrencyAccountingV1>::load(self.book, id)
+    }
+}
+
+impl<'b> DataProvider<CurrencySymbolsV1> for Counting<'b> {
+    ghost use Rattle.locale_numbers.specs.Tables.{currency_symbols_under};
+
+    ghost table = { λ s id. currency_symbols_under s.book.now id };
+
+    fn load(&self, id: &DataIdentifier) -> Result<&CurrencySymbol, DataError> {
+        DataProvider::<CurrencySymbolsV1>::load(self.book, id)
+    }
+}
+
+impl<'b> DataProvider<CurrencyFractionsV1> for Counting<'b> {
+    ghost use Rattle.locale_numbers.specs.Tables.{fractions_under};
+
+    ghost table = { λ s id. fractions_under s.book.now id };
+
+    fn load(&self, id: &DataIdentifier) -> Result<&FractionInfo, DataError> {
+        DataProvider::<CurrencyFractionsV1>::load(self.book, id)
+    }
+}
+
 impl<'b> ParentProvider for Counting<'b> {
     ghost use Rattle.locale_numbers.specs.Tables.{parent_under, steps_in};
 
@@ -109,7 +164,19 @@ impl<'b> Tables for Counting<'b> {
 
     ghost long = { λ s id. refl };
 
+    ghost percents = { λ s id. refl };
+
+    ghost currencies = { λ s id. refl };
+
+    ghost accounts = { λ s id. refl };
+
+    ghost currency_symbols = { λ s id. refl };
+
+    ghost fractions = { λ s id. refl };
+
     ghost parents = { λ s l. refl };
 
     ghost chains = { λ s l. refl };
+
+    ghost limits = { λ s. refl };
 }

@@ -17,6 +17,8 @@ fn book_error_named(name: &str) -> Result<BookError, Stop> {
         "Duplicate" => Ok(BookError::Duplicate),
         "Cycle" => Ok(BookError::Cycle),
         "Memory" => Ok(BookError::Memory),
+        "Unit" => Ok(BookError::Unit),
+        "Code" => Ok(BookError::Code),
         _ => Err(Stop::Unknown),
     }
 }

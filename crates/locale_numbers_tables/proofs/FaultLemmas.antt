@@ -5,7 +5,7 @@ use Rattle.std.specs.Option.{option_or}
 use Rattle.std.proofs.lemmas.Bool.{or_right}
 use Rattle.serde_json.specs.Data.{Data}
 use Rattle.locale_numbers_tables.specs.declared.error.BookError.{BookError}
-use Rattle.locale_numbers_tables.specs.declared.error.BookError.TheVariants.{Json, Shape, Tag, System, Text, Digits, Condition, Types, Exponents, Duplicate, Cycle, Memory}
+use Rattle.locale_numbers_tables.specs.declared.error.BookError.TheVariants.{Json, Shape, Tag, System, Text, Digits, Condition, Types, Exponents, Duplicate, Cycle, Memory, Unit, Code}
 use Rattle.locale_numbers_tables.specs.CompactEntries.{rows_in, zero_in}
 use Rattle.locale_numbers_tables.specs.Entries.{has_count, field_at, is_text_at}
 use Rattle.locale_numbers_tables.specs.Faults.{compact_fault, digits_fault, has_symbols_shape, rules_fault, symbols_fault}
@@ -33,6 +33,8 @@ told_first a b Exponents h = rw h refl
 told_first a b Duplicate h = rw h refl
 told_first a b Cycle h = rw h refl
 told_first a b Memory h = tt
+told_first a b Unit h = rw h refl
+told_first a b Code h = rw h refl
 
 -- a key that stands twice, or out of memory
 pub told_twice : (found : Option BookError) (e : BookError) → (e ≡ Duplicate) ⊎ (e ≡ Memory) → (e ≡ Duplicate → found ≡ Some Duplicate) → IsTold found e

@@ -3,7 +3,7 @@
 -- Cited by `BookError::number` and `BookError::word`.
 use Rattle.std.specs.Prelude.{ℕ, List, codes}
 use Rattle.locale_numbers_tables.specs.declared.error.BookError.{BookError}
-use Rattle.locale_numbers_tables.specs.declared.error.BookError.TheVariants.{Json, Shape, Tag, System, Text, Digits, Condition, Types, Exponents, Duplicate, Cycle, Memory}
+use Rattle.locale_numbers_tables.specs.declared.error.BookError.TheVariants.{Json, Shape, Tag, System, Text, Digits, Condition, Types, Exponents, Duplicate, Cycle, Memory, Unit, Code}
 
 abbrev pub number_of : BookError → ℕ
 number_of Json = 1
@@ -18,6 +18,8 @@ number_of Exponents = 9
 number_of Duplicate = 10
 number_of Cycle = 11
 number_of Memory = 12
+number_of Unit = 13
+number_of Code = 14
 
 abbrev pub word_of : BookError → List ℕ
 word_of Json = codes "json"
@@ -32,3 +34,5 @@ word_of Exponents = codes "exponents"
 word_of Duplicate = codes "duplicate"
 word_of Cycle = codes "cycle"
 word_of Memory = codes "memory"
+word_of Unit = codes "unit"
+word_of Code = codes "code"

@@ -13,17 +13,18 @@ pub enum BookError {
     /// The bytes are no JSON text, as `[1`; `Memory` where reading them runs out of memory.
     #[error("json")]
     Json,
-    /// The JSON value is not five arrays or six, as `[]`, or an entry has not its form.
+    /// The JSON value is neither five arrays or six nor a pair of these and of five arrays of units, as `[]`, or an entry
+    /// has not its form.
     #[error("shape")]
     Shape,
     /// A locale, or the parent of one, is refused, as `e` or `en-u-nu-thai`.
     #[error("tag")]
     Tag,
-    /// A name of a numbering system is not 3 to 8 lower-case letters and digits, nor empty where it may be: `Thai`,
-    /// `th`.
+    /// A name of a numbering system is not 3 to 8 lower-case letters and digits, nor empty or a code where it may be:
+    /// `Thai`, `th`.
     #[error("system")]
     System,
-    /// A tab or a line feed stands in the text of a symbol or a pattern, as a tab for the minus sign.
+    /// A tab or a line feed stands in a text that is written, as a tab for the minus sign or in the symbol of a currency.
     #[error("text")]
     Text,
     /// The digits of a system are not ten characters, as the nine of `012345678`, or a tab or a line feed is among
@@ -49,10 +50,16 @@ pub enum BookError {
     /// Out of memory, as for the tables of `SAMPLE_BOOK`.
     #[error("memory")]
     Memory,
+    /// The place of the unit, `¤`, is not once in two texts of a pattern that belong together, as in `(` and `)`.
+    #[error("unit")]
+    Unit,
+    /// The code of a currency is not three letters `A` to `Z`, as `CH` or `chf`.
+    #[error("code")]
+    Code,
 }
 
 impl BookError {
-    /// The number of the fault: 1 for `Json` to 12 for `Memory`, in the order of the cases.
+    /// The number of the fault: 1 for `Json` to 14 for `Code`, in the order of the cases.
     pub fn number(&self) -> u8
         ensures { result ≡ number_of self.now }
     {
@@ -69,10 +76,12 @@ impl BookError {
             BookError::Duplicate => 10,
             BookError::Cycle => 11,
             BookError::Memory => 12,
+            BookError::Unit => 13,
+            BookError::Code => 14,
         }
     }
 
-    /// The word of the fault, in lower case: `json` for `Json`, `memory` for `Memory`.
+    /// The word of the fault, in lower case: `json` for `Json`, `code` for `Code`.
     pub fn word(&self) -> &'static str
         ensures { result.now ≡ word_of self.now }
     {
@@ -89,6 +98,8 @@ impl BookError {
             BookError::Duplicate => "duplicate",
             BookError::Cycle => "cycle",
             BookError::Memory => "memory",
+            BookError::Unit => "unit",
+            BookError::Code => "code",
         }
     }
 }

@@ -6,7 +6,7 @@ use Rattle.locale_numbers_tables.specs.Entries.{all_of}
 use Rattle.locale_numbers_tables.specs.Keys.{has_no_key_twice}
 use Rattle.locale_numbers_tables.proofs.TableLemmas.{once_more, moved}
 use Rattle.locale_numbers_tables.proofs.FaultLemmas.{among_keys, keys_more, keys_of}
-use Rattle.locale_numbers_units.specs.declared.error.UnitsError.{UnitsError}
+use Rattle.locale_numbers_tables.specs.declared.BookError.{BookError}
 use Rattle.locale_numbers_units.specs.Adding.{Adds}
 use Rattle.locale_numbers_units.specs.Faults.{under_key}
 use Rattle.locale_numbers_units.proofs.FaultLemmas.{faults_behind}
@@ -16,7 +16,7 @@ pub said_under : {K V : Type 0} (key : Data → Option K) (said : Data → Optio
     → under_key key said entry ≡ Some (k, v)
 said_under key said entry k v keyed says = rw (keyed, says) refl
 
-module _ {K V : Type 0} (same : K → K → Bool) (key : Data → Option K) (said : Data → Option V) (fault : Bool → Data → Option UnitsError) where
+module _ {K V : Type 0} (same : K → K → Bool) (key : Data → Option K) (said : Data → Option V) (fault : Bool → Data → Option BookError) where
   -- an entry that was added is passed
   pub passed : (entry : Data) (items : Items) (before after : List (K × V)) → Adds same key said fault entry before after
       → faults_behind same key fault before (item entry items) ≡ faults_behind same key fault after items

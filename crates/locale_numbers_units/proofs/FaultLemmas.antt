@@ -1,40 +1,26 @@
--- The first faulty entry, and the error that tells it: `specs/Faults.antt` and `specs/Telling.antt`.
-use Rattle.std.proofs.Common.{◌≡◌, Bool, true, false, not, List, Option, Some, None, is_some, refl, sym, ap, subst, ◌∙◌}
+-- The first faulty entry, and the error that tells it: `specs/Faults.antt`, and `Telling.antt` of `locale_numbers_tables`.
+use Rattle.std.proofs.Common.{◌≡◌, Bool, true, false, not, List, Option, Some, None, is_some, refl, sym, ap, ◌∙◌}
 use Rattle.std.specs.List.{list_any}
 use Rattle.std.specs.Option.{option_or}
 use Rattle.serde_json.specs.Data.{Data, Items, item, no_items}
 use Rattle.locale_numbers_tables.specs.Faults.{is_among}
 use Rattle.locale_numbers_tables.specs.Keys.{table_at}
-use Rattle.locale_numbers_tables.proofs.FaultLemmas.{among_keys, keys_of}
-use Rattle.locale_numbers_units.specs.declared.error.UnitsError.{UnitsError}
-use Rattle.locale_numbers_units.specs.declared.error.UnitsError.TheVariants.{Shape, Tag, System, Text, Duplicate, Memory, Unit, Code}
+use Rattle.locale_numbers_tables.proofs.FaultLemmas.{among_keys, keys_of, told_at, told_first}
+use Rattle.locale_numbers_tables.specs.declared.BookError.{BookError}
+use Rattle.locale_numbers_tables.specs.declared.BookError.TheVariants.{Duplicate}
 use Rattle.locale_numbers_units.specs.Faults.{first_fault_behind}
-use Rattle.locale_numbers_units.specs.Telling.{IsTold}
+use Rattle.locale_numbers_tables.specs.Telling.{IsTold}
 
-pub told_at : (a b : Option UnitsError) (e : UnitsError) → a ≡ b → IsTold a e → IsTold b e
-told_at a b e same told = subst (λ found. IsTold found e) same told
-
--- a fault that is told is the first one
-pub told_first : (a b : Option UnitsError) (e : UnitsError) → IsTold a e → IsTold (option_or a b) e
-told_first a b Shape h = rw h refl
-told_first a b Tag h = rw h refl
-told_first a b System h = rw h refl
-told_first a b Text h = rw h refl
-told_first a b Duplicate h = rw h refl
-told_first a b Memory h = tt
-told_first a b Unit h = rw h refl
-told_first a b Code h = rw h refl
-
-alone : (o : Option UnitsError) → option_or o None ≡ o
+alone : (o : Option BookError) → option_or o None ≡ o
 alone None = refl
 alone (Some e) = refl
 
-module _ {K V : Type 0} (same : K → K → Bool) (key : Data → Option K) (fault : Bool → Data → Option UnitsError) where
-  abbrev pub faults_behind : List (K × V) → Items → Option UnitsError
+module _ {K V : Type 0} (same : K → K → Bool) (key : Data → Option K) (fault : Bool → Data → Option BookError) where
+  abbrev pub faults_behind : List (K × V) → Items → Option BookError
   faults_behind pairs items = first_fault_behind same key fault (keys_of pairs) items
 
   -- a fault whose entry has it whether or not its key is new
-  pub told_anyway : (pairs : List (K × V)) (entry : Data) (e : UnitsError) → ((is_new : Bool) → IsTold (fault is_new entry) e)
+  pub told_anyway : (pairs : List (K × V)) (entry : Data) (e : BookError) → ((is_new : Bool) → IsTold (fault is_new entry) e)
       → IsTold (faults_behind pairs (item entry no_items)) e
   told_anyway pairs entry e told =
       let is_new = not (is_among same (keys_of pairs) (key entry)) in
@@ -48,7 +34,7 @@ module _ {K V : Type 0} (same : K → K → Bool) (key : Data → Option K) (fau
       rw (keyed, old, sound) refl
 
   -- the fault of an entry whose key is new
-  pub told_new : (pairs : List (K × V)) (entry : Data) (k : K) (e : UnitsError) → key entry ≡ Some k → table_at same k pairs ≡ None → IsTold (fault true entry) e
+  pub told_new : (pairs : List (K × V)) (entry : Data) (k : K) (e : BookError) → key entry ≡ Some k → table_at same k pairs ≡ None → IsTold (fault true entry) e
       → IsTold (faults_behind pairs (item entry no_items)) e
   told_new pairs entry k e keyed fresh told =
       let new : list_any (same k) (keys_of pairs) ≡ false = among_keys same k pairs ∙ ap is_some fresh in
@@ -57,7 +43,7 @@ module _ {K V : Type 0} (same : K → K → Bool) (key : Data → Option K) (fau
       told_first (fault (not (is_among same (keys_of pairs) (key entry))) entry) None e (told_at _ _ e same_fault told)
 
   -- the fault of an entry is the first one of those that begin with it
-  pub told_entry : (pairs : List (K × V)) (entry : Data) (rest : Items) (e : UnitsError) → IsTold (faults_behind pairs (item entry no_items)) e
+  pub told_entry : (pairs : List (K × V)) (entry : Data) (rest : Items) (e : BookError) → IsTold (faults_behind pairs (item entry no_items)) e
       → IsTold (faults_behind pairs (item entry rest)) e
   told_entry pairs entry rest e told =
       let here = fault (not (is_among same (keys_of pairs) (key entry))) entry in

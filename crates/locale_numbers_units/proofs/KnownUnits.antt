@@ -7,18 +7,16 @@ use Rattle.serde_json.specs.Data.{Data, null, no_items}
 use Rattle.icu_decimal.specs.Symbols.{Symbols}
 use Rattle.icu_locale_core.specs.Stepping.{headed_after, whole_after}
 use Rattle.icu_locale_core.specs.TagStages.{with_piece, body_after}
-use Rattle.icu_dimension_affixes.specs.UnitPatterns.{AffixesText, PatternTexts}
-use Rattle.icu_dimension_affixes.specs.declared.affixes.UnitPlace.TheVariants.{Before, After}
-use Rattle.icu_dimension_fractions.specs.declared.increment.FractionIncrement.TheVariants.{MultiplesOf1, MultiplesOf5}
+use Rattle.icu_dimension.specs.UnitPatterns.{AffixesText, PatternTexts}
+use Rattle.icu_dimension.specs.declared.UnitPlace.TheVariants.{Before, After}
 use Rattle.locale_numbers_tables.specs.Entries.{entry_key}
 use Rattle.locale_numbers_tables.specs.Keys.{same_key}
 use Rattle.locale_numbers_tables.specs.TagReading.{tag_of, data_locale_of}
-use Rattle.locale_numbers_units.specs.declared.error.UnitsError.{UnitsError}
-use Rattle.locale_numbers_units.specs.declared.error.UnitsError.TheVariants.{Shape, Tag, System, Text, Duplicate, Unit, Code}
+use Rattle.locale_numbers_tables.specs.declared.BookError.{BookError}
+use Rattle.locale_numbers_tables.specs.declared.BookError.TheVariants.{Shape, Tag, System, Text, Duplicate, Unit, Code}
 use Rattle.locale_numbers_units.specs.Amounts.{accounts_fault, accounts_key, amounts_said, currencies_fault, currencies_key}
-use Rattle.locale_numbers_units.specs.CurrencySymbols.{written_as}
 use Rattle.locale_numbers_units.specs.Faults.{first_fault_behind}
-use Rattle.locale_numbers_units.specs.Units.{UnitsTables, digits_for, units_fault}
+use Rattle.locale_numbers_units.specs.Units.{units_fault}
 use Rattle.locale_numbers_units.specs.Percents.{percents_fault, percents_said}
 use Rattle.locale_numbers_units.proofs.KnownValues.{digits, items, list, size, symbol, text}
 
@@ -125,13 +123,13 @@ hebrew = refl
 
 -- ---- faults
 
-abbrev percents_faults : List Data → Option UnitsError
+abbrev percents_faults : List Data → Option BookError
 percents_faults entries = first_fault_behind same_key entry_key percents_fault [] (items entries)
 
-abbrev currencies_faults : List Data → Option UnitsError
+abbrev currencies_faults : List Data → Option BookError
 currencies_faults entries = first_fault_behind same_key currencies_key currencies_fault [] (items entries)
 
-abbrev accounts_faults : List Data → Option UnitsError
+abbrev accounts_faults : List Data → Option BookError
 accounts_faults entries = first_fault_behind same_key accounts_key accounts_fault [] (items entries)
 
 abbrev english_percents : Data → Data
@@ -191,17 +189,3 @@ first_array = refl
 
 no_arrays : units_fault no_items no_items no_items no_items no_items ≡ None
 no_arrays = refl
-
--- francs by their entry, and a code without one
-abbrev francs_alone : UnitsTables
-francs_alone = record { percents = []; currencies = []; accounts = []; symbols = []; digits = (codes "CHF", record { standard = record { digits = 2; increment = MultiplesOf1 }; cash = record { digits = 2; increment = MultiplesOf5 } }) ∷ [] }
-
-cash_of_francs : (digits_for francs_alone (codes "CHF")).cash ≡ record { digits = 2; increment = MultiplesOf5 }
-cash_of_francs = refl
-
-cash_of_others : (digits_for francs_alone (codes "QQQ")).cash ≡ record { digits = 2; increment = MultiplesOf1 }
-cash_of_others = refl
-
--- a currency without a symbol is written by its code, both of whose ends are letters
-code_itself : written_as None (codes "CHF") ≡ record { text = codes "CHF"; ends = record { first = true; last = true } }
-code_itself = refl

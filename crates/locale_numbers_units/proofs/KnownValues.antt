@@ -6,11 +6,11 @@ use Rattle.std.specs.Str.{bytes_eq, chars, is_utf8}
 use Rattle.serde_json.specs.Data.{Data, Items, number, unsigned, string, array, no_items, item}
 use Rattle.icu_locale_core.specs.Stepping.{headed_after, whole_after}
 use Rattle.icu_locale_core.specs.TagStages.{with_piece, body_after}
-use Rattle.icu_dimension_fractions.specs.declared.increment.FractionIncrement.TheVariants.{MultiplesOf1, MultiplesOf5}
+use Rattle.icu_dimension.specs.declared.FractionIncrement.TheVariants.{MultiplesOf1, MultiplesOf5}
 use Rattle.locale_numbers_tables.specs.Keys.{same_key}
 use Rattle.locale_numbers_tables.specs.TagReading.{tag_of, data_locale_of}
-use Rattle.locale_numbers_units.specs.declared.error.UnitsError.{UnitsError}
-use Rattle.locale_numbers_units.specs.declared.error.UnitsError.TheVariants.{Shape, Tag, Text, Duplicate, Code}
+use Rattle.locale_numbers_tables.specs.declared.BookError.{BookError}
+use Rattle.locale_numbers_tables.specs.declared.BookError.TheVariants.{Shape, Tag, Text, Duplicate, Code}
 use Rattle.locale_numbers_units.specs.CurrencyDigits.{digits_fault, digits_key, digits_said}
 use Rattle.locale_numbers_units.specs.CurrencySymbols.{symbols_fault, symbols_key, symbols_said}
 use Rattle.locale_numbers_units.specs.Faults.{first_fault_behind}
@@ -42,7 +42,7 @@ francs = refl
 francs_key : digits_key (digits (codes "CHF") 2 5) ≡ Some (codes "CHF")
 francs_key = refl
 
-abbrev digits_faults : List Data → Option UnitsError
+abbrev digits_faults : List Data → Option BookError
 digits_faults entries = first_fault_behind bytes_eq digits_key digits_fault [] (items entries)
 
 no_fault : digits_faults (digits (codes "CHF") 2 5 ∷ digits (codes "JPY") 0 1 ∷ []) ≡ None
@@ -81,7 +81,7 @@ both_ends : symbols_said (symbol (codes "de-CH") (codes "EUR") (codes "EUR") 3) 
 unfolding chars is_utf8 encode_utf8
 both_ends = refl
 
-abbrev symbols_faults : List Data → Option UnitsError
+abbrev symbols_faults : List Data → Option BookError
 symbols_faults entries = first_fault_behind same_key symbols_key symbols_fault [] (items entries)
 
 sound_symbol : symbols_faults (symbol (codes "und") (codes "USD") (codes "US$") 1 ∷ []) ≡ None

@@ -6,22 +6,26 @@ use Rattle.icu_locale_core.specs.Subtags.{Text as Subtag}
 use Rattle.std.proofs.lemmas.Bool.Decides.{nat_tests}
 use Rattle.serde_json.specs.Data.{Data}
 use Rattle.serde_json.specs.Find.{at}
-use Rattle.icu_dimension_affixes.specs.UnitPatterns.{AffixesText, AffixPair, pair_with}
-use Rattle.icu_dimension_affixes.specs.UnitPlaces.{placeholder, places}
-use Rattle.icu_dimension_affixes.specs.declared.affixes.UnitPlace.{UnitPlace}
-use Rattle.icu_dimension_affixes.specs.declared.affixes.UnitPlace.TheVariants.{Before, After}
-use Rattle.icu_dimension_affixes.proofs.PlaceLemmas.{places_around}
+use Rattle.icu_dimension.specs.UnitPatterns.{AffixesText, AffixPair, pair_with}
+use Rattle.icu_dimension.specs.UnitPlaces.{placeholder, places}
+use Rattle.icu_dimension.specs.declared.UnitPlace.{UnitPlace}
+use Rattle.icu_dimension.specs.declared.UnitPlace.TheVariants.{Before, After}
 use Rattle.icu_decimal.specs.declared.provider.GroupingSizes.{GroupingSizes}
 use Rattle.locale_numbers_tables.specs.Entries.{field_at, grouping_sizes_of, symbol_texts}
-use Rattle.locale_numbers_tables.specs.Faults.{has_locale, has_symbols_shape}
-use Rattle.locale_numbers_units.specs.declared.error.UnitsError.TheVariants.{Shape, Tag, System, Text, Duplicate, Unit}
-use Rattle.locale_numbers_units.specs.Faults.{first_broken}
+use Rattle.locale_numbers_tables.specs.Faults.{first_broken, has_locale, has_symbols_shape}
+use Rattle.locale_numbers_tables.specs.declared.BookError.TheVariants.{Shape, Tag, System, Text, Duplicate, Unit}
 use Rattle.locale_numbers_units.specs.Fields.{has_at}
 use Rattle.locale_numbers_units.specs.OwnSymbols.{as_entry, has_own_shape, is_null, own_in, system_or_empty}
 use Rattle.locale_numbers_units.specs.Amounts.{amounts_fault, has_amounts_places, has_amounts_shape, has_amounts_systems, has_amounts_texts}
 use Rattle.locale_numbers_units.specs.Percents.{has_percents_shape, has_percents_systems, has_percents_texts, percents_fault}
 use Rattle.icu_decimal.specs.Symbols.{Symbols}
 use Rattle.locale_numbers_units.specs.Patterns.{affixes_of, after_place, before_place, cut, has_pattern_shape, or_null, pattern_in}
+
+-- a text round the place has it once more
+places_around : (xs ys : List ℕ) → places (xs ++ (placeholder ++ ys)) ≡ places xs + (1 + places ys)
+places_around [] ys = omega arith
+places_around (x ∷ []) ys = omega arith
+places_around (x ∷ y ∷ xs) ys = let rest = places_around (y ∷ xs) ys in omega (arith, rest)
 
 -- ---- cut at the place
 

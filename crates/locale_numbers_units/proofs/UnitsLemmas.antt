@@ -3,9 +3,9 @@ use Rattle.std.proofs.Common.{◌≡◌, Bool, true, ◌||◌, Option, None, ref
 use Rattle.std.specs.Prelude.{Result, Ok, Err, IfErr, IsErrAnd}
 use Rattle.std.specs.Option.{option_or}
 use Rattle.std.proofs.lemmas.Bool.{or_left, or_right}
-use Rattle.locale_numbers_units.specs.declared.error.UnitsError.{UnitsError}
-use Rattle.locale_numbers_units.specs.Telling.{IsTold}
-use Rattle.locale_numbers_units.proofs.FaultLemmas.{told_at, told_first}
+use Rattle.locale_numbers_tables.specs.declared.BookError.{BookError}
+use Rattle.locale_numbers_tables.specs.Telling.{IsTold}
+use Rattle.locale_numbers_tables.proofs.FaultLemmas.{told_at, told_first}
 
 -- one of the arrays begins so
 module _ (a b c d e : Bool) where
@@ -22,13 +22,13 @@ module _ (a b c d e : Bool) where
   or_fifth h = or_right _ e h
 
 -- an error that is passed on
-pub passed_on : {T : Type 0} (r : Result T UnitsError) (e : UnitsError) (P : UnitsError → Type 0) → IsErrAnd r (λ f. f ≡ e) → P e → IfErr r P
+pub passed_on : {T : Type 0} (r : Result T BookError) (e : BookError) (P : BookError → Type 0) → IsErrAnd r (λ f. f ≡ e) → P e → IfErr r P
 passed_on (Ok x) e P same told = tt
 passed_on (Err f) e P same told = subst P (sym same) told
 
 -- the first fault of several, after those before it are none
-module _ (p c a s d : Option UnitsError) (e : UnitsError) where
-  abbrev pub first_of_five : Option UnitsError
+module _ (p c a s d : Option BookError) (e : BookError) where
+  abbrev pub first_of_five : Option BookError
   first_of_five = option_or p (option_or c (option_or a (option_or s d)))
 
   pub told_second : p ≡ None → IsTold c e → IsTold first_of_five e
@@ -43,6 +43,6 @@ module _ (p c a s d : Option UnitsError) (e : UnitsError) where
   pub told_fifth : p ≡ None → c ≡ None → a ≡ None → s ≡ None → IsTold d e → IsTold first_of_five e
   told_fifth h i j k told = told_at _ first_of_five e (rw (h, i, j, k) refl) told
 
-pub none_of_five : (p c a s d : Option UnitsError) → p ≡ None → c ≡ None → a ≡ None → s ≡ None → d ≡ None
+pub none_of_five : (p c a s d : Option BookError) → p ≡ None → c ≡ None → a ≡ None → s ≡ None → d ≡ None
     → option_or p (option_or c (option_or a (option_or s d))) ≡ None
 none_of_five p c a s d h i j k l = rw (h, i, j, k) l

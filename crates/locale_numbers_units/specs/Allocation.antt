@@ -4,17 +4,17 @@
 use Rattle.std.specs.Prelude.{Bool, true, false, ◌&&◌, ◌||◌, Option, Some}
 use Rattle.serde_json.specs.Data.{Data}
 use Rattle.locale_numbers_tables.specs.Allocation.{locale_may_grow}
-use Rattle.locale_numbers_units.specs.declared.error.UnitsError.{UnitsError}
-use Rattle.locale_numbers_units.specs.declared.error.UnitsError.TheVariants.{Duplicate}
+use Rattle.locale_numbers_tables.specs.declared.BookError.{BookError}
+use Rattle.locale_numbers_tables.specs.declared.BookError.TheVariants.{Duplicate}
 
-abbrev pub is_duplicate : Option UnitsError → Bool
+abbrev pub is_duplicate : Option BookError → Bool
 is_duplicate (Some Duplicate) = true
 is_duplicate _ = false
 
 -- an entry that would be refused as a duplicate: it has no fault of a lower number
-abbrev pub passes : (Bool → Data → Option UnitsError) → Data → Bool
+abbrev pub passes : (Bool → Data → Option BookError) → Data → Bool
 passes fault entry = is_duplicate (fault false entry)
 
 -- an entry with a locale: one of the right shape, of which the locale may take memory, or one that passes
-abbrev pub tagged_may_grow : (Data → Bool) → (Bool → Data → Option UnitsError) → Data → Bool
+abbrev pub tagged_may_grow : (Data → Bool) → (Bool → Data → Option BookError) → Data → Bool
 tagged_may_grow has_shape fault entry = has_shape entry && locale_may_grow 0 entry || passes fault entry

@@ -4,23 +4,17 @@
 use Rattle.std.specs.Prelude.{Bool, ◌&&◌, [], ◌∷◌, Option, is_some, option_and_then, option_map}
 use Rattle.serde_json.specs.Data.{Data}
 use Rattle.icu_decimal.specs.Identifiers.{Identifier}
-use Rattle.icu_decimal.specs.Symbols.{Symbols}
 use Rattle.icu_locale_core.specs.Subtags.{Text as Subtag}
-use Rattle.icu_dimension_affixes.specs.UnitPatterns.{PatternChoice}
+use Rattle.icu_dimension.specs.ProvidedUnits.{AmountTexts}
+use Rattle.icu_dimension.specs.UnitPatterns.{PatternChoice}
 use Rattle.locale_numbers_tables.specs.Entries.{field_at, has_count, is_text_at}
-use Rattle.locale_numbers_tables.specs.Faults.{has_locale}
+use Rattle.locale_numbers_tables.specs.Faults.{first_broken, has_locale}
 use Rattle.locale_numbers_tables.specs.Fields.{system_or_none_in}
-use Rattle.locale_numbers_units.specs.declared.error.UnitsError.{UnitsError}
-use Rattle.locale_numbers_units.specs.declared.error.UnitsError.TheVariants.{Shape, Tag, System, Text, Duplicate, Unit}
-use Rattle.locale_numbers_units.specs.Faults.{first_broken}
+use Rattle.locale_numbers_tables.specs.declared.BookError.{BookError}
+use Rattle.locale_numbers_tables.specs.declared.BookError.TheVariants.{Shape, Tag, System, Text, Duplicate, Unit}
 use Rattle.locale_numbers_units.specs.Fields.{has_at, key_with, system_or_code_at}
 use Rattle.locale_numbers_units.specs.OwnSymbols.{has_own_shape, has_own_system, has_own_texts, own_in}
 use Rattle.locale_numbers_units.specs.Patterns.{has_pattern_shape, is_plain_pattern, or_null, pattern_in, pattern_or_null_in}
-
--- symbols of amounts' own or none, and the patterns
-pub record AmountTexts : Type 0 where
-  pub symbols : Option Symbols
-  pub patterns : PatternChoice
 
 -- places 3 and 4: the pattern, and the one beside a letter or null
 abbrev pub patterns_of : Data → Option PatternChoice
@@ -50,7 +44,7 @@ has_amounts_texts entry = has_at has_own_texts 2 entry && has_at is_plain_patter
 abbrev pub has_amounts_places : Data → Bool
 has_amounts_places entry = is_some (patterns_of entry)
 
-abbrev pub amounts_fault : Option Subtag → Bool → Data → Option UnitsError
+abbrev pub amounts_fault : Option Subtag → Bool → Data → Option BookError
 amounts_fault attribute is_new entry = first_broken (
     (Shape, has_amounts_shape entry)
     ∷ (Tag, has_locale entry)
@@ -65,7 +59,7 @@ amounts_fault attribute is_new entry = first_broken (
 abbrev pub currencies_key : Data → Option Identifier
 currencies_key entry = key_with (system_or_code_at 1 entry) entry
 
-abbrev pub currencies_fault : Bool → Data → Option UnitsError
+abbrev pub currencies_fault : Bool → Data → Option BookError
 currencies_fault is_new entry = amounts_fault (system_or_code_at 1 entry) is_new entry
 
 -- ---- accounts: a system, or empty
@@ -73,5 +67,5 @@ currencies_fault is_new entry = amounts_fault (system_or_code_at 1 entry) is_new
 abbrev pub accounts_key : Data → Option Identifier
 accounts_key entry = key_with (field_at system_or_none_in 1 entry) entry
 
-abbrev pub accounts_fault : Bool → Data → Option UnitsError
+abbrev pub accounts_fault : Bool → Data → Option BookError
 accounts_fault is_new entry = amounts_fault (field_at system_or_none_in 1 entry) is_new entry

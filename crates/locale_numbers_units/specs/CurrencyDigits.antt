@@ -4,13 +4,13 @@
 use Rattle.std.specs.Prelude.{ℕ, Bool, ◌&&◌, [], ◌∷◌, Option, is_some, option_and_then, option_map}
 use Rattle.serde_json.specs.Data.{Data}
 use Rattle.icu_locale_core.specs.Subtags.{Text}
-use Rattle.icu_dimension_fractions.specs.declared.fraction.Fraction.{Fraction}
-use Rattle.icu_dimension_fractions.specs.declared.fraction.FractionInfo.{FractionInfo}
+use Rattle.icu_dimension.specs.declared.Fraction.{Fraction}
+use Rattle.icu_dimension.specs.declared.FractionInfo.{FractionInfo}
 use Rattle.locale_numbers_tables.specs.Entries.{field_at, has_count, is_text_at}
 use Rattle.locale_numbers_tables.specs.Fields.{size_in}
-use Rattle.locale_numbers_units.specs.declared.error.UnitsError.{UnitsError}
-use Rattle.locale_numbers_units.specs.declared.error.UnitsError.TheVariants.{Shape, Code, Duplicate}
-use Rattle.locale_numbers_units.specs.Faults.{first_broken}
+use Rattle.locale_numbers_tables.specs.declared.BookError.{BookError}
+use Rattle.locale_numbers_tables.specs.declared.BookError.TheVariants.{Shape, Code, Duplicate}
+use Rattle.locale_numbers_tables.specs.Faults.{first_broken}
 use Rattle.locale_numbers_units.specs.Fields.{code_in, increment_in}
 
 -- place 0: the code
@@ -34,7 +34,7 @@ abbrev pub has_digits_shape : Data → Bool
 has_digits_shape entry = has_count 5 entry && is_text_at 0 entry && is_some (digits_said entry)
 
 -- an entry without a code has no key, so that no earlier one has it too
-abbrev pub digits_fault : Bool → Data → Option UnitsError
+abbrev pub digits_fault : Bool → Data → Option BookError
 digits_fault is_new entry = first_broken (
     (Shape, has_digits_shape entry)
     ∷ (Code, is_some (digits_key entry))

@@ -1,23 +1,16 @@
 -- The symbols of currencies: what an entry says, and what is wrong with one.
 -- Defined in docs/books.md, "Units" and "Faults".
 -- Cited by the reading of symbols of currencies.
-use Rattle.icu_locale_core.specs.Subtags.{Text as Subtag}
-use Rattle.std.specs.Prelude.{true, ℕ, Bool, ◌&&◌, List, [], ◌∷◌, Option, None, Some, is_some, option_map}
+use Rattle.std.specs.Prelude.{Bool, ◌&&◌, [], ◌∷◌, Option, is_some, option_map}
 use Rattle.serde_json.specs.Data.{Data}
 use Rattle.icu_decimal.specs.Identifiers.{Identifier}
-use Rattle.icu_dimension_affixes.specs.declared.patterns.LetterEnds.{LetterEnds}
+use Rattle.icu_dimension.specs.ProvidedUnits.{SymbolText}
 use Rattle.locale_numbers_tables.specs.Entries.{field_at, has_count, is_text_at, text_or_empty}
-use Rattle.locale_numbers_tables.specs.Faults.{has_locale}
+use Rattle.locale_numbers_tables.specs.Faults.{first_broken, has_locale}
 use Rattle.locale_numbers_tables.specs.Fields.{plain_text_in}
-use Rattle.locale_numbers_units.specs.declared.error.UnitsError.{UnitsError}
-use Rattle.locale_numbers_units.specs.declared.error.UnitsError.TheVariants.{Shape, Tag, Text, Code, Duplicate}
-use Rattle.locale_numbers_units.specs.Faults.{first_broken}
+use Rattle.locale_numbers_tables.specs.declared.BookError.{BookError}
+use Rattle.locale_numbers_tables.specs.declared.BookError.TheVariants.{Shape, Tag, Text, Code, Duplicate}
 use Rattle.locale_numbers_units.specs.Fields.{code_in, ends_in, key_with}
-
--- a symbol, and which of its ends are letters
-pub record SymbolText : Type 0 where
-  pub text : List ℕ
-  pub ends : LetterEnds
 
 -- places 0 and 1: the locale and the code
 abbrev pub symbols_key : Data → Option Identifier
@@ -32,7 +25,7 @@ abbrev pub has_symbols_shape : Data → Bool
 has_symbols_shape entry = has_count 4 entry && is_text_at 0 entry && is_text_at 1 entry && is_text_at 2 entry && is_some (field_at ends_in 3 entry)
 
 -- an entry without a code has no key, so that no earlier one has it too
-abbrev pub symbols_fault : Bool → Data → Option UnitsError
+abbrev pub symbols_fault : Bool → Data → Option BookError
 symbols_fault is_new entry = first_broken (
     (Shape, has_symbols_shape entry)
     ∷ (Tag, has_locale entry)
@@ -40,10 +33,3 @@ symbols_fault is_new entry = first_broken (
     ∷ (Code, is_some (field_at code_in 1 entry))
     ∷ (Duplicate, is_new)
     ∷ [])
-
--- ---- what is written
-
--- how a currency is written: by its symbol, or by its code, both of whose ends are letters
-abbrev pub written_as : Option SymbolText → Subtag → SymbolText
-written_as (Some symbol) code = symbol
-written_as None code = record { text = code; ends = record { first = true; last = true } }

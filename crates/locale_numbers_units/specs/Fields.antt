@@ -9,9 +9,9 @@ use Rattle.serde_json.specs.Data.{Data}
 use Rattle.serde_json.specs.Find.{as_str, at}
 use Rattle.icu_decimal.specs.Identifiers.{Identifier, of_both}
 use Rattle.icu_locale_core.specs.Subtags.{Text}
-use Rattle.icu_dimension_affixes.specs.declared.patterns.LetterEnds.{LetterEnds}
-use Rattle.icu_dimension_fractions.specs.declared.increment.FractionIncrement.{FractionIncrement}
-use Rattle.icu_dimension_fractions.specs.declared.increment.FractionIncrement.TheVariants.{MultiplesOf1, MultiplesOf2, MultiplesOf5, MultiplesOf10, MultiplesOf20, MultiplesOf25, MultiplesOf50}
+use Rattle.icu_dimension.specs.declared.LetterEnds.{LetterEnds}
+use Rattle.icu_dimension.specs.declared.FractionIncrement.{FractionIncrement}
+use Rattle.icu_dimension.specs.declared.FractionIncrement.TheVariants.{MultiplesOf1, MultiplesOf2, MultiplesOf5, MultiplesOf10, MultiplesOf20, MultiplesOf25, MultiplesOf50}
 use Rattle.locale_numbers_tables.specs.Entries.{field_at}
 use Rattle.locale_numbers_tables.specs.Fields.{locale_in, size_in, system_or_none_in}
 

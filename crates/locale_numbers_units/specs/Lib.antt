@@ -1,4 +1,4 @@
--- What a reader must believe: what each field and each entry says, the first fault of an array, its number and its word.
+-- What a reader must believe: what each field and each entry says, and the first fault of an array.
 pub mod Fields
 pub mod OwnSymbols
 pub mod Patterns
@@ -7,9 +7,7 @@ pub mod Amounts
 pub mod CurrencyDigits
 pub mod CurrencySymbols
 pub mod Faults
-pub mod UnitsError
 pub mod Units
 -- What private steps follow.
-pub mod Telling
 pub mod Allocation
 pub mod Adding

@@ -4,9 +4,9 @@
 use Rattle.std.specs.Prelude.{ℕ, ◌+◌, ◌==◌, Bool, cond, ◌&&◌, ◌||◌, List, [], ◌∷◌, drop, Option, None, Some, is_some, option_and_then, option_map, if◌then◌else◌}
 use Rattle.serde_json.specs.Data.{Data}
 use Rattle.serde_json.specs.Find.{as_str}
-use Rattle.icu_dimension_affixes.specs.UnitPatterns.{AffixesText, PatternTexts}
-use Rattle.icu_dimension_affixes.specs.UnitPlaces.{begins_with_second, places}
-use Rattle.icu_dimension_affixes.specs.declared.affixes.UnitPlace.TheVariants.{Before, After}
+use Rattle.icu_dimension.specs.UnitPatterns.{AffixesText, PatternTexts}
+use Rattle.icu_dimension.specs.UnitPlaces.{begins_with_second, places}
+use Rattle.icu_dimension.specs.declared.UnitPlace.TheVariants.{Before, After}
 use Rattle.locale_numbers_tables.specs.Entries.{field_at, has_count, is_text_at}
 use Rattle.locale_numbers_tables.specs.Fields.{plain_text_in}
 use Rattle.locale_numbers_units.specs.OwnSymbols.{is_null}

@@ -1,25 +1,17 @@
 -- Percents: what an entry says, and what is wrong with one.
 -- Defined in docs/books.md, "Units" and "Faults".
 -- Cited by the reading of percents.
-use Rattle.std.specs.Prelude.{ℕ, Bool, ◌&&◌, List, [], ◌∷◌, Option, is_some, option_and_then, option_map}
+use Rattle.std.specs.Prelude.{Bool, ◌&&◌, [], ◌∷◌, Option, is_some, option_and_then, option_map}
 use Rattle.serde_json.specs.Data.{Data}
-use Rattle.icu_decimal.specs.Symbols.{Symbols}
-use Rattle.icu_dimension_affixes.specs.UnitPatterns.{PatternTexts}
+use Rattle.icu_dimension.specs.ProvidedUnits.{PercentTexts}
 use Rattle.locale_numbers_tables.specs.Entries.{field_at, has_count, is_text_at, text_or_empty}
-use Rattle.locale_numbers_tables.specs.Faults.{has_locale}
+use Rattle.locale_numbers_tables.specs.Faults.{first_broken, has_locale}
 use Rattle.locale_numbers_tables.specs.Fields.{plain_text_in, system_or_none_in}
-use Rattle.locale_numbers_units.specs.declared.error.UnitsError.{UnitsError}
-use Rattle.locale_numbers_units.specs.declared.error.UnitsError.TheVariants.{Shape, Tag, System, Text, Duplicate, Unit}
-use Rattle.locale_numbers_units.specs.Faults.{first_broken}
+use Rattle.locale_numbers_tables.specs.declared.BookError.{BookError}
+use Rattle.locale_numbers_tables.specs.declared.BookError.TheVariants.{Shape, Tag, System, Text, Duplicate, Unit}
 use Rattle.locale_numbers_units.specs.Fields.{has_at}
 use Rattle.locale_numbers_units.specs.OwnSymbols.{has_own_shape, has_own_system, has_own_texts, own_in}
 use Rattle.locale_numbers_units.specs.Patterns.{has_pattern_shape, is_plain_pattern, pattern_in}
-
--- the percent sign, symbols of percents' own or none, and the pattern
-pub record PercentTexts : Type 0 where
-  pub sign : List ℕ
-  pub symbols : Option Symbols
-  pub pattern : PatternTexts
 
 -- places 2 to 4
 abbrev pub percents_said : Data → Option PercentTexts
@@ -39,7 +31,7 @@ has_percents_systems entry = is_some (field_at system_or_none_in 1 entry) && has
 abbrev pub has_percents_texts : Data → Bool
 has_percents_texts entry = is_some (field_at plain_text_in 2 entry) && has_at has_own_texts 3 entry && has_at is_plain_pattern 4 entry
 
-abbrev pub percents_fault : Bool → Data → Option UnitsError
+abbrev pub percents_fault : Bool → Data → Option BookError
 percents_fault is_new entry = first_broken (
     (Shape, has_percents_shape entry)
     ∷ (Tag, has_locale entry)

@@ -1,25 +1,25 @@
--- The units of a book: five arrays without a fault, the tables that they are, and what is found in these.
--- Defined in docs/books.md, "Units", "Choosing units" and "Faults".
+-- The units of a book: five arrays without a fault, and the tables that they are.
+-- Defined in docs/books.md, "Units" and "Faults".
 -- Cited by the calls of `Units`.
 -- There are five arrays, and the entry and the key of each are imported.
-use Rattle.std.specs.Prelude.{◌≡◌, Bool, ◌||◌, List, [], Option, Some, None, unwrap_or}
+use Rattle.std.specs.Prelude.{◌≡◌, Bool, ◌||◌, List, [], Option, Some, None}
 use Rattle.std.specs.Option.{option_or}
 use Rattle.std.specs.Str.{bytes_eq}
 use Rattle.serde_json.specs.Data.{Items}
 use Rattle.icu_locale_core.specs.Subtags.{Text}
 use Rattle.icu_decimal.specs.Identifiers.{Identifier}
-use Rattle.icu_dimension_fractions.specs.declared.fraction.FractionInfo.{FractionInfo}
-use Rattle.icu_dimension_fractions.specs.declared.increment.FractionIncrement.TheVariants.{MultiplesOf1}
+use Rattle.icu_dimension.specs.ProvidedUnits.{AmountTexts, PercentTexts, SymbolText}
+use Rattle.icu_dimension.specs.declared.FractionInfo.{FractionInfo}
 use Rattle.locale_numbers_tables.specs.Allocation.{begins_with}
 use Rattle.locale_numbers_tables.specs.Entries.{entry_key}
-use Rattle.locale_numbers_tables.specs.Keys.{same_key, table_at, table_in}
-use Rattle.locale_numbers_units.specs.declared.error.UnitsError.{UnitsError}
+use Rattle.locale_numbers_tables.specs.Keys.{same_key, table_in}
+use Rattle.locale_numbers_tables.specs.declared.BookError.{BookError}
 use Rattle.locale_numbers_units.specs.Allocation.{passes, tagged_may_grow}
-use Rattle.locale_numbers_units.specs.Amounts.{AmountTexts, accounts_fault, accounts_key, amounts_said, currencies_fault, currencies_key, has_amounts_shape}
+use Rattle.locale_numbers_units.specs.Amounts.{accounts_fault, accounts_key, amounts_said, currencies_fault, currencies_key, has_amounts_shape}
 use Rattle.locale_numbers_units.specs.CurrencyDigits.{digits_fault, digits_key, digits_said}
-use Rattle.locale_numbers_units.specs.CurrencySymbols.{SymbolText, has_symbols_shape, symbols_fault, symbols_key, symbols_said}
+use Rattle.locale_numbers_units.specs.CurrencySymbols.{has_symbols_shape, symbols_fault, symbols_key, symbols_said}
 use Rattle.locale_numbers_units.specs.Faults.{first_fault_behind, under_key}
-use Rattle.locale_numbers_units.specs.Percents.{PercentTexts, has_percents_shape, percents_fault, percents_said}
+use Rattle.locale_numbers_units.specs.Percents.{has_percents_shape, percents_fault, percents_said}
 
 -- the tables of units
 pub record UnitsTables : Type 0 where
@@ -31,23 +31,23 @@ pub record UnitsTables : Type 0 where
 
 -- ---- the first fault
 
-abbrev pub percents_faults : Items → Option UnitsError
+abbrev pub percents_faults : Items → Option BookError
 percents_faults entries = first_fault_behind same_key entry_key percents_fault [] entries
 
-abbrev pub currencies_faults : Items → Option UnitsError
+abbrev pub currencies_faults : Items → Option BookError
 currencies_faults entries = first_fault_behind same_key currencies_key currencies_fault [] entries
 
-abbrev pub accounts_faults : Items → Option UnitsError
+abbrev pub accounts_faults : Items → Option BookError
 accounts_faults entries = first_fault_behind same_key accounts_key accounts_fault [] entries
 
-abbrev pub symbols_faults : Items → Option UnitsError
+abbrev pub symbols_faults : Items → Option BookError
 symbols_faults entries = first_fault_behind same_key symbols_key symbols_fault [] entries
 
-abbrev pub digits_faults : Items → Option UnitsError
+abbrev pub digits_faults : Items → Option BookError
 digits_faults entries = first_fault_behind bytes_eq digits_key digits_fault [] entries
 
 -- the fault of the first faulty entry, in the order of the arrays
-abbrev pub units_fault : Items → Items → Items → Items → Items → Option UnitsError
+abbrev pub units_fault : Items → Items → Items → Items → Items → Option BookError
 units_fault percents currencies accounts symbols digits =
     option_or (percents_faults percents)
     (option_or (currencies_faults currencies)
@@ -73,15 +73,3 @@ units_may_grow percents currencies accounts symbols digits =
     || begins_with (tagged_may_grow has_amounts_shape accounts_fault) accounts
     || begins_with (tagged_may_grow has_symbols_shape symbols_fault) symbols
     || begins_with (passes digits_fault) digits
-
--- ---- what is found
-
--- the digits of a currency that no entry is for: two, of which the last counts by one
-abbrev pub usual_digits : FractionInfo
-usual_digits = record {
-  standard = record { digits = 2; increment = MultiplesOf1 };
-  cash = record { digits = 2; increment = MultiplesOf1 };
-}
-
-abbrev pub digits_for : UnitsTables → Text → FractionInfo
-digits_for units code = unwrap_or (table_at bytes_eq code units.digits) usual_digits

@@ -6,10 +6,9 @@ ghost use Rattle.locale_numbers_units.specs.Allocation.{tagged_may_grow};
 ghost use Rattle.locale_numbers_tables.specs.Entries.{field_at};
 ghost use Rattle.locale_numbers_units.specs.Amounts.{amounts_fault, amounts_said, has_amounts_shape, has_amounts_texts, patterns_of};
 ghost use Rattle.locale_numbers_units.specs.Fields.{key_with, system_or_code_at};
-ghost use Rattle.locale_numbers_units.specs.Telling.{IsTold};
-ghost use Rattle.locale_numbers_units.specs.declared.error.UnitsError.{UnitsError};
+ghost use Rattle.locale_numbers_tables.specs.Telling.{IsTold};
+ghost use Rattle.locale_numbers_tables.specs.declared.BookError.{BookError};
 
-use crate::UnitsError;
 use crate::array::UnitArray;
 use crate::fields::system_or_code;
 use crate::own_symbols::{has_own_shape, has_own_system, has_own_texts, own_symbols};
@@ -17,30 +16,14 @@ use crate::patterns::{
     has_pattern_or_null_shape, has_pattern_shape, is_plain_pattern, is_plain_pattern_or_null,
     pattern_at, pattern_or_null_at,
 };
-use icu_decimal::provider::{DataIdentifier, DecimalSymbols};
-use icu_dimension_affixes::UnitPatterns;
+use icu_decimal::provider::DataIdentifier;
+use icu_dimension::UnitPatterns;
+use icu_dimension::provider::AmountPatterns;
+use locale_numbers_tables::BookError;
 use locale_numbers_tables::fields::{has_count, is_text_at, locale, system_or_none};
 use serde_json::Value;
 use std::alloc::{AllocError, Global};
-use std::marker::Model;
 use tinystr::TinyAsciiStr;
-
-/// How amounts are written: in English the unit is before the number.
-#[derive(Debug, Drop)]
-pub struct AmountPatterns {
-    /// The symbols of amounts, where these are others than the locale's.
-    pub symbols: Option<DecimalSymbols>,
-    /// The texts before and after the number, and those for a unit with a letter next to the number.
-    pub patterns: UnitPatterns,
-}
-
-impl Model for AmountPatterns {
-    ghost use Rattle.locale_numbers_units.specs.Amounts.{AmountTexts};
-
-    ghost Value = { AmountTexts };
-
-    ghost view = { λ a. record { symbols = a.symbols; patterns = a.patterns } };
-}
 
 fn has_amounts_shape(entry: &Value) -> bool
     ensures { result ≡ has_amounts_shape (view entry.now) }
@@ -77,31 +60,31 @@ fn read_key_with(
     alloc: Global,
     entry: &Value,
     attribute: Option<TinyAsciiStr<8>>,
-) -> Result<DataIdentifier, UnitsError>
+) -> Result<DataIdentifier, BookError>
     ensures key { IfOk result (λ key. key_with attribute (view entry.now) ≡ Some key) }
-    ensures sound { OnOk result (amounts_fault attribute false (view entry.now) ≡ Some UnitsError.Duplicate) }
+    ensures sound { OnOk result (amounts_fault attribute false (view entry.now) ≡ Some BookError.Duplicate) }
     ensures fault { IfErr result (λ fault. (is_new : Bool) → IsTold (amounts_fault attribute is_new (view entry.now)) fault) }
     ensures grows { OnOk result (tagged_may_grow has_amounts_shape (amounts_fault attribute) (view entry.now) ≡ true) }
-    ensures room { IsErrOf result UnitsError.Memory
+    ensures room { IsErrOf result BookError.Memory
         → tagged_may_grow has_amounts_shape (amounts_fault attribute) (view entry.now) ≡ true }
 {
     if !has_amounts_shape(entry) {
-        return Err(UnitsError::Shape);
+        return Err(BookError::Shape);
     }
     let Ok(found) = locale(alloc, entry, 0) else {
-        return Err(UnitsError::Memory);
+        return Err(BookError::Memory);
     };
     let Some(locale) = found else {
-        return Err(UnitsError::Tag);
+        return Err(BookError::Tag);
     };
     let Some(attribute) = attribute else {
-        return Err(UnitsError::System);
+        return Err(BookError::System);
     };
     if !has_own_system(entry, 2) {
-        return Err(UnitsError::System);
+        return Err(BookError::System);
     }
     if !has_amounts_texts(entry) {
-        return Err(UnitsError::Text);
+        return Err(BookError::Text);
     }
     Ok(DataIdentifier::for_marker_attributes_and_locale(attribute, locale))
 }
@@ -112,23 +95,23 @@ fn read_with(
     alloc: Global,
     entry: &Value,
     attribute: Option<TinyAsciiStr<8>>,
-) -> Result<AmountPatterns, UnitsError>
-    requires { amounts_fault attribute false (view entry.now) ≡ Some UnitsError.Duplicate }
+) -> Result<AmountPatterns, BookError>
+    requires { amounts_fault attribute false (view entry.now) ≡ Some BookError.Duplicate }
     ensures value { IfOk result (λ said. amounts_said (view entry.now) ≡ Some said) }
     ensures sound { OnOk result (amounts_fault attribute true (view entry.now) ≡ None) }
     ensures fault { IfErr result (λ fault. IsTold (amounts_fault attribute true (view entry.now)) fault) }
 {
     let Ok(found) = own_symbols(alloc, entry, 2) else {
-        return Err(UnitsError::Memory);
+        return Err(BookError::Memory);
     };
     let Some(symbols) = found else {
-        return Err(UnitsError::Shape);
+        return Err(BookError::Shape);
     };
     let Ok(found) = patterns(alloc, entry) else {
-        return Err(UnitsError::Memory);
+        return Err(BookError::Memory);
     };
     let Some(patterns) = found else {
-        return Err(UnitsError::Unit);
+        return Err(BookError::Unit);
     };
     Ok(AmountPatterns { symbols, patterns })
 }
@@ -155,11 +138,11 @@ impl UnitArray for Currencies {
     // allocate.
     ghost may_grow = { tagged_may_grow has_amounts_shape currencies_fault };
 
-    fn read_key(alloc: Global, entry: &Value) -> Result<DataIdentifier, UnitsError> {
+    fn read_key(alloc: Global, entry: &Value) -> Result<DataIdentifier, BookError> {
         read_key_with(alloc, entry, system_or_code(entry, 1))
     }
 
-    fn read(alloc: Global, entry: &Value) -> Result<AmountPatterns, UnitsError> {
+    fn read(alloc: Global, entry: &Value) -> Result<AmountPatterns, BookError> {
         read_with(alloc, entry, system_or_code(entry, 1))
     }
 }
@@ -185,11 +168,11 @@ impl UnitArray for Accounts {
     // As of currencies.
     ghost may_grow = { tagged_may_grow has_amounts_shape accounts_fault };
 
-    fn read_key(alloc: Global, entry: &Value) -> Result<DataIdentifier, UnitsError> {
+    fn read_key(alloc: Global, entry: &Value) -> Result<DataIdentifier, BookError> {
         read_key_with(alloc, entry, system_or_none(entry, 1))
     }
 
-    fn read(alloc: Global, entry: &Value) -> Result<AmountPatterns, UnitsError> {
+    fn read(alloc: Global, entry: &Value) -> Result<AmountPatterns, BookError> {
         read_with(alloc, entry, system_or_none(entry, 1))
     }
 }

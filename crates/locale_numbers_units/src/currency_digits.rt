@@ -4,10 +4,10 @@ ghost use Rattle.std.specs.Prelude.{◌≡◌, is_some};
 ghost use Rattle.serde_json.specs.View.{view};
 ghost use Rattle.locale_numbers_units.specs.CurrencyDigits.{digits_said, fraction_at, has_digits_shape};
 
-use crate::UnitsError;
 use crate::array::UnitArray;
 use crate::fields::{code, increment};
-use icu_dimension_fractions::{Fraction, FractionInfo};
+use icu_dimension::{Fraction, FractionInfo};
+use locale_numbers_tables::BookError;
 use locale_numbers_tables::fields::{has_count, is_text_at, size};
 use serde_json::Value;
 use std::alloc::Global;
@@ -58,20 +58,20 @@ impl UnitArray for CurrencyDigits {
     // No fault of an entry of digits is ever reported as out of memory.
     ghost may_grow = { passes digits_fault };
 
-    fn read_key(_alloc: Global, entry: &Value) -> Result<TinyAsciiStr<8>, UnitsError> {
+    fn read_key(_alloc: Global, entry: &Value) -> Result<TinyAsciiStr<8>, BookError> {
         if !has_digits_shape(entry) {
-            return Err(UnitsError::Shape);
+            return Err(BookError::Shape);
         }
         match code(entry, 0) {
             Some(code) => Ok(code),
-            None => Err(UnitsError::Code),
+            None => Err(BookError::Code),
         }
     }
 
-    fn read(_alloc: Global, entry: &Value) -> Result<FractionInfo, UnitsError> {
+    fn read(_alloc: Global, entry: &Value) -> Result<FractionInfo, BookError> {
         match fraction_info(entry) {
             Some(digits) => Ok(digits),
-            None => Err(UnitsError::Shape),
+            None => Err(BookError::Shape),
         }
     }
 }

@@ -1,69 +1,17 @@
 //! Symbols of currencies.
 
 ghost use Rattle.std.specs.Prelude.{◌≡◌};
-ghost use Rattle.std.specs.Option.{option_copied};
 ghost use Rattle.serde_json.specs.View.{view};
-ghost use Rattle.locale_numbers_units.specs.CurrencySymbols.{has_symbols_shape, written_as};
+ghost use Rattle.locale_numbers_units.specs.CurrencySymbols.{has_symbols_shape};
 
-use crate::UnitsError;
 use crate::array::UnitArray;
 use crate::fields::{code, ends};
 use icu_decimal::provider::DataIdentifier;
-use icu_dimension_affixes::LetterEnds;
+use icu_dimension::provider::CurrencySymbol;
+use locale_numbers_tables::BookError;
 use locale_numbers_tables::fields::{has_count, has_text, is_text_at, locale, symbol};
 use serde_json::Value;
 use std::alloc::Global;
-use std::marker::Model;
-use tinystr::TinyAsciiStr;
-
-/// The symbol of a currency: `US$`, whose first end is a letter.
-#[derive(Debug, Drop)]
-pub struct CurrencySymbol {
-    /// How the currency is written.
-    pub text: String,
-    /// Which ends of the text are letters.
-    pub ends: LetterEnds,
-}
-
-impl Model for CurrencySymbol {
-    ghost use Rattle.std.specs.Prelude.{string_bytes};
-    ghost use Rattle.locale_numbers_units.specs.CurrencySymbols.{SymbolText};
-
-    ghost Value = { SymbolText };
-
-    ghost view = { λ s. record { text = string_bytes s.text; ends = s.ends } };
-}
-
-/// How a currency is written: by its symbol, or by its code. The text is borrowed.
-#[derive(Clone, Copy, Debug)]
-pub struct CurrencyName<'l> {
-    /// The symbol or the code.
-    pub text: &'l str,
-    /// Which ends of the text are letters.
-    pub ends: LetterEnds,
-}
-
-impl<'l> CurrencyName<'l> {
-    /// The symbol, or where there is none the code, both of whose ends are letters: `US$` or `USD`. It does not allocate.
-    pub fn new(symbol: Option<&'l CurrencySymbol>, code: &'l TinyAsciiStr<8>) -> Self
-        ensures text { result.text.now ≡ (written_as (option_copied symbol.entry) code.now).text }
-        ensures ends { result.ends ≡ (written_as (option_copied symbol.entry) code.now).ends }
-    {
-        match symbol {
-            Some(symbol) => CurrencyName {
-                text: symbol.text.as_str(),
-                ends: symbol.ends,
-            },
-            None => CurrencyName {
-                text: code.as_str(),
-                ends: LetterEnds {
-                    first: true,
-                    last: true,
-                },
-            },
-        }
-    }
-}
 
 fn has_symbols_shape(entry: &Value) -> bool
     ensures { result ≡ has_symbols_shape (view entry.now) }
@@ -95,32 +43,32 @@ impl UnitArray for CurrencySymbols {
     // A fault is reported as out of memory only after a locale whose reading may allocate.
     ghost may_grow = { tagged_may_grow has_symbols_shape symbols_fault };
 
-    fn read_key(alloc: Global, entry: &Value) -> Result<DataIdentifier, UnitsError> {
+    fn read_key(alloc: Global, entry: &Value) -> Result<DataIdentifier, BookError> {
         if !has_symbols_shape(entry) {
-            return Err(UnitsError::Shape);
+            return Err(BookError::Shape);
         }
         let Ok(found) = locale(alloc, entry, 0) else {
-            return Err(UnitsError::Memory);
+            return Err(BookError::Memory);
         };
         let Some(locale) = found else {
-            return Err(UnitsError::Tag);
+            return Err(BookError::Tag);
         };
         if !has_text(entry, 2) {
-            return Err(UnitsError::Text);
+            return Err(BookError::Text);
         }
         match code(entry, 1) {
             Some(code) => Ok(DataIdentifier::for_marker_attributes_and_locale(code, locale)),
-            None => Err(UnitsError::Code),
+            None => Err(BookError::Code),
         }
     }
 
-    fn read(alloc: Global, entry: &Value) -> Result<CurrencySymbol, UnitsError> {
+    fn read(alloc: Global, entry: &Value) -> Result<CurrencySymbol, BookError> {
         let Some(ends) = ends(entry, 3) else {
-            return Err(UnitsError::Shape);
+            return Err(BookError::Shape);
         };
         match symbol(alloc, entry, 2) {
             Ok(text) => Ok(CurrencySymbol { text, ends }),
-            Err(_) => Err(UnitsError::Memory),
+            Err(_) => Err(BookError::Memory),
         }
     }
 }

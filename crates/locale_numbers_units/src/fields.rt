@@ -7,8 +7,7 @@ ghost use Rattle.serde_json.specs.View.{view};
 ghost use Rattle.locale_numbers_tables.specs.Entries.{field_at};
 ghost use Rattle.locale_numbers_units.specs.Fields.{code_in, code_named, ends_in, ends_numbered, increment_in, increment_numbered, is_code, system_or_code_at};
 
-use icu_dimension_affixes::LetterEnds;
-use icu_dimension_fractions::FractionIncrement;
+use icu_dimension::{FractionIncrement, LetterEnds};
 use locale_numbers_tables::fields::{size, system_or_none, text_at};
 use serde_json::Value;
 use tinystr::TinyAsciiStr;

@@ -6,7 +6,7 @@ ghost use Rattle.locale_numbers_tables.specs.Entries.{field_at};
 ghost use Rattle.locale_numbers_units.specs.Fields.{has_at};
 ghost use Rattle.locale_numbers_units.specs.Patterns.{affixes_at, affixes_of, has_pattern_shape, is_plain_at, is_plain_pattern, or_null, pattern_in, pattern_or_null_in, six_texts_in, two_texts_in};
 
-use icu_dimension_affixes::{UnitAffixes, UnitPattern, UnitPatternError};
+use icu_dimension::{UnitAffixes, UnitPattern, UnitPatternError};
 use locale_numbers_tables::fields::{has_count, has_text, is_text_at, text_at};
 use serde_json::Value;
 use std::alloc::{AllocError, Global};

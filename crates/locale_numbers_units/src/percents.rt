@@ -4,38 +4,17 @@ ghost use Rattle.std.specs.Prelude.{◌≡◌};
 ghost use Rattle.serde_json.specs.View.{view};
 ghost use Rattle.locale_numbers_units.specs.Percents.{has_percents_shape, has_percents_systems, has_percents_texts};
 
-use crate::UnitsError;
 use crate::array::UnitArray;
 use crate::own_symbols::{has_own_shape, has_own_system, has_own_texts, own_symbols};
 use crate::patterns::{has_pattern_shape, is_plain_pattern, pattern_at};
-use icu_decimal::provider::{DataIdentifier, DecimalSymbols};
-use icu_dimension_affixes::UnitPattern;
+use icu_decimal::provider::DataIdentifier;
+use icu_dimension::provider::PercentPattern;
+use locale_numbers_tables::BookError;
 use locale_numbers_tables::fields::{
     has_count, has_text, is_text_at, locale, symbol, system_or_none,
 };
 use serde_json::Value;
 use std::alloc::Global;
-use std::marker::Model;
-
-/// How percents are written: in Turkish `%` is before the number.
-#[derive(Debug, Drop)]
-pub struct PercentPattern {
-    /// The percent sign.
-    pub sign: String,
-    /// The symbols of percents, where these are others than the locale's.
-    pub symbols: Option<DecimalSymbols>,
-    /// The texts before and after the number.
-    pub pattern: UnitPattern,
-}
-
-impl Model for PercentPattern {
-    ghost use Rattle.std.specs.Prelude.{string_bytes};
-    ghost use Rattle.locale_numbers_units.specs.Percents.{PercentTexts};
-
-    ghost Value = { PercentTexts };
-
-    ghost view = { λ p. record { sign = string_bytes p.sign; symbols = p.symbols; pattern = p.pattern } };
-}
 
 fn has_percents_shape(entry: &Value) -> bool
     ensures { result ≡ has_percents_shape (view entry.now) }
@@ -76,41 +55,41 @@ impl UnitArray for Percents {
     // allocate.
     ghost may_grow = { tagged_may_grow has_percents_shape percents_fault };
 
-    fn read_key(alloc: Global, entry: &Value) -> Result<DataIdentifier, UnitsError> {
+    fn read_key(alloc: Global, entry: &Value) -> Result<DataIdentifier, BookError> {
         if !has_percents_shape(entry) {
-            return Err(UnitsError::Shape);
+            return Err(BookError::Shape);
         }
         let Ok(found) = locale(alloc, entry, 0) else {
-            return Err(UnitsError::Memory);
+            return Err(BookError::Memory);
         };
         let Some(locale) = found else {
-            return Err(UnitsError::Tag);
+            return Err(BookError::Tag);
         };
         let Some(system) = system_or_none(entry, 1) else {
-            return Err(UnitsError::System);
+            return Err(BookError::System);
         };
         if !has_own_system(entry, 3) {
-            return Err(UnitsError::System);
+            return Err(BookError::System);
         }
         if !has_percents_texts(entry) {
-            return Err(UnitsError::Text);
+            return Err(BookError::Text);
         }
         Ok(DataIdentifier::for_marker_attributes_and_locale(system, locale))
     }
 
     #[tactic(auto, using(crate::proofs::PatternLemmas::percents_no_shape, crate::proofs::PatternLemmas::percents_unit, crate::proofs::PatternLemmas::percents_sound))]
-    fn read(alloc: Global, entry: &Value) -> Result<PercentPattern, UnitsError> {
+    fn read(alloc: Global, entry: &Value) -> Result<PercentPattern, BookError> {
         let Ok(found) = own_symbols(alloc, entry, 3) else {
-            return Err(UnitsError::Memory);
+            return Err(BookError::Memory);
         };
         let Some(symbols) = found else {
-            return Err(UnitsError::Shape);
+            return Err(BookError::Shape);
         };
         let Ok(found) = pattern_at(alloc, entry, 4) else {
-            return Err(UnitsError::Memory);
+            return Err(BookError::Memory);
         };
         let Some(pattern) = found else {
-            return Err(UnitsError::Unit);
+            return Err(BookError::Unit);
         };
         match symbol(alloc, entry, 2) {
             Ok(sign) => Ok(PercentPattern {
@@ -118,7 +97,7 @@ impl UnitArray for Percents {
                 symbols,
                 pattern,
             }),
-            Err(_) => Err(UnitsError::Memory),
+            Err(_) => Err(BookError::Memory),
         }
     }
 }

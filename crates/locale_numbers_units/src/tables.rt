@@ -8,13 +8,12 @@ ghost use Rattle.locale_numbers_tables.specs.Allocation.{begins_with};
 ghost use Rattle.locale_numbers_tables.specs.Keys.{table_in};
 ghost use Rattle.locale_numbers_units.specs.Adding.{Adds};
 ghost use Rattle.locale_numbers_units.specs.Faults.{first_fault_behind, under_key};
-ghost use Rattle.locale_numbers_units.specs.Telling.{IsTold};
-ghost use Rattle.locale_numbers_units.specs.declared.error.UnitsError.{UnitsError};
+ghost use Rattle.locale_numbers_tables.specs.Telling.{IsTold};
+ghost use Rattle.locale_numbers_tables.specs.declared.BookError.{BookError};
 
-use crate::UnitsError;
 use crate::array::UnitArray;
 use indexmap::IndexMap;
-use locale_numbers_tables::{Seed, Table};
+use locale_numbers_tables::{BookError, Seed, Table};
 use serde_json::Value;
 use std::alloc::Global;
 
@@ -23,21 +22,21 @@ fn new_key<A: UnitArray>(
     alloc: Global,
     table: &IndexMap<A::Key, A::Said, Seed>,
     entry: &Value,
-) -> Result<A::Key, UnitsError>
+) -> Result<A::Key, BookError>
     ensures key { IfOk result (λ key. A.key_in (view entry.now) ≡ Some key) }
-    ensures sound { OnOk result (A.fault_in false (view entry.now) ≡ Some UnitsError.Duplicate) }
+    ensures sound { OnOk result (A.fault_in false (view entry.now) ≡ Some BookError.Duplicate) }
     ensures fresh { IfOk result (λ key. get A.Key.eq table.now key ≡ None) }
     ensures fault { IfErr result
         (λ fault. IsTold
         (first_fault_behind A.Key.eq A.key_in A.fault_in (map (λ pair. pair.0) table.now.entries)
         (item (view entry.now) no_items)) fault) }
     ensures grows { OnOk result (A.may_grow (view entry.now) ≡ true) }
-    ensures room { IsErrOf result UnitsError.Memory → A.may_grow (view entry.now) ≡ true }
+    ensures room { IsErrOf result BookError.Memory → A.may_grow (view entry.now) ≡ true }
 {
     match A::read_key(alloc, entry) {
         Ok(key) => {
             if table.contains_key(&key) {
-                return Err(UnitsError::Duplicate);
+                return Err(BookError::Duplicate);
             }
             Ok(key)
         }
@@ -50,7 +49,7 @@ fn add_entry<A: UnitArray>(
     alloc: Global,
     table: &mut IndexMap<A::Key, A::Said, Seed>,
     entry: Value,
-) -> Result<(), UnitsError>
+) -> Result<(), BookError>
     ensures added { OnOk result
         (Adds A.Key.eq A.key_in A.said_in A.fault_in (view entry) table.old.entries table.new.entries) }
     ensures fault { IfErr result
@@ -59,13 +58,13 @@ fn add_entry<A: UnitArray>(
         (item (view entry) no_items)) fault) }
     ensures seeded { OnOk result (hasher_of table.new ≡ hasher_of table.old) }
     ensures grows { OnOk result (A.may_grow (view entry) ≡ true) }
-    ensures room { IsErrOf result UnitsError.Memory → A.may_grow (view entry) ≡ true }
+    ensures room { IsErrOf result BookError.Memory → A.may_grow (view entry) ≡ true }
 {
     match new_key::<A>(alloc, &*table, &entry) {
         Ok(key) => match A::read(alloc, &entry) {
             Ok(said) => match table.insert(key, said) {
                 Ok(_) => Ok(()),
-                Err(_) => Err(UnitsError::Memory),
+                Err(_) => Err(BookError::Memory),
             },
             Err(fault) => Err(fault),
         },
@@ -78,7 +77,7 @@ fn fill<A: UnitArray>(
     alloc: Global,
     table: &mut IndexMap<A::Key, A::Said, Seed>,
     entries: Vec<Value>,
-) -> Result<(), UnitsError>
+) -> Result<(), BookError>
     requires { table.old.entries ≡ [] }
     ensures value { OnOk result
         (table_in A.Key.eq (under_key A.key_in A.said_in) (items_view entries.items) ≡ Some table.new.entries) }
@@ -86,7 +85,7 @@ fn fill<A: UnitArray>(
     ensures sound { OnOk result (first_fault_behind A.Key.eq A.key_in A.fault_in [] (items_view entries.items) ≡ None) }
     ensures fault { IfErr result
         (λ fault. IsTold (first_fault_behind A.Key.eq A.key_in A.fault_in [] (items_view entries.items)) fault) }
-    ensures room { IsErrOf result UnitsError.Memory → begins_with A.may_grow (items_view entries.items) ≡ true }
+    ensures room { IsErrOf result BookError.Memory → begins_with A.may_grow (items_view entries.items) ≡ true }
 {
     for entry in entries {
         match add_entry::<A>(alloc, table, entry) {
@@ -102,7 +101,7 @@ pub fn table_of<A: UnitArray>(
     alloc: Global,
     seed: Seed,
     entries: Vec<Value>,
-) -> Result<Table<A::Key, A::Said>, UnitsError>
+) -> Result<Table<A::Key, A::Said>, BookError>
     ensures value { IfOk result
         (λ table. table_in A.Key.eq (under_key A.key_in A.said_in) (items_view entries.items) ≡ Some table.map.entries) }
     ensures seeded { IfOk result (λ table. hasher_of table.map ≡ seed) }
@@ -111,7 +110,7 @@ pub fn table_of<A: UnitArray>(
         (λ fault. IsTold (first_fault_behind A.Key.eq A.key_in A.fault_in [] (items_view entries.items)) fault) }
 
     // A fault of the first entry that is found before anything is allocated is never reported as out of memory.
-    ensures room { IsErrOf result UnitsError.Memory → begins_with A.may_grow (items_view entries.items) ≡ true }
+    ensures room { IsErrOf result BookError.Memory → begins_with A.may_grow (items_view entries.items) ≡ true }
 {
     let mut map: IndexMap<A::Key, A::Said, Seed> = IndexMap::with_hasher(alloc, seed);
     match fill::<A>(alloc, &mut map, entries) {

@@ -2,21 +2,22 @@
 
 ghost use Rattle.std.specs.Prelude.{◌≡◌, ◌||◌, true, IfErr, IfOk, IsErrOf};
 ghost use Rattle.std.specs.Option.{option_copied};
+ghost use Rattle.std.specs.Str.{bytes_eq};
 ghost use Rattle.serde_json.specs.View.{items_view};
 ghost use Rattle.locale_numbers_tables.specs.Keys.{same_key, table_at};
-ghost use Rattle.locale_numbers_units.specs.Telling.{IsTold};
-ghost use Rattle.locale_numbers_units.specs.Units.{AreUnits, digits_for, units_fault, units_may_grow, usual_digits};
-ghost use Rattle.locale_numbers_units.specs.declared.error.UnitsError.{UnitsError};
+ghost use Rattle.locale_numbers_tables.specs.Telling.{IsTold};
+ghost use Rattle.locale_numbers_units.specs.Units.{AreUnits, units_fault, units_may_grow};
+ghost use Rattle.locale_numbers_tables.specs.declared.BookError.{BookError};
 
-use crate::UnitsError;
-use crate::amounts::{Accounts, AmountPatterns, Currencies};
+use crate::amounts::{Accounts, Currencies};
 use crate::currency_digits::CurrencyDigits;
-use crate::currency_symbols::{CurrencySymbol, CurrencySymbols};
-use crate::percents::{PercentPattern, Percents};
+use crate::currency_symbols::CurrencySymbols;
+use crate::percents::Percents;
 use crate::tables::table_of;
 use icu_decimal::provider::DataIdentifier;
-use icu_dimension_fractions::{Fraction, FractionInfo};
-use locale_numbers_tables::{Seed, Table};
+use icu_dimension::FractionInfo;
+use icu_dimension::provider::{AmountPatterns, CurrencySymbol, PercentPattern};
+use locale_numbers_tables::{BookError, Seed, Table};
 use serde_json::Value;
 use std::alloc::Global;
 use std::marker::Model;
@@ -68,16 +69,6 @@ impl Drop for Units {
     }
 }
 
-// The digits of a currency that no entry is for.
-fn usual_digits() -> FractionInfo
-    ensures { result ≡ usual_digits }
-{
-    FractionInfo {
-        standard: Fraction::two_digits(),
-        cash: Fraction::two_digits(),
-    }
-}
-
 impl Units {
     /// The units that five arrays are, their tables hashed by this seed. Without entries they are units too.
     ///
@@ -85,7 +76,7 @@ impl Units {
     ///   `Unit` of the percents `[["en","","%",null,["",""]]]`.
     /// - Memory: out of memory.
     #[tactic(auto, using(crate::proofs::UnitsLemmas::or_second, crate::proofs::UnitsLemmas::or_third, crate::proofs::UnitsLemmas::or_fourth, crate::proofs::UnitsLemmas::or_fifth))]
-    pub fn from_arrays(alloc: Global, seed: Seed, arrays: UnitArrays) -> Result<Units, UnitsError>
+    pub fn from_arrays(alloc: Global, seed: Seed, arrays: UnitArrays) -> Result<Units, BookError>
         ensures value { IfOk result
             (AreUnits (items_view arrays.percents.items) (items_view arrays.currencies.items)
             (items_view arrays.accounts.items) (items_view arrays.symbols.items) (items_view arrays.digits.items)) }
@@ -95,7 +86,7 @@ impl Units {
             (items_view arrays.accounts.items) (items_view arrays.symbols.items) (items_view arrays.digits.items)) fault) }
 
         // A fault that is found before anything is allocated is never reported as out of memory.
-        ensures room { IsErrOf result UnitsError.Memory
+        ensures room { IsErrOf result BookError.Memory
             → units_may_grow (items_view arrays.percents.items) (items_view arrays.currencies.items)
             (items_view arrays.accounts.items) (items_view arrays.symbols.items) (items_view arrays.digits.items) ≡ true }
     {
@@ -153,13 +144,10 @@ impl Units {
         self.symbols.map.get(id)
     }
 
-    /// The digits of a currency: of `JPY` none, and two of a code that no entry is for. It does not allocate.
-    pub fn digits(&self, code: TinyAsciiStr<8>) -> FractionInfo
-        ensures { result ≡ digits_for self.now code }
+    /// The digits of a currency, of `JPY` none; `None` where no entry is for the code. It does not allocate.
+    pub fn digits(&self, code: &TinyAsciiStr<8>) -> Option<&FractionInfo>
+        ensures { option_copied result ≡ table_at bytes_eq code.now self.now.digits }
     {
-        match self.digits.map.get(&code) {
-            Some(digits) => *digits,
-            None => usual_digits(),
-        }
+        self.digits.map.get(code)
     }
 }

@@ -1,7 +1,8 @@
 //! The world's book: tables of all locales of CLDR, as a text, and the tags of these locales.
 //!
 //! ```
-//! let book = Book::from_json(alloc, world_text().as_bytes())?;
+//! let text = world_text(alloc)?;
+//! let book = Book::from_json(alloc, text.as_bytes())?;
 //! ```
 
 #![tactic(auto)]
@@ -9,16 +10,23 @@
 mod world_book;
 mod world_locales;
 
+use std::alloc::{AllocError, Global};
 use std::str::Lines;
-pub use world_book::WORLD_BOOK;
+use world_book::{LENGTH, pieces};
 pub use world_locales::WORLD_LOCALES;
 
-/// The text of the world's book, which `Book::from_json` reads: [`WORLD_BOOK`].
+/// The text of the world's book, which `Book::from_json` reads: `books/world.json`, to the last line feed.
 ///
-/// A function that names the constant has all of its text in its proof, and one that calls this has not. It does not
-/// allocate.
-pub fn world_text() -> &'static str {
-    WORLD_BOOK
+/// It has the symbols, digits, plural rules, short and long patterns and parents of the locales of CLDR 48, and its units, the tables
+/// of percents and of amounts of money, under the Unicode License v3 (`books/LICENSE-Unicode`). A locale without an entry finds those
+/// of its parents: `WORLD_LOCALES` has the names of all. The constants of the crate have it in pieces, so it allocates its 200 KB once,
+/// and fails where it can't have them; a book does not keep them.
+pub fn world_text(alloc: Global) -> Result<String, AllocError> {
+    let mut text = String::with_capacity(alloc, LENGTH)?;
+    for piece in pieces() {
+        text.push_str(piece)?;
+    }
+    Ok(text)
 }
 
 /// The tags of the locales of the world's book, in the order of their letters: `af`, `af-NA` and so on.

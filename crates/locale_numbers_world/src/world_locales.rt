@@ -1,7 +1,7 @@
 //! The locales of the book of all locales, as a constant. `tools/world_copies --write` makes this file of
 //! `books/world-locales.txt`.
 
-/// The locales of CLDR 48 that `WORLD_BOOK` has tables for: a tag a line, each with a line feed, in the order of their bytes.
+/// The locales of CLDR 48 that the world's book has tables for: a tag a line, each with a line feed, in the order of their bytes.
 ///
 /// It is the text of `books/world-locales.txt`. The first is `af`, the last `zu-ZA`; `und` is among them. The book answers more
 /// tags than these, as `de-ZZ` by the tables of `de`.

@@ -1,4 +1,4 @@
-//! The outer form of a book.
+//! Five arrays or six, as a value that is one.
 
 ghost use Rattle.std.specs.Prelude.{◌≡◌, ◌||◌, ◌&&◌, true, false, IfSome, None, option_map, drop};
 ghost use Rattle.std.specs.Vec.Iter.{into_iter_items};
@@ -14,15 +14,15 @@ use serde_json::Value;
 use std::alloc::Global;
 use std::vec::IntoIter;
 
-/// The entries of the arrays of a book, of which the last may be missing.
+/// The entries of five arrays or six.
 #[derive(Drop)]
 pub struct Arrays {
-    pub symbols: Vec<Value>,
-    pub digits: Vec<Value>,
-    pub rules: Vec<Value>,
-    pub short: Vec<Value>,
-    pub long: Vec<Value>,
-    pub parents: Option<Vec<Value>>,
+    pub first: Vec<Value>,
+    pub second: Vec<Value>,
+    pub third: Vec<Value>,
+    pub fourth: Vec<Value>,
+    pub fifth: Vec<Value>,
+    pub sixth: Option<Vec<Value>>,
 }
 
 fn is_array_at(value: &Value, place: usize) -> bool
@@ -54,8 +54,8 @@ fn has_form(value: &Value) -> bool
         && is_array_at(value, 4)
 }
 
-// The items of an array.
-fn items_of(value: Value) -> Option<Vec<Value>>
+/// The items of an array.
+pub fn items_of(value: Value) -> Option<Vec<Value>>
     ensures { option_map (λ items. items_view items.items) result ≡ as_array (view value) }
 {
     match value {
@@ -93,19 +93,19 @@ fn arrays_in(alloc: Global, values: Vec<Value>) -> Arrays
     ensures { array (items_view values.items) ≡ value_of_arrays result }
 {
     let mut values = values.into_iter();
-    let symbols = next_items(alloc, &mut values);
-    let digits = next_items(alloc, &mut values);
-    let rules = next_items(alloc, &mut values);
-    let short = next_items(alloc, &mut values);
-    let long = next_items(alloc, &mut values);
-    let parents = next_array(&mut values);
+    let first = next_items(alloc, &mut values);
+    let second = next_items(alloc, &mut values);
+    let third = next_items(alloc, &mut values);
+    let fourth = next_items(alloc, &mut values);
+    let fifth = next_items(alloc, &mut values);
+    let sixth = next_array(&mut values);
     Arrays {
-        symbols,
-        digits,
-        rules,
-        short,
-        long,
-        parents,
+        first,
+        second,
+        third,
+        fourth,
+        fifth,
+        sixth,
     }
 }
 

@@ -10,5 +10,5 @@ returns-then-not-found-clause-text g c =
     let book = g.F.Formatters.book c.args.formatters.now in
     let none : finds book c.args.key.now ≡ false = search rules in
     on_ok_by c.write_refusal.result
-    (λ p. p ∙ ap (λ answer. string_bytes c.args.out.now ++ answer) (sym (none_of_kind c.args.key.now.kind book c.args.key.now.preferences c.args.key.now.grouping c.args.value.now none)))
+    (λ p. p ∙ ap (λ answer. string_bytes c.args.out.now ++ answer) (sym (none_of_kind c.args.key.now.kind c.args.key.now.code book c.args.key.now.preferences c.args.key.now.grouping c.args.value.now none)))
     c.write_refusal.ensures.text

@@ -6,7 +6,8 @@ use Rattle.locale_numbers_tables.specs.Allocation.{begins_with}
 use Rattle.locale_numbers_tables.specs.Entries.{all_of}
 use Rattle.locale_numbers_units.specs.Faults.{under_key}
 use Rattle.locale_numbers_units.proofs.AddLemmas.{one_more_said, passed, still_once}
-use Rattle.locale_numbers_units.proofs.FaultLemmas.{faults_behind, told_at, told_entry}
+use Rattle.locale_numbers_tables.proofs.FaultLemmas.{told_at}
+use Rattle.locale_numbers_units.proofs.FaultLemmas.{faults_behind, told_entry}
 use Rattle.locale_numbers_units.proofs.tables.fill.Goals as goal
 
 pub loop-entry-preserved : goal.loop-entry-preserved

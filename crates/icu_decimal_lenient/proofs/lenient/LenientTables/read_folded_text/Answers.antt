@@ -1,0 +1,6 @@
+use Rattle.icu_decimal_plain.specs.BorrowedTables.{borrowed_tables}
+use Rattle.icu_decimal_lenient.proofs.LenientStepLemmas.{kept_readable}
+use Rattle.icu_decimal_lenient.proofs.lenient.LenientTables.read_folded_text.Goals as goal
+
+pub read_grouped-requires : goal.read_grouped-requires
+read_grouped-requires c = kept_readable (borrowed_tables c.self.inside.tables) c.self.inside.folded c.self.invariant

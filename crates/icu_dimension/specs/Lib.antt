@@ -1,0 +1,25 @@
+-- What a reader must believe: the tables of units, which one is taken, and what is found.
+pub mod FoundUnits
+pub mod ProvidedUnits
+pub mod UnitChoice
+pub mod UnitSources
+-- What a formatter borrows.
+pub mod HeldFormatters
+pub mod HeldDecimals
+-- Statements of laws.
+pub mod FoundUnitsLaws
+-- Patterns of units, the text, and texts read back.
+pub use Rattle.icu_dimension_affixes.specs.HeldReaders
+pub use Rattle.icu_dimension_affixes.specs.HeldUnits
+pub use Rattle.icu_dimension_affixes.specs.PartlessUnits
+pub use Rattle.icu_dimension_affixes.specs.UnitPatterns
+pub use Rattle.icu_dimension_affixes.specs.UnitPlaces
+pub use Rattle.icu_dimension_affixes.specs.UnitReading
+pub use Rattle.icu_dimension_affixes.specs.UnitReadingLaws
+pub use Rattle.icu_dimension_affixes.specs.UnitText
+pub use Rattle.icu_dimension_affixes.specs.UnitTextLaws
+-- Codes and digits of currencies, and rounding to them.
+pub use Rattle.icu_dimension_fractions.specs.CurrencyCodes
+pub use Rattle.icu_dimension_fractions.specs.FractionLaws
+pub use Rattle.icu_dimension_fractions.specs.FractionRounding
+pub use Rattle.icu_dimension_fractions.specs.Fractions

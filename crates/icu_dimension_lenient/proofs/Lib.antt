@@ -1,0 +1,4 @@
+pub mod EndLemmas
+pub mod KnownUnits
+pub mod UnitSteps
+pub mod UnitLawLemmas

@@ -1,0 +1,3 @@
+pub mod HeldPairs
+pub mod LenientUnitLaws
+pub mod LenientUnits

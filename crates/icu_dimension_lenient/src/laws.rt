@@ -1,0 +1,21 @@
+//! Laws of lenient reading of numbers with a unit. No call is made: each clause is the law.
+
+ghost use Rattle.icu_dimension_lenient.specs.LenientUnitLaws.{ExactUnitIsLenient, HasOneLenientUnitReading, UnitMayBeLeftOff, WrittenUnitReadsLeniently};
+
+/// A law: a text has one lenient reading. In English with `€` that of ` € 5 ` is 5, and that of `€1,23` is none.
+pub fn texts_have_one_lenient_reading()
+    ensures { HasOneLenientUnitReading }
+{}
+
+/// A law: what is read exactly is read leniently as the same decimal, and so is what the formatter writes: in English
+/// with `€` `-€1,234.50` is -1234.50.
+pub fn exact_is_lenient()
+    ensures exact { ExactUnitIsLenient }
+    ensures written { WrittenUnitReadsLeniently }
+{}
+
+/// A law: a text that is a number without its unit, and that the formatter does not write, is that number: `1234.5` is
+/// 1234.5 in English.
+pub fn unit_may_be_left_off()
+    ensures { UnitMayBeLeftOff }
+{}

@@ -1,0 +1,219 @@
+//! What people type of numbers with a unit, read.
+
+ghost use Rattle.std.specs.Prelude.{◌≡◌, ◌&&◌, true, false, IsErrOf, IfOk, OnOk};
+ghost use Rattle.std.specs.Str.{trim};
+ghost use Rattle.icu_decimal_reading.specs.DecimalOfText.{IsAnswered};
+ghost use Rattle.icu_decimal_lenient.specs.Folding.{folded_symbols, folded_text};
+ghost use Rattle.icu_decimal_lenient.specs.LenientReading.{filled_text, is_leniently_readable_by, or_else};
+ghost use Rattle.icu_dimension_affixes.specs.HeldUnits.{settings_of};
+ghost use Rattle.icu_dimension_affixes.specs.UnitReading.{is_unit_readable_by, reader_texts};
+ghost use Rattle.icu_dimension_lenient.specs.HeldPairs.{pairs_of, unit_of};
+ghost use Rattle.icu_dimension_lenient.specs.LenientUnits.{IsUnitAnswer, MayAllocateUnit, is_leniently_unit_readable_by, lenient_texts, read_named, read_own, read_unit_folded, typed_unit_reading};
+
+use crate::beside::read_by_name;
+use crate::own::read_affixes;
+use crate::pairs::{FoldedTexts, do_tell, fold_texts};
+use fixed_decimal::Decimal;
+use icu_decimal_lenient::LenientTables;
+use icu_decimal_reading::ReadError;
+use icu_dimension_affixes::{UnitReader, UnitTables};
+use std::alloc::Global;
+use std::marker::Model;
+
+// The affixes of a sign round what is filled.
+fn read_filled(
+    alloc: Global,
+    kept: &LenientTables<'_>,
+    texts: &FoldedTexts,
+    text: &str,
+) -> Result<Decimal, ReadError>
+    ensures unreadable { ¬ (IsErrOf result ReadError.Unreadable) }
+    ensures reading { IsAnswered result (read_own (folded_symbols kept.now) (pairs_of texts.now.pairs)
+        (filled_text (folded_symbols kept.now).strings.decimal_separator text.now)) }
+{
+    let filled = kept.fill(alloc, text)?;
+    read_affixes(alloc, kept, &texts.pairs, filled.as_str())
+}
+
+// The code beside the number, else what is filled.
+#[tactic(auto, using(icu_decimal_lenient::proofs::LenientStepLemmas::answered_first, icu_decimal_lenient::proofs::LenientStepLemmas::answered_second))]
+fn read_code(
+    alloc: Global,
+    kept: &LenientTables<'_>,
+    texts: &FoldedTexts,
+    text: &str,
+) -> Result<Decimal, ReadError>
+    ensures unreadable { ¬ (IsErrOf result ReadError.Unreadable) }
+    ensures reading { IsAnswered result
+        (or_else (read_named (folded_symbols kept.now) (unit_of texts.now).code text.now)
+        (read_own (folded_symbols kept.now) (pairs_of texts.now.pairs)
+        (filled_text (folded_symbols kept.now).strings.decimal_separator text.now))) }
+{
+    match read_by_name(alloc, kept, texts.code.as_str(), text) {
+        Ok(number) => Ok(number),
+        Err(ReadError::NotWritten) => read_filled(alloc, kept, texts, text),
+        Err(error) => Err(error),
+    }
+}
+
+// The unit beside the number, else its code, else what is filled.
+#[tactic(auto, using(icu_decimal_lenient::proofs::LenientStepLemmas::answered_first, icu_decimal_lenient::proofs::LenientStepLemmas::answered_second))]
+fn read_unit(
+    alloc: Global,
+    kept: &LenientTables<'_>,
+    texts: &FoldedTexts,
+    text: &str,
+) -> Result<Decimal, ReadError>
+    ensures unreadable { ¬ (IsErrOf result ReadError.Unreadable) }
+    ensures reading { IsAnswered result
+        (or_else (read_named (folded_symbols kept.now) (unit_of texts.now).unit text.now)
+        (or_else (read_named (folded_symbols kept.now) (unit_of texts.now).code text.now)
+        (read_own (folded_symbols kept.now) (pairs_of texts.now.pairs)
+        (filled_text (folded_symbols kept.now).strings.decimal_separator text.now)))) }
+{
+    match read_by_name(alloc, kept, texts.unit.as_str(), text) {
+        Ok(number) => Ok(number),
+        Err(ReadError::NotWritten) => read_code(alloc, kept, texts, text),
+        Err(error) => Err(error),
+    }
+}
+
+// A folded and trimmed text.
+#[tactic(auto, using(icu_decimal_lenient::proofs::LenientStepLemmas::answered_first, icu_decimal_lenient::proofs::LenientStepLemmas::answered_second))]
+fn read_trimmed(
+    alloc: Global,
+    kept: &LenientTables<'_>,
+    texts: &FoldedTexts,
+    text: &str,
+) -> Result<Decimal, ReadError>
+    ensures unreadable { ¬ (IsErrOf result ReadError.Unreadable) }
+    ensures reading { IsAnswered result (read_unit_folded (folded_symbols kept.now) (unit_of texts.now) text.now) }
+{
+    match read_affixes(alloc, kept, &texts.pairs, text) {
+        Ok(number) => Ok(number),
+        Err(ReadError::NotWritten) => read_unit(alloc, kept, texts, text),
+        Err(error) => Err(error),
+    }
+}
+
+// A text with its unit, folded and trimmed.
+fn read_folded(
+    alloc: Global,
+    kept: &LenientTables<'_>,
+    texts: &FoldedTexts,
+    text: &str,
+) -> Result<Decimal, ReadError>
+    ensures unreadable { ¬ (IsErrOf result ReadError.Unreadable) }
+    ensures reading { IsAnswered result (read_unit_folded (folded_symbols kept.now) (unit_of texts.now)
+        (trim (folded_text kept.now.digits text.now))) }
+{
+    let folded = kept.fold(alloc, text)?;
+    read_trimmed(alloc, kept, texts, folded.as_str().trim())
+}
+
+// A text without its unit, else with it.
+#[tactic(auto, using(icu_decimal_lenient::proofs::LenientStepLemmas::answered_first, icu_decimal_lenient::proofs::LenientStepLemmas::answered_second))]
+fn read_typed(
+    alloc: Global,
+    kept: &LenientTables<'_>,
+    texts: &FoldedTexts,
+    text: &str,
+) -> Result<Decimal, ReadError>
+    ensures unreadable { ¬ (IsErrOf result ReadError.Unreadable) }
+    ensures reading { IsAnswered result (typed_unit_reading kept.now (unit_of texts.now) text.now) }
+{
+    match kept.read(alloc, text) {
+        Ok(number) => Ok(number),
+        Err(ReadError::NotWritten) => read_folded(alloc, kept, texts, text),
+        Err(error) => Err(error),
+    }
+}
+
+/// What numbers with a unit are read with leniently: a reader of what the formatter writes, and beside it the symbols,
+/// the affixes of each sign, the unit and its code, folded once.
+///
+/// A form field makes it once, and reads with it at each key. That of English, `€` and `EUR` reads `5 EUR` as 5.
+#[derive(Debug, Drop)]
+pub struct LenientUnitReader<'b> {
+    exact: UnitReader<'b>,
+    kept: LenientTables<'b>,
+    texts: FoldedTexts,
+}
+
+impl<'b> Model for LenientUnitReader<'b> {
+    ghost use Rattle.icu_dimension_lenient.specs.HeldPairs.{unit_of};
+    ghost use Rattle.icu_dimension_lenient.specs.LenientUnits.{AreKeptTexts, LenientTexts};
+
+    ghost Value = { LenientTexts };
+
+    ghost view = { λ r. record { reader = r.exact; folded = unit_of r.texts } };
+
+    ghost invariant = { λ r. AreKeptTexts r.exact r.kept };
+}
+
+// The tables of a readable reader, to read leniently with.
+fn keep_tables<'b>(
+    alloc: Global,
+    exact: &UnitReader<'b>,
+    tables: &UnitTables<'b>,
+) -> Result<LenientTables<'b>, ReadError>
+    requires { exact.now ≡ reader_texts (settings_of tables.now) }
+    ensures unreadable { IsErrOf result ReadError.Unreadable
+        → (is_unit_readable_by exact.now && is_leniently_readable_by exact.now.tables) ≡ false }
+    ensures not_written { ¬ (IsErrOf result ReadError.NotWritten) }
+    ensures exact { OnOk result (is_unit_readable_by exact.now ≡ true) }
+    ensures folded { OnOk result (is_leniently_readable_by exact.now.tables ≡ true) }
+    ensures value { IfOk result (λ kept. kept ≡ exact.now.tables) }
+{
+    if !exact.is_readable() {
+        return Err(ReadError::Unreadable);
+    }
+    LenientTables::new(alloc, tables.decimals())
+}
+
+impl<'b> LenientUnitReader<'b> {
+    /// The lenient reader of what these tables write, and of amounts with this code: those of English and `€`, with
+    /// `EUR`, read `5 €` and `5 EUR` as 5. Of percents the code is `%`.
+    ///
+    /// `Unreadable`: `is_readable` of a `UnitReader` is false, or `is_leniently_readable` of the tables is, or, folded, a
+    /// digit is in the affixes or two signs have the same ones. `Memory`: out of memory. It allocates for each affix, and
+    /// for each folded text.
+    pub fn try_new(alloc: Global, tables: &UnitTables<'b>, code: &str) -> Result<Self, ReadError>
+        ensures unreadable { IsErrOf result ReadError.Unreadable
+            → is_leniently_unit_readable_by (lenient_texts (settings_of tables.now) code.now) ≡ false }
+        ensures not_written { ¬ (IsErrOf result ReadError.NotWritten) }
+        ensures readable { OnOk result
+            (is_leniently_unit_readable_by (lenient_texts (settings_of tables.now) code.now) ≡ true) }
+        ensures value { IfOk result (λ reader. reader ≡ lenient_texts (settings_of tables.now) code.now) }
+    {
+        let exact = UnitReader::try_new(alloc, tables)?;
+        let kept = match keep_tables(alloc, &exact, tables) {
+            Ok(kept) => kept,
+            Err(error) => return Err(error),
+        };
+        let texts = fold_texts(alloc, &kept, &exact, tables.unit().text, code)?;
+        if !do_tell(&texts.pairs) {
+            return Err(ReadError::Unreadable);
+        }
+        Ok(LenientUnitReader { exact, kept, texts })
+    }
+
+    /// The decimal that was typed, with its unit or without: in English with `€` and `EUR` the texts `1234.5`,
+    /// `€1234.5`, `1,234.5 €` and `EUR 1,234.5` are 1234.5, and `$5` and `€1,23` are none.
+    ///
+    /// Sign, digits and visible range are those of the text. `NotWritten`: it is a text of no decimal. `Memory`: out of
+    /// memory. What the formatter writes is read in one pass, and allocates where it has more than eight digits; any
+    /// other text is folded, which allocates.
+    #[tactic(auto, using(crate::proofs::UnitSteps::exactly_read, crate::proofs::UnitSteps::typed_read))]
+    pub fn read(&self, alloc: Global, text: &str) -> Result<Decimal, ReadError>
+        ensures unreadable { ¬ (IsErrOf result ReadError.Unreadable) }
+        ensures memory { IsErrOf result ReadError.Memory → MayAllocateUnit self.now text.now }
+        ensures reading { IsUnitAnswer self.now text.now result }
+    {
+        match self.exact.read_readable(alloc, text) {
+            Ok(number) => Ok(number),
+            Err(ReadError::NotWritten) => read_typed(alloc, &self.kept, &self.texts, text),
+            Err(error) => Err(error),
+        }
+    }
+}

@@ -1,0 +1,152 @@
+-- What is written with a unit behind a handle, opened and read, and faults that are not that a text is too long.
+use Rattle.std.proofs.Common.{◌≡◌, ◌≢◌, ℕ, Bool, true, false, List, Option, Some, None, Result, Ok, Err, IfOk, IfErr, refl, sym, subst, inl, inr}
+use Rattle.fixed_decimal.specs.Number.{Number}
+use Rattle.fixed_decimal.specs.SignedValue.{SignedValue}
+use Rattle.icu_dimension.specs.UnitText.{UnitSettings}
+use Rattle.icu_dimension.specs.declared.FractionInfo.{FractionInfo}
+use Rattle.writeable.specs.HeldParts.{HeldParts}
+use Rattle.locale_numbers.specs.Book.{BookTables}
+use Rattle.locale_numbers.specs.declared.FormatterError.{FormatterError}
+use Rattle.legumeyet_c_values.specs.Choices.{IsChangeRefused}
+use Rattle.legumeyet_c_values.specs.Parts.{held_text}
+use Rattle.legumeyet_c_values.specs.Putting.{IsPut}
+use Rattle.legumeyet_c_values.specs.Units.{GivesUnit, IsUnitChangeFault, IsUnitRefused, unit_choices_of}
+use Rattle.legumeyet_c_values.specs.declared.CallError.{CallError}
+use Rattle.legumeyet_c_values.specs.declared.CallError.TheVariants.{Closed, Memory, TooSmall}
+use Rattle.legumeyet_c_values.specs.declared.Options.{Options}
+use Rattle.legumeyet_c_values.specs.declared.UnitChoices.{UnitChoices}
+use Rattle.legumeyet_c_values.proofs.PuttingLemmas.{put_refused}
+use Rattle.legumeyet_c.specs.HeldUnits.{HeldUnit}
+use Rattle.legumeyet_c.specs.Kinds.{unit_in}
+use Rattle.legumeyet_c.specs.Opening.{IsOpening, IsTagFault}
+use Rattle.legumeyet_c.specs.UnitOpening.{FindsUnit, IsUnitFindingFault}
+use Rattle.legumeyet_c.specs.UnitReading.{IsUnitReadFault, IsUnitUnread}
+use Rattle.legumeyet_c.specs.declared.content.Content.{Content}
+use Rattle.legumeyet_c.specs.UnitWriting.{IsUnitAnnotated, IsUnitPartsFault, IsUnitText, IsUnitWritingFault, WritesUnit}
+
+-- ---- the number that is given
+
+-- what is made of a number that is there is made of the one that was given
+gives_given : (fractions : Option FractionInfo) (choices : Option UnitChoices) (is_given : SignedValue Number → Type 0) (number : Result (SignedValue Number) CallError) (value : SignedValue Number)
+    → IfOk number is_given → GivesUnit fractions choices (λ given. number ≡ Ok given) value → GivesUnit fractions choices is_given value
+gives_given fractions None is_given number value given gives = gives
+gives_given fractions (Some choices) is_given number value given gives =
+    record { given = gives.given; given_is = subst (λ (n : Result (SignedValue Number) CallError). IfOk n is_given) gives.given_is given; changes = gives.changes }
+
+-- and why none is made
+fails_given : (fractions : Option FractionInfo) (choices : Option UnitChoices) (is_given : SignedValue Number → Type 0) (fault : CallError → Type 0) (number : Result (SignedValue Number) CallError)
+    → IfOk number is_given → IfErr number fault → (error : CallError) → IsUnitChangeFault fractions choices (λ given. number ≡ Ok given) (λ cause. number ≡ Err cause) error
+    → IsUnitChangeFault fractions choices is_given fault error
+fails_given fractions None is_given fault number given caused error is = is
+fails_given fractions (Some choices) is_given fault number given caused error (inl is) =
+    inl (subst (λ (n : Result (SignedValue Number) CallError). IfErr n fault) is caused)
+fails_given fractions (Some choices) is_given fault number given caused error (inr refused) =
+    inr (record { given = refused.given; given_is = subst (λ (n : Result (SignedValue Number) CallError). IfOk n is_given) refused.given_is given; refused = refused.refused })
+
+pub unit_says : {X : Type 0} (says : UnitSettings → SignedValue Number → X → Type 0) (open_units : Option HeldUnit) (options : Options) (is_given : SignedValue Number → Type 0)
+    (number : Result (SignedValue Number) CallError) → IfOk number is_given → (text : X) → WritesUnit says open_units options (λ given. number ≡ Ok given) text
+    → WritesUnit says open_units options is_given text
+unit_says says None options is_given number given text said = said
+unit_says says (Some held) options is_given number given text said = record {
+  value = said.value;
+  gives = gives_given held.fractions (unit_choices_of held.fractions options) is_given number said.value given said.gives;
+  said = said.said;
+}
+
+pub unit_fault : (open_units : Option HeldUnit) (options : Options) (is_given : SignedValue Number → Type 0) (fault : CallError → Type 0) (number : Result (SignedValue Number) CallError)
+    → IfOk number is_given → IfErr number fault → (error : CallError) → IsUnitWritingFault open_units options (λ given. number ≡ Ok given) (λ cause. number ≡ Err cause) error
+    → IsUnitWritingFault open_units options is_given fault error
+unit_fault None options is_given fault number given caused error is = is
+unit_fault (Some held) options is_given fault number given caused error failed =
+    fails_given held.fractions (unit_choices_of held.fractions options) is_given fault number given caused error failed
+
+pub unit_parts_fault : (open_units : Option HeldUnit) (options : Options) (is_given : SignedValue Number → Type 0) (fault : CallError → Type 0) (number : Result (SignedValue Number) CallError)
+    → IfOk number is_given → IfErr number fault → (error : CallError) → IsUnitPartsFault open_units options (λ given. number ≡ Ok given) (λ cause. number ≡ Err cause) error
+    → IsUnitPartsFault open_units options is_given fault error
+unit_parts_fault None options is_given fault number given caused error is = is
+unit_parts_fault (Some held) options is_given fault number given caused error (inl failed) = inl (unit_fault (Some held) options is_given fault number given caused error failed)
+unit_parts_fault (Some held) options is_given fault number given caused error (inr is) = inr is
+
+-- ---- not that a text is too long
+
+change_other : (fractions : Option FractionInfo) (choices : Option UnitChoices) (number : Result (SignedValue Number) CallError) (error : CallError)
+    → IfErr number (λ error. error ≢ TooSmall) → IsUnitChangeFault fractions choices (λ given. number ≡ Ok given) (λ cause. number ≡ Err cause) error → error ≢ TooSmall
+change_other fractions None number error other is = λ same. absurd (cc (is, same))
+change_other fractions (Some choices) number error other (inl is) = subst (λ (n : Result (SignedValue Number) CallError). IfErr n (λ error. error ≢ TooSmall)) is other
+change_other fractions (Some choices) number error other (inr refused) = go refused.refused
+  where
+    go : IsUnitRefused fractions choices refused.given error → error ≢ TooSmall
+    go (inl is) = λ same. absurd (cc (is.0, same))
+    go (inr fitted) = λ same. subst (λ (e : CallError). IsChangeRefused choices.choices fitted.fitted e) same fitted.refused
+
+pub unit_fault_other : (open_units : Option HeldUnit) (options : Options) (number : Result (SignedValue Number) CallError) (error : CallError)
+    → IfErr number (λ error. error ≢ TooSmall) → IsUnitWritingFault open_units options (λ given. number ≡ Ok given) (λ cause. number ≡ Err cause) error → error ≢ TooSmall
+unit_fault_other None options number error other is = λ same. absurd (cc (is, same))
+unit_fault_other (Some held) options number error other failed = change_other held.fractions (unit_choices_of held.fractions options) number error other failed
+
+pub unit_parts_other : (open_units : Option HeldUnit) (options : Options) (number : Result (SignedValue Number) CallError) (error : CallError)
+    → IfErr number (λ error. error ≢ TooSmall) → IsUnitPartsFault open_units options (λ given. number ≡ Ok given) (λ cause. number ≡ Err cause) error → error ≢ TooSmall
+unit_parts_other None options number error other is = λ same. absurd (cc (is, same))
+unit_parts_other (Some held) options number error other (inl failed) = unit_fault_other (Some held) options number error other failed
+unit_parts_other (Some held) options number error other (inr is) = λ same. absurd (cc (is, same))
+
+pub unit_read_other : (open_units : Option HeldUnit) (text : List ℕ) (error : CallError) → IsUnitReadFault open_units text error → error ≢ TooSmall
+unit_read_other None text error is = λ same. absurd (cc (is, same))
+unit_read_other (Some held) text error caused = λ same. subst (λ (e : CallError). IsUnitUnread held text e) same caused
+
+-- ---- behind a handle
+
+-- what was written by units was written by the handle that has them open
+pub unit_open_put : (open_units units : Option HeldUnit) (options : Options) (number : Result (SignedValue Number) CallError) (before after : List ℕ) (was told : ℕ) (outcome : Result (Unit {0}) CallError)
+    → open_units ≡ units
+    → IsPut (WritesUnit IsUnitText units options (λ given. number ≡ Ok given)) (IsUnitWritingFault units options (λ given. number ≡ Ok given) (λ cause. number ≡ Err cause)) before after was told outcome
+    → IsPut (WritesUnit IsUnitText open_units options (λ given. number ≡ Ok given)) (IsUnitWritingFault open_units options (λ given. number ≡ Ok given) (λ cause. number ≡ Err cause)) before after was told outcome
+unit_open_put open_units units options number before after was told outcome is put =
+    subst (λ (o : Option HeldUnit). IsPut (WritesUnit IsUnitText o options (λ given. number ≡ Ok given)) (IsUnitWritingFault o options (λ given. number ≡ Ok given) (λ cause. number ≡ Err cause)) before after was told outcome)
+    (sym is) put
+
+-- nothing is open
+pub unit_closed_put : (open_units : Option HeldUnit) (options : Options) (number : Result (SignedValue Number) CallError) (out : List ℕ) (told : ℕ) → open_units ≡ None
+    → IsPut (WritesUnit IsUnitText open_units options (λ given. number ≡ Ok given)) (IsUnitWritingFault open_units options (λ given. number ≡ Ok given) (λ cause. number ≡ Err cause)) out out told told (Err Closed)
+unit_closed_put open_units options number out told is =
+    put_refused _ _ out told Closed (λ same. absurd (cc same))
+    (subst (λ (o : Option HeldUnit). IsUnitWritingFault o options (λ given. number ≡ Ok given) (λ cause. number ≡ Err cause) Closed) (sym is) refl)
+
+-- ---- opening
+
+-- where something is found, out of memory is a fault
+pub unit_memory_misses : {A : Type 0} (found : BookTables → A → List ℕ → Result HeldUnit FormatterError) (book : Option BookTables) (kept : Bool) (asked : Result A CallError) (tag : List ℕ) (held : HeldUnit)
+    → FindsUnit found book kept asked tag held → (error : CallError) → error ≡ Memory → IsUnitFindingFault found book kept asked tag error
+unit_memory_misses found None kept asked tag held finds error is = absurd finds
+unit_memory_misses found (Some book) false asked tag held finds error is = absurd finds
+unit_memory_misses found (Some book) true (Err fault) tag held finds error is = absurd finds
+unit_memory_misses found (Some book) true (Ok asked) tag held finds error is = subst (λ (e : CallError). IsTagFault (found book asked tag) tag e) (sym is) tt
+
+-- the same of what is asked, which is known to be another one
+pub unit_opening_asked : {A : Type 0} (found : BookTables → A → List ℕ → Result HeldUnit FormatterError) (book : Option BookTables) (kept : Bool) (asked known : Result A CallError) (tag : List ℕ)
+    (before after : Option Content) (outcome : Result (Unit {0}) CallError) → asked ≡ known
+    → IsOpening unit_in (FindsUnit found book kept asked tag) (IsUnitFindingFault found book kept asked tag) before after outcome
+    → IsOpening unit_in (FindsUnit found book kept known tag) (IsUnitFindingFault found book kept known tag) before after outcome
+unit_opening_asked {A} found book kept asked known tag before after outcome is opening =
+    subst (λ (a : Result A CallError). IsOpening unit_in (FindsUnit found book kept a tag) (IsUnitFindingFault found book kept a tag) before after outcome) is opening
+
+-- ---- parts
+
+pub unit_annotated : (held : HeldUnit) (options : Options) (number : Result (SignedValue Number) CallError) (value : SignedValue Number) (outcome : Result HeldParts CallError)
+    → GivesUnit held.fractions (unit_choices_of held.fractions options) (λ given. number ≡ Ok given) value
+    → IfOk outcome (λ sink. IsUnitAnnotated held.settings value (held_text sink))
+    → IfOk outcome (λ sink. WritesUnit IsUnitAnnotated (Some held) options (λ given. number ≡ Ok given) (held_text sink))
+unit_annotated held options number value (Ok sink) gives is = record { value = value; gives = gives; said = is }
+unit_annotated held options number value (Err error) gives is = tt
+
+pub unit_unannotated : (held : HeldUnit) (options : Options) (number : Result (SignedValue Number) CallError) (outcome : Result HeldParts CallError)
+    → IfErr outcome (λ error. error ≡ Memory)
+    → IfErr outcome (λ error. IsUnitPartsFault (Some held) options (λ given. number ≡ Ok given) (λ cause. number ≡ Err cause) error)
+unit_unannotated held options number (Ok sink) is = tt
+unit_unannotated held options number (Err error) is = inr is
+
+-- ---- reading
+
+pub true_if_not_false : (b : Bool) → (b ≡ false → ⊥) → b ≡ true
+true_if_not_false true other = refl
+true_if_not_false false other = absurd (other refl)

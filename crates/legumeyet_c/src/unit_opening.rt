@@ -1,0 +1,113 @@
+//! Handles opened with what a kept book has for percents and amounts.
+
+ghost use Rattle.std.specs.Prelude.{◌≡◌, ◌⊎◌, Ok, Err, IfOk, IfErr};
+ghost use Rattle.legumeyet_c.specs.Kinds.{book_in, is_kept, unit_in};
+ghost use Rattle.legumeyet_c.specs.Opening.{IsOpening, IsTagFault};
+ghost use Rattle.legumeyet_c.specs.UnitOpening.{FindsUnit, IsUnitFindingFault};
+
+use crate::content::{Held, kept_in};
+use crate::handle::Handle;
+use crate::held_units::HeldUnits;
+use crate::opening::put_behind;
+use legumeyet_c_values::CallError;
+use locale_numbers::{Book, FormatterError};
+use std::alloc::Global;
+
+// What is asked of a book for percents or amounts, beside the tag.
+pub(crate) trait AskedUnit: Drop {
+    ghost use Rattle.std.specs.Prelude.{List, Result, ℕ};
+    ghost use Rattle.locale_numbers.specs.Book.{BookTables};
+    ghost use Rattle.locale_numbers.specs.declared.FormatterError.{FormatterError};
+    ghost use Rattle.legumeyet_c.specs.HeldUnits.{HeldUnit};
+
+    // what a book has
+    ghost found: { BookTables → Self → List ℕ → Result HeldUnit FormatterError };
+
+    /// What a kept book has for the tag, which it lends. `Tag`: it is no locale tag. `Table`: the book lacks a table for
+    /// it. `Memory`: out of memory.
+    fn find(
+        self,
+        alloc: Global,
+        book: &'static Book,
+        tag: &str,
+    ) -> Result<HeldUnits, FormatterError>
+        ensures value { IfOk result (λ held. found book.now self tag.now ≡ Ok held) }
+        ensures fault { IfErr result (λ fault. (fault ≡ FormatterError.Memory)
+            ⊎ (found book.now self tag.now ≡ Err fault)) };
+}
+
+// The same, with the errors of calls.
+fn find_for<A: AskedUnit>(
+    alloc: Global,
+    book: &'static Book,
+    asked: A,
+    tag: &[u8],
+) -> Result<HeldUnits, CallError>
+    ensures value { IfOk result (λ held. A.found book.now asked tag.now ≡ Ok held) }
+    ensures fault { IfErr result (λ error. IsTagFault (A.found book.now asked tag.now) tag.now error) }
+{
+    let Ok(tag) = str::from_utf8(tag) else {
+        return Err(CallError::Tag);
+    };
+    match asked.find(alloc, book, tag) {
+        Ok(held) => Ok(held),
+        Err(FormatterError::Tag) => Err(CallError::Tag),
+        Err(FormatterError::Table) => Err(CallError::Table),
+        Err(FormatterError::Memory) => Err(CallError::Memory),
+        Err(FormatterError::Code) => Err(CallError::Code),
+    }
+}
+
+// What the book behind a handle has, where it is kept; the book stays as it is.
+fn find_behind<A: AskedUnit>(
+    alloc: Global,
+    book: &mut Handle,
+    asked: Result<A, CallError>,
+    tag: &[u8],
+) -> Result<HeldUnits, CallError>
+    ensures same { book.new.pointer.value ≡ book.old.pointer.value }
+    ensures value { IfOk result
+        (λ held. FindsUnit A.found (book_in book.old.pointer.value) (is_kept book.old.pointer.value) asked tag.now
+        held) }
+    ensures fault { IfErr result
+        (λ error. IsUnitFindingFault A.found (book_in book.old.pointer.value) (is_kept book.old.pointer.value) asked
+        tag.now error) }
+{
+    let Some(content) = book.take(alloc) else {
+        return Err(CallError::Closed);
+    };
+    let is_open = Book::held_by(&content).is_some();
+    let found = match (kept_in(&content), asked) {
+        (Some(kept), Ok(asked)) => find_for::<A>(alloc, kept, asked, tag),
+        (Some(_), Err(error)) => Err(error),
+        (None, _) => {
+            if is_open {
+                Err(CallError::Unkept)
+            } else {
+                Err(CallError::Closed)
+            }
+        }
+    };
+    book.put(alloc, content);
+    found
+}
+
+// Opens a handle with what the book behind another one has, where it is kept; the book stays as it is.
+pub(crate) fn open_unit<A: AskedUnit>(
+    alloc: Global,
+    book: &mut Handle,
+    asked: Result<A, CallError>,
+    tag: &[u8],
+    handle: &mut Handle,
+) -> Result<(), CallError>
+    ensures same { book.new.pointer.value ≡ book.old.pointer.value }
+    ensures told { IsOpening unit_in
+        (FindsUnit A.found (book_in book.old.pointer.value) (is_kept book.old.pointer.value) asked tag.now)
+        (IsUnitFindingFault A.found (book_in book.old.pointer.value) (is_kept book.old.pointer.value) asked tag.now)
+        handle.old.pointer.value handle.new.pointer.value result }
+{
+    match find_behind::<A>(alloc, book, asked, tag) {
+        Ok(held) => put_behind(alloc, handle, held, CallError::Memory),
+        Err(error) => Err(error),
+    }
+}

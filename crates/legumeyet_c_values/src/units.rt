@@ -1,0 +1,110 @@
+//! Numbers with a unit, changed as options ask for.
+
+ghost use Rattle.std.specs.Prelude.{◌≡◌, Ok, Err, Some, None, IfOk, IfErr};
+ghost use Rattle.legumeyet_c_values.specs.Units.{ChangesUnit, FitsAs, GivesUnit, IsUnitChangeFault, IsUnitRefused, MayGrowTo, amount_choices_of, unit_choices_of, unrounded};
+
+use crate::call_error::CallError;
+use crate::choices::{Choices, Options};
+use fixed_decimal::Decimal;
+use icu_dimension_fractions::{CurrencyUsage, FractionInfo};
+
+/// What options stand for where the number has a unit.
+#[derive(Clone, Copy, Drop)]
+pub struct UnitChoices {
+    /// `None`: it is not rounded to the digits of a currency.
+    pub usage: Option<CurrencyUsage>,
+    /// What else is made of it.
+    pub choices: Choices,
+}
+
+impl Options {
+    // The same options without a rounding.
+    fn unrounded(&self) -> Options
+        ensures { result ≡ unrounded self.now }
+    {
+        let mut options = *self;
+        options.rounding = 0;
+        options
+    }
+
+    // What the numbers stand for where the number is an amount, and each is known.
+    fn amount_choices(&self) -> Option<UnitChoices>
+        ensures { result ≡ amount_choices_of self.now }
+    {
+        let (usage, choices) = match self.rounding {
+            0 => (Some(CurrencyUsage::Standard), self.choices()),
+            10 => (Some(CurrencyUsage::Cash), self.unrounded().choices()),
+            11 => (None, self.unrounded().choices()),
+            _ => (None, self.choices()),
+        };
+        let choices = choices?;
+        Some(UnitChoices { usage, choices })
+    }
+
+    // What the numbers stand for where each is known: of an amount where there are digits of a currency.
+    fn unit_choices(&self, fractions: Option<FractionInfo>) -> Option<UnitChoices>
+        ensures { result ≡ unit_choices_of fractions self.now }
+    {
+        if fractions.is_some() {
+            return self.amount_choices();
+        }
+        let choices = self.choices()?;
+        Some(UnitChoices {
+            usage: None,
+            choices,
+        })
+    }
+}
+
+// Rounds a number to the digits of a currency, where that is asked for.
+fn fitted(
+    fractions: Option<FractionInfo>,
+    usage: Option<CurrencyUsage>,
+    value: Decimal,
+) -> Result<Decimal, CallError>
+    ensures value { IfOk result (λ fitted. FitsAs fractions usage value fitted) }
+    ensures fault { IfErr result (λ error. (error ≡ CallError.Memory) × MayGrowTo fractions usage) }
+{
+    match (fractions, usage) {
+        (Some(fractions), Some(usage)) => match fractions.fraction(usage).rounded(value) {
+            Ok(rounded) => Ok(rounded),
+            Err(_) => Err(CallError::Memory),
+        },
+        (Some(_), None) | (None, _) => Ok(value),
+    }
+}
+
+impl UnitChoices {
+    // The number rounded to the digits of a currency, and then changed.
+    fn changed(self, fractions: Option<FractionInfo>, value: Decimal) -> Result<Decimal, CallError>
+        ensures value { IfOk result (λ changed. ChangesUnit fractions self value changed) }
+        ensures fault { IfErr result (λ error. IsUnitRefused fractions self value error) }
+    {
+        match fitted(fractions, self.usage, value) {
+            Ok(fitted) => self.choices.changed(fitted),
+            Err(error) => Err(error),
+        }
+    }
+}
+
+/// The number that was given, changed as the options ask for where it has a unit: with the digits of a currency it is an
+/// amount, and without them a percent.
+pub fn unit_number(
+    fractions: Option<FractionInfo>,
+    number: Result<Decimal, CallError>,
+    options: &Options,
+) -> Result<Decimal, CallError>
+    ensures value { IfOk result
+        (λ value. GivesUnit fractions (unit_choices_of fractions options.now) (λ given. number ≡ Ok given) value) }
+    ensures fault { IfErr result
+        (λ error. IsUnitChangeFault fractions (unit_choices_of fractions options.now) (λ given. number ≡ Ok given)
+        (λ fault. number ≡ Err fault) error) }
+{
+    let Some(choices) = options.unit_choices(fractions) else {
+        return Err(CallError::UnknownOption);
+    };
+    match number {
+        Ok(value) => choices.changed(fractions, value),
+        Err(error) => Err(error),
+    }
+}

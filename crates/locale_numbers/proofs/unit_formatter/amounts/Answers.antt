@@ -1,0 +1,13 @@
+use Rattle.locale_numbers.specs.FoundUnit.{options_of}
+use Rattle.locale_numbers.proofs.FoundUnitLemmas.{amounts_found_by}
+use Rattle.locale_numbers.proofs.unit_formatter.amounts.Goals as goal
+
+pub returns : goal.returns
+returns g c =
+    let tables = c.args.tables.now in
+    amounts_found_by (g.T.ParentProvider.next tables) (g.T.ParentProvider.limit tables) (g.T.DataProvider-1.table tables) (g.T.DataProvider-2.table tables) (g.T.Tables.book tables)
+    (g.met.T.Tables.parents tables) (g.met.T.Tables.limits tables) (g.met.T.Tables.symbols tables) (g.met.T.Tables.digits tables)
+    (g.T.DataProvider-7.table tables) (g.T.DataProvider-8.table tables) (g.T.DataProvider-9.table tables) (g.T.DataProvider-10.table tables)
+    c.args.key.now.preferences c.args.code c.amount_options.result (options_of c.args.style c.args.key.now.grouping) _
+    (g.met.T.Tables.currencies tables) (g.met.T.Tables.accounts tables) (g.met.T.Tables.currency_symbols tables) (g.met.T.Tables.fractions tables)
+    c.amount_options.ensures c.try_new_unstable.ensures

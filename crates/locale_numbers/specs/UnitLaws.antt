@@ -1,0 +1,67 @@
+-- Laws of the forms of numbers with a unit, over the definitions alone.
+-- Defined in docs/requests.md, "Answer line".
+-- Cited by the functions of `laws`.
+-- Each law is about definitions of other files, of four members, so the imports are many.
+use Rattle.std.specs.Prelude.{◌≡◌, ℕ, true, List, Some, Ok}
+use Rattle.std.specs.Str.{IsUtf8}
+use Rattle.fixed_decimal.specs.Number.{Number}
+use Rattle.fixed_decimal.specs.SignedText.{signed_text_of}
+use Rattle.fixed_decimal.specs.SignedValue.{SignedValue}
+use Rattle.fixed_decimal.specs.TextLaws.{IsDecimal}
+use Rattle.icu_dimension.specs.UnitReading.{AreReaderTexts, is_unit_readable_by, reader_texts}
+use Rattle.icu_dimension.specs.UnitText.{unit_decimal_text}
+use Rattle.icu_locale_core.specs.TagPreferences.{Preferences}
+use Rattle.locale_numbers_answers.specs.NumberReading.{number, reading_of}
+use Rattle.locale_numbers_answers.specs.UnitAnswer.{UnitFound, unit_changed}
+use Rattle.locale_numbers_book.specs.Book.{BookTables}
+use Rattle.locale_numbers_book.specs.Wanted.{wanted_of}
+use Rattle.locale_numbers_requests.specs.Request.{Asked, takes}
+use Rattle.locale_numbers_requests.specs.declared.Form.TheVariants as form
+use Rattle.locale_numbers_requests.specs.declared.RoundingAsked.{RoundingAsked}
+use Rattle.locale_numbers_requests.specs.declared.SignAsked.TheVariants.{Keep}
+use Rattle.locale_numbers_requests.specs.declared.UnitAsked.{UnitAsked}
+use Rattle.locale_numbers.specs.Answer.{answer_asked, written}
+use Rattle.locale_numbers.specs.FoundUnit.{found_unit}
+
+-- the request that writes a number with a unit and with its own sign, with the tag and the grouping of another
+abbrev pub unit_request : Asked → UnitAsked → RoundingAsked → List ℕ → Asked
+unit_request asked unit rounding digits =
+    record { tag = asked.tag; form = form.Unit unit; grouping = asked.grouping; sign = Keep; rounding = rounding; text = digits }
+
+-- the one that reads such a text back
+abbrev pub unit_reading_request : Asked → UnitAsked → RoundingAsked → List ℕ → Asked
+unit_reading_request asked unit rounding text =
+    record { tag = asked.tag; form = form.ReadUnit unit; grouping = asked.grouping; sign = Keep; rounding = rounding; text = text }
+
+-- the form that reads it takes this rounding: none, or of amounts that of cash
+abbrev pub TakesRounding : UnitAsked → RoundingAsked → Type 0
+TakesRounding unit rounding = takes (form.ReadUnit unit) Keep rounding ≡ true
+
+-- a request finds in a book what the numbers of a unit are written with, and it is made of texts, as that of every formatter is
+pub record FindsUnit (book : BookTables) (asked : Asked) (unit : UnitAsked) (tables : UnitFound) : Type 0 where
+  pub preferences : Preferences
+  pub tag : wanted_of asked.tag ≡ Some preferences
+  pub found : found_unit unit book preferences asked.grouping ≡ Ok tables
+  pub texts : AreReaderTexts (reader_texts tables.settings)
+
+-- the text of each decimal with its unit is UTF-8
+abbrev pub WrittenUnitIsUtf8 : Type 0
+WrittenUnitIsUtf8 = (book : BookTables) (asked : Asked) (unit : UnitAsked) (found : UnitFound) (value : SignedValue Number)
+    → FindsUnit book asked unit found → IsDecimal value → IsUtf8 (unit_decimal_text found.settings value)
+
+-- the number that is answered for a text with a unit, sent as it is, is written as that text
+abbrev pub ReadUnitIsWrittenAgain : Type 0
+ReadUnitIsWrittenAgain = (book : BookTables) (asked : Asked) (unit : UnitAsked) (found : UnitFound) (rounding : RoundingAsked) (text digits : List ℕ)
+    → FindsUnit book asked unit found → TakesRounding unit rounding
+    → answer_asked book (Some (unit_reading_request asked unit rounding text)) ≡ written digits
+    → answer_asked book (Some (unit_request asked unit rounding digits)) ≡ written text
+
+-- where texts can be read, what a line writes with a unit reads back under the same rounding as the number that was written, rounded and
+-- with its sign
+abbrev pub WrittenUnitReadsBack : Type 0
+WrittenUnitReadsBack = (book : BookTables) (asked : Asked) (unit : UnitAsked) (found : UnitFound) (value : SignedValue Number) (text : List ℕ)
+    → asked.form ≡ form.Unit unit → TakesRounding unit asked.rounding → FindsUnit book asked unit found
+    → is_unit_readable_by (reader_texts found.settings) ≡ true → reading_of asked.text ≡ number value
+    → answer_asked book (Some asked) ≡ written text
+    → answer_asked book (Some (unit_reading_request asked unit asked.rounding text))
+    ≡ written (signed_text_of (unit_changed found.digits asked.rounding asked.sign value))

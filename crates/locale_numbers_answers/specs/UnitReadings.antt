@@ -1,0 +1,57 @@
+-- The reading of a text with a unit as a function: for each sign what is between its affixes, as a number without a sign.
+-- Defined in docs/units.md, "Reading"; a law of `laws.rt` says that it is the reading which `IsUnitReading` of `icu_dimension_affixes` names.
+-- Cited by `answer` and `run`, through UnitAnswer.antt.
+use Rattle.std.specs.Prelude.{ℕ, ◌-◌, Bool, cond, List, drop, length, take, Option, Some, None}
+use Rattle.std.specs.Str.{bytes_eq}
+use Rattle.fixed_decimal.specs.Number.{Number}
+use Rattle.fixed_decimal.specs.SignedValue.{SignedValue}
+use Rattle.fixed_decimal.specs.declared.Sign.{Sign}
+use Rattle.fixed_decimal.specs.declared.Sign.TheVariants.{None as NoSign, Negative, Positive}
+use Rattle.icu_decimal.specs.PlainReading.{PlainReading, decimal, not_written, plain_reading, unreadable}
+use Rattle.icu_decimal.specs.PlainText.{Tables}
+use Rattle.icu_dimension_affixes.specs.UnitPatterns.{AffixPair}
+use Rattle.icu_dimension_affixes.specs.UnitReading.{ReaderTexts, is_unit_readable_by}
+use Rattle.icu_dimension_affixes.specs.UnitText.{text_between}
+
+-- a text without as many bytes at its front and at its end as two affixes have
+abbrev pub trimmed_by : AffixPair → List ℕ → List ℕ
+trimmed_by pair text = take (length text - length pair.before - length pair.after) (drop (length pair.before) text)
+
+-- what is between the affixes in a text, where they are there
+abbrev pub inner_of : AffixPair → List ℕ → Option (List ℕ)
+inner_of pair text = cond (bytes_eq (text_between pair (trimmed_by pair text)) text) (Some (trimmed_by pair text)) None
+
+-- a number that has no sign gets one
+abbrev pub with_no_sign : Sign → Sign → Number → PlainReading
+with_no_sign sign NoSign number = decimal (record { sign = sign; absolute = number })
+with_no_sign sign Negative number = not_written
+with_no_sign sign Positive number = not_written
+
+abbrev pub signed_by : Sign → PlainReading → PlainReading
+signed_by sign (decimal value) = with_no_sign sign value.sign value.absolute
+signed_by sign not_written = not_written
+signed_by sign unreadable = unreadable
+
+-- the plain number without a sign that this is, with a sign
+abbrev pub inner_reading : Tables → Sign → Option (List ℕ) → PlainReading
+inner_reading tables sign None = not_written
+inner_reading tables sign (Some inner) = signed_by sign (plain_reading tables inner)
+
+-- the number between the affixes of a sign
+abbrev pub reading_between : Tables → AffixPair → Sign → List ℕ → PlainReading
+reading_between tables pair sign text = inner_reading tables sign (inner_of pair text)
+
+-- the first reading, or the second one where the first is no number
+abbrev pub else_read : PlainReading → PlainReading → PlainReading
+else_read not_written second = second
+else_read unreadable second = unreadable
+else_read (decimal value) second = decimal value
+
+-- the number between the affixes of one of the signs
+abbrev pub any_reading : ReaderTexts → List ℕ → PlainReading
+any_reading r text =
+    else_read (reading_between r.tables r.pairs.none NoSign text)
+    (else_read (reading_between r.tables r.pairs.minus Negative text) (reading_between r.tables r.pairs.plus Positive text))
+
+abbrev pub unit_reading : ReaderTexts → List ℕ → PlainReading
+unit_reading r text = cond (is_unit_readable_by r) (any_reading r text) unreadable

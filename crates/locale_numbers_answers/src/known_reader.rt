@@ -1,0 +1,61 @@
+//! A reader of texts with a unit that was asked whether they can be read.
+
+ghost use Rattle.std.specs.Prelude.{◌≡◌};
+ghost use Rattle.icu_decimal.specs.PlainReading.{IsAnswered};
+ghost use Rattle.locale_numbers_answers.specs.UnitReadings.{unit_reading};
+
+use fixed_decimal::Decimal;
+use icu_decimal::error::ReadError;
+use icu_decimal::laws::reading::{both_trips as plain_trips, plain_reading_is_the_reading};
+use icu_dimension_affixes::UnitReader;
+use icu_dimension_affixes::laws::both_trips as unit_trips;
+use std::alloc::Global;
+use std::marker::Model;
+
+/// A reader of texts with a unit that was asked once whether they can be read: that of English and `€` reads `€1.50`.
+#[derive(Drop)]
+pub struct KnownReader<'a> {
+    reader: UnitReader<'a>,
+    is_readable: bool,
+}
+
+impl<'a> Model for KnownReader<'a> {
+    ghost use Rattle.std.specs.Prelude.{◌≡◌};
+    ghost use Rattle.icu_dimension_affixes.specs.UnitReading.{AreReaderTexts, ReaderTexts, is_unit_readable_by};
+
+    ghost Value = { ReaderTexts };
+
+    ghost view = { λ s. s.reader };
+
+    ghost invariant = { λ s. AreReaderTexts s.reader × (s.is_readable ≡ is_unit_readable_by s.reader) };
+}
+
+impl<'a> KnownReader<'a> {
+    /// The reader, once it is asked. It does not allocate.
+    pub fn new(reader: UnitReader<'a>) -> Self
+        ensures { result ≡ reader.entry }
+    {
+        let is_readable = reader.is_readable();
+        KnownReader {
+            reader,
+            is_readable,
+        }
+    }
+
+    /// The number whose text with the unit this is: of English and `€` 1.50 of `€1.50`.
+    ///
+    /// `Unreadable`, `NotWritten`: as `UnitReader::read`. `Memory`: out of memory. It allocates where more than eight
+    /// digits are between the affixes of a sign.
+    pub fn read(&self, alloc: Global, text: &str) -> Result<Decimal, ReadError>
+        ensures { IsAnswered result (unit_reading self.now text.now) }
+    {
+        plain_reading_is_the_reading();
+        plain_trips();
+        unit_trips();
+        if self.is_readable {
+            self.reader.read_readable(alloc, text)
+        } else {
+            Err(ReadError::Unreadable)
+        }
+    }
+}

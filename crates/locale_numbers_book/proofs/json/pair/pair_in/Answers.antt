@@ -1,0 +1,24 @@
+use Rattle.std.proofs.Common.{◌≡◌, ap, subst, sym, ◌∙◌}
+use Rattle.std.specs.Prelude.{IfSome}
+use Rattle.std.proofs.lemmas.Bool.{false≢true}
+use Rattle.serde_json.specs.View.{items_view, view}
+use Rattle.locale_numbers_tables.specs.Entries.{has_count}
+use Rattle.locale_numbers_book.specs.Arrays.{value_of_both}
+use Rattle.locale_numbers_book.specs.Form.{book_fault}
+use Rattle.locale_numbers_book.proofs.PairLemmas.{as_array_is, counted_array}
+use Rattle.locale_numbers_book.proofs.json.pair.pair_in.Goals as goal
+
+pub pair_of-requires : goal.pair_of-requires
+pair_of-requires c = sym (ap (has_count 2) (as_array_is (view c.args.value) (items_view c.in-Some.values.items) c.in-Some.ensures)) ∙ c.requires
+
+pub returns-in-Some-clause-some : goal.returns-in-Some-clause-some
+returns-in-Some-clause-some c =
+    subst (λ d. IfSome c.pair_of.result (λ arrays. d ≡ value_of_both arrays))
+    (sym (as_array_is (view c.args.value) (items_view c.in-Some.values.items) c.in-Some.ensures)) c.pair_of.ensures.some
+
+pub returns-in-Some-clause-none : goal.returns-in-Some-clause-none
+returns-in-Some-clause-none c = λ none.
+    ap book_fault (as_array_is (view c.args.value) (items_view c.in-Some.values.items) c.in-Some.ensures) ∙ c.pair_of.ensures.none none
+
+pub returns-in-None-clause-none : goal.returns-in-None-clause-none
+returns-in-None-clause-none c = λ none. absurd (false≢true (sym (counted_array 2 (view c.args.value) c.in-None.ensures) ∙ c.requires))

@@ -1,0 +1,71 @@
+"""The static library of the proved crate legumeyet_c, for every x86-64 processor."""
+import os
+import subprocess
+import sys
+
+from launching import building, kit, sources
+from launching.common import TOP, Fault, out_of, read_text, write_whole
+
+CRATE = "legumeyet_c"
+ARCHIVE = f"{out_of(CRATE)}/lib{CRATE}.a"
+CPU = building.EVERY_CPU
+
+
+def rlib(crate):
+    """The folder of a library of this repository, as it was built."""
+    return f"{out_of(crate)}/rlib/{crate}.rlib"
+
+
+def are_of_gate():
+    """Whether `rt ci` built the libraries below the crate, of sources that nobody has touched since it began."""
+    start = sources.start_of_gate()
+    built = [rlib(it) for it in sources.below(CRATE)]
+    is_new = all(os.path.isfile(f"{it}/format") and os.stat(it).st_mtime_ns >= start for it in built)
+    return is_new and all(max(modified, changed) < start for _, _, _, modified, changed in sources.state(CRATE))
+
+
+def command(toolchain):
+    """What proves and builds the crate for CPU, over the libraries below it: `rt lib` has no word for a processor."""
+    words = ["--crate-name", CRATE, "--crate-type", "staticlib", "src/lib.rt", "--links", f"{CRATE}=", "--cpu", CPU]
+    for name in ["std", *sources.listed()[CRATE]]:
+        words += ["--extern", f"{name}={rlib(name) if name in sources.listed() else f'{kit.folder()}/rlibs/{name}.rlib'}"]
+    for folder in [f"{kit.folder()}/rlibs", *[os.path.dirname(rlib(it)) for it in sources.below(CRATE)]]:
+        words += ["-L", f"dependency={folder}"]
+    words += ["--antt-project", f"{kit.folder()}/rattle/logic/antt-project.json", "--logic-built", f"{kit.folder()}/logic_built"]
+    words += ["--jobs", "2", "--toolchain", str(toolchain or f"{kit.folder()}/toolchain"), "-o", ARCHIVE]
+    return [f"{kit.folder()}/bin/rattle", "build", *words]
+
+
+def key():
+    """What tells of which sources, and for which processor, a file is made."""
+    return f"{sources.key(CRATE, sources.checksums(CRATE))} {CPU}\n"
+
+
+def is_made(path):
+    """Whether a file was made of the sources as they are."""
+    return os.path.isfile(path) and read_text(f"{path}.sources") == key()
+
+
+def note_made(path):
+    """Notes that a file is made of the sources as they are."""
+    write_whole(f"{path}.sources", key())
+
+
+def build(toolchain=None):
+    """Proves and builds the crate, and first the libraries below it where that is needed; by the kit's tools, or by those of a folder."""
+    kit.folder()
+    if not are_of_gate():
+        building.build_libraries(CRATE)
+    words, before = command(toolchain), sources.state(CRATE)
+    os.makedirs(os.path.dirname(ARCHIVE), exist_ok=True)
+    ran = subprocess.run(words, cwd=f"{TOP}/crates/{CRATE}", stdin=subprocess.DEVNULL, stdout=sys.stderr, check=False)
+    if ran.returncode or sources.state(CRATE) != before:
+        raise Fault(f"{CRATE} was not built" if ran.returncode else "a source was touched while the build went on: call it again")
+    note_made(ARCHIVE)
+
+
+def proved():
+    """The path of the library, proved and built where it is not built of the sources as they are."""
+    if not is_made(ARCHIVE):
+        build()
+    return ARCHIVE
