@@ -75,6 +75,33 @@ static void *formatters(void *given) {
     return legumeyet_book_keep(&world) == 0 && legumeyet_book_close(&world) == 0 ? given : NULL;
 }
 
+/* Formatters of percents and of amounts of each locale. */
+static void *units(void *given) {
+    static const legumeyet_options AS_GIVEN = {0};
+    static uint8_t out[1 << 19];
+    static legumeyet_interval parts[1 << 15];
+    uint8_t *digits = given;
+    legumeyet_book world = {0};
+    size_t at, length, count;
+    const char *tag;
+    memset(digits, '9', LONG);
+    if (legumeyet_book_open_world(&world) != 0 || legumeyet_book_keep(&world) != 0) return NULL;
+    for (at = 0; (tag = legumeyet_world_locale(at)) != NULL; at += 7) {
+        legumeyet_unit_formatter it = {0};
+        if (legumeyet_percent_formatter_open(&world, LEGUMEYET_TEXT(tag), 0, &it) != 0) return NULL;
+        if (legumeyet_unit_formatter_format(&it, digits, LONG, &ROUNDED, out, sizeof out, &length) != 0) return NULL;
+        if (legumeyet_currency_formatter_open(&world, LEGUMEYET_TEXT(tag), LEGUMEYET_TEXT("USD"), 1, 0, 0, &it) != 0) return NULL;
+        if (legumeyet_unit_formatter_format_i64(&it, -123456789, -3, &AS_GIVEN, out, sizeof out, &length) != 0) return NULL;
+        if (legumeyet_unit_formatter_read(&it, out, length, out + length, sizeof out - length, &count) != 0) return NULL;
+        if (legumeyet_unit_formatter_format_u64(&it, 12345678901234567890U, -3, &AS_GIVEN, out, sizeof out, &length) != 0) return NULL;
+        if (legumeyet_unit_formatter_format_double(&it, -123456789.25, &ROUNDED, out, sizeof out, &length) != 0) return NULL;
+        if (legumeyet_unit_formatter_format_parts(&it, digits, LONG, &AS_GIVEN, out, sizeof out, &length, parts, 1 << 15, &count) != 0) return NULL;
+        if (legumeyet_unit_formatter_read(&it, out, length, out + length, sizeof out - length, &count) != 0) return NULL;
+        legumeyet_unit_formatter_close(&it);
+    }
+    return legumeyet_book_close(&world) == 0 ? given : NULL;
+}
+
 /* How many bytes of its stack a thread writes over; 0 where it did not do its work. */
 static size_t used(void *(*work)(void *), void *given) {
     static uint8_t stack[STACK] __attribute__((aligned(4096)));
@@ -93,7 +120,7 @@ int main(int count, char **words) {
     static const struct {
         void *(*work)(void *);
         size_t promised;
-    } ROWS[] = {{books, PROMISED}, {deep, PROMISED_DEEP}, {formatters, PROMISED}};
+    } ROWS[] = {{books, PROMISED}, {deep, PROMISED_DEEP}, {formatters, PROMISED}, {units, PROMISED}};
     static uint8_t memory[DEEP];
     const size_t own = used(nothing, memory);
     size_t row;
