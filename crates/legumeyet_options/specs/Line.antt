@@ -5,7 +5,8 @@ use Rattle.std.specs.Prelude.{◌≡◌, ℕ, List, [], ◌++◌, true}
 use Rattle.std.specs.List.{All}
 use Rattle.std.specs.Str.{is_utf8}
 use Rattle.locale_numbers_requests.specs.Cutting.{IsNot}
-use Rattle.locale_numbers_requests.specs.Request.{tab, form_named, grouping_named, sign_named, request_by, request_of}
+use Rattle.locale_numbers_requests.specs.FormField.{form_named}
+use Rattle.locale_numbers_requests.specs.Request.{tab, grouping_named, sign_named, request_by, request_of}
 use Rattle.locale_numbers_requests.specs.RoundingField.{rounding_named}
 use Rattle.legumeyet_options.specs.Fields.{line_by}
 
