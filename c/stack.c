@@ -12,7 +12,7 @@
 #include <stdlib.h>
 #include <string.h>
 
-enum { STACK = 1 << 20, PROMISED = 40 << 10, PROMISED_DEEP = 128 << 10, MARK = 0xa5, DEEP = 100000, LONG = 32767 };
+enum { STACK = 1 << 20, PROMISED = 48 << 10, PROMISED_DEEP = 128 << 10, MARK = 0xa5, DEEP = 100000, LONG = 32767 };
 
 static const char *path;
 static const legumeyet_options ROUNDED = {.sign = LEGUMEYET_SIGN_ALWAYS, .rounding = LEGUMEYET_ROUND_HALF_EVEN, .position = -1};
