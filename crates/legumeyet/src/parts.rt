@@ -182,6 +182,20 @@ fn round_amount(
     }
 }
 
+// Fills a sink with the text of an amount by its formatter.
+fn write_amount(
+    formatter: &CurrencyFormatter<'_>,
+    amount: &Decimal,
+    sink: &mut PartsSink,
+) -> Result<(), AllocError>
+    requires ready { sink.old.refused ≡ false }
+{
+    match formatter.format(amount).write_to(sink) {
+        Ok(()) => Ok(()),
+        Err(_) => Err(AllocError),
+    }
+}
+
 // Fills a sink with the text of an amount of a currency, where the book has a formatter for it.
 fn fill_amount(
     alloc: Global,
@@ -200,10 +214,7 @@ fn fill_amount(
     };
     round_amount(alloc, &formatter, request.rounding, amount)?;
     choose_sign(amount, request.sign);
-    match formatter.format(amount).write_to(sink) {
-        Ok(()) => Ok(()),
-        Err(_) => Err(AllocError),
-    }
+    write_amount(&formatter, amount, sink)
 }
 
 // Fills a sink with the text of a number as a request asks for it.
