@@ -6,7 +6,8 @@
 use anyhow::Result;
 use locale_numbers::prelude::{
     Book, CurrencyFormatter, CurrencyFormatterOptions, CurrencyUsage, Decimal, DecimalFormatter,
-    PartsSink, PercentFormatterOptions, ReadError, Writeable, read_lenient, world_text,
+    PartsSink, PercentFormatter, PercentFormatterOptions, ReadError, Writeable, read_lenient,
+    world_text,
 };
 
 /// A report: the number's text, and each part of it.
@@ -42,25 +43,35 @@ fn print_label(rt: &HostRuntime, book: &Book, tag: &str, number: &Decimal) -> Re
     Ok(())
 }
 
-/// An amount, and the number that its text is.
-fn print_amount(rt: &HostRuntime, euros: &CurrencyFormatter<'_>, amount: &Decimal) -> Result<()> {
-    let text = euros.format_to_string(rt.alloc(), amount)?;
+/// An amount in euros, rounded to their cents, and the number that its text is.
+fn print_amount(rt: &HostRuntime, euros: &CurrencyFormatter<'_>) -> Result<()> {
+    let given = Decimal::try_from_str(rt.alloc(), "-1234.5")?;
+    let amount = euros.rounded(given, CurrencyUsage::Standard)?;
+    let text = euros.format_to_string(rt.alloc(), &amount)?;
     let read = euros.read(rt.alloc(), text.as_str())?;
     println!(rt; "{text} is {read}")?;
     Ok(())
 }
 
-/// A bill: an amount in euros, rounded to their cents, and a share in percent.
-fn print_bill(rt: &HostRuntime, book: &Book, tag: &str) -> Result<()> {
-    let options = CurrencyFormatterOptions::default();
-    let euros = book.currency_formatter(rt.alloc(), tag, "EUR", options)?;
-    let given = Decimal::try_from_str(rt.alloc(), "-1234.5")?;
-    let amount = euros.rounded(given, CurrencyUsage::Standard)?;
-    print_amount(rt, &euros, &amount)?;
-    let percents = book.percent_formatter(rt.alloc(), tag, PercentFormatterOptions::default())?;
+/// A share in percent.
+fn print_share(rt: &HostRuntime, percents: &PercentFormatter<'_>) -> Result<()> {
     let share = Decimal::try_from_str(rt.alloc(), "12.5")?;
     println!(rt; "{}", percents.format(&share))?;
     Ok(())
+}
+
+/// A bill: an amount and a share.
+fn print_bill(rt: &HostRuntime, book: &Book, tag: &str) -> Result<()> {
+    let options = CurrencyFormatterOptions::default();
+    match book.currency_formatter(rt.alloc(), tag, "EUR", options) {
+        Ok(euros) => print_amount(rt, &euros)?,
+        Err(error) => return Err(error.into()),
+    }
+    let options = PercentFormatterOptions::default();
+    match book.percent_formatter(rt.alloc(), tag, options) {
+        Ok(percents) => print_share(rt, &percents),
+        Err(error) => Err(error.into()),
+    }
 }
 
 /// All of them, by a book of all locales.
