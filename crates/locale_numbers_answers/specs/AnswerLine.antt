@@ -1,6 +1,6 @@
 -- The two kinds of answer: a text, or the word of a refusal.
 -- Defined in docs/requests.md, "Answer line".
--- Cited by `answer` and `run`, through Answer.antt, and by the calls that write an answer.
+-- Cited by `answer` and `run`, through Answer.antt of `locale_numbers`, and by the calls that write an answer.
 use Rattle.std.specs.Prelude.{ℕ, List, ◌∷◌, ◌++◌, codes, if◌then◌else◌}
 use Rattle.std.specs.Str.{is_utf8}
 use Rattle.locale_numbers_requests.specs.Request.{tab}

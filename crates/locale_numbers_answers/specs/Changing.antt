@@ -1,6 +1,6 @@
 -- What a request makes of the number that its text says: it is rounded, and then the sign is chosen by the number that this left.
 -- Defined in docs/requests.md, "Rounding and sign".
--- Cited by `answer` and `run`, through Answer.antt, and by `change`, `choose_sign` and `read_number`.
+-- Cited by `answer` and `run`, through Answer.antt of `locale_numbers`, and by `change`, `choose_sign` and `read_number`.
 -- A rounding and a sign are types of another crate, and their cases are imported beside them.
 use Rattle.std.specs.Prelude.{ℕ, List, ◌==◌}
 use Rattle.fixed_decimal.specs.Calls.{MayGrowBy}

@@ -1,6 +1,6 @@
 -- The answers of the compact forms: what a number is shown as, with the value shown; and the text of an exact form.
 -- Defined in docs/requests.md, "Answer line", and docs/compact-text.md, "The text" and "Exact forms".
--- Cited by `answer` and `run`, through Answer.antt, and by `write_compact_answer` and `write_exact_answer`.
+-- Cited by `answer` and `run`, through Answer.antt of `locale_numbers`, and by `write_compact_answer` and `write_exact_answer`.
 -- It joins texts of numbers, tables and requests, which are defined in three members and imported from each.
 use Rattle.std.specs.Prelude.{ℕ, nat_lt, Bool, if◌then◌else◌, List, ◌∷◌, ◌++◌, Option, Some, None, Result, Ok, Err}
 use Rattle.fixed_decimal.specs.CompactText.{CompactValue, compact_text_of}

@@ -1,6 +1,6 @@
 -- The compact number that a text spells as a function of the text: the number before its mark, and the exponent behind it.
--- Defined in docs/numbers.md, "Compact and scientific texts"; a law of `laws.rt` says that it is the reading which the relations of CompactText.antt name.
--- Cited by `answer` and `run`, through Answer.antt, and by `read_compact`.
+-- Defined in docs/numbers.md, "Compact and scientific texts"; a law of `laws.rt` says that it is the reading which the relations of CompactText.antt of `fixed_decimal` name.
+-- Cited by `answer` and `run`, through Answer.antt of `locale_numbers`, and by `read_compact`.
 use Rattle.std.specs.Prelude.{ℕ, ◌==◌, ◌||◌, ◌&&◌, nat_lt, Bool, if◌then◌else◌, List, [], ◌∷◌, Option, Some, None}
 use Rattle.fixed_decimal.specs.CompactText.{CompactValue}
 use Rattle.fixed_decimal.specs.NumberText.{spelled}

@@ -1,6 +1,6 @@
 -- The answer of the form `read-lenient`: the decimal that was typed, as it is printed, or why there is none. A form with digits of its own is also read in those of ASCII.
 -- Defined in docs/requests.md, "Answer line", and docs/reading.md, "Lenient reading".
--- Cited by `answer` and `run`, through Answer.antt, and by `LenientReader` and `write_lenient_answer`.
+-- Cited by `answer` and `run`, through Answer.antt of `locale_numbers`, and by `LenientReader` and `write_lenient_answer`.
 use Rattle.std.specs.Prelude.{◌⊎◌, ℕ, if◌then◌else◌, List, Option, Some, None, Result, Ok, Err}
 use Rattle.std.specs.Str.{bytes_eq}
 use Rattle.icu_decimal.specs.declared.error.DataError.{DataError}

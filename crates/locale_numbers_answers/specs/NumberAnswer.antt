@@ -1,6 +1,6 @@
 -- The answer to a number's text with given tables: the number written with them once it is rounded and has its sign, or the word that refuses it.
 -- Defined in docs/requests.md, "Answer line".
--- Cited by `answer` and `run`, through Answer.antt.
+-- Cited by `answer` and `run`, through Answer.antt of `locale_numbers`.
 use Rattle.std.specs.Prelude.{ℕ, List, Result, Ok, Err}
 use Rattle.fixed_decimal.specs.Number.{Number}
 use Rattle.fixed_decimal.specs.SignedValue.{SignedValue}

@@ -1,6 +1,6 @@
 -- The number that a text spells as a function of the text: its digits, its point and its exponent taken off from the front.
--- Defined in docs/numbers.md, "The text"; a law of `laws.rt` says that it is the reading which the relations of NumberText.antt name.
--- Cited by `answer` and `run`, through Answer.antt, and by `read_number`.
+-- Defined in docs/numbers.md, "The text"; a law of `laws.rt` says that it is the reading which the relations of NumberText.antt of `fixed_decimal_unsigned` name.
+-- Cited by `answer` and `run`, through Answer.antt of `locale_numbers`, and by `read_number`.
 use Rattle.std.specs.Prelude.{ℕ, ◌+◌, ◌==◌, ◌||◌, ◌&&◌, nat_le, Bool, true, false, if◌then◌else◌, List, [], ◌∷◌, length, Option, Some, None}
 use Rattle.std.specs.List.{list_all}
 use Rattle.fixed_decimal.specs.declared.Sign.{Sign}

@@ -1,6 +1,6 @@
 -- The answer of the form `read`: the decimal whose plain text is given, as it is printed, or why there is none.
 -- Defined in docs/requests.md, "Answer line", and docs/reading.md, "Reading".
--- Cited by `answer` and `run`, through Answer.antt, and by `write_read_answer`.
+-- Cited by `answer` and `run`, through Answer.antt of `locale_numbers`, and by `write_read_answer`.
 use Rattle.std.specs.Prelude.{ℕ, List, Result, Ok, Err}
 use Rattle.fixed_decimal.specs.SignedText.{signed_text_of}
 use Rattle.icu_decimal.specs.declared.error.DataError.{DataError}

@@ -1,6 +1,6 @@
 -- The answers of numbers with a unit: the number rounded and with its sign, written with the unit; and the number that was written so, read back.
 -- Defined in docs/requests.md, "Answer line", and docs/units.md, "Digits of a currency" and "Reading".
--- Cited by `answer` and `run`, through Answer.antt, and by `UnitFormatter` and the calls that write its answers.
+-- Cited by `answer` and `run`, through Answer.antt of `locale_numbers`, and by `UnitFormatter` and the calls that write its answers.
 -- An answer goes through rounding, sign, text and reading, each defined in a file of its own to import.
 use Rattle.std.specs.Prelude.{◌≡◌, ◌⊎◌, ℕ, Bool, true, cond, List, Option, Some, None, Result, Ok, Err}
 use Rattle.fixed_decimal.specs.Number.{Number}

@@ -1,4 +1,4 @@
--- Worked rows of `specs/Faults.antt`: the fault of a small book for each word, the least number in an entry, and the first faulty entry.
+-- Worked rows of `specs/Faults.antt` of `locale_numbers_tables`: the fault of a small book for each word, the least number in an entry, and the first faulty entry.
 -- Each is an example of docs/books.md, "Faults", or follows from its rules by hand.
 use Rattle.std.proofs.Common.{◌≡◌, ℕ, List, [], ◌∷◌, codes, Some, None, refl}
 use Rattle.std.specs.Char.{encode_utf8}

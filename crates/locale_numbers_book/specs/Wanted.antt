@@ -1,6 +1,6 @@
 -- What a tag asks a book for: what the tag prefers.
 -- UTS 35, section 3.6; docs/preferences.md, "What a locale prefers"; docs/books.md, "Tags".
--- Cited by `read_preferences`, and by the makers of formatters, `answer` and `run` through TagFormatters.antt and Answer.antt.
+-- Cited by `read_preferences`, and by the makers of formatters, `answer` and `run` through TagFormatters.antt and Answer.antt of `locale_numbers`.
 use Rattle.std.specs.Prelude.{Option, option_map}
 use Rattle.icu_locale_core.specs.Subtags.{Text}
 use Rattle.icu_locale_core.specs.Pieces.{pieces}

@@ -1,6 +1,6 @@
 -- One of the ten decimal digits.
 -- Defined in docs/numbers.md, "The text".
--- Cited by `answer` and `run`, through RoundingField.antt, by `read_words`, through Words.antt, and by `are_digits`.
+-- Cited by `answer` and `run`, through RoundingField.antt, by `read_words`, through Words.antt of `locale_numbers`, and by `are_digits`.
 use Rattle.std.specs.Prelude.{ℕ, nat_lt, Bool}
 use Rattle.std.specs.Char.{digit_value}
 

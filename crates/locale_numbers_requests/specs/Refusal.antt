@@ -1,6 +1,6 @@
 -- The words of the refusals of a line.
 -- Defined in docs/requests.md, "Answer line".
--- Cited by `Refusal::word`, and through Answer.antt by `answer` and `run`.
+-- Cited by `Refusal::word`, and through Answer.antt of `locale_numbers` by `answer` and `run`.
 use Rattle.std.specs.Prelude.{ℕ, List, codes}
 use Rattle.locale_numbers_requests.specs.declared.refusal.Refusal.{Refusal}
 use Rattle.locale_numbers_requests.specs.declared.refusal.Refusal.TheVariants.{Shape, Tag, Number, Limit, Table, Range, Exponent, Unreadable, NotWritten}

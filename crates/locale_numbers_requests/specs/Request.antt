@@ -1,6 +1,6 @@
 -- What a line asks for: its six fields, where each is known, or nothing.
 -- Defined in docs/requests.md, "Request line".
--- Cited by `answer` and `run`, through Answer.antt, and by `read_request`.
+-- Cited by `answer` and `run`, through Answer.antt of `locale_numbers`, and by `read_request`.
 -- Three of the six fields are types with cases, and the cases of each are imported beside it.
 use Rattle.std.specs.Prelude.{ℕ, Bool, true, false, not, ◌&&◌, ◌||◌, if◌then◌else◌, List, [], ◌∷◌, Option, Some, None, codes}
 use Rattle.std.specs.Str.{bytes_eq, is_utf8}

@@ -1,7 +1,7 @@
 -- The entries of compact patterns: types with exponents and patterns, and the table that they are.
--- Defined in docs/books.md, "The form"; patterns and tables in docs/compact-text.md. The law of `laws.rt` says that `table_made` finds
+-- Defined in docs/books.md, "The form"; patterns and tables in docs/compact-text.md. The law of `laws.rt` of `locale_numbers_book` says that `table_made` finds
 -- exactly the tables of the relation `IsTable`, which is to be believed in its place.
--- Cited by the steps of `Book::from_json`, and by Faults.antt and Book.antt.
+-- Cited by the steps of `Book::from_json`, and by Faults.antt and Book.antt of `locale_numbers_book`.
 use Rattle.std.specs.Prelude.{ℕ, suc, nat_le, Bool, true, ◌&&◌, not, List, [], ◌∷◌, map, Option, None, Some, is_some, option_map, option_and_then, unwrap_or, if◌then◌else◌}
 use Rattle.std.specs.Option.{option_map_or}
 use Rattle.serde_json.specs.Data.{Data, Items, no_items, item}

@@ -1,6 +1,6 @@
 -- The entries of a book: their fields, and what those of symbols and of digits say.
 -- Defined in docs/books.md, "The form"; names of systems after UTS 35, part 3 (numbers).
--- Cited by the steps of `Book::from_json`, and by Book.antt.
+-- Cited by the steps of `Book::from_json`, and by Book.antt of `locale_numbers_book`.
 use Rattle.std.specs.Prelude.{ℕ, ◌+◌, ◌==◌, Bool, false, ◌&&◌, List, [], ◌∷◌, Option, Some, None, option_map, option_and_then, is_some, unwrap_or, if◌then◌else◌}
 use Rattle.std.specs.Option.{option_map_or}
 use Rattle.serde_json.specs.Data.{Data, Items, no_items, item}

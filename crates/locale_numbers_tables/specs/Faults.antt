@@ -1,6 +1,6 @@
 -- What is wrong with an array of a book: the first faulty entry decides, and in an entry the first rule that is broken.
 -- Defined in docs/books.md, "Faults".
--- Cited by `Book::from_json`, through Form.antt.
+-- Cited by `Book::from_json`, through Form.antt of `locale_numbers_book`.
 -- There are four kinds of entries, and the fields and the key of each are imported.
 use Rattle.std.specs.Prelude.{Bool, false, ◌&&◌, List, [], ◌∷◌, ◌++◌, Option, None, Some, is_some, not, option_to_list, if◌then◌else◌}
 use Rattle.std.specs.List.{list_any}

@@ -1,6 +1,6 @@
 -- One field of an entry of a book: when a JSON value is one, and what it says.
 -- Defined in docs/books.md, "The form"; names of systems after UTS 35, part 3 (numbers).
--- Cited by the steps of `Book::from_json`, and by `Book.antt`.
+-- Cited by the steps of `Book::from_json`, and by `Book.antt` of `locale_numbers_book`.
 use Rattle.std.specs.Prelude.{ℕ, ◌==◌, Bool, not, ◌&&◌, ◌||◌, List, [], ◌∷◌, length, nat_lt, chars, Option, Some, None, option_and_then, if◌then◌else◌}
 use Rattle.std.specs.Int.{is_in_range}
 use Rattle.std.specs.List.{list_all}

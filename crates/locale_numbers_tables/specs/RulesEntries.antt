@@ -1,6 +1,6 @@
 -- The entries of plural rules: categories with conditions, and the rules that they are.
 -- Defined in docs/books.md, "The form"; conditions in docs/plurals.md.
--- Cited by the steps of `Book::from_json`, and by Faults.antt and Book.antt.
+-- Cited by the steps of `Book::from_json`, and by Faults.antt and Book.antt of `locale_numbers_book`.
 use Rattle.std.specs.Prelude.{ℕ, List, Option, None, option_map, option_and_then, unwrap_or, [], if◌then◌else◌}
 use Rattle.serde_json.specs.Data.{Data}
 use Rattle.serde_json.specs.Find.{as_array, as_str}

@@ -1,5 +1,5 @@
 -- The meaning of a list of pieces as a function of the list: of a tag, and of a tag that is a data locale.
--- UTS 35, section 3; docs/tags.md, "Stages" and "Data locales". The laws of `laws.rt` say that they find exactly the meanings
+-- UTS 35, section 3; docs/tags.md, "Stages" and "Data locales". The laws of `laws.rt` of `locale_numbers_book` say that they find exactly the meanings
 -- of the relations `MeansTag` and `MeansDataLocale`, which are to be believed in their place.
 -- Cited by `Book::from_json`, through Fields.antt, and by the answer to a line.
 use Rattle.std.specs.Prelude.{Bool, List, Option, None, Some, option_and_then, if◌then◌else◌}
