@@ -2,8 +2,8 @@
 -- Defined in docs/books.md, "Faults".
 -- Cited by `BookError::number` and `BookError::word`.
 use Rattle.std.specs.Prelude.{ℕ, List, codes}
-use Rattle.locale_numbers_tables.specs.declared.error.BookError.{BookError}
-use Rattle.locale_numbers_tables.specs.declared.error.BookError.TheVariants.{Json, Shape, Tag, System, Text, Digits, Condition, Types, Exponents, Duplicate, Cycle, Memory, Unit, Code}
+use Rattle.locale_numbers_faults.specs.declared.book_error.BookError.{BookError}
+use Rattle.locale_numbers_faults.specs.declared.book_error.BookError.TheVariants.{Json, Shape, Tag, System, Text, Digits, Condition, Types, Exponents, Duplicate, Cycle, Memory, Unit, Code}
 
 abbrev pub number_of : BookError → ℕ
 number_of Json = 1

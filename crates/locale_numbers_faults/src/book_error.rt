@@ -1,7 +1,7 @@
 //! Why a text is no book.
 
 ghost use Rattle.std.specs.Prelude.{◌≡◌, codes};
-ghost use Rattle.locale_numbers_tables.specs.BookError.{number_of, word_of};
+ghost use Rattle.locale_numbers_faults.specs.BookError.{number_of, word_of};
 
 use thiserror::Error;
 
