@@ -15,7 +15,7 @@ KEPT = f"{out_of(archive.CRATE)}/module.bc"
 PARTS = pathlib.Path(TOP, "js/module")
 SOURCES = ("calls.c", "heap.c", "wide.c")
 # The crates that write and read numbers are compiled for speed, all others for size: there it costs no call more than a tenth.
-FAST = re.compile(r"fixed_decimal|icu_decimal_(?:compact|formatter|grouping|plain|reading|symbols)|legumeyet_c|writeable|arrayvec|smallvec")
+FAST = re.compile(r"fixed_decimal|icu_decimal(?:$|_(?:compact|grouping|plain|reading|symbols))|legumeyet_c|writeable|arrayvec|smallvec")
 DEFINED = re.compile(r'^(define [^@]*@"?([a-z]\w*)::.*\))((?: unnamed_addr| #\d+)* \{)$', re.M)
 FOR_WASM = ("--target=wasm32-unknown-unknown", "-O2", "-mbulk-memory", "-msimd128", "-mno-multivalue", "-fno-builtin", "--no-default-config")
 # The stack is first, so that what runs over it leaves the memory and stops; addresses stay below what JavaScript has as numbers above 0.

@@ -1,4 +1,12 @@
+mod KnownForms
+mod KnownTables
+mod KnownValues
+mod ShownRowLemmas
+pub mod CompactLawLemmas
+pub mod CompactTextLemmas
+pub mod ExactLemmas
+pub mod ShownLemmas
+pub mod WritingLemmas
 -- Lemmas on the text of a number and on what a table keeps, for the crates above.
-pub use Rattle.icu_decimal_compact.proofs.CompactTextLemmas
 pub use Rattle.icu_decimal_patterns.proofs.KeptLemmas
 pub use Rattle.icu_decimal_plain.proofs.TextLemmas

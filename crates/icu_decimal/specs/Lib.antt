@@ -1,13 +1,24 @@
--- What a reader must believe: which tables are asked for, plural rules, patterns, the value that compact text shows, and the
--- text of a number with its parts.
-pub use Rattle.icu_decimal_compact.specs.AbstractText
-pub use Rattle.icu_decimal_compact.specs.Chains
-pub use Rattle.icu_decimal_compact.specs.CompactTables
-pub use Rattle.icu_decimal_compact.specs.CompactText
-pub use Rattle.icu_decimal_compact.specs.ExactText
-pub use Rattle.icu_decimal_compact.specs.FormattedNumbers
-pub use Rattle.icu_decimal_compact.specs.FoundCompactTables
-pub use Rattle.icu_decimal_compact.specs.WriteFaults
+-- What a reader must believe: which tables a formatter has, and what it writes.
+pub mod FoundTables
+pub mod CompactTables
+pub mod FoundCompactTables
+pub mod CompactText
+pub mod ExactText
+pub mod AbstractText
+pub mod FormattedNumbers
+pub mod WriteFaults
+-- What a formatter holds.
+pub mod HeldTables
+pub mod HeldCompact
+-- Steps.
+pub mod PatternAt
+-- Statements of laws.
+pub mod FoundLaws
+pub mod AbstractLaws
+pub mod CompactLaws
+-- What a reader must believe of the inner crates: which tables are asked for, plural rules, patterns, the value that compact
+-- text shows, and the text of a number with its parts.
+pub use Rattle.icu_decimal_chains.specs.Chains
 pub use Rattle.icu_decimal_patterns.specs.Elements
 pub use Rattle.icu_decimal_patterns.specs.KeptEntries
 pub use Rattle.icu_decimal_patterns.specs.Pattern
@@ -22,12 +33,12 @@ pub use Rattle.icu_decimal_plurals.specs.Operands
 pub use Rattle.icu_decimal_plurals.specs.Reading
 pub use Rattle.icu_decimal_plurals.specs.Rules
 pub use Rattle.icu_decimal_plurals.specs.Tokens
-pub use Rattle.icu_decimal_compact.specs.Choice
+pub use Rattle.icu_decimal_provider.specs.Choice
 pub use Rattle.icu_decimal_symbols.specs.Cow
 pub use Rattle.icu_decimal_symbols.specs.DataErrors
-pub use Rattle.icu_decimal_compact.specs.Identifiers
+pub use Rattle.icu_decimal_provider.specs.Identifiers
 pub use Rattle.icu_decimal_symbols.specs.Options
-pub use Rattle.icu_decimal_compact.specs.Preferences
+pub use Rattle.icu_decimal_provider.specs.Preferences
 pub use Rattle.icu_decimal_symbols.specs.Symbols
 pub use Rattle.icu_decimal_reading.specs.DecimalOfText
 pub use Rattle.icu_decimal_reading.specs.PlainReading
@@ -42,16 +53,13 @@ pub use Rattle.icu_decimal_compact_value.specs.Significand
 pub use Rattle.icu_decimal_compact_value.specs.ShownValue
 pub use Rattle.icu_decimal_compact_value.specs.Steps
 pub use Rattle.icu_decimal_plain.specs.Affixes
-pub use Rattle.icu_decimal_compact.specs.FoundTables
 pub use Rattle.icu_decimal_grouping.specs.Grouper
 pub use Rattle.icu_decimal_plain.specs.PartIntervals
 pub use Rattle.icu_decimal_plain.specs.PlainText
--- What a formatter, a pattern and a value with a sign hold.
-pub use Rattle.icu_decimal_compact.specs.HeldCompact
+-- What a pattern and a value with a sign hold.
 pub use Rattle.icu_decimal_patterns.specs.HeldPattern
 pub use Rattle.icu_decimal_plain.specs.BorrowedTables
 pub use Rattle.icu_decimal_plain.specs.HeldAffixes
-pub use Rattle.icu_decimal_compact.specs.HeldTables
 -- Equality of symbols, of patterns and of formatted numbers.
 pub use Rattle.icu_decimal_patterns.specs.SameElements
 pub use Rattle.icu_decimal_patterns.specs.SamePattern
@@ -61,9 +69,7 @@ pub use Rattle.icu_decimal_patterns.specs.KeptSteps
 pub use Rattle.icu_decimal_symbols.specs.SameSymbols
 pub use Rattle.icu_decimal_plain.specs.SameAffixes
 pub use Rattle.icu_decimal_plain.specs.SamePlain
--- Statements of laws.
-pub use Rattle.icu_decimal_compact.specs.AbstractLaws
-pub use Rattle.icu_decimal_compact.specs.CompactLaws
+-- Statements of their laws.
 pub use Rattle.icu_decimal_patterns.specs.SmallEntries
 pub use Rattle.icu_decimal_patterns.specs.TableLaws
 pub use Rattle.icu_decimal_reading.specs.ReadingLaws
@@ -71,9 +77,8 @@ pub use Rattle.icu_decimal_lenient.specs.LenientLaws
 pub use Rattle.icu_decimal_compact_value.specs.ExactLaws
 pub use Rattle.icu_decimal_compact_value.specs.ShownLaws
 pub use Rattle.icu_decimal_compact_value.specs.UnderTableLaws
-pub use Rattle.icu_decimal_compact.specs.TableLaws as Laws
+pub use Rattle.icu_decimal_provider.specs.Laws
 pub use Rattle.icu_decimal_symbols.specs.SameSymbolsLaws
 pub use Rattle.icu_decimal_grouping.specs.GroupLaws
 pub use Rattle.icu_decimal_plain.specs.PartLaws
 pub use Rattle.icu_decimal_plain.specs.TextLaws
-pub use Rattle.icu_decimal_compact.specs.FoundLaws

@@ -3,10 +3,10 @@
 ghost use Rattle.std.specs.Prelude.{◌≡◌, IfOk, IsErrOf};
 ghost use Rattle.icu_decimal_reading.specs.DecimalOfText.{IsAnswered};
 ghost use Rattle.icu_decimal_lenient.specs.LenientReading.{HasNoTyped, IsTypedText, IsUnreadable, MayAllocate, is_leniently_readable_by, lenient_reading};
-ghost use Rattle.icu_decimal_compact.specs.HeldTables.{tables_of};
+ghost use Rattle.icu_decimal.specs.HeldTables.{tables_of};
 
+use crate::formatter::DecimalFormatter;
 use fixed_decimal::Decimal;
-use icu_decimal_compact::DecimalFormatter;
 use icu_decimal_reading::ReadError;
 use std::alloc::Global;
 

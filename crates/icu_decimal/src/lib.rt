@@ -1,8 +1,9 @@
 //! Decimal numbers as a locale writes them, after the ICU4X crate of this name.
 //!
 //! A formatter borrows symbols and digits from a provider, and writes any decimal to any sink, with its parts: in
-//! English `-1,234.5`. The rules are in docs/plain-text.md and docs/formatters.md. This crate raises its inner crates
-//! under ICU4X's paths; itself it only hands the tables of a formatter to what reads texts.
+//! English `-1,234.5`. A compact one writes 1650 as `1.6K`, and an exact form as `1.20M`. The rules are in
+//! docs/plain-text.md, docs/formatters.md and docs/compact-text.md. This crate has the formatters; what they are made
+//! of is in its inner crates, which it raises under ICU4X's paths.
 //!
 //! ```rust
 //! use icu_decimal::DecimalFormatter;
@@ -16,25 +17,38 @@
 //! ```
 #![tactic(auto)]
 
+mod abstract_formatter;
+mod compact_formatter;
 pub mod error;
+mod exact;
+mod formatted_compact;
+mod formatted_unsigned;
+mod formatter;
 pub mod input;
 pub mod laws;
 mod lenient;
+mod lent;
+mod loading;
 pub mod pattern;
 pub mod plurals;
 pub mod provider;
 mod reading;
+mod text_alone;
+mod write_fault;
+mod writing;
 
-pub use icu_decimal_compact::preferences::DecimalFormatterPreferences;
-pub use icu_decimal_compact::{
-    AbstractFormatter, CompactDecimalFormatter, DecimalFormatter, FormattedUnsigned,
-    FormattedUnsignedCompactDecimal, preferences,
-};
+pub use abstract_formatter::AbstractFormatter;
+pub use compact_formatter::CompactDecimalFormatter;
+pub use formatted_compact::FormattedUnsignedCompactDecimal;
+pub use formatted_unsigned::FormattedUnsigned;
+pub use formatter::DecimalFormatter;
 pub use icu_decimal_grouping::grouper;
 pub use icu_decimal_lenient::LenientTables;
 pub use icu_decimal_plain::{
     DecimalTables, FormattedDecimal, FormattedSign, FormattedUnsignedDecimal,
 };
+pub use icu_decimal_provider::preferences;
+pub use icu_decimal_provider::preferences::DecimalFormatterPreferences;
 pub use icu_decimal_symbols::{Cow, options, parts};
 pub use lenient::{is_leniently_readable, read_lenient};
 pub use reading::{is_readable, read_plain, read_readable};

@@ -5,10 +5,10 @@ ghost use Rattle.icu_decimal_reading.specs.DecimalOfText.{HasManyDigits, HasNoNu
 ghost use Rattle.icu_decimal_reading.specs.PlainReading.{plain_reading};
 ghost use Rattle.icu_decimal_reading.specs.Readable.{is_readable_by};
 ghost use Rattle.icu_decimal_reading.specs.ReadingLaws.{AreTables};
-ghost use Rattle.icu_decimal_compact.specs.HeldTables.{tables_of};
+ghost use Rattle.icu_decimal.specs.HeldTables.{tables_of};
 
+use crate::formatter::DecimalFormatter;
 use fixed_decimal::Decimal;
-use icu_decimal_compact::DecimalFormatter;
 use icu_decimal_reading::ReadError;
 use std::alloc::Global;
 

@@ -7,7 +7,7 @@ use Rattle.fixed_decimal.specs.declared.SignedRoundingMode.TheVariants.{Unsigned
 use Rattle.fixed_decimal.specs.declared.UnsignedRoundingMode.TheVariants.{Expand, HalfEven}
 use Rattle.icu_decimal_symbols.specs.declared.options.GroupingStrategy.TheVariants as grouping
 use Rattle.icu_dimension_fractions.specs.declared.CurrencyUsage.TheVariants.{Cash, Standard}
-use Rattle.locale_numbers_tables.specs.declared.BookError.TheVariants as book
+use Rattle.locale_numbers_faults.specs.declared.BookError.TheVariants as book
 use Rattle.legumeyet_c_values.specs.CallErrors.{answer_of}
 use Rattle.legumeyet_c_values.specs.Choices.{PadsEndTo, PadsStartTo, choice_of, choices_of, count_of, grouping_of, increment_of, mode_of, no_change, sign_of, trimming_of}
 use Rattle.legumeyet_c_values.specs.Parts.{kind_of}

@@ -2,9 +2,9 @@
 -- Defined in include/legumeyet.h.
 -- Cited by each export.
 use Rattle.std.specs.Prelude.{ℕ, ℤ, pos, ◌+◌, List, codes, Result, Ok, Err}
-use Rattle.locale_numbers_tables.specs.BookError.{number_of as book_number}
-use Rattle.locale_numbers_tables.specs.declared.BookError.{BookError}
-use Rattle.locale_numbers_tables.specs.declared.BookError.TheVariants as book
+use Rattle.locale_numbers_faults.specs.BookError.{number_of as book_number}
+use Rattle.locale_numbers_faults.specs.declared.BookError.{BookError}
+use Rattle.locale_numbers_faults.specs.declared.BookError.TheVariants as book
 use Rattle.legumeyet_c_values.specs.declared.call_error.CallError.{CallError}
 use Rattle.legumeyet_c_values.specs.declared.call_error.CallError.TheVariants.{Memory, Closed, TooSmall, UnknownOption, Tag, Table, Number, Limit, Range, NoUtf8, Unreadable, NotWritten, Exponent, Code, Unkept, Book}
 

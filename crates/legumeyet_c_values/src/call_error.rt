@@ -4,7 +4,7 @@ ghost use Rattle.std.specs.Prelude.{◌≡◌, IfSome, IsNone};
 ghost use Rattle.legumeyet_c_values.specs.CallErrors.{answer_of, book_answer, book_text, number_of, text_of};
 ghost use Rattle.legumeyet_c_values.specs.Information.{IsNoError};
 
-use locale_numbers_tables::BookError;
+use locale_numbers_faults::BookError;
 
 /// Why a call was refused: `Tag` of `e` as a locale tag. The header says when each comes.
 #[derive(Clone, Copy, Drop)]

@@ -1,12 +1,12 @@
 -- Chains by pairs, with a step that shortens where no pair says otherwise: whatever the values are.
 use Rattle.std.proofs.Common.{◌≡◌, ◌⊎◌, ℕ, zero, suc, ◌+◌, ◌-◌, ◌*◌, ◌≤◌, Bool, true, false, List, [], ◌∷◌, ◌++◌, length, Option, None, Some, if◌then◌else◌, refl, sym, true≢false, inl, inr, arith, Decides}
 use Rattle.std.specs.List.{list_any}
+use Rattle.std.specs.Map.{lookup}
 use Rattle.std.specs.Option.{option_or, is_some}
 use Rattle.std.proofs.lemmas.Bool.{cases_Bool}
 use Rattle.icu_decimal_chains.specs.Chains.{Follows, walk, chain, ComesBack}
 use Rattle.icu_decimal_chains.proofs.ChainLemmas.{counted, once_at_most, walk_follows}
 use Rattle.icu_decimal_chains.proofs.NextLemmas.{still_end}
-use Rattle.locale_numbers_parents.specs.Places.{table_at}
 
 or_none : {A : Type 0} (o : Option A) → option_or o None ≡ o
 or_none None = refl
@@ -21,7 +21,7 @@ cases_Option None = inl refl
 cases_Option (Some y) = inr (y, refl)
 
 at_end : {K V : Type 0} (same : K → K → Bool) (pairs : List (K × V)) (x k : K) (p : V)
-    → table_at same x (pairs ++ (k, p) ∷ []) ≡ option_or (table_at same x pairs) (if same x k then Some p else None)
+    → lookup (same x) (pairs ++ (k, p) ∷ []) ≡ option_or (lookup (same x) pairs) (if same x k then Some p else None)
 at_end same [] x k p = refl
 at_end same (pair ∷ pairs) x k p = elim (cases_Bool (same x pair.0)) [
   | inl is ↦ rw is refl
@@ -30,29 +30,29 @@ at_end same (pair ∷ pairs) x k p = elim (cases_Bool (same x pair.0)) [
 
 module _ {A : Type 0} (same : A → A → Bool) (exact : (a b : A) → Decides (same a b) (a ≡ b)) (short : A → Option A) where
   abbrev pub step : List (A × A) → A → Option A
-  step pairs x = option_or (table_at same x pairs) (short x)
+  step pairs x = option_or (lookup (same x) pairs) (short x)
 
   abbrev pub Ends : List (A × A) → Type 0
   Ends pairs = (x : A) → (xs : List A) × Follows (step pairs) x xs
 
   -- ---- one more pair
 
-  pub there : (pairs : List (A × A)) (k p : A) → table_at same k pairs ≡ None → step (pairs ++ (k, p) ∷ []) k ≡ Some p
+  pub there : (pairs : List (A × A)) (k p : A) → lookup (same k) pairs ≡ None → step (pairs ++ (k, p) ∷ []) k ≡ Some p
   there pairs k p absent =
       let itself : same k k ≡ true = (exact k k).1 refl in
       rw (at_end same pairs k k p, absent, itself) refl
 
   pub elsewhere : (pairs : List (A × A)) (k p x : A) → same x k ≡ false → step (pairs ++ (k, p) ∷ []) x ≡ step pairs x
-  elsewhere pairs k p x other = rw (at_end same pairs x k p, other, or_none (table_at same x pairs)) refl
+  elsewhere pairs k p x other = rw (at_end same pairs x k p, other, or_none (lookup (same x) pairs)) refl
 
-  pub more_end : (pairs : List (A × A)) (k p : A) → table_at same k pairs ≡ None → Ends pairs → ¬ (ComesBack (step (pairs ++ (k, p) ∷ [])) k) → Ends (pairs ++ (k, p) ∷ [])
+  pub more_end : (pairs : List (A × A)) (k p : A) → lookup (same k) pairs ≡ None → Ends pairs → ¬ (ComesBack (step (pairs ++ (k, p) ∷ [])) k) → Ends (pairs ++ (k, p) ∷ [])
   more_end pairs k p absent ends away =
       still_end same exact (step pairs) (step (pairs ++ (k, p) ∷ [])) k p (there pairs k p absent) (elsewhere pairs k p) ends away
 
   -- ---- how long a chain is
 
   abbrev listed : List (A × A) → A → Bool
-  listed pairs x = is_some (table_at same x pairs)
+  listed pairs x = is_some (lookup (same x) pairs)
 
   counted_none : (xs : List A) → counted (listed []) xs ≡ 0
   counted_none [] = refl
@@ -87,7 +87,7 @@ module _ {A : Type 0} (same : A → A → Bool) (exact : (a b : A) → Decides (
         elim (cases_Bool (listed pairs x)) [
           | inl is ↦ rw is (omega (arith, rest, small y))
           | inr is ↦
-              let absent : table_at same x pairs ≡ None = none_from (table_at same x pairs) is in
+              let absent : lookup (same x) pairs ≡ None = none_from (lookup (same x) pairs) is in
               let cut : short x ≡ Some y = rw absent at f.0 in
               rw is (omega (arith, rest, falls x y cut))
         ]

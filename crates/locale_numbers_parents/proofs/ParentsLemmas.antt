@@ -7,8 +7,7 @@ use Rattle.icu_locale_core.specs.DataLocales.{truncated}
 use Rattle.icu_locale_core.proofs.SameLemmas.{same_data_locales}
 use Rattle.icu_decimal_chains.specs.Chains.{Follows, walk}
 use Rattle.icu_decimal_chains.proofs.NextLemmas.{comes_back, stays_away}
-use Rattle.locale_numbers_parents.specs.Places.{same_data_locale}
-use Rattle.locale_numbers_parents.specs.Parents.{Entry, listed_parent, parent_step, most_steps, leads_to, ClosesCycle, CyclesAreMet, IsParents}
+use Rattle.locale_numbers_parents.specs.Parents.{Entry, listed_parent, parent_step, most_steps, leads_to, ClosesCycle, CyclesAreMet, IsParents, same_data_locale}
 use Rattle.locale_numbers_parents.proofs.PlaceLemmas.{size, small, falls}
 use Rattle.locale_numbers_parents.proofs.PairsLemmas.{Ends, there, elsewhere, more_end, at_most, none_ends, walk_is, last_split}
 

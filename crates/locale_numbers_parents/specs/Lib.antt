@@ -1,3 +1,2 @@
--- What a reader must believe: when two data locales are one, and the chains that parents make.
-pub mod Places
+-- What a reader must believe: the chains that parents make.
 pub mod Parents

@@ -3,18 +3,19 @@
 -- Cited by `Parents`, by the parents of a book, and by the choice of tables.
 use Rattle.std.specs.Prelude.{◌≡◌, ◌↔◌, Bool, true, ℕ, ◌+◌, ◌*◌, List, [], ◌∷◌, ◌++◌, length, Option, None}
 use Rattle.std.specs.List.{list_any}
+use Rattle.std.specs.Map.{lookup}
 use Rattle.std.specs.Option.{option_or}
 use Rattle.icu_locale_core.specs.TagPreferences.{DataLocaleMeaning}
 use Rattle.icu_locale_core.specs.DataLocales.{truncated}
+pub use Rattle.icu_locale_core.specs.SamePreferences.{same_data as same_data_locale}
 use Rattle.icu_decimal_chains.specs.Chains.{ComesBack, chain}
-use Rattle.locale_numbers_parents.specs.Places.{same_data_locale, table_at}
 
 -- a locale and its parent
 abbrev pub Entry : Type 0
 Entry = DataLocaleMeaning × DataLocaleMeaning
 
 abbrev pub listed_parent : List Entry → DataLocaleMeaning → Option DataLocaleMeaning
-listed_parent entries locale = table_at same_data_locale locale entries
+listed_parent entries locale = lookup (same_data_locale locale) entries
 
 -- the step
 abbrev pub parent_step : List Entry → DataLocaleMeaning → Option DataLocaleMeaning

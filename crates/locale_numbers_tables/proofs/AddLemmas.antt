@@ -2,8 +2,8 @@
 use Rattle.std.proofs.Common.{◌≡◌, Bool, true, false, List, ◌++◌, Option, None, Some, is_some, option_map, refl, ap, ◌∙◌}
 use Rattle.std.specs.List.{list_any}
 use Rattle.serde_json.specs.Data.{Data, Items, item, no_items}
-use Rattle.locale_numbers_tables.specs.declared.error.BookError.{BookError}
-use Rattle.locale_numbers_tables.specs.declared.error.BookError.TheVariants.{Duplicate}
+use Rattle.locale_numbers_faults.specs.declared.BookError.{BookError}
+use Rattle.locale_numbers_faults.specs.declared.BookError.TheVariants.{Duplicate}
 use Rattle.locale_numbers_tables.specs.Adding.{Adds}
 use Rattle.locale_numbers_tables.specs.Entries.{all_of}
 use Rattle.locale_numbers_tables.specs.Faults.{first_fault_behind}

@@ -2,8 +2,8 @@
 use Rattle.std.proofs.Common.{◌≡◌, Bool, true, false, ◌&&◌, [], ◌∷◌, Option, None, Some, is_some, refl, sym, ◌∙◌}
 use Rattle.std.specs.Option.{option_or}
 use Rattle.serde_json.specs.Data.{Data}
-use Rattle.locale_numbers_tables.specs.declared.error.BookError.{BookError}
-use Rattle.locale_numbers_tables.specs.declared.error.BookError.TheVariants.{Shape, Tag, System, Text, Types, Exponents}
+use Rattle.locale_numbers_faults.specs.declared.BookError.{BookError}
+use Rattle.locale_numbers_faults.specs.declared.BookError.TheVariants.{Shape, Tag, System, Text, Types, Exponents}
 use Rattle.locale_numbers_tables.specs.CompactEntries.{compact_of, has_plain_patterns, rise_from, rows_in, rows_of, zero_in}
 use Rattle.locale_numbers_tables.specs.CompactSteps.{has_table_shape, key_or_text_fault, table_fault}
 use Rattle.locale_numbers_tables.specs.Entries.{field_at, has_count, is_text_at}

@@ -9,8 +9,8 @@ use Rattle.icu_decimal.specs.declared.error.DataError.{DataError}
 use Rattle.icu_decimal.specs.KeptEntries.{CompactTable, IsFaulty, IsTable, IsTableFault, NeverFalls, Patterns, TypePatterns, first_fault, table_of}
 use Rattle.icu_decimal.specs.KeptSteps.{kept_of}
 use Rattle.icu_decimal.proofs.KeptLemmas.{keeps_one, is_table, faulty_first}
-use Rattle.locale_numbers_parents.proofs.PairsLemmas.{none_from}
 use Rattle.locale_numbers_tables.specs.CompactEntries.{Row, never_fall_from, rise_from, table_made}
+use Rattle.locale_numbers_tables.proofs.TableLemmas.{none_from}
 
 -- ---- tables
 

@@ -4,8 +4,8 @@ use Rattle.std.specs.List.{list_any}
 use Rattle.std.specs.Option.{option_or}
 use Rattle.std.proofs.lemmas.Bool.{or_right}
 use Rattle.serde_json.specs.Data.{Data}
-use Rattle.locale_numbers_tables.specs.declared.error.BookError.{BookError}
-use Rattle.locale_numbers_tables.specs.declared.error.BookError.TheVariants.{Json, Shape, Tag, System, Text, Digits, Condition, Types, Exponents, Duplicate, Cycle, Memory, Unit, Code}
+use Rattle.locale_numbers_faults.specs.declared.BookError.{BookError}
+use Rattle.locale_numbers_faults.specs.declared.BookError.TheVariants.{Json, Shape, Tag, System, Text, Digits, Condition, Types, Exponents, Duplicate, Cycle, Memory, Unit, Code}
 use Rattle.locale_numbers_tables.specs.CompactEntries.{rows_in, zero_in}
 use Rattle.locale_numbers_tables.specs.Entries.{has_count, field_at, is_text_at}
 use Rattle.locale_numbers_tables.specs.Faults.{compact_fault, digits_fault, has_symbols_shape, rules_fault, symbols_fault}

@@ -12,6 +12,10 @@ pub count-items : (fields : List Value) → count_of_items (items_view fields) �
 count-items [] = refl
 count-items (field ∷ fields) = let rest = count-items fields in omega arith
 
+pub none_from : {A : Type 0} (o : Option A) → is_some o ≡ false → o ≡ None
+none_from None h = refl
+none_from (Some x) h = cc
+
 -- ---- no key twice
 
 module _ {K V : Type 0} (same : K → K → Bool) (symmetric : (a b : K) → same a b ≡ same b a) where

@@ -3,7 +3,7 @@
 -- Cited by the steps of `Book::from_json`.
 use Rattle.std.specs.Prelude.{◌≡◌, Bool, List, [], ◌∷◌, ◌++◌, Option, None, Some}
 use Rattle.serde_json.specs.Data.{Data}
-use Rattle.locale_numbers_tables.specs.declared.error.BookError.{BookError}
+use Rattle.locale_numbers_faults.specs.declared.BookError.{BookError}
 use Rattle.locale_numbers_tables.specs.Keys.{table_at}
 
 -- what an entry without a fault says stands behind the others, under a key that is new

@@ -4,8 +4,8 @@
 use Rattle.std.specs.Prelude.{Bool, ◌&&◌, List, [], ◌∷◌, Option, is_some, map}
 use Rattle.serde_json.specs.Data.{Data}
 use Rattle.icu_decimal.specs.KeptEntries.{Patterns, of_type}
-use Rattle.locale_numbers_tables.specs.declared.error.BookError.{BookError}
-use Rattle.locale_numbers_tables.specs.declared.error.BookError.TheVariants.{Shape, Tag, System, Text, Types, Exponents}
+use Rattle.locale_numbers_faults.specs.declared.BookError.{BookError}
+use Rattle.locale_numbers_faults.specs.declared.BookError.TheVariants.{Shape, Tag, System, Text, Types, Exponents}
 use Rattle.locale_numbers_tables.specs.Fields.{system_or_none_in}
 use Rattle.locale_numbers_tables.specs.Entries.{field_at}
 use Rattle.locale_numbers_tables.specs.CompactEntries.{Row, rows_in, zero_in, has_plain_patterns, rise_from, rows_of, table_made, zero_of}

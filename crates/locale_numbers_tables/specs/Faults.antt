@@ -8,8 +8,8 @@ use Rattle.std.specs.Option.{option_or}
 use Rattle.std.specs.Str.{bytes_eq}
 use Rattle.serde_json.specs.Data.{Data, Items, no_items, item}
 use Rattle.icu_decimal.specs.Reading.{rules_of}
-use Rattle.locale_numbers_tables.specs.declared.error.BookError.{BookError}
-use Rattle.locale_numbers_tables.specs.declared.error.BookError.TheVariants.{Shape, Tag, System, Text, Digits, Condition, Types, Exponents, Duplicate}
+use Rattle.locale_numbers_faults.specs.declared.BookError.{BookError}
+use Rattle.locale_numbers_faults.specs.declared.BookError.TheVariants.{Shape, Tag, System, Text, Digits, Condition, Types, Exponents, Duplicate}
 use Rattle.locale_numbers_tables.specs.Fields.{locale_in, system_in, system_or_none_in, digits_in}
 use Rattle.locale_numbers_tables.specs.Entries.{has_count, field_at, is_text_at, entry_key, grouping_sizes_of, has_texts, digits_key}
 use Rattle.locale_numbers_tables.specs.RulesEntries.{conditions_in, conditions_of, rules_key}

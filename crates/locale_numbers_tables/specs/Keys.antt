@@ -5,8 +5,13 @@ use Rattle.std.specs.Prelude.{Bool, true, not, ◌&&◌, List, [], ◌∷◌, Op
 use Rattle.std.specs.Str.{bytes_eq}
 use Rattle.serde_json.specs.Data.{Data, Items}
 use Rattle.icu_decimal.specs.Identifiers.{Identifier}
-pub use Rattle.locale_numbers_parents.specs.Places.{same_subdivision, same_data_locale, table_at}
+pub use Rattle.icu_locale_core.specs.SamePreferences.{same_subdivision, same_data as same_data_locale}
 use Rattle.locale_numbers_tables.specs.Entries.{all_of}
+
+-- what is with a key in a list of pairs
+abbrev pub table_at : {K V : Type 0} → (K → K → Bool) → K → List (K × V) → Option V
+table_at same key [] = None
+table_at same key (pair ∷ pairs) = if same key pair.0 then Some pair.1 else table_at same key pairs
 
 -- two keys are one where each of their parts is
 abbrev pub same_key : Identifier → Identifier → Bool

@@ -6,7 +6,7 @@ pub mod CompactEntries
 pub mod Keys
 -- What a reader must believe: the first fault of an array, its number and its word.
 pub mod Faults
-pub mod BookError
+pub use Rattle.locale_numbers_faults.specs.BookError
 -- What hashes the keys of a table.
 pub mod Seeding
 -- What a law makes needless to believe: the meaning of a tag as a function.

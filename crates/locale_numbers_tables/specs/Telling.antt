@@ -2,8 +2,8 @@
 -- Defined in docs/books.md, "Faults".
 -- Cited by the steps of `Book::from_json`.
 use Rattle.std.specs.Prelude.{◌≡◌, Option, Some}
-use Rattle.locale_numbers_tables.specs.declared.error.BookError.{BookError}
-use Rattle.locale_numbers_tables.specs.declared.error.BookError.TheVariants.{Json, Memory}
+use Rattle.locale_numbers_faults.specs.declared.BookError.{BookError}
+use Rattle.locale_numbers_faults.specs.declared.BookError.TheVariants.{Json, Memory}
 
 -- the error tells the fault that is found, or is out of memory
 abbrev pub IsTold : Option BookError → BookError → Type 0

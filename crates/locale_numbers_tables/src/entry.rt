@@ -12,7 +12,7 @@ use std::hash::Hash;
 
 /// What stands in an array of a book, each one in an entry and under a key.
 pub trait Entry: Drop {
-    ghost use Rattle.locale_numbers_tables.specs.declared.error.BookError.{BookError};
+    ghost use Rattle.locale_numbers_faults.specs.declared.BookError.{BookError};
 
     type Key: Eq + Hash + Drop;
 

@@ -9,7 +9,6 @@
 mod compact;
 mod entries;
 mod entry;
-mod error;
 pub mod fields;
 mod rules;
 mod seed;
@@ -18,7 +17,7 @@ mod tables;
 mod texts;
 
 pub use entry::Entry;
-pub use error::BookError;
+pub use locale_numbers_faults::BookError;
 pub use seed::Seed;
 pub use table::Table;
 pub use tables::table_of;

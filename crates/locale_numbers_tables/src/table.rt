@@ -2,7 +2,7 @@
 
 ghost use Rattle.std.specs.Prelude.{◌≡◌, ◌⊎◌, ◌++◌, [], ◌∷◌, None, IsSome, OnOk, IsErrOf, IfErr};
 ghost use Rattle.indexmap.specs.IndexMap.{get, hasher_of};
-ghost use Rattle.locale_numbers_tables.specs.declared.error.BookError.{BookError};
+ghost use Rattle.locale_numbers_faults.specs.declared.BookError.{BookError};
 
 use crate::BookError;
 use crate::seed::Seed;

@@ -5,8 +5,7 @@ use Rattle.locale_numbers_tables.specs.Keys.{table_at}
 use Rattle.locale_numbers_tables.specs.RulesEntries.{condition_in}
 use Rattle.locale_numbers_tables.proofs.KeyLemmas.{is_same_symmetric}
 use Rattle.locale_numbers_tables.proofs.RulesLemmas.{pairs_more}
-use Rattle.locale_numbers_parents.proofs.PairsLemmas.{none_from}
-use Rattle.locale_numbers_tables.proofs.TableLemmas.{no_table, once_more, one_more}
+use Rattle.locale_numbers_tables.proofs.TableLemmas.{no_table, none_from, once_more, one_more}
 use Rattle.locale_numbers_tables.proofs.rules.conditions.Goals as goal
 
 pub returns-then-has_category : goal.returns-then-has_category

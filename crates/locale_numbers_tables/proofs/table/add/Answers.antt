@@ -1,6 +1,6 @@
 use Rattle.std.proofs.Common.{sym, ◌∙◌}
 use Rattle.indexmap.proofs.CallerLemmas.{insert_entry-new}
-use Rattle.locale_numbers_parents.proofs.PairsLemmas.{none_from}
+use Rattle.locale_numbers_tables.proofs.TableLemmas.{none_from}
 use Rattle.locale_numbers_tables.proofs.table.add.Goals as goal
 
 pub returns-in-Ok-clause-added : goal.returns-in-Ok-clause-added

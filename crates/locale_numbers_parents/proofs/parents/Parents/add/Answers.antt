@@ -1,7 +1,6 @@
 use Rattle.std.proofs.Common.{◌≡◌, List, [], ◌∷◌, ◌++◌, None, sym, ap, ◌∙◌, subst}
 use Rattle.indexmap.proofs.CallerLemmas.{insert_entry-new}
-use Rattle.locale_numbers_parents.specs.Parents.{Entry, ClosesCycle, listed_parent}
-use Rattle.locale_numbers_parents.specs.Places.{same_data_locale}
+use Rattle.locale_numbers_parents.specs.Parents.{Entry, ClosesCycle, listed_parent, same_data_locale}
 use Rattle.locale_numbers_parents.proofs.PairsLemmas.{none_from}
 use Rattle.locale_numbers_parents.proofs.ParentsLemmas.{closes, stays_open, one_more}
 use Rattle.locale_numbers_parents.proofs.parents.Parents.add.Goals as goal

@@ -1,6 +1,5 @@
 use Rattle.std.proofs.Common.{sym, ◌∙◌, arith}
-use Rattle.locale_numbers_parents.specs.Places.{same_data_locale}
-use Rattle.locale_numbers_parents.specs.Parents.{most_steps, parent_step}
+use Rattle.locale_numbers_parents.specs.Parents.{most_steps, parent_step, same_data_locale}
 use Rattle.locale_numbers_parents.proofs.PairsLemmas.{meets_at_first, meets_further}
 use Rattle.locale_numbers_parents.proofs.parents.Parents.leads_to.Goals as goal
 

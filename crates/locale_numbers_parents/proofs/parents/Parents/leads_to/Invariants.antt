@@ -1,8 +1,7 @@
 use Rattle.std.proofs.Common.{◌≡◌, ◌-◌}
 use Rattle.std.specs.List.{list_any}
 use Rattle.icu_decimal_chains.specs.Chains.{chain}
-use Rattle.locale_numbers_parents.specs.Places.{same_data_locale}
-use Rattle.locale_numbers_parents.specs.Parents.{leads_to, most_steps, parent_step}
+use Rattle.locale_numbers_parents.specs.Parents.{leads_to, most_steps, parent_step, same_data_locale}
 use Rattle.locale_numbers_parents.proofs.parents.Parents.leads_to.Given as goal
 
 abbrev pub invariant-loop-turn : goal.invariant-loop-turn
