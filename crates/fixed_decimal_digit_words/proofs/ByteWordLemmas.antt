@@ -1,8 +1,9 @@
 -- Bytes as words: the digits of a word that is made of bytes.
 use Rattle.std.proofs.Common.{◌≡◌, ℕ, zero, suc, ◌+◌, ◌*◌, ◌/◌, ◌%◌, ◌^◌, ◌<◌, ◌≤◌, List, [], ◌∷◌, ◌++◌, length, get_or, replicate, take, drop, refl, sym, ap, ◌∙◌, arith, lit≤, w64}
 use Rattle.std.proofs.lemmas.List.{append_assoc}
+use Rattle.std.proofs.lemmas.Nat.{be_bytes_8}
 use Rattle.std.proofs.Math.Nat.{pow-suc, mul_comm, div-div-eq-div-mul, div-add-mod', mod-lt}
-use Rattle.std.specs.Int.{byte_at, bytes_high_first, to_be_bytes}
+use Rattle.std.specs.Int.{byte_at, bytes_high_first, from_be_bytes, to_be_bytes}
 use Rattle.fixed_decimal_digit_words.specs.DigitWord.{word_digits, word_bytes}
 use Rattle.fixed_decimal_digit_words.specs.Packed.{halves}
 use Rattle.fixed_decimal_digit_words.proofs.WordLemmas.{word_pushed, power_positive}
@@ -117,6 +118,32 @@ high_word (suc n) w = high_push n w ∙ ap (λ bs. bs ++ (w % 256 ∷ [])) (high
 
 pub halves_high : (w : ℕ) → halves (to_be_bytes w64 w) ≡ word_digits w 16
 halves_high w = ap halves (high_word 8 w) ∙ halves_word 8 w
+
+taken_small : (n : ℕ) (bytes : List ℕ) → ((i : ℕ) → get_or bytes i 0 < 256) → (i : ℕ) → get_or (take n bytes) i 0 < 256
+taken_small zero bytes h i = omega arith
+taken_small (suc n) [] h i = omega arith
+taken_small (suc n) (b ∷ bs) h zero = h 0
+taken_small (suc n) (b ∷ bs) h (suc i) = taken_small n bs (λ j. h (suc j)) i
+
+front_eight : (bytes : List ℕ) → 8 ≤ length bytes → (length (take 8 bytes) ≡ 8) × (halves (take 8 bytes) ≡ take 16 (halves (bytes ++ replicate 8 0)))
+front_eight [] l = absurd (omega arith)
+front_eight (a ∷ []) l = absurd (omega arith)
+front_eight (a ∷ b ∷ []) l = absurd (omega arith)
+front_eight (a ∷ b ∷ c ∷ []) l = absurd (omega arith)
+front_eight (a ∷ b ∷ c ∷ d ∷ []) l = absurd (omega arith)
+front_eight (a ∷ b ∷ c ∷ d ∷ e ∷ []) l = absurd (omega arith)
+front_eight (a ∷ b ∷ c ∷ d ∷ e ∷ f ∷ []) l = absurd (omega arith)
+front_eight (a ∷ b ∷ c ∷ d ∷ e ∷ f ∷ g ∷ []) l = absurd (omega arith)
+front_eight (a ∷ b ∷ c ∷ d ∷ e ∷ f ∷ g ∷ h ∷ hs) l = (omega arith, refl)
+
+-- eight bytes that are all there, as a word
+pub eight_loaded : (bytes eight : List ℕ) (w : ℕ) → 8 ≤ length bytes → ((i : ℕ) → get_or bytes i 0 < 256) → eight ≡ take 8 bytes → w ≡ from_be_bytes w64 eight
+    → word_digits w 16 ≡ take 16 (halves (bytes ++ replicate 8 0))
+eight_loaded bytes eight w l small e loaded =
+    let front = front_eight bytes l in
+    sym (halves_high w)
+    ∙ ap halves (be_bytes_8 (take 8 bytes) w front.0 (taken_small 8 bytes small) (loaded ∙ ap (from_be_bytes w64) e))
+    ∙ front.1
 
 -- eight bytes at least, of which the ninth counts no half
 pub sixteen_within : (bytes : List ℕ) → take 16 (halves (bytes ++ replicate 8 0)) ≡ take 16 (halves (bytes ++ replicate 9 0))

@@ -1,6 +1,6 @@
 //! Bytes as words, and the digits that lie in a word.
 
-ghost use Rattle.std.specs.Prelude.{◌≡◌, ◌++◌, ◌<◌, length, replicate, take};
+ghost use Rattle.std.specs.Prelude.{◌≡◌, ◌++◌, ◌<◌, ◌≤◌, length, replicate, take};
 ghost use Rattle.fixed_decimal_digit_words.specs.DigitWord.{word_digits};
 ghost use Rattle.fixed_decimal_digit_words.specs.Packed.{halves};
 
@@ -23,7 +23,18 @@ fn first_four(bytes: &[u8]) -> u32
     }
 }
 
-// The first eight bytes as a word, the highest first: zeros stand for those that are not there.
+// The first eight bytes as a word by two fours of them, where the first four are there.
+#[inline(always)]
+fn first_fours(bytes: &[u8]) -> u64
+    requires { 4 ≤ length bytes.now }
+    ensures { word_digits result 16 ≡ take 16 (halves (bytes.now ++ replicate 8 0)) }
+{
+    let (front, rest) = bytes.split_at(4);
+    u64::from(first_four(front)) * 4_294_967_296 + u64::from(first_four(rest))
+}
+
+// The first eight bytes as a word, the highest first: zeros stand for those that are not there. Where all are there,
+// they are loaded at once.
 #[inline(always)]
 pub(crate) fn first_eight(bytes: &[u8]) -> u64
     ensures { word_digits result 16 ≡ take 16 (halves (bytes.now ++ replicate 8 0)) }
@@ -31,8 +42,10 @@ pub(crate) fn first_eight(bytes: &[u8]) -> u64
     if bytes.len() < 4 {
         return u64::from(first_four(bytes)) * 4_294_967_296;
     }
-    let (front, rest) = bytes.split_at(4);
-    u64::from(first_four(front)) * 4_294_967_296 + u64::from(first_four(rest))
+    let Some(eight) = bytes.first_chunk::<8>() else {
+        return first_fours(bytes);
+    };
+    u64::from_be_bytes(*eight)
 }
 
 // The halves of eight bytes. It is a function of its own over bytes in memory, since the compiler makes vectors of these,

@@ -32,7 +32,7 @@ first_pushed (c ∷ cs) d first some = first (omega arith)
 pub second_appended : (ds : List ℕ) (pair : ℕ) (new : List ℕ) → length ds ≡ 0 → 0 < pair → pair < 10 → new ≡ ds ++ (pair ∷ []) → IsAppended ds pair new 0
 second_appended [] pair new z some ten e =
     subst (λ xs. IsAppended [] pair xs 0) (sym e)
-    (record { tens = (ten, tt); first = some; last = omega arith; some = omega arith; value = omega arith; places = omega arith })
+    (record { tight = record { tens = (ten, tt); first = λ _. some; last = λ _. omega arith }; some = omega arith; value = omega arith; places = omega arith })
 second_appended (d ∷ ds) pair new z some ten e = absurd (omega arith)
 
 -- the first digit of a pair alone, where the second is a zero
@@ -44,9 +44,7 @@ first_appended ds pair new tens first some hundred z e =
     let last : number_from_digits 10 (ds ++ ((pair / 10) ∷ [])) % 10 ≡ pair / 10 = last_pushed ds (pair / 10) ten in
     subst (λ xs. IsAppended ds pair xs 1) (sym e)
     (record {
-      tens = below_push ds (pair / 10) tens ten;
-      first = first_pushed ds (pair / 10) first (λ _. omega arith);
-      last = omega arith;
+      tight = record { tens = below_push ds (pair / 10) tens ten; first = λ _. first_pushed ds (pair / 10) first (λ _. omega arith); last = λ _. omega arith };
       some = omega arith;
       value = tens_pushed ds pair z;
       places = omega arith;
@@ -67,9 +65,11 @@ both_appended ds pair new tens first start hundred rest e =
     let begins : 0 < get_or front 0 0 = first_pushed ds (pair / 10) first (λ none. let over = start none in omega arith) in
     subst (λ xs. IsAppended ds pair xs 0) (sym e)
     (record {
-      tens = below_push front (pair % 10) (below_push ds (pair / 10) tens ten) (omega arith);
-      first = first_pushed front (pair % 10) (λ _. begins) (λ _. rest);
-      last = omega arith;
+      tight = record {
+        tens = below_push front (pair % 10) (below_push ds (pair / 10) tens ten) (omega arith);
+        first = λ _. first_pushed front (pair % 10) (λ _. begins) (λ _. rest);
+        last = λ _. omega arith;
+      };
       some = omega arith;
       value = sym (pair_pushed ds pair) ∙ plain (number_from_digits 10 (front ++ ((pair % 10) ∷ [])));
       places = omega arith;

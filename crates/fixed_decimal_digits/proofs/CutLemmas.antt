@@ -71,10 +71,10 @@ first_left ds top start h sl found =
     subst (λ x. 0 < x) (sym (first_by ds start sl))
     (⊎_elim found (λ a.
     let all : start + 1 ≡ length ds = omega arith in
-    let last : 0 < number_from_digits 10 ds % 10 = h.last (omega arith) in
+    let last : 0 < number_from_digits 10 ds % 10 = h.tight.last (omega arith) in
     let e : start + 1 - 1 ≡ start = omega arith in
     let same : number_from_digits 10 ds % 10 ≡ get_or ds start 0 =
-    ap (λ x. x % 10) (sym (front_all ds (start + 1) all)) ∙ front_last ds (start + 1) h.tens (omega arith) (omega arith) ∙ ap (λ k. get_or ds k 0) e in
+    ap (λ x. x % 10) (sym (front_all ds (start + 1) all)) ∙ front_last ds (start + 1) h.tight.tens (omega arith) (omega arith) ∙ ap (λ k. get_or ds k 0) e in
     omega arith) (cases_lt (start + 1) (length ds)))
 
 pub tail_last : (a k u b : ℕ) → u ≡ k * 10 → (a * u + b) % 10 ≡ b % 10
@@ -84,16 +84,18 @@ pub cut_trimmed : (ds new : List ℕ) (top start t : ℕ) → IsTrimmed ds top �
 cut_trimmed ds new top start t h sl en found et =
     let len : length new ≡ length ds - start = ap length en ∙ length-drop start ds in
     let room : length ds ≤ top + 1 = h.room in
-    let last : 0 < number_from_digits 10 ds % 10 = h.last (omega arith) in
+    let last : 0 < number_from_digits 10 ds % 10 = h.tight.last (omega arith) in
     let same : number_from_digits 10 ds % 10 ≡ number_from_digits 10 new % 10 =
     ap (λ x. x % 10) (number_cut start ds)
     ∙ tail_last (number_from_digits 10 (take start ds)) (10 ^ (length ds - start - 1)) (10 ^ (length ds - start)) (number_from_digits 10 (drop start ds))
     (let e : length ds - start - 1 + 1 ≡ length ds - start = omega arith in ap (λ k. 10 ^ k) (sym e) ∙ tens_next (length ds - start - 1))
     ∙ ap (λ xs. number_from_digits 10 xs % 10) (sym en) in
     record {
-      tens = subst (AllBelowBase 10) (sym en) (below_drop start ds h.tens);
-      first = λ p. subst (λ xs. 0 < get_or xs 0 0) (sym en) (first_left ds top start h sl found);
-      last = λ p. omega arith;
+      tight = record {
+        tens = subst (AllBelowBase 10) (sym en) (below_drop start ds h.tight.tens);
+        first = λ p. subst (λ xs. 0 < get_or xs 0 0) (sym en) (first_left ds top start h sl found);
+        last = λ p. omega arith;
+      };
       room = omega arith;
       zero_top = λ z. absurd (omega arith);
     }

@@ -22,7 +22,7 @@ use Rattle.fixed_decimal_digits.proofs.LoopLemmas.{raised, raised_length, raised
 -- no digit is right below a place that is far above the first
 pub far_less : (ds : List ℕ) (top place : ℕ) → IsTrimmed ds top → top + 1 < place → 2 * (count_of ds top % 10 ^ place) < 10 ^ place
 far_less ds top place h far =
-    let none : digit (count_of ds top) (place - 1) ≡ 0 = digit_over ds top (place - 1) h.tens h.room (omega arith) in
+    let none : digit (count_of ds top) (place - 1) ≡ 0 = digit_over ds top (place - 1) h.tight.tens h.room (omega arith) in
     below_less (count_of ds top) place (omega arith) (subst (λ d. d < 5) (sym none) (omega arith))
 
 -- the first digit below a place
@@ -30,7 +30,7 @@ pub digit_behind : (ds : List ℕ) (top place kept : ℕ) → IsTrimmed ds top �
 digit_behind ds top place kept h e l inside =
     let room : length ds ≤ top + 1 = h.room in
     let at : top - (place - 1) ≡ kept = omega arith in
-    digit_inside ds top (place - 1) h.tens h.room (omega arith) (omega arith) ∙ ap (λ i. get_or ds i 0) at
+    digit_inside ds top (place - 1) h.tight.tens h.room (omega arith) (omega arith) ∙ ap (λ i. get_or ds i 0) at
 
 pub behind_less : (ds : List ℕ) (top place kept d : ℕ) → IsTrimmed ds top → kept ≡ top + 1 - place → place ≤ top + 1 → kept < length ds → d ≡ get_or ds kept 0 → d < 5
     → 2 * (count_of ds top % 10 ^ place) < 10 ^ place
@@ -123,11 +123,11 @@ front_number ds top place kept h e inside =
     ⊎_elim
     (λ a.
     let none : kept ≡ 0 = omega arith in
-    let small : count_of ds top < 10 ^ place = let b = count_below ds top h.tens h.room in let up = tens_apart (top + 1) place (omega arith) in omega arith in
+    let small : count_of ds top < 10 ^ place = let b = count_below ds top h.tight.tens h.room in let up = tens_apart (top + 1) place (omega arith) in omega arith in
     ap (λ k. number_from_digits 10 (take k ds)) none ∙ sym (div-eq_of_lt small))
     (λ a.
     let behind : place - (top + 1 - length ds) ≡ length ds - kept = omega arith in
-    sym (number_quotient kept ds h.tens) ∙ ap (λ k. number_from_digits 10 ds / 10 ^ k) (sym behind)
+    sym (number_quotient kept ds h.tight.tens) ∙ ap (λ k. number_from_digits 10 ds / 10 ^ k) (sym behind)
     ∙ sym (quotient_kept (number_from_digits 10 ds) (top + 1 - length ds) place (omega arith)))
     (cases_lt (top + 1) place)
 
@@ -161,9 +161,8 @@ trimmed_raised ds new top n h p l ne f =
     let room : length ds ≤ top + 1 = h.room in
     subst (λ xs. IsTrimmed xs top) (sym f)
     (record {
-      tens = raised_below ds n h.tens ne;
-      first = λ _. raised_first ds n p l h.first;
-      last = λ _. raised_last ds n h.tens ne;
+      tight =
+          record { tens = raised_below ds n h.tight.tens ne; first = λ _. raised_first ds n p l h.tight.first; last = λ _. raised_last ds n h.tight.tens ne };
       room = omega (arith, long, l, room);
       zero_top = λ none. absurd (omega (arith, none, long, p));
     })

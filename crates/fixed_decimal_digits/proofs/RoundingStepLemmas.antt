@@ -32,7 +32,7 @@ below_some ds top place h p l =
           let shape : c * 10 ^ (place - e - 1) * 10 * 10 ^ e ≡ number * 10 ^ e = sym (ap (λ t. c * t) power ∙ tens_regrouped c (10 ^ (place - e - 1)) (10 ^ e)) ∙ whole in
           let same : c * 10 ^ (place - e - 1) * 10 ≡ number = eq_of_mul-eq-mul_right (10 ^ e) (tens_positive e) (c * 10 ^ (place - e - 1) * 10) number shape in
           let last : number % 10 ≡ 0 = ap (λ n. n % 10) (sym same) ∙ mul-mod_left (c * 10 ^ (place - e - 1)) 10 in
-          let some : 0 < number % 10 = h.last p in
+          let some : 0 < number % 10 = h.tight.last p in
           absurd (omega arith)
       | inr s ↦ s
     ]
@@ -100,4 +100,4 @@ whole_room ds top p h s w =
 -- and one below a power has its first digit below that place
 pub top_below : (ds : List ℕ) (top k : ℕ) → IsTrimmed ds top → 0 < length ds → count_of ds top < 10 ^ k → top < k
 top_below ds top k h s b =
-    ⊎_elim (λ a. a) (λ a. let up = tens_apart k top a in let reach = count_reaches ds top s (h.first s) h.room in absurd (omega arith)) (cases_lt top k)
+    ⊎_elim (λ a. a) (λ a. let up = tens_apart k top a in let reach = count_reaches ds top s (h.tight.first s) h.room in absurd (omega arith)) (cases_lt top k)

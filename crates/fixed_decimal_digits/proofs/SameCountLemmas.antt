@@ -22,7 +22,7 @@ numbers_same m n a b e h =
 
 -- of two lists that spell one count the first digit of one is not above that of the other, nor its last below
 not_above : (ds es : List ℕ) (top u : ℕ) → IsTrimmed ds top → IsTrimmed es u → 0 < length ds → count_of ds top ≡ count_of es u → top < u + 1
-not_above ds es top u h k p e = top_below ds top (u + 1) h p (subst (λ x. x < 10 ^ (u + 1)) (sym e) (count_below es u k.tens k.room))
+not_above ds es top u h k p e = top_below ds top (u + 1) h p (subst (λ x. x < 10 ^ (u + 1)) (sym e) (count_below es u k.tight.tens k.room))
 
 not_below : (ds es : List ℕ) (top u : ℕ) → IsTrimmed ds top → 0 < length ds → count_of ds top ≡ count_of es u → u + 1 - length es + length ds ≤ top + 1
 not_below ds es top u h p e =
@@ -31,7 +31,7 @@ not_below ds es top u h p e =
 
 one_empty : (d : ℕ) (ds : List ℕ) (top u : ℕ) → IsTrimmed (d ∷ ds) top → count_of (d ∷ ds) top ≡ count_of [] u → ⊥
 one_empty d ds top u h e =
-    let p : 0 < count_of (d ∷ ds) top = count_positive (d ∷ ds) top (omega arith) (h.first (omega arith)) in
+    let p : 0 < count_of (d ∷ ds) top = count_positive (d ∷ ds) top (omega arith) (h.tight.first (omega arith)) in
     let z : count_of [] u ≡ 0 = count_none [] u refl in
     omega arith
 
@@ -47,7 +47,7 @@ kept_same (d ∷ ds) (c ∷ cs) top u h k e =
     let room = h.room in let other = k.room in
     let el : length (d ∷ ds) ≡ length (c ∷ cs) = omega arith in
     let et : top ≡ u = omega arith in (
-      digits_same (d ∷ ds) (c ∷ cs) h.tens k.tens el
+      digits_same (d ∷ ds) (c ∷ cs) h.tight.tens k.tight.tens el
           (numbers_same (number_from_digits 10 (d ∷ ds)) (number_from_digits 10 (c ∷ cs)) (top + 1 - length (d ∷ ds)) (u + 1 - length (c ∷ cs)) (omega arith) e),
       et,
     )

@@ -13,11 +13,14 @@ pub record DigitList : Type 0 where
 abbrev pub count_of : List ℕ → ℕ → ℕ
 count_of digits top = number_from_digits 10 digits * 10 ^ (top + 1 - length digits)
 
--- the digits of a count whose first is at the place `top`, none where it is zero: it neither begins nor ends with a
--- zero
-pub record IsTrimmed (digits : List ℕ) (top : ℕ) : Type 0 where
+-- digits that neither begin nor end with a zero
+pub record IsTight (digits : List ℕ) : Type 0 where
   pub tens : AllBelowBase 10 digits
   pub first : 0 < length digits → 0 < slice_index digits 0
   pub last : 0 < length digits → 0 < number_from_digits 10 digits % 10
+
+-- the digits of a count whose first is at the place `top`, none where it is zero
+pub record IsTrimmed (digits : List ℕ) (top : ℕ) : Type 0 where
+  pub tight : IsTight digits
   pub room : length digits ≤ top + 1
   pub zero_top : length digits ≡ 0 → top ≡ 32768

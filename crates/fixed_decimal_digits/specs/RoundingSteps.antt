@@ -1,11 +1,12 @@
 -- The steps of a rounding: the digits at the position, the part below against half a unit, the choice of multiple.
 -- Defined in docs/numbers.md, "Rounding".
 -- Cited by the private functions that round, and by no public clause.
-use Rattle.std.specs.Prelude.{◌≡◌, ℕ, ◌+◌, ◌*◌, ◌%◌, ◌^◌, ◌<◌, ◌≤◌, Bool, true, false, List, length, slice_index}
+use Rattle.std.specs.Prelude.{◌≡◌, ℕ, ◌+◌, ◌*◌, ◌^◌, ◌<◌, ◌≤◌, Bool, true, false, List, length}
 use Rattle.std.specs.Ordering.{MatchOrdering}
 use Rattle.std.specs.declared.cmp.Ordering.{Ordering}
 use Rattle.std.specs.declared.cmp.Ordering.TheVariants.{Less, Equal, Greater}
-use Rattle.std.specs.Int.Digits.{number_from_digits, AllBelowBase}
+use Rattle.std.specs.Int.Digits.{number_from_digits}
+use Rattle.fixed_decimal_digits.specs.DigitList.{IsTight}
 use Rattle.fixed_decimal_digits.specs.declared.modes.UnsignedRoundingMode.{UnsignedRoundingMode}
 use Rattle.fixed_decimal_digits.specs.declared.modes.UnsignedRoundingMode.TheVariants.{Expand, Trunc, HalfExpand, HalfTrunc, HalfEven}
 
@@ -30,9 +31,7 @@ takes_upper_of HalfEven Greater odd = true
 -- the new digits spell the old ones with two more behind them, without a zero before the first or behind the last;
 -- `below` places are left below the last
 pub record IsAppended (old : List ℕ) (pair : ℕ) (new : List ℕ) (below : ℕ) : Type 0 where
-  pub tens : AllBelowBase 10 new
-  pub first : 0 < slice_index new 0
-  pub last : 0 < number_from_digits 10 new % 10
+  pub tight : IsTight new
   pub some : 0 < length new
   pub value : number_from_digits 10 old * 100 + pair ≡ number_from_digits 10 new * 10 ^ below
   pub places : length new + below ≤ length old + 2

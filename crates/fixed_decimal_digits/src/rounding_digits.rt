@@ -2,6 +2,7 @@
 
 ghost use Rattle.std.specs.Prelude.{◌≡◌, ℕ, ◌+◌, ◌-◌, ◌*◌, ◌/◌, ◌%◌, ◌^◌, ◌<◌, ◌≤◌, cond, length, slice_index, take};
 ghost use Rattle.std.specs.Int.Digits.{number_from_digits, AllBelowBase};
+ghost use Rattle.fixed_decimal_digits.specs.DigitList.{IsTight};
 
 use crate::digits::Digits;
 use crate::turns::Turns;
@@ -33,9 +34,7 @@ pub fn count_before_zeros<L: Ledger>(digits: &Digits, from: usize, turns: &mut T
 pub fn drop_zeros<L: Ledger>(digits: &mut Digits, turns: &mut Turns<L>)
     requires tens { AllBelowBase 10 digits.old.items }
     requires first { 0 < length digits.old.items → 0 < slice_index digits.old.items 0 }
-    ensures tens { AllBelowBase 10 digits.new.items }
-    ensures first { 0 < length digits.new.items → 0 < slice_index digits.new.items 0 }
-    ensures last { 0 < length digits.new.items → 0 < number_from_digits 10 digits.new.items % 10 }
+    ensures tight { IsTight digits.new.items }
     ensures value { number_from_digits 10 digits.old.items
         ≡ number_from_digits 10 digits.new.items * 10 ^ (length digits.old.items - length digits.new.items) }
     ensures length { length digits.new.items ≤ length digits.old.items }
@@ -110,9 +109,7 @@ pub fn count_before_nines<L: Ledger>(digits: &Digits, from: usize, turns: &mut T
 pub fn add_one<L: Ledger>(digits: &mut Digits, turns: &mut Turns<L>) -> bool
     requires tens { AllBelowBase 10 digits.old.items }
     requires first { 0 < length digits.old.items → 0 < slice_index digits.old.items 0 }
-    ensures tens { AllBelowBase 10 digits.new.items }
-    ensures first { 0 < slice_index digits.new.items 0 }
-    ensures last { 0 < number_from_digits 10 digits.new.items % 10 }
+    ensures tight { IsTight digits.new.items }
     ensures value { number_from_digits 10 digits.old.items + 1
         ≡ number_from_digits 10 digits.new.items * 10 ^
         (length digits.old.items + cond result 1 0 - length digits.new.items) }

@@ -3,7 +3,7 @@
 ghost use Rattle.std.specs.Prelude.{◌≡◌, ◌≢◌, ℕ, ◌+◌, ◌-◌, ◌*◌, ◌/◌, ◌%◌, ◌^◌, ◌<◌, ◌≤◌, length, slice_index, IfSome, IfNone, IfOk, OnErr, IsOk, IsTrue, cond, true, false, ◌⊎◌};
 ghost use Rattle.std.specs.Bool.{MatchBool};
 ghost use Rattle.std.specs.Int.Digits.{number_from_digits, AllBelowBase};
-ghost use Rattle.fixed_decimal_digits.specs.DigitList.{count_of, IsTrimmed};
+ghost use Rattle.fixed_decimal_digits.specs.DigitList.{count_of, IsTight, IsTrimmed};
 ghost use Rattle.fixed_decimal_digits.specs.Rounding.{IsRounded, TakesOdd, increment_number};
 ghost use Rattle.fixed_decimal_digits.specs.RoundingSteps.{IsAppended, takes_upper_of};
 
@@ -125,9 +125,7 @@ fn append_pair<L: Ledger>(digits: &mut Digits, pair: u8, turns: &mut Turns<L>) -
     requires room { 0 < pair → pair < 100 → length digits.old.items + 1 ≤ digits.old.capacity }
     requires both_room { 0 < pair % 10 → pair < 100 → length digits.old.items + 2 ≤ digits.old.capacity }
     requires short { length digits.old.items ≤ 65536 }
-    ensures tens { AllBelowBase 10 digits.new.items }
-    ensures first { 0 < length digits.new.items → 0 < slice_index digits.new.items 0 }
-    ensures last { 0 < length digits.new.items → 0 < number_from_digits 10 digits.new.items % 10 }
+    ensures tight { IsTight digits.new.items }
     ensures value { number_from_digits 10 digits.old.items * 100 + pair
         ≡ number_from_digits 10 digits.new.items * 10 ^ result }
     ensures length { length digits.new.items + result ≤ length digits.old.items + 3 }

@@ -70,9 +70,11 @@ joined_trimmed ds es top u zeros h k p q at =
     let last : number_from_digits 10 (joined ds zeros es) % 10 ≡ number_from_digits 10 es % 10 =
     ap (λ n. n % 10) (joined_number ds es zeros) ∙ last_joined (number_from_digits 10 ds) (number_from_digits 10 es) (zeros + length es) (omega arith) in
     record {
-      tens = below_joined ds (replicate zeros 0 ++ es) h.tens (zeros_below zeros es k.tens);
-      first = λ _. first_joined ds (replicate zeros 0 ++ es) p (h.first p);
-      last = λ _. subst (λ n. 0 < n) (sym last) (k.last q);
+      tight = record {
+        tens = below_joined ds (replicate zeros 0 ++ es) h.tight.tens (zeros_below zeros es k.tight.tens);
+        first = λ _. first_joined ds (replicate zeros 0 ++ es) p (h.tight.first p);
+        last = λ _. subst (λ n. 0 < n) (sym last) (k.tight.last q);
+      };
       room = omega arith;
       zero_top = λ z. absurd (omega arith);
     }
@@ -133,9 +135,7 @@ module _ (ds es : List ℕ) (top u low high lo hi : ℕ) (s : IsStored ds top lo
       let len : length new ≡ length ds + (gap + length es) = ap length e ∙ joined_length ds es gap in
       let r = s.room in let q = t.room in let under = s.below in let low_end = s.low_end in let ones = s.ones in
       record {
-        tens = trimmed.tens;
-        first = trimmed.first;
-        last = trimmed.last;
+        tight = trimmed.tight;
         room = omega arith;
         below = omega arith;
         low_end = omega arith;

@@ -11,9 +11,7 @@ use Rattle.fixed_decimal_unsigned.proofs.LongLemmas.{long_count}
 
 pub zero_kept : (ds : List ℕ) (zeros count : ℕ) → IsKept ds zeros count → 0 < length ds → count < 2 ^ 63 → IsKept ds (zeros + 1) (count + 1)
 zero_kept ds zeros count k some few = record {
-  tens = k.tens;
-  first = k.first;
-  last = k.last;
+  tight = k.tight;
   none = λ e. absurd (omega arith);
   within = let w = k.within in omega arith;
   few = omega arith;
@@ -21,9 +19,7 @@ zero_kept ds zeros count k some few = record {
 
 pub zero_in_front : (ds : List ℕ) (zeros count : ℕ) → IsKept ds zeros count → count < 2 ^ 63 → IsKept ds zeros (count + 1)
 zero_in_front ds zeros count k few = record {
-  tens = k.tens;
-  first = k.first;
-  last = k.last;
+  tight = k.tight;
   none = k.none;
   within = let w = k.within in omega arith;
   few = omega arith;
@@ -60,11 +56,13 @@ first_joined (x ∷ xs) zeros d first none some = first (omega arith)
 
 pub other_kept : (ds new : List ℕ) (zeros count d : ℕ) → IsKept ds zeros count → new ≡ joined ds zeros (d ∷ []) → 0 < d → d < 10 → count < 2 ^ 63 → IsKept new 0 (count + 1)
 other_kept ds new zeros count d k e some ten few = record {
-  tens = subst (AllBelowBase 10) (sym e) (below_joined ds (replicate zeros 0 ++ d ∷ []) k.tens (zeros_below zeros (d ∷ []) (ten, tt)));
-  first = λ _. subst (λ ns. 0 < get_or ns 0 0) (sym e) (first_joined ds zeros d k.first k.none some);
-  last = λ _.
-      let digit : number_from_digits 10 new % 10 ≡ d = ap (λ n. n % 10) (other_number ds new zeros d e) ∙ mod-mul-add (number_from_digits 10 ds * 10 ^ zeros) 10 d ten in
-      omega (arith, digit);
+  tight = record {
+    tens = subst (AllBelowBase 10) (sym e) (below_joined ds (replicate zeros 0 ++ d ∷ []) k.tight.tens (zeros_below zeros (d ∷ []) (ten, tt)));
+    first = λ _. subst (λ ns. 0 < get_or ns 0 0) (sym e) (first_joined ds zeros d k.tight.first k.none some);
+    last = λ _.
+        let digit : number_from_digits 10 new % 10 ≡ d = ap (λ n. n % 10) (other_number ds new zeros d e) ∙ mod-mul-add (number_from_digits 10 ds * 10 ^ zeros) 10 d ten in
+        omega (arith, digit);
+  };
   none = λ _. refl;
   within = let w = k.within in omega (arith, ap length e, joined_length ds (d ∷ []) zeros);
   few = omega arith;
@@ -78,7 +76,7 @@ other_long ds zeros count d k some ten many =
     let value : number_from_digits 10 new ≡ n = other_number ds new zeros d refl in
     let long : length new ≡ length ds + (zeros + 1) = joined_length ds (d ∷ []) zeros in
     let digit : n % 10 ≡ d = mod-mul-add (number_from_digits 10 ds * 10 ^ zeros) 10 d ten in
-    let reach : 10 ^ (length new - 1) ≤ number_from_digits 10 new = number_reaches new (omega (arith, long)) (first_joined ds zeros d k.first k.none some) in
+    let reach : 10 ^ (length new - 1) ≤ number_from_digits 10 new = number_reaches new (omega (arith, long)) (first_joined ds zeros d k.tight.first k.none some) in
     let up : 10 ^ 8 ≤ 10 ^ (length new - 1) = tens_apart 8 (length new - 1) (omega (arith, long)) in
     long_count n 0 n (omega arith) (omega (arith, digit)) (omega (arith, reach, up, value))
 

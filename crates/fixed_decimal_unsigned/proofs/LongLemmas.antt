@@ -48,7 +48,7 @@ kept_holds ds top low high s =
     let split : 10 ^ (e + length ds) ≡ 10 ^ length ds * 10 ^ e = tens_split (length ds) e (e + length ds) swap in
     record {
       whole = mul-mod_left n (10 ^ e);
-      below = subst (λ m. n * 10 ^ e < m) (sym split) (mul-lt-mul_of_pos_right (number_lt 10 ds s.tens) (tens_positive e));
+      below = subst (λ m. n * 10 ^ e < m) (sym split) (mul-lt-mul_of_pos_right (number_lt 10 ds s.tight.tens) (tens_positive e));
     }
 
 -- a whole number of at most eight digits is not long

@@ -24,11 +24,11 @@ at_index ds i j e h = subst (λ k. 0 < get_or ds k 0) e h
 
 pub first_place : (ds : List ℕ) (top : ℕ) → IsTrimmed ds top → 0 < length ds → IsFirstPlace (count_of ds top) top
 first_place ds top h p =
-    let at : digit (count_of ds top) top ≡ get_or ds (top - top) 0 = digit_inside ds top top h.tens h.room (omega arith) (omega arith) in
-    let some : 0 < get_or ds (top - top) 0 = at_index ds 0 (top - top) (omega arith) (h.first p) in
+    let at : digit (count_of ds top) top ≡ get_or ds (top - top) 0 = digit_inside ds top top h.tight.tens h.room (omega arith) (omega arith) in
+    let some : 0 < get_or ds (top - top) 0 = at_index ds 0 (top - top) (omega arith) (h.tight.first p) in
     record {
       nonzero = omega arith;
-      highest = λ other some. ⊎_elim (λ over. let z = digit_over ds top other h.tens h.room over in absurd (omega arith)) (λ under. under) (cases_lt top other);
+      highest = λ other some. ⊎_elim (λ over. let z = digit_over ds top other h.tight.tens h.room over in absurd (omega arith)) (λ under. under) (cases_lt top other);
     }
 
 last_digit : (ds : List ℕ) → AllBelowBase 10 ds → 0 < length ds → number_from_digits 10 ds % 10 ≡ get_or ds (length ds - 1) 0
@@ -37,8 +37,8 @@ last_digit ds h p = ap (λ xs. number_from_digits 10 xs % 10) (sym (take_all (le
 pub last_place : (ds : List ℕ) (top : ℕ) → IsTrimmed ds top → 0 < length ds → IsLastPlace (count_of ds top) (top + 1 - length ds)
 last_place ds top h p =
     let room : length ds ≤ top + 1 = h.room in
-    let at : digit (count_of ds top) (top + 1 - length ds) ≡ get_or ds (top - (top + 1 - length ds)) 0 = digit_inside ds top (top + 1 - length ds) h.tens room (omega arith) (omega arith) in
-    let last : 0 < get_or ds (length ds - 1) 0 = subst (λ x. 0 < x) (last_digit ds h.tens p) (h.last p) in
+    let at : digit (count_of ds top) (top + 1 - length ds) ≡ get_or ds (top - (top + 1 - length ds)) 0 = digit_inside ds top (top + 1 - length ds) h.tight.tens room (omega arith) (omega arith) in
+    let last : 0 < get_or ds (length ds - 1) 0 = subst (λ x. 0 < x) (last_digit ds h.tight.tens p) (h.tight.last p) in
     let some : 0 < get_or ds (top - (top + 1 - length ds)) 0 = at_index ds (length ds - 1) (top - (top + 1 - length ds)) (omega arith) last in
     record {
       nonzero = omega arith;
@@ -51,7 +51,7 @@ ones_only (pos n) e = let z : n ≡ 0 = omega (arith, e) in ap pos z
 ones_only (negsuc n) e = absurd (omega (arith, e))
 
 none_kept : (ds : List ℕ) (top : ℕ) → IsTrimmed ds top → count_of ds top ≡ 0 → length ds ≡ 0
-none_kept ds top h z = ⊎_elim (λ e. e) (λ p. let some = count_positive ds top p (h.first p) in absurd (omega arith)) (eq-zero-or-pos (length ds))
+none_kept ds top h z = ⊎_elim (λ e. e) (λ p. let some = count_positive ds top p (h.tight.first p) in absurd (omega arith)) (eq-zero-or-pos (length ds))
 
 pub some_kept : (ds : List ℕ) (top : ℕ) → 0 < count_of ds top → 0 < length ds
 some_kept ds top p = ⊎_elim (λ e. let z = count_none ds top e in absurd (omega arith)) (λ h. h) (eq-zero-or-pos (length ds))
@@ -67,7 +67,7 @@ grows_at ds top low high s old e p q at far end =
     subst (λ x. MayGrowAt x old.count) at (subst (λ v. MayGrowAt p v.count) e (record {
       first =
           let up : 10 ^ (p + 8) ≤ 10 ^ top = tens_apart (p + 8) top far in
-          let reach : 10 ^ top ≤ count_of ds top = count_reaches ds top some (kept.first some) kept.room in
+          let reach : 10 ^ top ≤ count_of ds top = count_reaches ds top some (kept.tight.first some) kept.room in
           omega arith;
       last = subst (IsLastPlace (count_of ds top)) (last_is p (length ds) top end) (last_place ds top kept some);
     }))

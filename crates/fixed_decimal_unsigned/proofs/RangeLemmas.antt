@@ -15,7 +15,7 @@ use Rattle.fixed_decimal_digits.proofs.RoundingLemmas.{rounded_multiple}
 use Rattle.fixed_decimal_digits.proofs.RoundingStepLemmas.{whole_room, top_below}
 
 pub trimmed_of : (ds : List ℕ) (top low high : ℕ) → IsStored ds top low high → IsTrimmed ds top
-trimmed_of ds top low high s = record { tens = s.tens; first = s.first; last = s.last; room = let r = s.room in omega arith; zero_top = s.zero_top }
+trimmed_of ds top low high s = record { tight = s.tight; room = let r = s.room in omega arith; zero_top = s.zero_top }
 
 pub holds_length : (ds : List ℕ) (top low places : ℕ) → IsTrimmed ds top → HoldsDigits (count_of ds top) low places → length ds ≤ places
 holds_length [] top low places h d = omega arith
@@ -40,12 +40,12 @@ reaches_limit n k h l = le_through (10 ^ 65536) (10 ^ k) n (pow-le-pow_right {n 
 
 -- a count within the places, and one past them
 pub limited_same : (ds : List ℕ) (top : ℕ) → IsTrimmed ds top → top < 65536 → IsLimited (count_of ds top) (count_of ds top)
-limited_same ds top h l = inl (below_limit (count_of ds top) (top + 1) (count_below ds top h.tens h.room) (omega arith), refl)
+limited_same ds top h l = inl (below_limit (count_of ds top) (top + 1) (count_below ds top h.tight.tens h.room) (omega arith), refl)
 
 pub limited_zero : (ds new : List ℕ) (top t : ℕ) → IsTrimmed ds top → 65536 ≤ top → new ≡ [] → IsLimited (count_of ds top) (count_of new t)
 limited_zero ds new top t h l e =
     let some : 0 < length ds = ⊎_elim (λ z. let at = h.zero_top z in absurd (omega arith)) (λ p. p) (eq-zero-or-pos (length ds)) in
-    inr (reaches_limit (count_of ds top) top (count_reaches ds top some (h.first some) h.room) l, count_none new t (ap length e))
+    inr (reaches_limit (count_of ds top) top (count_reaches ds top some (h.tight.first some) h.room) l, count_none new t (ap length e))
 
 multiple_power : (c k u : ℕ) → c * (k * u) ≡ c * k * u
 multiple_power c k u = omega arith
@@ -68,7 +68,7 @@ highest_is [] top least place h l = record {
 highest_is (c ∷ cs) top least place h l = record {
   keeps = omega arith;
   position = omega arith;
-  holds = let b = count_below (c ∷ cs) top h.tens h.room in let up = tens_apart (top + 1) (max (max least (place - 1)) top + 1) (omega arith) in omega arith;
+  holds = let b = count_below (c ∷ cs) top h.tight.tens h.room in let up = tens_apart (top + 1) (max (max least (place - 1)) top + 1) (omega arith) in omega arith;
   lowest = λ x a b d. let t = top_below (c ∷ cs) top (x + 1) h (omega arith) d in omega arith;
 }
 
@@ -79,9 +79,7 @@ rounded_room (c ∷ cs) top place h w = let r = whole_room (c ∷ cs) top place 
 -- the invariant after a rounding
 pub rounded_stored : (ds : List ℕ) (top place high : ℕ) → IsTrimmed ds top → 32768 ≤ high → count_of ds top % 10 ^ place ≡ 0 → IsStored ds top (min place 32768) (max (max high (place - 1)) top)
 rounded_stored ds top place high h l w = record {
-  tens = h.tens;
-  first = h.first;
-  last = h.last;
+  tight = h.tight;
   room = rounded_room ds top place h w;
   below = omega arith;
   low_end = omega arith;

@@ -15,7 +15,7 @@ stored_is_number ds top low high s h = record {
   high = h;
   whole = let le : low ≤ top + 1 - length ds = let r = s.room in omega arith in mod_below_power (number_from_digits 10 ds) (top + 1 - length ds) low le;
   below =
-      let a : count_of ds top < 10 ^ (top + 1) = let r = s.room in count_below ds top s.tens (omega arith) in
+      let a : count_of ds top < 10 ^ (top + 1) = let r = s.room in count_below ds top s.tight.tens (omega arith) in
       let b : 10 ^ (top + 1) ≤ 10 ^ (high + 1) = let r = s.below in tens_apart (top + 1) (high + 1) (omega arith) in
       omega arith;
 }

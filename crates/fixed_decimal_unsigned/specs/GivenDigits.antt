@@ -1,8 +1,8 @@
 -- Digits given one after another, from the highest to the lowest: the number that they spell, and their count.
 -- Defined in docs/numbers.md, "Digits given".
 -- Cited by the calls of `GivenDigits`.
-use Rattle.std.specs.Prelude.{◌≡◌, ℕ, ◌+◌, ◌*◌, ◌%◌, ◌^◌, ◌<◌, ◌≤◌, List, length, slice_index}
-use Rattle.std.specs.Int.Digits.{number_from_digits, AllBelowBase}
+use Rattle.std.specs.Prelude.{◌≡◌, ℕ, ◌+◌, ◌*◌, ◌^◌, ◌≤◌, List, length}
+use Rattle.fixed_decimal_digits.specs.DigitList.{IsTight}
 
 -- the whole number that the digits spell, and their count with the zeros in front
 pub record DigitsGiven : Type 0 where
@@ -15,9 +15,7 @@ with_digit given digit = record { mantissa = given.mantissa * 10 + digit; count 
 
 -- what is kept of them: the digits from the first to the last one that is not 0, and the zeros behind
 pub record IsKept (digits : List ℕ) (zeros count : ℕ) : Type 0 where
-  pub tens : AllBelowBase 10 digits
-  pub first : 0 < length digits → 0 < slice_index digits 0
-  pub last : 0 < length digits → 0 < number_from_digits 10 digits % 10
+  pub tight : IsTight digits
   pub none : length digits ≡ 0 → zeros ≡ 0
   pub within : length digits + zeros ≤ count
   pub few : count ≤ 2 ^ 63

@@ -1,14 +1,12 @@
 -- How a number is kept: its digits from the highest to the lowest nonzero one, and the place of the first.
 -- Defined in docs/numbers.md, "The number".
 -- Cited by the invariant of `UnsignedDecimal`, and by no public clause.
-use Rattle.std.specs.Prelude.{◌≡◌, ℕ, ◌+◌, ◌%◌, ◌<◌, ◌≤◌, List, length, slice_index}
-use Rattle.std.specs.Int.Digits.{number_from_digits, AllBelowBase}
+use Rattle.std.specs.Prelude.{◌≡◌, ℕ, ◌+◌, ◌≤◌, List, length}
+use Rattle.fixed_decimal_digits.specs.DigitList.{IsTight}
 
 -- what holds of the digits and places of a value
 pub record IsStored (digits : List ℕ) (top low high : ℕ) : Type 0 where
-  pub tens : AllBelowBase 10 digits
-  pub first : 0 < length digits → 0 < slice_index digits 0
-  pub last : 0 < length digits → 0 < number_from_digits 10 digits % 10
+  pub tight : IsTight digits
   pub room : low + length digits ≤ top + 1
   pub below : top ≤ high
   pub low_end : low ≤ 32768

@@ -7,7 +7,7 @@ ghost use Rattle.fixed_decimal_unsigned.specs.NumberText.{AreDigits, spelled, Ar
 ghost use Rattle.fixed_decimal_unsigned.specs.BorrowedParts.{parts_of};
 ghost use Rattle.fixed_decimal_unsigned.specs.DigitCount.{HoldsDigits, IsLong};
 ghost use Rattle.fixed_decimal_unsigned.specs.Stored.{IsStored};
-ghost use Rattle.fixed_decimal_digits.specs.DigitList.{count_of};
+ghost use Rattle.fixed_decimal_digits.specs.DigitList.{IsTight, count_of};
 
 use crate::error::ParseError;
 use crate::short_text::{ShortText, read_short};
@@ -189,9 +189,7 @@ pub struct Places {
 
 // The places of digits of which the last is `zeros` places above the end of their mantissa.
 pub fn places_of(digits: &Digits, zeros: usize, ends: Ends) -> Places
-    requires tens { AllBelowBase 10 digits.now.items }
-    requires first { 0 < length digits.now.items → 0 < slice_index digits.now.items 0 }
-    requires last { 0 < length digits.now.items → 0 < number_from_digits 10 digits.now.items % 10 }
+    requires tight { IsTight digits.now.items }
     requires room { ends.last + zeros + length digits.now.items ≤ ends.first + 1 }
     ensures stored { IsStored digits.now.items result.top result.low result.high }
     ensures count { count_of digits.now.items result.top
@@ -213,9 +211,7 @@ pub fn places_of(digits: &Digits, zeros: usize, ends: Ends) -> Places
 
 // The number of digits of which the last is `zeros` places above the end of its mantissa.
 pub fn assembled(digits: Digits, zeros: usize, ends: Ends) -> UnsignedDecimal
-    requires tens { AllBelowBase 10 digits.items }
-    requires first { 0 < length digits.items → 0 < slice_index digits.items 0 }
-    requires last { 0 < length digits.items → 0 < number_from_digits 10 digits.items % 10 }
+    requires tight { IsTight digits.items }
     requires room { ends.last + zeros + length digits.items ≤ ends.first + 1 }
     ensures count { result.count ≡ number_from_digits 10 digits.items * 10 ^ (ends.last + zeros) }
     ensures low { result.low ≡ min 32768 ends.last }

@@ -16,7 +16,7 @@ returns-clause-value g c =
     let hundreds : number_from_digits 10 c.truncate.new.self.items ≡ count / 10 ^ place / 100 =
     ap (number_from_digits 10) c.truncate.ensures.items ∙ ap (λ xs. number_from_digits 10 (take c.saturating_sub-kept.result xs)) c.in_ok-reserve.ensures.items
     ∙ ap (λ k. number_from_digits 10 (take k old)) c.saturating_sub-kept.ensures
-    ∙ kept_number old top place c.requires.trimmed.tens c.requires.trimmed.room c.in-Some.ensures.deep in
+    ∙ kept_number old top place c.requires.trimmed.tight.tens c.requires.trimmed.room c.in-Some.ensures.deep in
     let value : count / 10 ^ place / 100 * 100 + c.in-Some.pair ≡ number_from_digits 10 new * 10 ^ c.append_pair-below.result =
     ap (λ h. h * 100 + c.in-Some.pair) (sym hundreds) ∙ c.append_pair-below.ensures.value in
     subst (IsRounded c.args.mode (increment_number c.args.increment * 10 ^ place) count)

@@ -1,4 +1,4 @@
-use Rattle.std.proofs.Common.{◌≡◌, ◌==◌, ◌+◌, ◌-◌, ◌*◌, ◌^◌, ◌||◌, min, max, cond, length, ◌++◌, subst, sym, ap, ◌∙◌, arith}
+use Rattle.std.proofs.Common.{◌≡◌, ◌==◌, ◌+◌, ◌-◌, ◌*◌, ◌^◌, ◌%◌, ◌<◌, ◌||◌, min, max, cond, length, ◌++◌, subst, sym, ap, ◌∙◌, arith}
 use Rattle.std.specs.Int.Digits.{number_from_digits}
 use Rattle.fixed_decimal_unsigned.specs.NumberText.{AreEndsIn, mantissa_of, spelled, up_of, down_of, number_at}
 use Rattle.fixed_decimal_digits.specs.DigitList.{count_of}
@@ -62,6 +62,18 @@ returns-in_err-gather-clause-kept c = λ _.
     let r = c.without_mantissa_zeros.result in
     more_mantissa (length c.args.digits.now.items) (spelled (r.0.now ++ r.1.now)) (length p.integer + length p.fraction - (length r.0.now + length r.1.now)) (length r.0.now + length r.1.now) (mantissa_of p)
     (32768 + up_of p - (length p.fraction + down_of p)) c.without_mantissa_zeros.ensures.value c.without_mantissa_zeros.ensures.last (spelled_none r.0.now r.1.now) c.in_err-gather.ensures.kept
+
+pub places_of-requires-clause-tight : goal.places_of-requires-clause-tight
+places_of-requires-clause-tight c =
+    let r = c.without_mantissa_zeros.result in
+    let items = c.gather.new.digits.items in
+    record {
+      tens = c.in_ok-gather.ensures.tens;
+      first = c.in_ok-gather.ensures.first;
+      last = λ some.
+          subst (λ n. 0 < n % 10) (sym c.in_ok-gather.ensures.value)
+          (c.without_mantissa_zeros.ensures.last (omega (arith, some, c.in_ok-gather.ensures.length)));
+    }
 
 pub returns-clause-value : goal.returns-clause-value
 returns-clause-value c =

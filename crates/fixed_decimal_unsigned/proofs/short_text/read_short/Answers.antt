@@ -8,6 +8,7 @@ use Rattle.fixed_decimal_digits.proofs.NumberWordLemmas.{spells_wide}
 use Rattle.fixed_decimal_digits.proofs.WordLemmas.{word_length}
 use Rattle.fixed_decimal_unsigned.specs.Number.{Number}
 use Rattle.fixed_decimal_unsigned.proofs.MantissaLemmas.{assembled_is, from_fields}
+use Rattle.fixed_decimal_unsigned.proofs.IntegerLemmas.{word_tight}
 use Rattle.fixed_decimal_unsigned.proofs.ShortTextLemmas.{short_ends, cut_value, cut_long}
 use Rattle.fixed_decimal_unsigned.proofs.short_text.read_short.Goals as goal
 
@@ -18,8 +19,10 @@ cut_word-cut-requires c =
     let spells : SpellsNumber s.word n (number_from_digits 10 (word_digits s.word n)) = record { fits = c.requires.fits; tens = c.requires.tens; value = refl } in
     subst (λ k. AllBelowBase 10 (word_digits s.word k)) whole (spells_wide (16 - n) s.word n (number_from_digits 10 (word_digits s.word n)) spells).tens
 
-pub places_of-requires-clause-tens : goal.places_of-requires-clause-tens
-places_of-requires-clause-tens c = subst (λ ds. AllBelowBase 10 ds) (sym c.in_ok-assign_word.ensures.items) c.cut_word-cut.ensures.cut.tens
+pub places_of-requires-clause-tight : goal.places_of-requires-clause-tight
+places_of-requires-clause-tight c =
+    let cut = c.cut_word-cut.result in
+    word_tight c.assign_word.new.self.items c.args.short.word cut.word cut.count cut.zeros c.cut_word-cut.ensures.cut c.cut_word-cut.ensures.last c.in_ok-assign_word.ensures.items
 
 pub places_of-requires-clause-room : goal.places_of-requires-clause-room
 places_of-requires-clause-room c =

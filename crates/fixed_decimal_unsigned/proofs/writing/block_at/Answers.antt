@@ -10,5 +10,5 @@ returns-then-index-len c =
     let i = c.number.inside in
     let s = c.number.invariant in
     c.block.ensures
-    ∙ ap (map character) (sym (down_inside i.digits.items i.top c.args.base 64 (i.top + 1 - (c.args.base + 64)) s.tens (room_of _ _ _ _ s) (λ _. omega arith) (λ _. omega arith)))
+    ∙ ap (map character) (sym (down_inside i.digits.items i.top c.args.base 64 (i.top + 1 - (c.args.base + 64)) s.tight.tens (room_of _ _ _ _ s) (λ _. omega arith) (λ _. omega arith)))
     ∙ ap (λ v. map character (digits_down v.count c.args.base 64)) c.number.view_is

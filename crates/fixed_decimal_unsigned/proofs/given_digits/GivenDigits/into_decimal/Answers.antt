@@ -4,6 +4,9 @@ use Rattle.fixed_decimal_unsigned.specs.NumberText.{number_at}
 use Rattle.fixed_decimal_unsigned.proofs.MantissaLemmas.{assembled_is, from_fields}
 use Rattle.fixed_decimal_unsigned.proofs.given_digits.GivenDigits.into_decimal.Goals as goal
 
+pub assembled-requires-clause-tight : goal.assembled-requires-clause-tight
+assembled-requires-clause-tight c = c.self.invariant.tight
+
 pub returns-clause-value : goal.returns-clause-value
 returns-clause-value c =
     let i = c.self.inside in
