@@ -1,13 +1,11 @@
 -- Sixteen digits that are taken and put at once, of which the first ones count.
-use Rattle.std.proofs.Common.{◌≡◌, ℕ, zero, suc, ◌+◌, ◌-◌, ◌≤◌, List, [], ◌∷◌, ◌++◌, drop, get_or, length, map, min, refl, replicate, subst, sym, take, ap, ◌∙◌, append_assoc, arith}
+use Rattle.std.proofs.Common.{◌≡◌, ℕ, zero, suc, ◌+◌, ◌-◌, ◌≤◌, List, [], ◌∷◌, ◌++◌, drop, length, map, min, refl, replicate, sym, take, ap, ◌∙◌, append_assoc, arith}
 use Rattle.std.proofs.lemmas.List.{take_all}
 use Rattle.std.specs.Int.Digits.{AllBelowBase}
-use Rattle.fixed_decimal.proofs.DigitsLemmas.{below_drop, below_take}
 use Rattle.icu_decimal_plain.specs.LaterGroups.{groups_ahead}
 use Rattle.icu_decimal_plain.specs.PlainText.{chained, digit_text}
-use Rattle.icu_decimal_plain.specs.Rows.{IsRow, row_text}
+use Rattle.icu_decimal_plain.specs.Rows.{row_text}
 use Rattle.icu_decimal_plain.proofs.DigitChunkLemmas.{block_part}
-use Rattle.icu_decimal_plain.proofs.RowLemmas.{row_digits, threes_ahead}
 
 -- Digits taken.
 
@@ -40,28 +38,23 @@ front_put nought at count text after bytes digits few within is put =
     ∙ ap (λ front. take at text ++ take count front) is
     ∙ ap (λ front. take at text ++ front) (row_front nought count digits)
 
--- the integer digits in groups of three
-pub whole_row : (nought first groups count n : ℕ) (table bytes ds block others front text : List ℕ) → IsRow nought table → AllBelowBase 10 ds → length bytes ≡ 4 → n ≡ 1 → others ≡ replicate groups 3
+-- the integer digits: the first group, and those behind it
+pub whole_put : (first count : ℕ) (separator table ds block others front text : List ℕ)
     → take first block ≡ take first ds → take (count - first) (drop first block) ≡ drop first ds
-    → front ≡ chained (map (row_text nought) (take first block))
-    → text ≡ front ++ groups_ahead (get_or bytes 0 0 ∷ []) (row_text nought) (replicate groups 3) (take (count - first) (drop first block))
-    → text ≡ chained (map (digit_text table) (take first ds)) ++ groups_ahead (take n bytes) (digit_text table) others (drop first ds)
-whole_row nought first groups count n table bytes ds block others front text row tens long one all part rest begun put =
-    let ahead : List ℕ → List ℕ = groups_ahead (get_or bytes 0 0 ∷ []) (row_text nought) (replicate groups 3) in
-    let group : front ≡ chained (map (digit_text table) (take first ds))
-    = begun ∙ ap (λ digits. chained (map (row_text nought) digits)) part ∙ row_digits nought table (take first ds) row (below_take first ds tens) in
+    → front ≡ chained (map (digit_text table) (take first block))
+    → text ≡ front ++ groups_ahead separator (digit_text table) others (take (count - first) (drop first block))
+    → text ≡ chained (map (digit_text table) (take first ds)) ++ groups_ahead separator (digit_text table) others (drop first ds)
+whole_put first count separator table ds block others front text part rest begun put =
     put
-    ∙ ap (λ digits. front ++ ahead digits) rest
-    ∙ ap (λ behind. front ++ behind) (threes_ahead nought groups n bytes table others (drop first ds) row (below_drop first ds tens) long one all)
-    ∙ ap (λ begin. begin ++ groups_ahead (take n bytes) (digit_text table) others (drop first ds)) group
+    ∙ ap (λ digits. front ++ groups_ahead separator (digit_text table) others digits) rest
+    ∙ ap (λ group. group ++ groups_ahead separator (digit_text table) others (drop first ds)) (begun ∙ ap (λ digits. chained (map (digit_text table) digits)) part)
 
 -- the separator and the fraction digits behind what is there
-pub fraction_row : (nought count : ℕ) (table ds block separator before point text : List ℕ) → IsRow nought table → AllBelowBase 10 ds → take count block ≡ take count ds
-    → point ≡ before ++ separator → text ≡ point ++ chained (map (row_text nought) (take count block))
+pub fraction_put : (count : ℕ) (table ds block separator before point text : List ℕ) → take count block ≡ take count ds
+    → point ≡ before ++ separator → text ≡ point ++ chained (map (digit_text table) (take count block))
     → text ≡ before ++ (separator ++ chained (map (digit_text table) (take count ds)))
-fraction_row nought count table ds block separator before point text row tens shown pointed put =
+fraction_put count table ds block separator before point text shown pointed put =
     put
-    ∙ ap (λ front. front ++ chained (map (row_text nought) (take count block))) pointed
-    ∙ append_assoc before separator (chained (map (row_text nought) (take count block)))
-    ∙ ap (λ digits. before ++ (separator ++ chained (map (row_text nought) digits))) shown
-    ∙ ap (λ digits. before ++ (separator ++ digits)) (row_digits nought table (take count ds) row (below_take count ds tens))
+    ∙ ap (λ front. front ++ chained (map (digit_text table) (take count block))) pointed
+    ∙ append_assoc before separator (chained (map (digit_text table) (take count block)))
+    ∙ ap (λ digits. before ++ (separator ++ chained (map (digit_text table) digits))) shown

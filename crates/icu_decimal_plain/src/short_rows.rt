@@ -1,18 +1,18 @@
-//! Short numbers whose digits are single bytes in a row: sixteen digits at most on each side of the point, in groups of
-//! three.
+//! Short numbers: sixteen digits at most on each side of the point, and few groups.
 
-ghost use Rattle.std.specs.Prelude.{◌≡◌, ◌+◌, ◌-◌, ◌<◌, ◌≤◌, ◌++◌, length, map, take, IfSome, IsUtf8};
+ghost use Rattle.std.specs.Prelude.{◌≡◌, ◌+◌, ◌-◌, ◌*◌, ◌<◌, ◌≤◌, ◌++◌, length, map, take, IfSome, IsUtf8};
 ghost use Rattle.std.specs.Int.Digits.{AllBelowBase};
 ghost use Rattle.fixed_decimal.specs.Number.{fraction_digits, whole_digits};
 ghost use Rattle.icu_decimal_plain.specs.BorrowedTables.{borrowed_tables};
 ghost use Rattle.icu_decimal_plain.specs.Pieces.{Holds};
-ghost use Rattle.icu_decimal_plain.specs.PlainText.{chained, fraction_text, unsigned_text, whole_text};
-ghost use Rattle.icu_decimal_plain.specs.Rows.{IsRow, row_text};
+ghost use Rattle.icu_decimal_plain.specs.PlainText.{chained, digit_text, fraction_text, unsigned_text, whole_text};
+ghost use Rattle.icu_decimal_plain.specs.Rows.{row_text};
 
 use crate::digit_chunks::set_block;
-use crate::rows::{put_row, put_threes};
+use crate::piece_tables::DigitTable;
+use crate::rows::put_row;
 use crate::tables::DecimalTables;
-use crate::text_pieces::{Piece, put_piece};
+use crate::text_pieces::{Piece, put_digit_pieces, put_groups, put_piece};
 use crate::writing::{fraction_len, highest};
 use fixed_decimal::{ShownDigits, UnsignedDecimal};
 use icu_decimal_grouping::GroupSizes;
@@ -20,8 +20,11 @@ use icu_decimal_grouping::GroupSizes;
 // How many digits are taken at once.
 const BLOCK: u16 = 16;
 
-// The bytes that a short text may have.
-pub(crate) const SHORT: usize = 64;
+// How many groups there may be behind the first.
+const GROUPS: usize = 7;
+
+// The bytes that a short text may have: four for each digit, each separator between groups and the decimal separator.
+pub(crate) const SHORT: usize = 160;
 
 // The digits that are left, sixteen at most, and others behind them, which mean nothing.
 #[inline(always)]
@@ -55,48 +58,52 @@ fn put_front(
     len: usize,
     digits: &[u8; 16],
     count: usize,
-    nought: u8,
+    table: &DigitTable<'_>,
 ) -> usize
-    requires room { len + 16 ≤ 64 }
+    requires room { len + 64 ≤ 160 }
     requires few { count ≤ 16 }
-    requires small { nought + 9 < 128 }
     requires tens { AllBelowBase 10 digits.now }
-    ensures text { take result text.new ≡ take len text.old ++ chained (map (row_text nought) (take count digits.now)) }
-    ensures room { result ≡ len + count }
+    ensures text { take result text.new
+        ≡ take len text.old ++ chained (map (digit_text table.now.chars.now) (take count digits.now)) }
+    ensures room { result ≤ len + 4 * count }
 {
-    let bytes = row_bytes(digits, nought);
-    set_block(text, len, &bytes);
-    len + count
+    if let Some(nought) = table.nought {
+        let bytes = row_bytes(digits, nought);
+        set_block(text, len, &bytes);
+        return len + count;
+    }
+    put_digit_pieces(text, len, &digits[..count], table)
 }
 
-// Puts the integer digits in their groups to the front. `None`: a group behind the first has not three digits.
+// Puts the integer digits in their groups to the front. `None`: there are more groups than are put at once.
 #[inline(always)]
 fn put_whole(
     text: &mut [u8; SHORT],
     tables: &DecimalTables<'_>,
     separator: Piece,
-    nought: u8,
     number: &UnsignedDecimal,
 ) -> Option<usize>
     requires separator { Holds separator (borrowed_tables tables.now).symbols.strings.grouping_separator }
-    requires one { separator.len ≡ 1 }
-    requires row { IsRow nought (borrowed_tables tables.now).digits }
     requires few { number.now.high - 32767 ≤ 16 }
     ensures text { IfSome result
         (λ len. take len text.new ≡ whole_text (borrowed_tables tables.now) (whole_digits number.now)) }
     ensures utf8 { IfSome result (λ len. ∥ IsUtf8 (take len text.new) ∥₁) }
-    ensures room { IfSome result (λ len. len ≤ 24) }
+    ensures room { IfSome result (λ len. len ≤ 92) }
 {
     let count = highest(number) + 1;
     let symbols = tables.symbols.symbols;
+    let table = &tables.digits;
     let mut sizes = GroupSizes::of(count, tables.strategy, symbols.grouping_sizes);
     let first = sizes.next().unwrap_or(0);
-    let groups = sizes.threes()?;
+    let groups = sizes.groups();
+    if groups > GROUPS {
+        return None;
+    }
     let mut digits = number.whole_digits();
     let block = block_of(&mut digits);
-    put_front(text, 0, &block, first, nought);
+    let len = put_front(text, 0, &block, first, table);
     let behind = &block[first..count as usize];
-    Some(put_threes(text, first, separator.bytes[0], behind, groups, nought))
+    Some(put_groups(text, len, separator, behind, &mut sizes, table))
 }
 
 // Puts the decimal separator and the fraction digits, where there are any, behind the first `len` bytes, and returns
@@ -107,18 +114,16 @@ fn put_fraction(
     len: usize,
     tables: &DecimalTables<'_>,
     separator: Piece,
-    nought: u8,
     number: &UnsignedDecimal,
 ) -> usize
-    requires room { len ≤ 24 }
+    requires room { len ≤ 92 }
     requires separator { Holds separator (borrowed_tables tables.now).symbols.strings.decimal_separator }
-    requires row { IsRow nought (borrowed_tables tables.now).digits }
     requires few { 32768 - number.now.low ≤ 16 }
     requires utf8 { ∥ IsUtf8 (take len text.old) ∥₁ }
     ensures text { take result text.new
         ≡ take len text.old ++ fraction_text (borrowed_tables tables.now) (fraction_digits number.now) }
     ensures utf8 { ∥ IsUtf8 (take result text.new) ∥₁ }
-    ensures room { result ≤ 64 }
+    ensures room { result ≤ 160 }
 {
     let count = fraction_len(number) as usize;
     if count == 0 {
@@ -127,11 +132,11 @@ fn put_fraction(
     let from = put_piece(text, len, separator);
     let mut digits = number.fraction_digits();
     let block = block_of(&mut digits);
-    put_front(text, from, &block, count, nought)
+    put_front(text, from, &block, count, &tables.digits)
 }
 
-// Puts the text of a number to the front, and returns how many bytes it has. `None`: it has more digits than are put at
-// once, its digits are not single bytes in a row, or a group separator has more than one.
+// Puts the text of a number to the front, and returns how many bytes it has. `None`: it has more digits or groups than
+// are put at once, or a separator has more than four bytes.
 #[inline(always)]
 pub(crate) fn put_short(
     text: &mut [u8; SHORT],
@@ -140,16 +145,12 @@ pub(crate) fn put_short(
 ) -> Option<usize>
     ensures text { IfSome result (λ len. take len text.new ≡ unsigned_text (borrowed_tables tables.now) number.now) }
     ensures utf8 { IfSome result (λ len. ∥ IsUtf8 (take len text.new) ∥₁) }
-    ensures room { IfSome result (λ len. len ≤ 64) }
+    ensures room { IfSome result (λ len. len ≤ 160) }
 {
     if highest(number) >= BLOCK || fraction_len(number) > BLOCK {
         return None;
     }
-    let nought = tables.digits.nought?;
     let separators = tables.symbols.separators?;
-    if separators.group.len != 1 {
-        return None;
-    }
-    let len = put_whole(text, tables, separators.group, nought, number)?;
-    Some(put_fraction(text, len, tables, separators.decimal, nought, number))
+    let len = put_whole(text, tables, separators.group, number)?;
+    Some(put_fraction(text, len, tables, separators.decimal, number))
 }
