@@ -1,4 +1,4 @@
-//! Short numbers: sixteen digits at most on each side of the point, and few groups.
+//! Short numbers: sixteen digits at most on each side of the point.
 
 ghost use Rattle.std.specs.Prelude.{◌≡◌, ◌+◌, ◌-◌, ◌*◌, ◌<◌, ◌≤◌, ◌++◌, length, map, take, IfSome, IsUtf8};
 ghost use Rattle.std.specs.Int.Digits.{AllBelowBase};
@@ -20,11 +20,9 @@ use icu_decimal_grouping::GroupSizes;
 // How many digits are taken at once.
 const BLOCK: u16 = 16;
 
-// How many groups there may be behind the first.
-const GROUPS: usize = 7;
-
-// The bytes that a short text may have: four for each digit, each separator between groups and the decimal separator.
-pub(crate) const SHORT: usize = 160;
+// The bytes that a short text may have: four for each of 32 digits, for 15 separators between groups, and for that before
+// the fraction.
+pub(crate) const SHORT: usize = 192;
 
 // The digits that are left, sixteen at most, and others behind them, which mean nothing.
 #[inline(always)]
@@ -60,7 +58,7 @@ fn put_front(
     count: usize,
     table: &DigitTable<'_>,
 ) -> usize
-    requires room { len + 64 ≤ 160 }
+    requires room { len + 64 ≤ 192 }
     requires few { count ≤ 16 }
     requires tens { AllBelowBase 10 digits.now }
     ensures text { take result text.new
@@ -75,35 +73,30 @@ fn put_front(
     put_digit_pieces(text, len, &digits[..count], table)
 }
 
-// Puts the integer digits in their groups to the front. `None`: there are more groups than are put at once.
+// Puts the integer digits in their groups to the front, and returns how many bytes they have.
 #[inline(always)]
 fn put_whole(
     text: &mut [u8; SHORT],
     tables: &DecimalTables<'_>,
     separator: Piece,
     number: &UnsignedDecimal,
-) -> Option<usize>
+) -> usize
     requires separator { Holds separator (borrowed_tables tables.now).symbols.strings.grouping_separator }
     requires few { number.now.high - 32767 ≤ 16 }
-    ensures text { IfSome result
-        (λ len. take len text.new ≡ whole_text (borrowed_tables tables.now) (whole_digits number.now)) }
-    ensures utf8 { IfSome result (λ len. ∥ IsUtf8 (take len text.new) ∥₁) }
-    ensures room { IfSome result (λ len. len ≤ 92) }
+    ensures text { take result text.new ≡ whole_text (borrowed_tables tables.now) (whole_digits number.now) }
+    ensures utf8 { ∥ IsUtf8 (take result text.new) ∥₁ }
+    ensures room { result ≤ 124 }
 {
     let count = highest(number) + 1;
     let symbols = tables.symbols.symbols;
     let table = &tables.digits;
     let mut sizes = GroupSizes::of(count, tables.strategy, symbols.grouping_sizes);
     let first = sizes.next().unwrap_or(0);
-    let groups = sizes.groups();
-    if groups > GROUPS {
-        return None;
-    }
     let mut digits = number.whole_digits();
     let block = block_of(&mut digits);
     let len = put_front(text, 0, &block, first, table);
     let behind = &block[first..count as usize];
-    Some(put_groups(text, len, separator, behind, &mut sizes, table))
+    put_groups(text, len, separator, behind, &mut sizes, table)
 }
 
 // Puts the decimal separator and the fraction digits, where there are any, behind the first `len` bytes, and returns
@@ -116,14 +109,14 @@ fn put_fraction(
     separator: Piece,
     number: &UnsignedDecimal,
 ) -> usize
-    requires room { len ≤ 92 }
+    requires room { len ≤ 124 }
     requires separator { Holds separator (borrowed_tables tables.now).symbols.strings.decimal_separator }
     requires few { 32768 - number.now.low ≤ 16 }
     requires utf8 { ∥ IsUtf8 (take len text.old) ∥₁ }
     ensures text { take result text.new
         ≡ take len text.old ++ fraction_text (borrowed_tables tables.now) (fraction_digits number.now) }
     ensures utf8 { ∥ IsUtf8 (take result text.new) ∥₁ }
-    ensures room { result ≤ 160 }
+    ensures room { result ≤ 192 }
 {
     let count = fraction_len(number) as usize;
     if count == 0 {
@@ -135,8 +128,8 @@ fn put_fraction(
     put_front(text, from, &block, count, &tables.digits)
 }
 
-// Puts the text of a number to the front, and returns how many bytes it has. `None`: it has more digits or groups than
-// are put at once, or a separator has more than four bytes.
+// Puts the text of a number to the front, and returns how many bytes it has. `None`: it has more digits than are put at
+// once, or a separator has more than four bytes.
 #[inline(always)]
 pub(crate) fn put_short(
     text: &mut [u8; SHORT],
@@ -145,12 +138,12 @@ pub(crate) fn put_short(
 ) -> Option<usize>
     ensures text { IfSome result (λ len. take len text.new ≡ unsigned_text (borrowed_tables tables.now) number.now) }
     ensures utf8 { IfSome result (λ len. ∥ IsUtf8 (take len text.new) ∥₁) }
-    ensures room { IfSome result (λ len. len ≤ 160) }
+    ensures room { IfSome result (λ len. len ≤ 192) }
 {
     if highest(number) >= BLOCK || fraction_len(number) > BLOCK {
         return None;
     }
     let separators = tables.symbols.separators?;
-    let len = put_whole(text, tables, separators.group, number)?;
+    let len = put_whole(text, tables, separators.group, number);
     Some(put_fraction(text, len, tables, separators.decimal, number))
 }

@@ -4,7 +4,7 @@ use Rattle.std.specs.Int.Digits.{AllBelowBase}
 use Rattle.fixed_decimal.proofs.DigitsLemmas.{below_drop, below_take}
 use Rattle.icu_decimal_plain.specs.BorrowedTables.{borrowed_tables}
 use Rattle.icu_decimal_grouping.specs.Grouper.{group_sizes}
-use Rattle.icu_decimal_plain.proofs.DigitChunkLemmas.{length_down, part_shown, rest_shown, sizes_split}
+use Rattle.icu_decimal_plain.proofs.DigitChunkLemmas.{few_others, length_down, part_shown, rest_shown, sizes_split}
 use Rattle.icu_decimal_plain.proofs.PieceLemmas.{utf8_digits, utf8_groups}
 use Rattle.icu_decimal_plain.proofs.PlainTextLemmas.{grouped_text, tens_down}
 use Rattle.icu_decimal_plain.proofs.ShortRowLemmas.{front_shown, whole_put}
@@ -60,9 +60,8 @@ put_groups-requires c =
     let size = ap length rest ∙ length-drop first ds in
     let tens = subst (AllBelowBase 10) (sym c.whole_digits-digits.ensures) (tens_down v.count 32768 (v.high - 32767)) in
     let put = c.put_front-len.ensures.room in
-    let groups = c.groups-groups.ensures.value in
-    let within = c.if-groups-gt-GROUPS.false in
-    let room : c.put_front-len.result + 4 * (length (take (count - first) (drop first block)) + length others) ≤ 160 = omega (arith, size, split, long, value, few, put, groups, within) in
+    let few_groups = few_others t.strategy t.symbols.grouping_sizes count c.of-sizes.result others c.next.result (omega arith) cut c.next.ensures.steps in
+    let room : c.put_front-len.result + 4 * (length (take (count - first) (drop first block)) + length others) ≤ 192 = omega (arith, size, split, long, value, few, put, few_groups) in
     let whole : sum others ≡ length (take (count - first) (drop first block)) = omega (arith, size, split, long, value) in
     (omega arith, (room, (whole, (c.requires.separator.long, (c.requires.separator.short, subst (AllBelowBase 10) (sym rest) (below_drop first ds tens))))))
 
@@ -131,6 +130,5 @@ returns-clause-room c =
     let size = ap length rest ∙ length-drop first ds in
     let put = c.put_front-len.ensures.room in
     let all = c.put_groups.ensures.room in
-    let groups = c.groups-groups.ensures.value in
-    let within = c.if-groups-gt-GROUPS.false in
-    omega (arith, size, split, long, value, few, put, groups, within, all)
+    let few_groups = few_others t.strategy t.symbols.grouping_sizes count c.of-sizes.result others c.next.result (omega arith) cut c.next.ensures.steps in
+    omega (arith, size, split, long, value, few, put, few_groups, all)
