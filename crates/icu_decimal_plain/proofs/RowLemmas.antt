@@ -1,5 +1,5 @@
 -- Digits that are single bytes in a row.
-use Rattle.std.proofs.Common.{◌≡◌, ℕ, zero, suc, ◌+◌, ◌-◌, ◌*◌, ◌<◌, ◌≤◌, List, [], ◌∷◌, ◌++◌, drop, encode_utf8, get_or, length, map, refl, replicate, set, slice_index, sym, take, ap, ◌∙◌, append_assoc, arith}
+use Rattle.std.proofs.Common.{◌≡◌, ℕ, suc, ◌+◌, ◌-◌, ◌*◌, ◌<◌, ◌≤◌, List, [], ◌∷◌, ◌++◌, drop, encode_utf8, get_or, length, map, refl, replicate, set, slice_index, sym, take, ap, ◌∙◌, append_assoc, arith}
 use Rattle.std.proofs.lemmas.Grind.{take-set_at}
 use Rattle.std.proofs.lemmas.List.{drop_all, drop_more}
 use Rattle.std.proofs.lemmas.Str.{encode_ascii}
@@ -27,7 +27,7 @@ row_digits nought table (d ∷ ds) row tens =
     ap (λ text. text ++ chained (map (row_text nought) ds)) (sym (row.bytes d tens.0))
     ∙ ap (λ text. digit_text table d ++ text) (row_digits nought table ds row tens.1)
 
-row_ahead : (nought : ℕ) (separator table ns ds : List ℕ) → IsRow nought table → AllBelowBase 10 ds
+pub row_ahead : (nought : ℕ) (separator table ns ds : List ℕ) → IsRow nought table → AllBelowBase 10 ds
     → groups_ahead separator (row_text nought) ns ds ≡ groups_ahead separator (digit_text table) ns ds
 row_ahead nought separator table [] ds row tens = refl
 row_ahead nought separator table (n ∷ ns) ds row tens =

@@ -1,18 +1,19 @@
 //! Short numbers: sixteen digits at most on each side of the point.
 
-ghost use Rattle.std.specs.Prelude.{◌≡◌, ◌+◌, ◌-◌, ◌*◌, ◌<◌, ◌≤◌, ◌++◌, length, map, take, IfSome, IsUtf8};
+ghost use Rattle.std.specs.Prelude.{◌≡◌, ◌+◌, ◌-◌, ◌*◌, ◌<◌, ◌≤◌, ◌++◌, drop, length, map, sum, take, IfSome, IsUtf8};
 ghost use Rattle.std.specs.Int.Digits.{AllBelowBase};
 ghost use Rattle.fixed_decimal.specs.Number.{fraction_digits, whole_digits};
 ghost use Rattle.icu_decimal_plain.specs.BorrowedTables.{borrowed_tables};
+ghost use Rattle.icu_decimal_plain.specs.LaterGroups.{groups_ahead};
 ghost use Rattle.icu_decimal_plain.specs.Pieces.{Holds};
 ghost use Rattle.icu_decimal_plain.specs.PlainText.{chained, digit_text, fraction_text, unsigned_text, whole_text};
-ghost use Rattle.icu_decimal_plain.specs.Rows.{row_text};
+ghost use Rattle.icu_decimal_plain.specs.Rows.{byte_text, row_text};
 
 use crate::digit_chunks::set_block;
 use crate::piece_tables::DigitTable;
-use crate::rows::put_row;
+use crate::rows::{put_row, put_threes};
 use crate::tables::DecimalTables;
-use crate::text_pieces::{Piece, put_digit_pieces, put_groups, put_piece};
+use crate::text_pieces::{Piece, put_any_groups, put_digit_pieces, put_piece};
 use crate::writing::{fraction_len, highest};
 use fixed_decimal::{ShownDigits, UnsignedDecimal};
 use icu_decimal_grouping::GroupSizes;
@@ -73,19 +74,108 @@ fn put_front(
     put_digit_pieces(text, len, &digits[..count], table)
 }
 
-// Puts the integer digits in their groups to the front, and returns how many bytes they have.
+// Sixteen digits as bytes, and four more behind them.
+#[inline(always)]
+fn row_words(digits: &[u8; 16], nought: u8) -> [u8; 20]
+    requires small { nought + 9 < 128 }
+    requires tens { AllBelowBase 10 digits.now }
+    ensures { take 16 result ≡ chained (map (row_text nought) digits.now) }
+{
+    let mut bytes = [0; 20];
+    put_row(&mut bytes, 0, digits, nought);
+    bytes
+}
+
+// Puts groups of one to four bytes, each with the separator before it, behind the first `len` bytes, and returns how many
+// bytes there are then. `None`: a group has more.
+#[inline(never)]
+fn put_words(
+    text: &mut [u8; SHORT],
+    len: usize,
+    separator: Piece,
+    bytes: &[u8; 20],
+    from: usize,
+    sizes: &mut GroupSizes,
+) -> Option<usize>
+    requires room { len + 4 * (sum sizes.old + length sizes.old) ≤ 192 }
+    requires within { from + sum sizes.old ≤ 16 }
+    requires long { length separator.bytes ≡ 4 }
+    requires short { separator.len ≤ 4 }
+    ensures text { IfSome result (λ end. take end text.new
+        ≡ take len text.old
+        ++ groups_ahead (take separator.len separator.bytes) byte_text sizes.old (drop from bytes.now)) }
+    ensures room { IfSome result (λ end. end ≤ len + 4 * (sum sizes.old + length sizes.old)) }
+{
+    let mut len = len;
+    let mut at = from;
+    while let Some(size) = sizes.next() {
+        if size == 0 || size > 4 {
+            return None;
+        }
+        let word = Piece {
+            bytes: [bytes[at], bytes[at + 1], bytes[at + 2], bytes[at + 3]],
+            len: size as u8,
+        };
+        len = put_piece(text, len, separator);
+        len = put_piece(text, len, word);
+        at += size;
+    }
+    Some(len)
+}
+
+// Puts the digits behind the first group, each group with the separator before it, behind the first `len` bytes, and
+// returns how many bytes there are then. `None`: a group has more digits than are put at once.
+#[inline(always)]
+fn put_behind(
+    text: &mut [u8; SHORT],
+    len: usize,
+    separator: Piece,
+    digits: &[u8; 16],
+    first: usize,
+    count: usize,
+    sizes: &mut GroupSizes,
+    table: &DigitTable<'_>,
+) -> Option<usize>
+    requires room { len + 4 * (count - first + length sizes.old) ≤ 192 }
+    requires within { count ≤ 16 }
+    requires whole { first + sum sizes.old ≡ count }
+    requires long { length separator.bytes ≡ 4 }
+    requires short { separator.len ≤ 4 }
+    requires tens { AllBelowBase 10 digits.now }
+    ensures text { IfSome result (λ end. take end text.new
+        ≡ take len text.old
+        ++ groups_ahead (take separator.len separator.bytes) (digit_text table.now.chars.now) sizes.old
+        (take (count - first) (drop first digits.now))) }
+    ensures room { IfSome result (λ end. end ≤ len + 4 * (count - first + length sizes.old)) }
+{
+    let behind = &digits[first..count];
+    let Some(nought) = table.nought else {
+        return Some(put_any_groups(text, len, separator, behind, sizes, table));
+    };
+    if separator.len == 1 {
+        if let Some(groups) = sizes.threes() {
+            return Some(put_threes(text, len, separator.bytes[0], behind, groups, nought));
+        }
+    }
+    let words = row_words(digits, nought);
+    put_words(text, len, separator, &words, first, sizes)
+}
+
+// Puts the integer digits in their groups to the front, and returns how many bytes they have. `None`: a group behind the
+// first has more digits than are put at once.
 #[inline(always)]
 fn put_whole(
     text: &mut [u8; SHORT],
     tables: &DecimalTables<'_>,
     separator: Piece,
     number: &UnsignedDecimal,
-) -> usize
+) -> Option<usize>
     requires separator { Holds separator (borrowed_tables tables.now).symbols.strings.grouping_separator }
     requires few { number.now.high - 32767 ≤ 16 }
-    ensures text { take result text.new ≡ whole_text (borrowed_tables tables.now) (whole_digits number.now) }
-    ensures utf8 { ∥ IsUtf8 (take result text.new) ∥₁ }
-    ensures room { result ≤ 124 }
+    ensures text { IfSome result
+        (λ len. take len text.new ≡ whole_text (borrowed_tables tables.now) (whole_digits number.now)) }
+    ensures utf8 { IfSome result (λ len. ∥ IsUtf8 (take len text.new) ∥₁) }
+    ensures room { IfSome result (λ len. len ≤ 124) }
 {
     let count = highest(number) + 1;
     let symbols = tables.symbols.symbols;
@@ -95,8 +185,17 @@ fn put_whole(
     let mut digits = number.whole_digits();
     let block = block_of(&mut digits);
     let len = put_front(text, 0, &block, first, table);
-    let behind = &block[first..count as usize];
-    put_groups(text, len, separator, behind, &mut sizes, table)
+    let end = put_behind(
+        text,
+        len,
+        separator,
+        &block,
+        first,
+        count as usize,
+        &mut sizes,
+        table,
+    )?;
+    Some(end)
 }
 
 // Puts the decimal separator and the fraction digits, where there are any, behind the first `len` bytes, and returns
@@ -129,7 +228,7 @@ fn put_fraction(
 }
 
 // Puts the text of a number to the front, and returns how many bytes it has. `None`: it has more digits than are put at
-// once, or a separator has more than four bytes.
+// once, or a group behind the first has, or a separator has more than four bytes.
 #[inline(always)]
 pub(crate) fn put_short(
     text: &mut [u8; SHORT],
@@ -144,6 +243,6 @@ pub(crate) fn put_short(
         return None;
     }
     let separators = tables.symbols.separators?;
-    let len = put_whole(text, tables, separators.group, number);
+    let len = put_whole(text, tables, separators.group, number)?;
     Some(put_fraction(text, len, tables, separators.decimal, number))
 }

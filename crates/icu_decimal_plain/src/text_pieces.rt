@@ -168,7 +168,7 @@ pub(crate) fn put_digits<const N: usize>(
 // Puts groups of any sizes, each with the separator before it, behind the first `len` bytes, and returns how many bytes
 // there are then.
 #[inline(never)]
-fn put_any_groups<const N: usize>(
+pub(crate) fn put_any_groups<const N: usize>(
     waiting: &mut [u8; N],
     len: usize,
     separator: Piece,

@@ -1,4 +1,4 @@
-use Rattle.std.proofs.Common.{◌≡◌, ◌+◌, ◌-◌, ◌*◌, ◌≤◌, ◌∙◌, IsUtf8, ap, arith, drop, length, length-drop, refl, subst, sum, sym, take}
+use Rattle.std.proofs.Common.{◌≡◌, ◌+◌, ◌-◌, ◌∙◌, IsUtf8, ap, arith, drop, length, refl, subst, sym, take}
 use Rattle.std.proofs.lemmas.Str.{IsUtf8-append, IsUtf8-had}
 use Rattle.std.specs.Int.Digits.{AllBelowBase}
 use Rattle.fixed_decimal.proofs.DigitsLemmas.{below_drop, below_take}
@@ -41,29 +41,27 @@ put_front-len-requires c =
       tens = c.block_of-block.ensures.tens;
     }
 
-pub put_groups-requires : goal.put_groups-requires
-put_groups-requires c =
+pub put_behind-requires : goal.put_behind-requires
+put_behind-requires c =
     let t = borrowed_tables c.args.tables.now in
     let v = c.args.number.now in
     let count = c.highest-count.result + 1 in
-    let ds = c.whole_digits-digits.result in
     let first = c.unwrap_or-first.result in
     let others = c.next.new.self in
-    let block = c.block_of-block.result in
     let value = c.highest-count.ensures.value in
     let few = c.requires.few in
     let cut : c.of-sizes.result ≡ group_sizes t.strategy t.symbols.grouping_sizes count = rw (← c.symbols.view_is) c.of-sizes.ensures in
     let split = sizes_split t.strategy t.symbols.grouping_sizes count first c.of-sizes.result others c.next.result (omega arith) cut c.next.ensures.steps c.unwrap_or-first.ensures in
-    let long = ap length c.whole_digits-digits.ensures ∙ length_down v.count 32768 (v.high - 32767) in
-    let shown = front_shown ds block count (omega (arith, long, value)) c.block_of-block.ensures.front in
-    let rest = rest_shown ds block first count (omega (arith, split)) (omega (arith, long, value)) shown in
-    let size = ap length rest ∙ length-drop first ds in
-    let tens = subst (AllBelowBase 10) (sym c.whole_digits-digits.ensures) (tens_down v.count 32768 (v.high - 32767)) in
-    let put = c.put_front-len.ensures.room in
     let few_groups = few_others t.strategy t.symbols.grouping_sizes count c.of-sizes.result others c.next.result (omega arith) cut c.next.ensures.steps in
-    let room : c.put_front-len.result + 4 * (length (take (count - first) (drop first block)) + length others) ≤ 192 = omega (arith, size, split, long, value, few, put, few_groups) in
-    let whole : sum others ≡ length (take (count - first) (drop first block)) = omega (arith, size, split, long, value) in
-    (omega arith, (room, (whole, (c.requires.separator.long, (c.requires.separator.short, subst (AllBelowBase 10) (sym rest) (below_drop first ds tens))))))
+    let put = c.put_front-len.ensures.room in
+    record {
+      room = omega (arith, split, value, few, put, few_groups);
+      within = omega (arith, value, few);
+      whole = split;
+      long = c.requires.separator.long;
+      short = c.requires.separator.short;
+      tens = c.block_of-block.ensures.tens;
+    }
 
 pub returns-clause-text : goal.returns-clause-text
 returns-clause-text c =
@@ -82,8 +80,8 @@ returns-clause-text c =
     let shown = front_shown ds block count (omega (arith, long, value)) c.block_of-block.ensures.front in
     let part = part_shown ds block first count (omega (arith, split)) shown in
     let rest = rest_shown ds block first count (omega (arith, split)) (omega (arith, long, value)) shown in
-    whole_put first count separator t.digits ds block others (take c.put_front-len.result c.put_front-len.new.text) (take c.put_groups.result c.put_groups.new.waiting)
-    part rest c.put_front-len.ensures.text c.put_groups.ensures.text
+    whole_put first count separator t.digits ds block others (take c.put_front-len.result c.put_front-len.new.text) (take c.in_ok-end.end c.put_behind.new.text)
+    part rest c.put_front-len.ensures.text c.in_ok-end.ensures.text
     ∙ sym (grouped_text t v count first c.of-sizes.result others ds (drop first ds) separator c.next.result (omega (arith, value)) cut c.next.ensures.steps c.unwrap_or-first.ensures c.whole_digits-digits.ensures refl c.requires.separator.is)
 
 pub returns-clause-utf8 : goal.returns-clause-utf8
@@ -105,8 +103,8 @@ returns-clause-utf8 c =
     let part = part_shown ds block first count (omega (arith, split)) shown in
     let rest = rest_shown ds block first count (omega (arith, split)) (omega (arith, long, value)) shown in
     let tens = subst (AllBelowBase 10) (sym c.whole_digits-digits.ensures) (tens_down v.count 32768 (v.high - 32767)) in
-    let text = whole_put first count separator t.digits ds block others (take c.put_front-len.result c.put_front-len.new.text) (take c.put_groups.result c.put_groups.new.waiting)
-    part rest c.put_front-len.ensures.text c.put_groups.ensures.text in
+    let text = whole_put first count separator t.digits ds block others (take c.put_front-len.result c.put_front-len.new.text) (take c.in_ok-end.end c.put_behind.new.text)
+    part rest c.put_front-len.ensures.text c.in_ok-end.ensures.text in
     let fine = subst IsUtf8 (sym c.requires.separator.is) (IsUtf8-had _ c.requires.separator.utf8) in
     ∣ rw text (IsUtf8-append _ _ (utf8_digits t.digits (take first ds) (λ d below. IsUtf8-had _ (table.held d below).utf8) (below_take first ds tens))
     (utf8_groups separator t.digits others (drop first ds) fine (λ d below. IsUtf8-had _ (table.held d below).utf8) (below_drop first ds tens))) ∣₁
@@ -116,19 +114,13 @@ returns-clause-room c =
     let t = borrowed_tables c.args.tables.now in
     let v = c.args.number.now in
     let count = c.highest-count.result + 1 in
-    let ds = c.whole_digits-digits.result in
     let first = c.unwrap_or-first.result in
     let others = c.next.new.self in
-    let block = c.block_of-block.result in
     let value = c.highest-count.ensures.value in
     let few = c.requires.few in
     let cut : c.of-sizes.result ≡ group_sizes t.strategy t.symbols.grouping_sizes count = rw (← c.symbols.view_is) c.of-sizes.ensures in
     let split = sizes_split t.strategy t.symbols.grouping_sizes count first c.of-sizes.result others c.next.result (omega arith) cut c.next.ensures.steps c.unwrap_or-first.ensures in
-    let long = ap length c.whole_digits-digits.ensures ∙ length_down v.count 32768 (v.high - 32767) in
-    let shown = front_shown ds block count (omega (arith, long, value)) c.block_of-block.ensures.front in
-    let rest = rest_shown ds block first count (omega (arith, split)) (omega (arith, long, value)) shown in
-    let size = ap length rest ∙ length-drop first ds in
-    let put = c.put_front-len.ensures.room in
-    let all = c.put_groups.ensures.room in
     let few_groups = few_others t.strategy t.symbols.grouping_sizes count c.of-sizes.result others c.next.result (omega arith) cut c.next.ensures.steps in
-    omega (arith, size, split, long, value, few, put, few_groups, all)
+    let put = c.put_front-len.ensures.room in
+    let end = c.in_ok-end.ensures.room in
+    omega (arith, split, value, few, put, few_groups, end)
