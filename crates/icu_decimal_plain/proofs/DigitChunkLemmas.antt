@@ -1,5 +1,5 @@
 -- The digits of a number taken in chunks.
-use Rattle.std.proofs.Common.{◌≡◌, ℕ, zero, suc, ◌+◌, ◌-◌, ◌<◌, ◌≤◌, List, [], ◌∷◌, ◌++◌, Option, None, Some, drop, length, min, refl, sum, take, ap, ◌∙◌, sym, arith, length-drop}
+use Rattle.std.proofs.Common.{◌≡◌, ℕ, zero, suc, ◌+◌, ◌-◌, ◌<◌, ◌≤◌, List, [], ◌∷◌, ◌++◌, Option, None, Some, drop, length, min, refl, subst, sum, take, ap, ◌∙◌, sym, arith, length-drop}
 use Rattle.std.proofs.lemmas.List.{drop-take, length-take-le, take_all, take-take}
 use Rattle.std.proofs.lemmas.List.Sums.{sum_by-cons}
 use Rattle.std.proofs.Math.Seq.{take-add, take-append-add}
@@ -8,7 +8,7 @@ use Rattle.icu_decimal_symbols.specs.declared.grouping_sizes.GroupingSizes.{Grou
 use Rattle.icu_decimal_symbols.specs.declared.options.GroupingStrategy.{GroupingStrategy}
 use Rattle.fixed_decimal.specs.Number.{digits_down}
 use Rattle.icu_decimal_grouping.specs.Grouper.{group_sizes}
-use Rattle.icu_decimal_grouping.proofs.GrouperLemmas.{are_sizes}
+use Rattle.icu_decimal_grouping.proofs.GrouperLemmas.{AllAbove, are_sizes}
 
 -- of a block that was put the first few
 pub block_part : (chunk after block shown : List ℕ) (at n : ℕ) → n ≤ 16 → at ≤ length chunk
@@ -70,6 +70,27 @@ sizes_split t s d size sizes others (Some n) some cut next is =
     let all : sum sizes ≡ d = ap sum cut ∙ whole in
     let parts : sum sizes ≡ n + sum others = ap sum next ∙ sum_by-cons (λ x. x) n others in
     omega (arith, all, parts, is)
+
+-- groups of one digit or more are as many as their digits at most
+few_sizes : (sizes : List ℕ) → AllAbove sizes → length sizes ≤ sum sizes
+few_sizes [] above = omega arith
+few_sizes (n ∷ sizes) above =
+    let some = above.0 in
+    let rest = few_sizes sizes above.1 in
+    let all = sum_by-cons (λ x. x) n sizes in
+    omega (arith, some, rest, all)
+
+pub few_others : (t : GroupingStrategy) (s : GroupingSizes) (d : ℕ) (sizes others : List ℕ) (first : Option ℕ) → 0 < d → sizes ≡ group_sizes t s d
+    → MatchOption first ((sizes ≡ []) × (others ≡ [])) (λ n. sizes ≡ n ∷ others) → length others < d
+few_others t s d sizes others None some cut next =
+    let none = ap length next.1 in
+    omega (arith, none, some)
+few_others t s d sizes others (Some n) some cut next =
+    let is = are_sizes t s d some in
+    let listed : n ∷ others ≡ group_sizes t s d = sym next ∙ cut in
+    let whole : sum (n ∷ others) ≡ d = ap sum listed ∙ is.whole in
+    let few = few_sizes (n ∷ others) (subst AllAbove (sym listed) is.above) in
+    omega (arith, few, whole)
 
 -- so many digits
 pub length_down : (count base k : ℕ) → length (digits_down count base k) ≡ k

@@ -1,8 +1,7 @@
 -- Digits that are single bytes in a row.
-use Rattle.std.proofs.Common.{◌≡◌, ℕ, zero, suc, ◌+◌, ◌-◌, ◌*◌, ◌<◌, ◌≤◌, List, [], ◌∷◌, ◌++◌, drop, encode_utf8, get_or, length, map, refl, replicate, set, slice_index, sum, sym, take, ap, ◌∙◌, append_assoc, arith}
+use Rattle.std.proofs.Common.{◌≡◌, ℕ, suc, ◌+◌, ◌-◌, ◌*◌, ◌<◌, ◌≤◌, List, [], ◌∷◌, ◌++◌, drop, encode_utf8, get_or, length, map, refl, replicate, set, slice_index, sym, take, ap, ◌∙◌, append_assoc, arith}
 use Rattle.std.proofs.lemmas.Grind.{take-set_at}
 use Rattle.std.proofs.lemmas.List.{drop_all, drop_more}
-use Rattle.std.proofs.lemmas.List.Sums.{sum_by-cons}
 use Rattle.std.proofs.lemmas.Str.{encode_ascii}
 use Rattle.std.specs.Int.Digits.{AllBelowBase}
 use Rattle.fixed_decimal.proofs.DigitsLemmas.{below_drop, below_take}
@@ -28,7 +27,7 @@ row_digits nought table (d ∷ ds) row tens =
     ap (λ text. text ++ chained (map (row_text nought) ds)) (sym (row.bytes d tens.0))
     ∙ ap (λ text. digit_text table d ++ text) (row_digits nought table ds row tens.1)
 
-row_ahead : (nought : ℕ) (separator table ns ds : List ℕ) → IsRow nought table → AllBelowBase 10 ds
+pub row_ahead : (nought : ℕ) (separator table ns ds : List ℕ) → IsRow nought table → AllBelowBase 10 ds
     → groups_ahead separator (row_text nought) ns ds ≡ groups_ahead separator (digit_text table) ns ds
 row_ahead nought separator table [] ds row tens = refl
 row_ahead nought separator table (n ∷ ns) ds row tens =
@@ -47,17 +46,6 @@ threes_ahead nought groups n bytes table ns ds row tens long one all =
     ap (λ sizes. groups_ahead (get_or bytes 0 0 ∷ []) (row_text nought) sizes ds) (sym all)
     ∙ ap (λ separator. groups_ahead separator (row_text nought) ns ds) (one_taken bytes n long one)
     ∙ row_ahead nought (take n bytes) table ns ds row tens
-
--- their digits together
-threes_sum : (groups : ℕ) → sum (replicate groups 3) ≡ 3 * groups
-threes_sum zero = refl
-threes_sum (suc k) =
-    let rest = threes_sum k in
-    let next = sum_by-cons (λ x. x) 3 (replicate k 3) in
-    omega (arith, rest, next)
-
-pub threes_whole : (groups : ℕ) (ns : List ℕ) → ns ≡ replicate groups 3 → sum ns ≡ 3 * groups
-threes_whole groups ns all = ap sum all ∙ threes_sum groups
 
 -- Digits put one behind the other.
 

@@ -8,6 +8,10 @@ use Rattle.icu_decimal_plain.specs.PlainText.{digit_text}
 abbrev pub row_text : ℕ → ℕ → List ℕ
 row_text nought d = (nought + d) ∷ []
 
+-- a byte as it is
+abbrev pub byte_text : ℕ → List ℕ
+byte_text byte = byte ∷ []
+
 -- the ten characters of a table are ASCII characters in a row, of which zero is this one
 pub record IsRow (nought : ℕ) (table : List ℕ) : Type 0 where
   pub small : nought + 9 < 128

@@ -1,18 +1,19 @@
-//! Short numbers whose digits are single bytes in a row: sixteen digits at most on each side of the point, in groups of
-//! three.
+//! Short numbers: sixteen digits at most on each side of the point.
 
-ghost use Rattle.std.specs.Prelude.{◌≡◌, ◌+◌, ◌-◌, ◌<◌, ◌≤◌, ◌++◌, length, map, take, IfSome, IsUtf8};
+ghost use Rattle.std.specs.Prelude.{◌≡◌, ◌+◌, ◌-◌, ◌*◌, ◌<◌, ◌≤◌, ◌++◌, drop, length, map, sum, take, IfSome, IsUtf8};
 ghost use Rattle.std.specs.Int.Digits.{AllBelowBase};
 ghost use Rattle.fixed_decimal.specs.Number.{fraction_digits, whole_digits};
 ghost use Rattle.icu_decimal_plain.specs.BorrowedTables.{borrowed_tables};
+ghost use Rattle.icu_decimal_plain.specs.LaterGroups.{groups_ahead};
 ghost use Rattle.icu_decimal_plain.specs.Pieces.{Holds};
-ghost use Rattle.icu_decimal_plain.specs.PlainText.{chained, fraction_text, unsigned_text, whole_text};
-ghost use Rattle.icu_decimal_plain.specs.Rows.{IsRow, row_text};
+ghost use Rattle.icu_decimal_plain.specs.PlainText.{chained, digit_text, fraction_text, unsigned_text, whole_text};
+ghost use Rattle.icu_decimal_plain.specs.Rows.{byte_text, row_text};
 
 use crate::digit_chunks::set_block;
+use crate::piece_tables::DigitTable;
 use crate::rows::{put_row, put_threes};
 use crate::tables::DecimalTables;
-use crate::text_pieces::{Piece, put_piece};
+use crate::text_pieces::{Piece, put_any_groups, put_digit_pieces, put_piece};
 use crate::writing::{fraction_len, highest};
 use fixed_decimal::{ShownDigits, UnsignedDecimal};
 use icu_decimal_grouping::GroupSizes;
@@ -20,8 +21,9 @@ use icu_decimal_grouping::GroupSizes;
 // How many digits are taken at once.
 const BLOCK: u16 = 16;
 
-// The bytes that a short text may have.
-pub(crate) const SHORT: usize = 64;
+// The bytes that a short text may have: four for each of 32 digits, for 15 separators between groups, and for that before
+// the fraction.
+pub(crate) const SHORT: usize = 192;
 
 // The digits that are left, sixteen at most, and others behind them, which mean nothing.
 #[inline(always)]
@@ -55,48 +57,145 @@ fn put_front(
     len: usize,
     digits: &[u8; 16],
     count: usize,
-    nought: u8,
+    table: &DigitTable<'_>,
 ) -> usize
-    requires room { len + 16 ≤ 64 }
+    requires room { len + 64 ≤ 192 }
     requires few { count ≤ 16 }
-    requires small { nought + 9 < 128 }
     requires tens { AllBelowBase 10 digits.now }
-    ensures text { take result text.new ≡ take len text.old ++ chained (map (row_text nought) (take count digits.now)) }
-    ensures room { result ≡ len + count }
+    ensures text { take result text.new
+        ≡ take len text.old ++ chained (map (digit_text table.now.chars.now) (take count digits.now)) }
+    ensures room { result ≤ len + 4 * count }
 {
-    let bytes = row_bytes(digits, nought);
-    set_block(text, len, &bytes);
-    len + count
+    if let Some(nought) = table.nought {
+        let bytes = row_bytes(digits, nought);
+        set_block(text, len, &bytes);
+        return len + count;
+    }
+    put_digit_pieces(text, len, &digits[..count], table)
 }
 
-// Puts the integer digits in their groups to the front. `None`: a group behind the first has not three digits.
+// Sixteen digits as bytes, and four more behind them.
+#[inline(always)]
+fn row_words(digits: &[u8; 16], nought: u8) -> [u8; 20]
+    requires small { nought + 9 < 128 }
+    requires tens { AllBelowBase 10 digits.now }
+    ensures { take 16 result ≡ chained (map (row_text nought) digits.now) }
+{
+    let mut bytes = [0; 20];
+    put_row(&mut bytes, 0, digits, nought);
+    bytes
+}
+
+// Puts groups of one to four bytes, each with the separator before it, behind the first `len` bytes, and returns how many
+// bytes there are then. `None`: a group has more.
+#[inline(never)]
+fn put_words(
+    text: &mut [u8; SHORT],
+    len: usize,
+    separator: Piece,
+    bytes: &[u8; 20],
+    from: usize,
+    sizes: &mut GroupSizes,
+) -> Option<usize>
+    requires room { len + 4 * (sum sizes.old + length sizes.old) ≤ 192 }
+    requires within { from + sum sizes.old ≤ 16 }
+    requires long { length separator.bytes ≡ 4 }
+    requires short { separator.len ≤ 4 }
+    ensures text { IfSome result (λ end. take end text.new
+        ≡ take len text.old
+        ++ groups_ahead (take separator.len separator.bytes) byte_text sizes.old (drop from bytes.now)) }
+    ensures room { IfSome result (λ end. end ≤ len + 4 * (sum sizes.old + length sizes.old)) }
+{
+    let mut len = len;
+    let mut at = from;
+    while let Some(size) = sizes.next() {
+        if size == 0 || size > 4 {
+            return None;
+        }
+        let word = Piece {
+            bytes: [bytes[at], bytes[at + 1], bytes[at + 2], bytes[at + 3]],
+            len: size as u8,
+        };
+        len = put_piece(text, len, separator);
+        len = put_piece(text, len, word);
+        at += size;
+    }
+    Some(len)
+}
+
+// Puts the digits behind the first group, each group with the separator before it, behind the first `len` bytes, and
+// returns how many bytes there are then. `None`: a group has more digits than are put at once.
+#[inline(always)]
+fn put_behind(
+    text: &mut [u8; SHORT],
+    len: usize,
+    separator: Piece,
+    digits: &[u8; 16],
+    first: usize,
+    count: usize,
+    sizes: &mut GroupSizes,
+    table: &DigitTable<'_>,
+) -> Option<usize>
+    requires room { len + 4 * (count - first + length sizes.old) ≤ 192 }
+    requires within { count ≤ 16 }
+    requires whole { first + sum sizes.old ≡ count }
+    requires long { length separator.bytes ≡ 4 }
+    requires short { separator.len ≤ 4 }
+    requires tens { AllBelowBase 10 digits.now }
+    ensures text { IfSome result (λ end. take end text.new
+        ≡ take len text.old
+        ++ groups_ahead (take separator.len separator.bytes) (digit_text table.now.chars.now) sizes.old
+        (take (count - first) (drop first digits.now))) }
+    ensures room { IfSome result (λ end. end ≤ len + 4 * (count - first + length sizes.old)) }
+{
+    let behind = &digits[first..count];
+    let Some(nought) = table.nought else {
+        return Some(put_any_groups(text, len, separator, behind, sizes, table));
+    };
+    if separator.len == 1 {
+        if let Some(groups) = sizes.threes() {
+            return Some(put_threes(text, len, separator.bytes[0], behind, groups, nought));
+        }
+    }
+    let words = row_words(digits, nought);
+    put_words(text, len, separator, &words, first, sizes)
+}
+
+// Puts the integer digits in their groups to the front, and returns how many bytes they have. `None`: a group behind the
+// first has more digits than are put at once.
 #[inline(always)]
 fn put_whole(
     text: &mut [u8; SHORT],
     tables: &DecimalTables<'_>,
     separator: Piece,
-    nought: u8,
     number: &UnsignedDecimal,
 ) -> Option<usize>
     requires separator { Holds separator (borrowed_tables tables.now).symbols.strings.grouping_separator }
-    requires one { separator.len ≡ 1 }
-    requires row { IsRow nought (borrowed_tables tables.now).digits }
     requires few { number.now.high - 32767 ≤ 16 }
     ensures text { IfSome result
         (λ len. take len text.new ≡ whole_text (borrowed_tables tables.now) (whole_digits number.now)) }
     ensures utf8 { IfSome result (λ len. ∥ IsUtf8 (take len text.new) ∥₁) }
-    ensures room { IfSome result (λ len. len ≤ 24) }
+    ensures room { IfSome result (λ len. len ≤ 124) }
 {
     let count = highest(number) + 1;
     let symbols = tables.symbols.symbols;
+    let table = &tables.digits;
     let mut sizes = GroupSizes::of(count, tables.strategy, symbols.grouping_sizes);
     let first = sizes.next().unwrap_or(0);
-    let groups = sizes.threes()?;
     let mut digits = number.whole_digits();
     let block = block_of(&mut digits);
-    put_front(text, 0, &block, first, nought);
-    let behind = &block[first..count as usize];
-    Some(put_threes(text, first, separator.bytes[0], behind, groups, nought))
+    let len = put_front(text, 0, &block, first, table);
+    let end = put_behind(
+        text,
+        len,
+        separator,
+        &block,
+        first,
+        count as usize,
+        &mut sizes,
+        table,
+    )?;
+    Some(end)
 }
 
 // Puts the decimal separator and the fraction digits, where there are any, behind the first `len` bytes, and returns
@@ -107,18 +206,16 @@ fn put_fraction(
     len: usize,
     tables: &DecimalTables<'_>,
     separator: Piece,
-    nought: u8,
     number: &UnsignedDecimal,
 ) -> usize
-    requires room { len ≤ 24 }
+    requires room { len ≤ 124 }
     requires separator { Holds separator (borrowed_tables tables.now).symbols.strings.decimal_separator }
-    requires row { IsRow nought (borrowed_tables tables.now).digits }
     requires few { 32768 - number.now.low ≤ 16 }
     requires utf8 { ∥ IsUtf8 (take len text.old) ∥₁ }
     ensures text { take result text.new
         ≡ take len text.old ++ fraction_text (borrowed_tables tables.now) (fraction_digits number.now) }
     ensures utf8 { ∥ IsUtf8 (take result text.new) ∥₁ }
-    ensures room { result ≤ 64 }
+    ensures room { result ≤ 192 }
 {
     let count = fraction_len(number) as usize;
     if count == 0 {
@@ -127,11 +224,11 @@ fn put_fraction(
     let from = put_piece(text, len, separator);
     let mut digits = number.fraction_digits();
     let block = block_of(&mut digits);
-    put_front(text, from, &block, count, nought)
+    put_front(text, from, &block, count, &tables.digits)
 }
 
 // Puts the text of a number to the front, and returns how many bytes it has. `None`: it has more digits than are put at
-// once, its digits are not single bytes in a row, or a group separator has more than one.
+// once, or a group behind the first has, or a separator has more than four bytes.
 #[inline(always)]
 pub(crate) fn put_short(
     text: &mut [u8; SHORT],
@@ -140,16 +237,12 @@ pub(crate) fn put_short(
 ) -> Option<usize>
     ensures text { IfSome result (λ len. take len text.new ≡ unsigned_text (borrowed_tables tables.now) number.now) }
     ensures utf8 { IfSome result (λ len. ∥ IsUtf8 (take len text.new) ∥₁) }
-    ensures room { IfSome result (λ len. len ≤ 64) }
+    ensures room { IfSome result (λ len. len ≤ 192) }
 {
     if highest(number) >= BLOCK || fraction_len(number) > BLOCK {
         return None;
     }
-    let nought = tables.digits.nought?;
     let separators = tables.symbols.separators?;
-    if separators.group.len != 1 {
-        return None;
-    }
-    let len = put_whole(text, tables, separators.group, nought, number)?;
-    Some(put_fraction(text, len, tables, separators.decimal, nought, number))
+    let len = put_whole(text, tables, separators.group, number)?;
+    Some(put_fraction(text, len, tables, separators.decimal, number))
 }

@@ -5,6 +5,7 @@ ghost use Rattle.std.specs.Int.Digits.{AllBelowBase};
 ghost use Rattle.icu_decimal_plain.specs.PlainText.{chained, digit_text};
 ghost use Rattle.icu_decimal_plain.specs.LaterGroups.{groups_ahead};
 ghost use Rattle.icu_decimal_plain.specs.Pieces.{Holds, HoldTable};
+ghost use Rattle.icu_decimal_plain.specs.Rows.{row_text};
 
 use crate::piece_tables::DigitTable;
 use crate::rows::{put_many_threes, put_row};
@@ -89,7 +90,7 @@ pub(crate) fn put_piece<const N: usize>(waiting: &mut [u8; N], len: usize, piece
 }
 
 // Puts digits as pieces behind the first `len` bytes, and returns how many bytes there are then.
-fn put_digit_pieces<const N: usize>(
+pub(crate) fn put_digit_pieces<const N: usize>(
     waiting: &mut [u8; N],
     len: usize,
     digits: &[u8],
@@ -110,6 +111,41 @@ fn put_digit_pieces<const N: usize>(
     len
 }
 
+// Puts digits that are single bytes in a row behind the first `len` bytes, and returns how many bytes there are then: two
+// or three of them as a word.
+fn put_few_row<const N: usize>(
+    waiting: &mut [u8; N],
+    len: usize,
+    digits: &[u8],
+    nought: u8,
+) -> usize
+    requires room { len + 4 * length digits.now ≤ N }
+    requires small { nought + 9 < 128 }
+    requires tens { AllBelowBase 10 digits.now }
+    ensures text { take result waiting.new ≡ take len waiting.old ++ chained (map (row_text nought) digits.now) }
+    ensures room { result ≤ len + 4 * length digits.now }
+{
+    match digits {
+        [one, two, three] => put_piece(
+            waiting,
+            len,
+            Piece {
+                bytes: [nought + *one, nought + *two, nought + *three, 0],
+                len: 3,
+            },
+        ),
+        [one, two] => put_piece(
+            waiting,
+            len,
+            Piece {
+                bytes: [nought + *one, nought + *two, 0, 0],
+                len: 2,
+            },
+        ),
+        _ => put_row(waiting, len, digits, nought),
+    }
+}
+
 // Puts digits behind the first `len` bytes, and returns how many bytes there are then.
 pub(crate) fn put_digits<const N: usize>(
     waiting: &mut [u8; N],
@@ -124,14 +160,15 @@ pub(crate) fn put_digits<const N: usize>(
     ensures room { result ≤ len + 4 * length digits.now }
 {
     if let Some(nought) = table.nought {
-        return put_row(waiting, len, digits, nought);
+        return put_few_row(waiting, len, digits, nought);
     }
     put_digit_pieces(waiting, len, digits, table)
 }
 
 // Puts groups of any sizes, each with the separator before it, behind the first `len` bytes, and returns how many bytes
 // there are then.
-fn put_any_groups<const N: usize>(
+#[inline(never)]
+pub(crate) fn put_any_groups<const N: usize>(
     waiting: &mut [u8; N],
     len: usize,
     separator: Piece,

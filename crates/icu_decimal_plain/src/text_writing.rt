@@ -205,7 +205,8 @@ fn write_long_text<S: Sink>(
     write_fraction_text(tables, number, sink)
 }
 
-// Writes the text of a number without a sign.
+// Writes the text of a number without a sign. Apart from its callers it has registers enough.
+#[inline(never)]
 pub(crate) fn write_unsigned_text<S: Sink>(
     tables: &DecimalTables<'_>,
     number: &UnsignedDecimal,

@@ -6,5 +6,5 @@ pub returns-in-Some-clause-text : goal.returns-in-Some-clause-text
 returns-in-Some-clause-text g c =
     let table = c.args.table.now in
     let row = table.in_row c.in-Some.nought c.in-Some.is in
-    c.put_row.ensures.text
+    c.put_few_row.ensures.text
     ∙ ap (λ text. take c.args.len c.args.waiting.now ++ text) (row_digits c.in-Some.nought table.chars.now c.args.digits.now row c.requires.tens)
