@@ -10,7 +10,7 @@ use Rattle.icu_locale_core.specs.TagAllocation.{tag_may_grow}
 use Rattle.locale_numbers_book.specs.Book.{BookTables}
 use Rattle.locale_numbers_requests.specs.Request.{Asked, request_of, with_text}
 use Rattle.locale_numbers.specs.Front.{HasKeyThat, MayTakeBehind, asked_text, front_asked, front_of}
-use Rattle.locale_numbers.specs.LineMemory.{MayTakeTag, TakesNone, front_before}
+use Rattle.locale_numbers.specs.LineMemory.{MayTakeTag, front_before}
 use Rattle.locale_numbers.specs.declared.formatter_key.FormatterKey.{FormatterKey}
 use Rattle.locale_numbers.specs.declared.front.Front.{Front}
 

@@ -1,5 +1,5 @@
 -- What is read back with a unit is written again, and what was written reads back: `specs/UnitLaws.antt`.
-use Rattle.std.proofs.Common.{◌≡◌, ◌||◌, ◌++◌, ℕ, Bool, true, false, cond, List, Some, Ok, refl, sym, ap, ◌∙◌, subst}
+use Rattle.std.proofs.Common.{◌≡◌, ◌||◌, ◌++◌, ℕ, true, cond, List, Some, Ok, refl, sym, ap, ◌∙◌, subst}
 use Rattle.std.specs.Str.{IsUtf8}
 use Rattle.std.proofs.lemmas.List.{append-nil}
 use Rattle.std.proofs.lemmas.Str.{IsUtf8-append}
@@ -10,15 +10,15 @@ use Rattle.fixed_decimal.specs.TextLaws.{IsDecimal}
 use Rattle.fixed_decimal.specs.declared.Sign.TheVariants.{None as NoSign}
 use Rattle.fixed_decimal.proofs.SignedReadOnceLemmas.{signed_printed}
 use Rattle.icu_decimal.specs.PlainReading.{PlainReading, decimal, not_written, unreadable}
-use Rattle.icu_decimal.specs.PlainText.{Tables, decimal_text, unsigned_text}
+use Rattle.icu_decimal.specs.PlainText.{unsigned_text}
 use Rattle.icu_decimal.specs.ReadingLaws.{TextsAreUtf8}
-use Rattle.icu_dimension.specs.UnitReading.{AreReaderTexts, IsUnitText, pair_for, reader_texts, text_by}
+use Rattle.icu_dimension.specs.UnitReading.{AreReaderTexts, IsUnitText, pair_for, reader_texts}
 use Rattle.icu_dimension.specs.UnitReadingLaws.{ReadersReadWhatIsWritten}
 use Rattle.icu_dimension.specs.UnitText.{unit_decimal_text}
 use Rattle.locale_numbers_answers.specs.Laws.{HasOneUnitReading, IsAtMagnitude}
 use Rattle.locale_numbers_answers.specs.NumberReading.{number, reading_of}
 use Rattle.locale_numbers_answers.specs.ReadAnswer.{read_answer}
-use Rattle.locale_numbers_answers.specs.UnitAnswer.{UnitFound, fraction_asked, is_own_rounding, own_reading, read_unit_with, reading_found, unit_changed, unit_to, unit_with}
+use Rattle.locale_numbers_answers.specs.UnitAnswer.{UnitFound, fraction_asked, own_reading, read_unit_with, reading_found, unit_changed, unit_to, unit_with}
 use Rattle.locale_numbers_answers.specs.UnitReadings.{unit_reading}
 use Rattle.locale_numbers_answers.proofs.NumberBounds.{reading_is_decimal}
 use Rattle.locale_numbers_answers.proofs.NumberReadingLemmas.{signed_number}
