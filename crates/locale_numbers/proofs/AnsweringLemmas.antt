@@ -14,6 +14,11 @@ grows_by_none (Err e) held = record { more = []; grew = sym (append-nil held) }
 pub one_of : {K : Type 0} (one other : K) (latest : Option K) → latest ≡ Some one → latest ≡ Some other → one ≡ other
 one_of one other latest is found = let same : Some one ≡ Some other = sym is ∙ found in cc
 
+-- what is so is so where it fails
+pub so_on_err : {T E : Type 0} (r : Result T E) (Q : Type 0) → Q → OnErr r Q
+so_on_err (Ok t) Q q = tt
+so_on_err (Err e) Q q = q
+
 pub not_on_err : {T E : Type 0} (r : Result T E) (Q : Type 0) → (Q → IsOk r) → OnErr r (Q → ⊥)
 not_on_err (Ok t) Q succeeds = tt
 not_on_err (Err e) Q succeeds = λ q. false≢true (succeeds q)

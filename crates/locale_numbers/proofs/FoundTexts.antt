@@ -1,58 +1,40 @@
--- What a plain request finds in a book is ten digits and symbols that are texts: `specs/Laws.antt`.
-use Rattle.std.proofs.Common.{◌≡◌, ℕ, List, Result, Ok, Err, refl, subst}
-use Rattle.icu_decimal.specs.Choice.{first_found}
-use Rattle.icu_decimal.specs.FoundTables.{with_digits, with_symbols}
-use Rattle.icu_decimal.specs.Identifiers.{Identifier, digits_identifiers, symbols_identifiers}
-use Rattle.icu_decimal.specs.PlainText.{Tables}
-use Rattle.icu_decimal.specs.ReadingLaws.{AreTables}
-use Rattle.icu_decimal.specs.Symbols.{Symbols}
+-- What a request finds in a book, for plain numbers or for a unit, is made of texts: `specs/Laws.antt` and `specs/UnitLaws.antt`.
+use Rattle.std.proofs.Common.{◌≡◌, Some, None, Result, Ok, Err, refl, subst}
 use Rattle.icu_decimal.specs.declared.error.DataError.{DataError}
-use Rattle.icu_decimal.specs.declared.options.GroupingStrategy.{GroupingStrategy}
-use Rattle.icu_locale_core.specs.TagPreferences.{Preferences}
-use Rattle.locale_numbers_book.specs.Book.{BookTables}
-use Rattle.locale_numbers_book.specs.Laws.{BookTablesAreTexts}
-use Rattle.locale_numbers_book.specs.Tables.{chain_in, digits_under, symbols_under}
-use Rattle.locale_numbers_book.proofs.ReadTables.{first_holds}
+use Rattle.icu_dimension.specs.FoundUnits.{CurrencySettings}
+use Rattle.icu_dimension.specs.UnitReading.{AreReaderTexts, reader_texts}
+use Rattle.icu_dimension.specs.UnitText.{UnitSettings}
+use Rattle.locale_numbers_answers.specs.UnitAnswer.{UnitFound}
+use Rattle.locale_numbers_book.specs.Laws.{FoundAmountsAreTexts, FoundPercentsAreTexts}
+use Rattle.locale_numbers_book.specs.TagFormatters.{currency_found_in, percent_found_in}
+use Rattle.locale_numbers_book.proofs.FoundTexts.{plain_texts}
+use Rattle.locale_numbers_requests.specs.declared.UnitAsked.TheVariants.{Percent, Currency}
+use Rattle.locale_numbers.specs.FoundUnit.{as_amounts, as_percents, options_of}
 use Rattle.locale_numbers.specs.Laws.{FoundTablesAreTexts}
+use Rattle.locale_numbers.specs.UnitLaws.{FoundUnitsAreTexts}
 
--- these symbols stand in the book, and these digits
-record SymbolsStand (book : BookTables) (symbols : Symbols) : Type 0 where
-  id : Identifier
-  is : symbols_under book id ≡ Ok symbols
+pub found_tables_are_texts : FoundTablesAreTexts
+found_tables_are_texts value book is preferences grouping tables found = plain_texts value book is preferences (Some grouping) tables found
 
-record DigitsStand (book : BookTables) (digits : List ℕ) : Type 0 where
-  id : Identifier
-  is : digits_under book id ≡ Ok digits
+-- the texts of what is found
+abbrev HasTexts : UnitFound → Type 0
+HasTexts found = AreReaderTexts (reader_texts found.settings)
 
-symbols_found : (book : BookTables) (ids : List Identifier) (symbols : Symbols) → first_found (symbols_under book) ids ≡ Ok symbols → SymbolsStand book symbols
-symbols_found book ids symbols found =
-    first_holds (SymbolsStand book) (symbols_under book) (λ id v e. record { id = id; is = e }) DataError.InvalidRequest ids symbols found
+percents_by : (r : Result UnitSettings DataError) (found : UnitFound) → ((settings : UnitSettings) → r ≡ Ok settings → AreReaderTexts (reader_texts settings))
+    → as_percents r ≡ Ok found → HasTexts found
+percents_by (Ok settings) found texts is =
+    let one : ◌≡◌ {A = UnitFound} (record { settings = settings; digits = None }) found = cc in subst HasTexts one (texts settings refl)
+percents_by (Err error) found texts is = absurd (cc)
 
-digits_found : (book : BookTables) (ids : List Identifier) (digits : List ℕ) → first_found (digits_under book) ids ≡ Ok digits → DigitsStand book digits
-digits_found book ids digits found =
-    first_holds (DigitsStand book) (digits_under book) (λ id v e. record { id = id; is = e }) DataError.InvalidRequest ids digits found
+amounts_by : (r : Result CurrencySettings DataError) (found : UnitFound) → ((amounts : CurrencySettings) → r ≡ Ok amounts → AreReaderTexts (reader_texts amounts.unit))
+    → as_amounts r ≡ Ok found → HasTexts found
+amounts_by (Ok amounts) found texts is =
+    let one : ◌≡◌ {A = UnitFound} (record { settings = amounts.unit; digits = Some amounts.fractions }) found = cc in subst HasTexts one (texts amounts refl)
+amounts_by (Err error) found texts is = absurd (cc)
 
--- what the law of books says of this one
-abbrev AreTextsThere : BookTables → GroupingStrategy → Type 0
-AreTextsThere book strategy = (symbols : Symbols) (digits : List ℕ) → SymbolsStand book symbols → DigitsStand book digits
-    → AreTables (record { symbols = symbols; digits = digits; strategy = strategy })
-
-with_both : (book : BookTables) (strategy : GroupingStrategy) → AreTextsThere book strategy → (symbols : Symbols) (ids : List Identifier) (r : Result (List ℕ) DataError) (tables : Tables)
-    → SymbolsStand book symbols → first_found (digits_under book) ids ≡ r → with_digits strategy symbols r ≡ Ok tables → AreTables tables
-with_both book strategy texts symbols ids (Ok digits) tables stand found is =
-    let one : ◌≡◌ {A = Tables} (record { symbols = symbols; digits = digits; strategy = strategy }) tables = cc in
-    subst AreTables one (texts symbols digits stand (digits_found book ids digits found))
-with_both book strategy texts symbols ids (Err error) tables stand found is = absurd (cc)
-
-with_first : (book : BookTables) (strategy : GroupingStrategy) → AreTextsThere book strategy → (p : Preferences) (ids : List Identifier) (r : Result Symbols DataError) (tables : Tables)
-    → first_found (symbols_under book) ids ≡ r → with_symbols strategy (digits_under book) p r ≡ Ok tables → AreTables tables
-with_first book strategy texts p ids (Ok symbols) tables found is =
-    with_both book strategy texts symbols (digits_identifiers p.numbering_system symbols.strings.numsys)
-    (first_found (digits_under book) (digits_identifiers p.numbering_system symbols.strings.numsys)) tables (symbols_found book ids symbols found) refl is
-with_first book strategy texts p ids (Err error) tables found is = absurd (cc)
-
-pub found_tables_are_texts : BookTablesAreTexts → FoundTablesAreTexts
-found_tables_are_texts texts value book is preferences grouping tables found =
-    with_first book grouping
-    (λ symbols digits first second. texts value book is symbols digits grouping first.id second.id first.is second.is)
-    preferences (symbols_identifiers (chain_in book) preferences) (first_found (symbols_under book) (symbols_identifiers (chain_in book) preferences)) tables refl found
+pub found_units_are_texts : FoundPercentsAreTexts → FoundAmountsAreTexts → FoundUnitsAreTexts
+found_units_are_texts percents amounts value book is Percent preferences grouping found coded same =
+    percents_by (percent_found_in book preferences (Some grouping)) found (λ settings there. percents value book is preferences (Some grouping) settings there) same
+found_units_are_texts percents amounts value book is (Currency style code) preferences grouping found coded same =
+    amounts_by (currency_found_in book preferences code (options_of style grouping)) found
+    (λ settings there. amounts value book is preferences code (options_of style grouping) settings coded there) same

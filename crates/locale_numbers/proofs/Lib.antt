@@ -11,6 +11,7 @@ pub mod FrontMemory
 pub mod KeptLemmas
 pub mod KnownPrinted
 pub mod KnownValues
+pub mod LineMemoryLemmas
 pub mod LastTabLemmas
 pub mod PrintedLemmas
 pub mod PrintedSizes

@@ -1,5 +1,5 @@
 -- What is read back with a unit is written again, and what was written reads back: `specs/UnitLaws.antt`.
-use Rattle.std.proofs.Common.{◌≡◌, ◌||◌, ◌++◌, ℕ, Bool, true, false, cond, List, Some, refl, sym, ap, ◌∙◌, subst}
+use Rattle.std.proofs.Common.{◌≡◌, ◌||◌, ◌++◌, ℕ, true, cond, List, Some, Ok, refl, sym, ap, ◌∙◌, subst}
 use Rattle.std.specs.Str.{IsUtf8}
 use Rattle.std.proofs.lemmas.List.{append-nil}
 use Rattle.std.proofs.lemmas.Str.{IsUtf8-append}
@@ -10,19 +10,20 @@ use Rattle.fixed_decimal.specs.TextLaws.{IsDecimal}
 use Rattle.fixed_decimal.specs.declared.Sign.TheVariants.{None as NoSign}
 use Rattle.fixed_decimal.proofs.SignedReadOnceLemmas.{signed_printed}
 use Rattle.icu_decimal.specs.PlainReading.{PlainReading, decimal, not_written, unreadable}
-use Rattle.icu_decimal.specs.PlainText.{Tables, decimal_text, unsigned_text}
+use Rattle.icu_decimal.specs.PlainText.{unsigned_text}
 use Rattle.icu_decimal.specs.ReadingLaws.{TextsAreUtf8}
-use Rattle.icu_dimension.specs.UnitReading.{IsUnitText, pair_for, reader_texts, text_by}
+use Rattle.icu_dimension.specs.UnitReading.{AreReaderTexts, IsUnitText, pair_for, reader_texts}
 use Rattle.icu_dimension.specs.UnitReadingLaws.{ReadersReadWhatIsWritten}
 use Rattle.icu_dimension.specs.UnitText.{unit_decimal_text}
 use Rattle.locale_numbers_answers.specs.Laws.{HasOneUnitReading, IsAtMagnitude}
 use Rattle.locale_numbers_answers.specs.NumberReading.{number, reading_of}
 use Rattle.locale_numbers_answers.specs.ReadAnswer.{read_answer}
-use Rattle.locale_numbers_answers.specs.UnitAnswer.{UnitFound, fraction_asked, is_own_rounding, own_reading, read_unit_with, reading_found, unit_changed, unit_to, unit_with}
+use Rattle.locale_numbers_answers.specs.UnitAnswer.{UnitFound, fraction_asked, own_reading, read_unit_with, reading_found, unit_changed, unit_to, unit_with}
 use Rattle.locale_numbers_answers.specs.UnitReadings.{unit_reading}
 use Rattle.locale_numbers_answers.proofs.NumberBounds.{reading_is_decimal}
 use Rattle.locale_numbers_answers.proofs.NumberReadingLemmas.{signed_number}
 use Rattle.locale_numbers_answers.proofs.UnitLemmas.{changed_unit_is_decimal, own_of_changed, own_parts, own_stays}
+use Rattle.icu_locale_core.specs.TagPreferences.{Preferences}
 use Rattle.locale_numbers_book.specs.Book.{BookTables}
 use Rattle.locale_numbers_requests.specs.Request.{Asked}
 use Rattle.locale_numbers_requests.specs.RoundingField.{is_cash, keeps_digits}
@@ -35,7 +36,7 @@ use Rattle.locale_numbers_requests.specs.declared.UnitAsked.{UnitAsked}
 use Rattle.locale_numbers_requests.specs.declared.UnitAsked.TheVariants.{Percent, Currency}
 use Rattle.locale_numbers.specs.Answer.{answer_asked, answer_in, answer_tagged, written}
 use Rattle.locale_numbers.specs.FoundUnit.{found_unit}
-use Rattle.locale_numbers.specs.UnitLaws.{FindsUnit, ReadUnitIsWrittenAgain, TakesRounding, WrittenUnitIsUtf8, WrittenUnitReadsBack, unit_reading_request, unit_request}
+use Rattle.locale_numbers.specs.UnitLaws.{AreFoundTexts, FindsUnit, FoundUnitsAreTexts, known, loaded, ReadUnitIsWrittenAgain, TakesRounding, WrittenUnitIsUtf8, WrittenUnitReadsBack, unit_reading_request, unit_request}
 use Rattle.locale_numbers.proofs.ReadingTrips.{one_text, refused_no}
 
 -- ---- the rounding that a reading form takes
@@ -51,6 +52,13 @@ at_magnitude unit Unrounded takes = tt
 at_magnitude unit Cash takes = tt
 at_magnitude Percent (At position mode increment) takes = absurd (cc)
 at_magnitude (Currency style code) (At position mode increment) takes = absurd (cc)
+
+-- ---- texts
+
+texts_by : FoundUnitsAreTexts → (book : BookTables) (asked : Asked) (unit : UnitAsked) (found : UnitFound) (p : Preferences) → found_unit unit book p asked.grouping ≡ Ok found
+    → AreFoundTexts book unit found → AreReaderTexts (reader_texts found.settings)
+texts_by all book asked unit found p is (loaded value loads coded) = all value book loads unit p asked.grouping found coded is
+texts_by all book asked unit found p is (known texts) = texts
 
 -- ---- what was read
 
@@ -88,43 +96,48 @@ module _ (book : BookTables) (asked : Asked) (unit : UnitAsked) (found : UnitFou
       ∙ ap (unit_to (found_unit unit book finds.preferences asked.grouping) asked.sign asked.rounding) reads
       ∙ ap (λ f. unit_with f asked.sign asked.rounding value) finds.found
 
+  -- what is found is made of texts
+  texts_found : FoundUnitsAreTexts → AreReaderTexts (reader_texts found.settings)
+  texts_found all = texts_by all book asked unit found finds.preferences finds.found finds.texts
+
   -- the text of what was read
-  text_read : HasOneUnitReading → (text : List ℕ) (value : SignedValue Number) → unit_reading (reader_texts found.settings) text ≡ decimal value → IsUnitText (reader_texts found.settings) text value
-  text_read one text value is = ((one (reader_texts found.settings) text (decimal value) finds.texts).1 (sym is)).1
+  text_read : FoundUnitsAreTexts → HasOneUnitReading → (text : List ℕ) (value : SignedValue Number) → unit_reading (reader_texts found.settings) text ≡ decimal value → IsUnitText (reader_texts found.settings) text value
+  text_read all one text value is = ((one (reader_texts found.settings) text (decimal value) (texts_found all)).1 (sym is)).1
 
 -- ---- the laws
 
-pub read_unit_again : HasOneUnitReading → ReadersReadWhatIsWritten → ReadUnitIsWrittenAgain
-read_unit_again one readers book asked unit found rounding text digits finds takes same =
+pub read_unit_again : FoundUnitsAreTexts → HasOneUnitReading → ReadersReadWhatIsWritten → ReadUnitIsWrittenAgain
+read_unit_again all one readers book asked unit found rounding text digits finds takes same =
     let read = read_by found rounding text digits (reading_found found rounding text) refl (sym (read_found book asked unit found finds rounding text) ∙ same) in
     let parts = own_parts (fraction_asked found.digits rounding) (unit_reading (reader_texts found.settings) text) read.value read.is in
-    let is = text_read book asked unit found finds one text read.value parts.0 in
+    let is = text_read book asked unit found finds all one text read.value parts.0 in
     let sent : reading_of digits ≡ number read.value = signed_number digits read.value (subst (λ t. ReadsSigned t read.value) read.printed (signed_printed read.value is.decimal)) in
     written_found book asked unit found finds rounding digits read.value sent
     ∙ ap (λ v. written (unit_decimal_text found.settings v)) (own_stays found.digits rounding read.value (usual unit rounding takes) parts.1)
     ∙ ap written (sym (readers found.settings read.value) ∙ is.written)
 
-pub unit_reads_back : HasOneUnitReading → ReadersReadWhatIsWritten → WrittenUnitReadsBack
-unit_reads_back one readers book asked unit found value text is takes finds readable reads same =
+pub unit_reads_back : FoundUnitsAreTexts → HasOneUnitReading → ReadersReadWhatIsWritten → WrittenUnitReadsBack
+unit_reads_back all one readers book asked unit found value text is takes finds readable reads same =
     let shown : SignedValue Number = unit_changed found.digits asked.rounding asked.sign value in
     let whole : IsDecimal shown = changed_unit_is_decimal found.digits asked.rounding asked.sign value (at_magnitude unit asked.rounding takes) (reading_is_decimal asked.text value reads) in
     let said : unit_decimal_text found.settings shown ≡ text = one_text (unit_decimal_text found.settings shown) text (sym (answered_found book asked unit found finds value is reads) ∙ same) in
     let read : unit_reading (reader_texts found.settings) text ≡ decimal shown =
-    sym ((one (reader_texts found.settings) text (decimal shown) finds.texts).0 (readable, record { decimal = whole; written = readers found.settings shown ∙ said })) in
+    sym ((one (reader_texts found.settings) text (decimal shown) (texts_found book asked unit found finds all)).0 (readable, record { decimal = whole; written = readers found.settings shown ∙ said })) in
     read_found book asked unit found finds asked.rounding text
     ∙ ap (λ reading. read_answer (own_reading (fraction_asked found.digits asked.rounding) reading)) read
     ∙ ap (λ b. read_answer (cond b (decimal shown) not_written)) (own_of_changed found.digits asked.rounding asked.sign value)
 
-unsigned_is_utf8 : TextsAreUtf8 → (book : BookTables) (asked : Asked) (unit : UnitAsked) (found : UnitFound) → FindsUnit book asked unit found → (value : SignedValue Number) → IsDecimal value
+unsigned_is_utf8 : TextsAreUtf8 → (found : UnitFound) → AreReaderTexts (reader_texts found.settings) → (value : SignedValue Number) → IsDecimal value
     → IsUtf8 (unsigned_text found.settings.tables value.absolute)
-unsigned_is_utf8 utf8 book asked unit found finds value is =
-    subst IsUtf8 (append-nil (unsigned_text found.settings.tables value.absolute)) (utf8 found.settings.tables (record { sign = NoSign; absolute = value.absolute }) finds.texts.tables is)
+unsigned_is_utf8 utf8 found texts value is =
+    subst IsUtf8 (append-nil (unsigned_text found.settings.tables value.absolute)) (utf8 found.settings.tables (record { sign = NoSign; absolute = value.absolute }) texts.tables is)
 
-pub unit_is_utf8 : TextsAreUtf8 → ReadersReadWhatIsWritten → WrittenUnitIsUtf8
-unit_is_utf8 utf8 readers book asked unit found value finds is =
+pub unit_is_utf8 : FoundUnitsAreTexts → TextsAreUtf8 → ReadersReadWhatIsWritten → WrittenUnitIsUtf8
+unit_is_utf8 all utf8 readers book asked unit found value finds is =
+    let texts = texts_found book asked unit found finds all in
     let pair = pair_for (reader_texts found.settings).pairs value.sign in
     let number : List ℕ = unsigned_text found.settings.tables value.absolute in
     subst IsUtf8 (readers found.settings value) (
-    IsUtf8-append pair.before (number ++ pair.after) (finds.texts.before value.sign)
-    (IsUtf8-append number pair.after (unsigned_is_utf8 utf8 book asked unit found finds value is) (finds.texts.after value.sign))
+    IsUtf8-append pair.before (number ++ pair.after) (texts.before value.sign)
+    (IsUtf8-append number pair.after (unsigned_is_utf8 utf8 found texts value is) (texts.after value.sign))
     )

@@ -12,6 +12,7 @@ pub mod Program
 pub mod UnitHeld
 pub mod KeptFormatters
 pub mod Front
+pub mod LineMemory
 pub mod LineState
 pub mod KeptAnswers
 -- Statements of laws.

@@ -4,22 +4,26 @@
 -- Each law is about definitions of other files, of four members, so the imports are many.
 use Rattle.std.specs.Prelude.{◌≡◌, ℕ, true, List, Some, Ok}
 use Rattle.std.specs.Str.{IsUtf8}
+use Rattle.serde_json.specs.Data.{Data}
 use Rattle.fixed_decimal.specs.Number.{Number}
 use Rattle.fixed_decimal.specs.SignedText.{signed_text_of}
 use Rattle.fixed_decimal.specs.SignedValue.{SignedValue}
 use Rattle.fixed_decimal.specs.TextLaws.{IsDecimal}
+use Rattle.icu_decimal.specs.declared.options.GroupingStrategy.{GroupingStrategy}
+use Rattle.icu_dimension.specs.CurrencyCodes.{is_currency_code}
 use Rattle.icu_dimension.specs.UnitReading.{AreReaderTexts, is_unit_readable_by, reader_texts}
 use Rattle.icu_dimension.specs.UnitText.{unit_decimal_text}
 use Rattle.icu_locale_core.specs.TagPreferences.{Preferences}
 use Rattle.locale_numbers_answers.specs.NumberReading.{number, reading_of}
 use Rattle.locale_numbers_answers.specs.UnitAnswer.{UnitFound, unit_changed}
-use Rattle.locale_numbers_book.specs.Book.{BookTables}
+use Rattle.locale_numbers_book.specs.Book.{BookTables, IsBook}
 use Rattle.locale_numbers_book.specs.Wanted.{wanted_of}
 use Rattle.locale_numbers_requests.specs.Request.{Asked, takes}
 use Rattle.locale_numbers_requests.specs.declared.Form.TheVariants as form
 use Rattle.locale_numbers_requests.specs.declared.RoundingAsked.{RoundingAsked}
 use Rattle.locale_numbers_requests.specs.declared.SignAsked.TheVariants.{Keep}
 use Rattle.locale_numbers_requests.specs.declared.UnitAsked.{UnitAsked}
+use Rattle.locale_numbers_requests.specs.declared.UnitAsked.TheVariants.{Percent, Currency}
 use Rattle.locale_numbers.specs.Answer.{answer_asked, written}
 use Rattle.locale_numbers.specs.FoundUnit.{found_unit}
 
@@ -37,12 +41,27 @@ unit_reading_request asked unit rounding text =
 abbrev pub TakesRounding : UnitAsked → RoundingAsked → Type 0
 TakesRounding unit rounding = takes (form.ReadUnit unit) Keep rounding ≡ true
 
--- a request finds in a book what the numbers of a unit are written with, and it is made of texts, as that of every formatter is
+-- three capitals, where the unit is a currency
+abbrev pub HasCode : UnitAsked → Type 0
+HasCode Percent = Unit {0}
+HasCode (Currency style code) = is_currency_code code ≡ true
+
+-- what is found in a book for a unit is made of texts
+abbrev pub FoundUnitsAreTexts : Type 0
+FoundUnitsAreTexts = (value : Data) (book : BookTables) → IsBook value book → (unit : UnitAsked) (preferences : Preferences) (grouping : GroupingStrategy) (tables : UnitFound)
+    → HasCode unit → found_unit unit book preferences grouping ≡ Ok tables → AreReaderTexts (reader_texts tables.settings)
+
+-- it is so in each book that loads; in tables of one's own it has to be known
+pub data AreFoundTexts (book : BookTables) (unit : UnitAsked) (tables : UnitFound) : Type 0 where
+  loaded : (value : Data) → IsBook value book → HasCode unit → AreFoundTexts book unit tables
+  known : AreReaderTexts (reader_texts tables.settings) → AreFoundTexts book unit tables
+
+-- a request finds in a book what the numbers of a unit are written with
 pub record FindsUnit (book : BookTables) (asked : Asked) (unit : UnitAsked) (tables : UnitFound) : Type 0 where
   pub preferences : Preferences
   pub tag : wanted_of asked.tag ≡ Some preferences
   pub found : found_unit unit book preferences asked.grouping ≡ Ok tables
-  pub texts : AreReaderTexts (reader_texts tables.settings)
+  pub texts : AreFoundTexts book unit tables
 
 -- the text of each decimal with its unit is UTF-8
 abbrev pub WrittenUnitIsUtf8 : Type 0

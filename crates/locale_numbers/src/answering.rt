@@ -1,10 +1,12 @@
 //! The answer of a book to a line.
 
-ghost use Rattle.std.specs.Prelude.{◌≡◌, ◌∷◌, ◌++◌, List, Option, IfOk, IfSome, IsOk, IsTrue, OnOk, OnErr, string_bytes};
+ghost use Rattle.std.specs.Prelude.{◌≡◌, ◌∷◌, ◌++◌, List, Option, Some, IfOk, IfSome, IsOk, IsTrue, OnOk, OnErr, string_bytes};
 ghost use Rattle.locale_numbers_lines.specs.Growth.{Grows};
 ghost use Rattle.locale_numbers.specs.Answer.{answer_of};
 ghost use Rattle.locale_numbers_answers.specs.AnswerSink.{HasRoom};
 ghost use Rattle.locale_numbers.specs.Front.{FitsForm, HasKeyThat, MayTakeBehind, answer_behind, key_behind};
+ghost use Rattle.locale_numbers.specs.LineMemory.{MayTakeTag, TakesNone, no_number};
+ghost use Rattle.locale_numbers_requests.specs.Request.{Asked, request_of};
 ghost use Rattle.locale_numbers.specs.declared.formatter_key.FormatterKey.{FormatterKey};
 
 use crate::exact_answer::answer_exact;
@@ -122,6 +124,14 @@ fn answer_whole_line<'a, F: Formatters<'a>>(
     ensures text { OnOk result (
         string_bytes out.new ≡ string_bytes out.old ++ answer_of (F.book formatters.old) line.now) }
     ensures err { OnErr result (Grows (string_bytes out.old) (string_bytes out.new)) }
+
+    // Where there is room for the answer to a request, only its tag may want memory, its formatter, and its text, as that
+    // of the first number.
+    ensures room { (asked : Asked) → request_of line.now ≡ Some asked
+        → HasRoom out.old (answer_of (F.book formatters.old) line.now)
+        → ¬ (MayTakeTag (Some asked))
+        → TakesNone (F.book formatters.old) (F.may_take_memory formatters.old) no_number asked
+        → IsOk result }
 {
     let (front, text) = cut_text(line);
     let front = read_front(alloc, front)?;

@@ -1,8 +1,9 @@
 //! The front of a line: all that stands before its text.
 
-ghost use Rattle.std.specs.Prelude.{◌≡◌, IfOk, option_map};
+ghost use Rattle.std.specs.Prelude.{◌≡◌, ◌++◌, IfOk, OnErr, option_map};
 ghost use Rattle.locale_numbers.specs.FormatterKeys.{key_with};
 ghost use Rattle.locale_numbers.specs.Front.{asked_text, front_of};
+ghost use Rattle.locale_numbers.specs.LineMemory.{MayTakeTag};
 ghost use Rattle.locale_numbers_requests.specs.Request.{request_of};
 
 use crate::formatter_key::{FormatterKey, code_of_form, kind_of_form};
@@ -32,7 +33,8 @@ pub(crate) struct Front {
 //
 // The front ends with the last tab. It asks what the line does, as a line with no text.
 pub(crate) fn cut_text(line: &[u8]) -> (&[u8], &[u8])
-    ensures { request_of line.now ≡ asked_text result.1.now (request_of result.0.now) }
+    ensures asks { request_of line.now ≡ asked_text result.1.now (request_of result.0.now) }
+    ensures whole { line.now ≡ result.0.now ++ result.1.now }
 {
     cut_last(line, TAB)
 }
@@ -60,7 +62,8 @@ fn hashed_key(
 //
 // It may allocate for its tag. `AllocError`: out of memory.
 pub(crate) fn read_front(alloc: Global, bytes: &[u8]) -> Result<Option<Front>, AllocError>
-    ensures { IfOk result (λ front. front ≡ front_of bytes.now) }
+    ensures value { IfOk result (λ front. front ≡ front_of bytes.now) }
+    ensures room { OnErr result (MayTakeTag (request_of bytes.now)) }
 {
     let Some(request) = read_request(bytes) else {
         return Ok(None);

@@ -6,7 +6,7 @@ ghost use Rattle.locale_numbers.specs.CompactAnswer.{found_compact};
 ghost use Rattle.locale_numbers.specs.FormatterKeys.{same_keys};
 ghost use Rattle.locale_numbers.specs.Laws.{AlikeTagsAreAnsweredAlike, NormalTextIsAnsweredAlike, AutoIsAnsweredAsAlways, AreTexts, EachGroupingIsReadLeniently, FoundTablesAreTexts, LinesAskTheirFields, ReadIsReadLeniently, ReadIsWrittenAgain, RoundedIsWrittenAgain, TellsKeys, WrittenIsUtf8, WrittenReadsBack};
 ghost use Rattle.locale_numbers.specs.PrintedLaws.{FoundTablesAreSound, IsSoundWhereFound, PrintedIsAnswered, PrintedIsNear, PrintedIsWrittenAgain, PrintedKeepsOrder, PrintedPrintsItself, ZeroIsPrintedForZero};
-ghost use Rattle.locale_numbers.specs.UnitLaws.{ReadUnitIsWrittenAgain, WrittenUnitIsUtf8, WrittenUnitReadsBack};
+ghost use Rattle.locale_numbers.specs.UnitLaws.{FoundUnitsAreTexts, ReadUnitIsWrittenAgain, WrittenUnitIsUtf8, WrittenUnitReadsBack};
 ghost use Rattle.locale_numbers_requests.specs.declared.PatternLength.TheVariants.{Short, Long};
 
 use crate::formatter_key::{FormatterKey, Kind};
@@ -27,7 +27,7 @@ pub use locale_numbers_answers::laws::{
     amounts_have_one_end, compact_texts_have_one_reading, requests_are_at_magnitude,
     roundings_have_one_end, texts_have_one_reading, unit_texts_have_one_reading,
 };
-use locale_numbers_book::laws::{tables_are_sound, tables_are_texts};
+use locale_numbers_book::laws::{tables_are_sound, units_are_texts};
 pub use locale_numbers_book::laws::{
     chains_end, cycles_are_met, data_locales_are_read, is_one_book, sample_book_is_known,
     tags_are_read,
@@ -67,9 +67,7 @@ pub fn auto_is_answered_as_always()
 /// for: in `SAMPLE_BOOK` with `en` `0` to `9` and `-`, `+`, `.`, `,`.
 pub fn found_plain_tables_are_texts()
     ensures { FoundTablesAreTexts }
-{
-    tables_are_texts();
-}
+{}
 
 /// What is found in tables of one's own is so too: with preferences of `en`, in the sample book, `0` to `9` and `-`,
 /// `+`, `.`, `,`. It makes a formatter to tell, and does not allocate.
@@ -139,11 +137,21 @@ pub fn rounded_is_written_again()
     texts_have_one_decimal();
 }
 
+/// What is found in a book for percents, and for the amounts of a currency in a style, is made of texts, as the laws of
+/// reading back with a unit ask for: in `SAMPLE_UNITS_BOOK` with `en` and `EUR` `-€` stands before a number with a minus
+/// sign. The code of the currency is three letters `A` to `Z`, as that of each form is.
+pub fn found_units_are_texts()
+    ensures { FoundUnitsAreTexts }
+{
+    units_are_texts();
+}
+
 /// The text of each decimal with its unit is UTF-8, as a field of a line is: the one of -1234.5 with `€` in English is
 /// `-€1,234.5`.
 pub fn written_unit_is_utf8()
     ensures { WrittenUnitIsUtf8 }
 {
+    found_units_are_texts();
     texts_are_utf8();
     unit_texts_have_one_decimal();
 }
@@ -153,6 +161,7 @@ pub fn written_unit_is_utf8()
 pub fn read_unit_is_written_again()
     ensures { ReadUnitIsWrittenAgain }
 {
+    found_units_are_texts();
     unit_texts_have_one_reading();
     unit_texts_have_one_decimal();
 }
@@ -163,6 +172,7 @@ pub fn read_unit_is_written_again()
 pub fn written_unit_reads_back()
     ensures { WrittenUnitReadsBack }
 {
+    found_units_are_texts();
     unit_texts_have_one_reading();
     unit_texts_have_one_decimal();
 }

@@ -1,5 +1,16 @@
 //! The answerer of a run: it keeps formatters, and the fronts that were read, from line to line.
 
+ghost use Rattle.std.specs.Prelude.{◌≡◌, ◌++◌, ◌∷◌, ℕ, List, Some, IsOk, IsTrue, OnErr, OnOk, map, string_bytes};
+ghost use Rattle.locale_numbers_answers.specs.AnswerSink.{HasRoom};
+ghost use Rattle.locale_numbers_cache.specs.Cached.{made_over, recent_of};
+ghost use Rattle.locale_numbers_cache.specs.Recent.{has};
+ghost use Rattle.locale_numbers_lines.specs.Growth.{Grows};
+ghost use Rattle.locale_numbers_requests.specs.Request.{Asked, request_of};
+ghost use Rattle.locale_numbers.specs.Answer.{answer_of};
+ghost use Rattle.locale_numbers.specs.FormatterKeys.{finds, key_of};
+ghost use Rattle.locale_numbers.specs.LineMemory.{IsRemembered, TakesNone, front_before};
+ghost use Rattle.locale_numbers.specs.LineState.{IsSoundState};
+
 use crate::answering::answer_behind_front;
 use crate::formatter_key::FormatterKey;
 use crate::front::{Front, FrontReader, cut_text};
@@ -25,21 +36,33 @@ pub(crate) struct LineAnswerer<'a, T: Tables> {
     pub value: Decimal,
 }
 
-impl<'a, T: Tables> Answerer for LineAnswerer<'a, T> {
-    ghost use Rattle.std.specs.Prelude.{map};
-    ghost use Rattle.locale_numbers_cache.specs.Cached.{made_over};
-    ghost use Rattle.locale_numbers.specs.Answer.{answer_of};
-    ghost use Rattle.locale_numbers.specs.FormatterKeys.{finds, key_of};
-    ghost use Rattle.locale_numbers.specs.LineState.{IsSoundState};
+impl<'a, T: Tables> LineAnswerer<'a, T> {
+    // Puts the answer to a line behind what `out` holds. `AllocError`: out of memory; a part of it may then stand there.
+    fn answer_line(&mut self, line: &[u8], out: &mut String) -> Result<(), AllocError>
+        requires { IsSoundState (T.book self.old.kept.maker.tables.now) self.old.kept.formatters self.old.read
+            self.old.is_held }
+        ensures text { OnOk result (string_bytes out.new
+            ≡ string_bytes out.old ++ answer_of (T.book self.old.kept.maker.tables.now) line.now) }
+        ensures made { OnOk result ((more : List (List ℕ)) →
+            made_over ⟦<FormatterKey as PartialEq>⟧.eq (finds (T.book self.old.kept.maker.tables.now))
+            self.old.kept.formatters (map key_of (line.now ∷ more))
+            ≡ made_over ⟦<FormatterKey as PartialEq>⟧.eq (finds (T.book self.new.kept.maker.tables.now))
+            self.new.kept.formatters (map key_of more)) }
+        ensures same { T.book self.new.kept.maker.tables.now ≡ T.book self.old.kept.maker.tables.now }
+        ensures ready { IsSoundState (T.book self.new.kept.maker.tables.now) self.new.kept.formatters self.new.read
+            self.new.is_held }
+        ensures err { OnErr result (Grows (string_bytes out.old) (string_bytes out.new)) }
 
-    ghost is_ready = { λ s. IsSoundState (T.book s.kept.maker.tables.now) s.kept.formatters s.read s.is_held };
-
-    ghost answer_of = { λ s line. answer_of (T.book s.kept.maker.tables.now) line };
-
-    ghost made_over = { λ s lines. made_over ⟦<FormatterKey as PartialEq>⟧.eq (finds (T.book s.kept.maker.tables.now))
-        s.kept.formatters (map key_of lines) };
-
-    fn answer_onto(&mut self, line: &[u8], out: &mut String) -> Result<(), AllocError> {
+        // A request whose front was read lately, whose formatter is kept and whose text takes no memory, behind the number
+        // that was read before, takes none where there is room for its answer.
+        ensures room { (asked : Asked) → request_of line.now ≡ Some asked
+            → HasRoom out.old (answer_of (T.book self.old.kept.maker.tables.now) line.now)
+            → IsRemembered (front_before line.now asked.text) self.old.read
+            → TakesNone (T.book self.old.kept.maker.tables.now)
+            (λ key. ¬ (IsTrue (has ⟦<FormatterKey as PartialEq>⟧.eq key (recent_of self.old.kept.formatters))))
+            self.old.value asked
+            → IsOk result }
+    {
         let (front, text) = cut_text(line);
         let reader = FrontReader { alloc: self.alloc };
         let same = self.read.find(&reader, front)?;
@@ -53,6 +76,19 @@ impl<'a, T: Tables> Answerer for LineAnswerer<'a, T> {
             text,
             out,
         )
+    }
+}
+
+impl<'a, T: Tables> Answerer for LineAnswerer<'a, T> {
+    ghost is_ready = { λ s. IsSoundState (T.book s.kept.maker.tables.now) s.kept.formatters s.read s.is_held };
+
+    ghost answer_of = { λ s line. answer_of (T.book s.kept.maker.tables.now) line };
+
+    ghost made_over = { λ s lines. made_over ⟦<FormatterKey as PartialEq>⟧.eq (finds (T.book s.kept.maker.tables.now))
+        s.kept.formatters (map key_of lines) };
+
+    fn answer_onto(&mut self, line: &[u8], out: &mut String) -> Result<(), AllocError> {
+        self.answer_line(line, out)
     }
 
     fn made(&self) -> u64 {

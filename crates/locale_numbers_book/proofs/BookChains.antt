@@ -16,7 +16,8 @@ use Rattle.locale_numbers_book.specs.Laws.{BookChainsEnd}
 use Rattle.locale_numbers_book.specs.ParentEntries.{closes_cycle, has_parent_shape, is_listed, parent_entry, parent_fault, parents_faults}
 use Rattle.locale_numbers_book.specs.Tables.{step_in, steps_in}
 use Rattle.locale_numbers_book.proofs.BookLemmas.{sound_book}
-use Rattle.locale_numbers_book.proofs.SoundLemmas.{first_none, no_fault_of, second_none}
+use Rattle.locale_numbers_book.proofs.SoundLemmas.{no_fault_of}
+use Rattle.locale_numbers_units.proofs.EntryLemmas.{first_none, second_none}
 
 -- an entry without a fault has a new locale, which the chain of its parent does not meet
 parts_of_fault : (before : List Entry) (read : Option Entry) (pair : Entry) (shape : Bool) → read ≡ Some pair

@@ -15,3 +15,5 @@ pub mod UnitLemmas
 pub mod SampleLemmas
 pub mod SampleUnitsLemmas
 pub mod TextTables
+pub mod FoundTexts
+pub mod FoundUnitTexts

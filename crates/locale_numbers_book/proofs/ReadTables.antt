@@ -6,18 +6,10 @@ use Rattle.serde_json.specs.Data.{Data, Items, no_items, item}
 use Rattle.icu_decimal.specs.Choice.{answered, found_or, or_next}
 use Rattle.icu_decimal.specs.declared.error.DataError.{DataError}
 use Rattle.locale_numbers_tables.specs.Entries.{all_of}
-use Rattle.locale_numbers_tables.specs.Keys.{has_no_key_twice, table_at, table_in, without_key_twice}
+use Rattle.locale_numbers_tables.specs.Keys.{table_at, table_in}
+pub use Rattle.locale_numbers_units.proofs.EntryLemmas.{read_whole}
 
 module _ {K V : Type 0} where
-  -- the entries of a table without a key twice are all that were read
-  pub read_whole : (same : K → K → Bool) (o : Option (List (K × V))) (pairs : List (K × V)) → option_and_then (without_key_twice same) o ≡ Some pairs → o ≡ Some pairs
-  read_whole same None pairs is = absurd (cc)
-  read_whole same (Some ps) pairs is = by (has_no_key_twice same ps) is
-    where
-      by : (b : Bool) → (if b then Some ps else None) ≡ Some pairs → Some ps ≡ Some pairs
-      by true one = one
-      by false one = absurd (cc)
-
   -- an entry is made of a key and a table
   pub entry_by : (P : V → Type 0) (b : Bool) (k : Option K) (o : Option V) (pair : K × V)
       → (if b then option_and_then (λ key. option_map {T = V} {U = K × V} (λ v. (key, v)) o) k else None) ≡ Some pair
@@ -63,18 +55,20 @@ pub is_there : {V : Type 0} (o : Option V) (v : V) → answered o ≡ Ok v → o
 is_there None v is = absurd (cc)
 is_there (Some w) v is = let one : w ≡ v = cc in subst (λ x. Some w ≡ Some x) one refl
 
+-- what is answered by the first, or by the next
+pub next_holds : {V : Type 0} (P : V → Type 0) (r next : Result V DataError) (v : V) → ((w : V) → r ≡ Ok w → P w) → (next ≡ Ok v → P v) → or_next r next ≡ Ok v → P v
+next_holds P (Ok w) next v first later is = let whole : w ≡ v = cc in subst P whole (first w refl)
+next_holds P (Err DataError.IdentifierNotFound) next v first later is = later is
+next_holds P (Err DataError.InvalidRequest) next v first later is = absurd (cc)
+next_holds P (Err DataError.Decreasing) next v first later is = absurd (cc)
+next_holds P (Err DataError.TooManyZeros) next v first later is = absurd (cc)
+next_holds P (Err DataError.AboveType) next v first later is = absurd (cc)
+next_holds P (Err DataError.Memory) next v first later is = absurd (cc)
+next_holds P (Err DataError.Custom) next v first later is = absurd (cc)
+
 -- what is found first is answered for one of the identifiers
 pub first_holds : {I V : Type 0} (P : V → Type 0) (f : I → Result V DataError) → ((id : I) (v : V) → f id ≡ Ok v → P v)
     → (otherwise : DataError) (ids : List I) (v : V) → found_or f otherwise ids ≡ Ok v → P v
 first_holds P f each otherwise [] v is = absurd (cc)
-first_holds {I} {V} P f each otherwise (id ∷ ids) v is = by (f id) refl is (first_holds P f each DataError.IdentifierNotFound ids v)
-  where
-    by : (r : Result V DataError) → f id ≡ r → or_next r (found_or f DataError.IdentifierNotFound ids) ≡ Ok v → (found_or f DataError.IdentifierNotFound ids ≡ Ok v → P v) → P v
-    by (Ok w) e one later = let whole : w ≡ v = cc in subst P whole (each id w e)
-    by (Err DataError.IdentifierNotFound) e one later = later one
-    by (Err DataError.InvalidRequest) e one later = absurd (cc)
-    by (Err DataError.Decreasing) e one later = absurd (cc)
-    by (Err DataError.TooManyZeros) e one later = absurd (cc)
-    by (Err DataError.AboveType) e one later = absurd (cc)
-    by (Err DataError.Memory) e one later = absurd (cc)
-    by (Err DataError.Custom) e one later = absurd (cc)
+first_holds P f each otherwise (id ∷ ids) v is =
+    next_holds P (f id) (found_or f DataError.IdentifierNotFound ids) v (each id) (first_holds P f each DataError.IdentifierNotFound ids v) is

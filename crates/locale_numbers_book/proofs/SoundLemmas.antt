@@ -27,6 +27,7 @@ use Rattle.locale_numbers_book.specs.ParentEntries.{parents_faults}
 use Rattle.locale_numbers_tables.proofs.CompactLemmas.{table_meant}
 use Rattle.locale_numbers_book.proofs.BookLemmas.{sound_book}
 use Rattle.locale_numbers_book.proofs.ReadTables.{read_whole}
+use Rattle.locale_numbers_units.proofs.EntryLemmas.{first_none, second_none}
 
 -- ---- numbers of rows
 
@@ -135,14 +136,6 @@ sound_entry entry table is none =
     (entry_small entry)
 
 -- ---- all tables
-
-pub first_none : (a b : Option BookError) → option_or a b ≡ None → a ≡ None
-first_none None b e = refl
-first_none (Some x) b e = absurd (cc)
-
-pub second_none : (a b : Option BookError) → option_or a b ≡ None → b ≡ None
-second_none None b e = e
-second_none (Some x) b e = absurd (cc)
 
 abbrev pub Pair : Type 0
 Pair = Identifier × CompactTable

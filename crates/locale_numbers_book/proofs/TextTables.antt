@@ -1,12 +1,12 @@
 -- Symbols and digits of a book are texts: `specs/Laws.antt`.
-use Rattle.std.proofs.Common.{◌≡◌, ◌==◌, ℕ, Bool, true, false, ◌&&◌, List, [], ◌∷◌, length, Option, Some, None, subst, refl, if◌then◌else◌}
+use Rattle.std.proofs.Common.{◌≡◌, ◌==◌, ℕ, Bool, true, false, List, [], ◌∷◌, length, Option, Some, None, subst, refl, if◌then◌else◌}
 use Rattle.std.proofs.lemmas.Bool.{and_parts, eqb-true}
-use Rattle.std.proofs.lemmas.Str.{IsUtf8-from_is_utf8, IsUtf8-nil, scalars-chars}
+use Rattle.std.proofs.lemmas.Str.{scalars-chars}
 use Rattle.std.specs.Char.{IsScalar}
-use Rattle.std.specs.List.{AllByRecursion, list_all}
+use Rattle.std.specs.List.{AllByRecursion}
 use Rattle.std.specs.Option.{option_and_then}
-use Rattle.std.specs.Prelude.{chars, unwrap_or}
-use Rattle.std.specs.Str.{IsUtf8, all_scalars, bytes_eq, is_utf8}
+use Rattle.std.specs.Prelude.{chars}
+use Rattle.std.specs.Str.{IsUtf8, all_scalars, bytes_eq}
 use Rattle.serde_json.specs.Data.{Data}
 use Rattle.serde_json.specs.Find.{as_str, at}
 use Rattle.icu_locale_core.specs.DataLocales.{unknown_data}
@@ -14,60 +14,26 @@ use Rattle.icu_locale_core.specs.Subtags.{Text}
 use Rattle.icu_decimal.specs.Identifiers.{Identifier}
 use Rattle.icu_decimal.specs.Symbols.{Symbols}
 use Rattle.icu_decimal.specs.declared.provider.GroupingSizes.{GroupingSizes}
-use Rattle.locale_numbers_tables.specs.Entries.{digits_entry, digits_key, entry_key, field_at, grouping_sizes_of, has_count, has_texts, symbol_texts, symbols_entry, symbols_of, symbols_with, text_or_empty}
-use Rattle.locale_numbers_tables.specs.Fields.{digits_in, is_plain, plain_text, plain_text_in, system_in, ten_characters}
+use Rattle.locale_numbers_tables.specs.Entries.{digits_entry, digits_key, entry_key, field_at, grouping_sizes_of, has_count, has_texts, symbol_texts, symbols_entry, symbols_of, symbols_with}
+use Rattle.locale_numbers_tables.specs.Fields.{digits_in, plain_text_in, system_in, ten_characters}
 use Rattle.locale_numbers_tables.specs.Keys.{same_data_locale, same_key, table_at}
 use Rattle.locale_numbers_book.specs.Form.{book_half, items_at}
 use Rattle.locale_numbers_book.specs.Laws.{BookTablesAreTexts}
 use Rattle.locale_numbers_book.specs.Tables.{digits_there}
+use Rattle.locale_numbers_units.specs.UnitTexts.{AreSymbolTexts}
+use Rattle.locale_numbers_units.proofs.TextLemmas.{symbols_texts, text_utf8}
 use Rattle.locale_numbers_book.proofs.ReadTables.{entry_by, is_there, table_holds, under_holds}
-
--- ---- texts
-
-plain_by : (u p : Bool) (text other : List ℕ) → (u ≡ true → IsUtf8 text) → (if u && p then Some text else None) ≡ Some other → IsUtf8 other
-plain_by true true text other utf8 is = let one : text ≡ other = cc in subst IsUtf8 one (utf8 refl)
-plain_by true false text other utf8 is = absurd (cc)
-plain_by false p text other utf8 is = absurd (cc)
-
-text_utf8 : (o : Option (List ℕ)) (other : List ℕ) → option_and_then plain_text o ≡ Some other → IsUtf8 other
-text_utf8 None other is = absurd (cc)
-text_utf8 (Some text) other is = plain_by (is_utf8 text) (list_all is_plain (chars text)) text other (IsUtf8-from_is_utf8 text) is
-
-field_utf8 : (o : Option Data) (other : List ℕ) → option_and_then plain_text_in o ≡ Some other → IsUtf8 other
-field_utf8 None other is = absurd (cc)
-field_utf8 (Some field) other is = text_utf8 (as_str field) other is
-
-or_empty : (o : Option (List ℕ)) → ((text : List ℕ) → o ≡ Some text → IsUtf8 text) → IsUtf8 (unwrap_or o [])
-or_empty None each = IsUtf8-nil
-or_empty (Some text) each = each text refl
-
-symbol_utf8 : (place : ℕ) (entry : Data) → IsUtf8 (text_or_empty place entry)
-symbol_utf8 place entry = or_empty (field_at plain_text_in place entry) (λ text is. field_utf8 (at place entry) text is)
 
 -- ---- symbols
 
-record HasTexts (symbols : Symbols) : Type 0 where
-  minus_prefix : IsUtf8 symbols.strings.minus_sign_prefix
-  minus_suffix : IsUtf8 symbols.strings.minus_sign_suffix
-  plus_prefix : IsUtf8 symbols.strings.plus_sign_prefix
-  plus_suffix : IsUtf8 symbols.strings.plus_sign_suffix
-  point : IsUtf8 symbols.strings.decimal_separator
-  group : IsUtf8 symbols.strings.grouping_separator
-
-read_texts : (numsys : Text) (sizes : GroupingSizes) (entry : Data) → HasTexts (record { strings = symbol_texts numsys entry; grouping_sizes = sizes })
-read_texts numsys sizes entry = record {
-  minus_prefix = symbol_utf8 3 entry;
-  minus_suffix = symbol_utf8 4 entry;
-  plus_prefix = symbol_utf8 5 entry;
-  plus_suffix = symbol_utf8 6 entry;
-  point = symbol_utf8 7 entry;
-  group = symbol_utf8 8 entry;
-}
+-- the texts of symbols are UTF-8
+abbrev HasTexts : Symbols → Type 0
+HasTexts symbols = AreSymbolTexts symbols.strings
 
 texts_by : (b : Bool) (numsys : Text) (sizes : GroupingSizes) (entry : Data) (symbols : Symbols)
     → (if b then Some (record { strings = symbol_texts numsys entry; grouping_sizes = sizes }) else None) ≡ Some symbols → HasTexts symbols
 texts_by true numsys sizes entry symbols is =
-    let one : ◌≡◌ {A = Symbols} (record { strings = symbol_texts numsys entry; grouping_sizes = sizes }) symbols = cc in subst HasTexts one (read_texts numsys sizes entry)
+    let one : ◌≡◌ {A = Symbols} (record { strings = symbol_texts numsys entry; grouping_sizes = sizes }) symbols = cc in subst HasTexts one (symbols_texts numsys entry)
 texts_by false numsys sizes entry symbols is = absurd (cc)
 
 symbols_by : (n : Option Text) (g : Option GroupingSizes) (entry : Data) (symbols : Symbols)
@@ -76,8 +42,8 @@ symbols_by (Some numsys) (Some sizes) entry symbols is = texts_by (has_texts ent
 symbols_by (Some numsys) None entry symbols is = absurd (cc)
 symbols_by None g entry symbols is = absurd (cc)
 
-symbols_texts : (entry : Data) (pair : Identifier × Symbols) → symbols_entry entry ≡ Some pair → HasTexts pair.1
-symbols_texts entry pair is =
+read_texts : (entry : Data) (pair : Identifier × Symbols) → symbols_entry entry ≡ Some pair → HasTexts pair.1
+read_texts entry pair is =
     entry_by HasTexts (has_count 12 entry) (entry_key entry) (symbols_of entry) pair is
     (λ symbols one. symbols_by (field_at system_in 2 entry) (grouping_sizes_of entry) entry symbols one)
 
@@ -118,7 +84,7 @@ there_by false o digits is = absurd (cc)
 pub tables_texts : BookTablesAreTexts
 tables_texts value book is symbols digits strategy id other first second =
     let texts : HasTexts symbols = under_holds HasTexts same_key id book.symbols symbols
-    (table_holds HasTexts same_key symbols_entry symbols_texts (items_at 0 (book_half value)) book.symbols is.arrays.symbols)
+    (table_holds HasTexts same_key symbols_entry read_texts (items_at 0 (book_half value)) book.symbols is.arrays.symbols)
     (is_there (table_at same_key id book.symbols) symbols first) in
     let characters : AreCharacters digits = under_holds AreCharacters bytes_eq other.attributes book.digits digits
     (table_holds AreCharacters bytes_eq digits_entry digits_characters (items_at 1 (book_half value)) book.digits is.arrays.digits)

@@ -1,15 +1,15 @@
 -- Laws of the definitions: which tags and data locales are read, when two keys are one, which tables of patterns are made, when a value
--- is a book, with units or without, that its symbols and digits are texts, that its chains of parents end, and which tables the sample books have.
+-- is a book, with units or without, that its symbols, digits and units are texts, that its chains of parents end, and which tables the sample books have.
 -- Defined in docs/books.md, "Tags", "The form", "Units", "Parents", "Faults" and "The sample books".
 -- Cited by the functions of `laws.rt`.
 -- Each law is about definitions of other files, so the imports are many.
-use Rattle.std.specs.Prelude.{◌≡◌, ◌↔◌, ℕ, false, List, Option, None, Some, Ok}
+use Rattle.std.specs.Prelude.{◌≡◌, ◌↔◌, ℕ, true, false, List, Option, None, Some, Ok}
 use Rattle.std.specs.List.{AllByRecursion}
 use Rattle.std.specs.Bool.{Decides}
 use Rattle.serde_json.specs.Data.{Data}
 use Rattle.icu_locale_core.specs.Subtags.{Text}
 use Rattle.icu_locale_core.specs.Meaning.{TagMeaning, MeansTag}
-use Rattle.icu_locale_core.specs.TagPreferences.{DataLocaleMeaning}
+use Rattle.icu_locale_core.specs.TagPreferences.{DataLocaleMeaning, Preferences}
 use Rattle.icu_locale_core.specs.DataTags.{MeansDataLocale}
 use Rattle.icu_decimal_chains.specs.Chains.{Follows, walk}
 use Rattle.icu_decimal.specs.Entries.{Rises}
@@ -19,6 +19,11 @@ use Rattle.icu_decimal.specs.ReadingLaws.{AreTables}
 use Rattle.icu_decimal.specs.SmallEntries.{AreSmall}
 use Rattle.icu_decimal.specs.Symbols.{Symbols}
 use Rattle.icu_decimal.specs.declared.options.GroupingStrategy.{GroupingStrategy}
+use Rattle.icu_dimension.specs.CurrencyCodes.{is_currency_code}
+use Rattle.icu_dimension.specs.FoundUnits.{CurrencySettings}
+use Rattle.icu_dimension.specs.UnitReading.{AreReaderTexts, reader_texts}
+use Rattle.icu_dimension.specs.UnitText.{UnitSettings}
+use Rattle.icu_dimension.specs.declared.CurrencyFormatterOptions.{CurrencyFormatterOptions}
 use Rattle.locale_numbers_book.specs.Book.{BookTables, HasTables, IsBook}
 use Rattle.locale_numbers_book.specs.BookAllocation.{alone_may_grow, book_may_grow}
 use Rattle.locale_numbers_book.specs.Form.{alone_fault, book_fault}
@@ -30,6 +35,7 @@ use Rattle.locale_numbers_tables.specs.CompactEntries.{table_made}
 use Rattle.locale_numbers_tables.specs.Entries.{has_count}
 use Rattle.locale_numbers_tables.specs.Keys.{same_key}
 use Rattle.locale_numbers_book.specs.Tables.{digits_under, parent_under, steps_in, symbols_under}
+use Rattle.locale_numbers_book.specs.TagFormatters.{currency_found_in, percent_found_in}
 use Rattle.locale_numbers_tables.specs.TagReading.{tag_of, data_locale_of}
 
 -- a list of pieces is read as a tag exactly where it means one, and as that one
@@ -81,6 +87,16 @@ abbrev pub BookTablesAreTexts : Type 0
 BookTablesAreTexts = (value : Data) (book : BookTables) → IsBook value book → (symbols : Symbols) (digits : List ℕ) (strategy : GroupingStrategy)
     → (id other : Identifier) → symbols_under book id ≡ Ok symbols → digits_under book other ≡ Ok digits
     → AreTables (record { symbols = symbols; digits = digits; strategy = strategy })
+
+-- what percents are written with is made of texts
+abbrev pub FoundPercentsAreTexts : Type 0
+FoundPercentsAreTexts = (value : Data) (book : BookTables) → IsBook value book → (preferences : Preferences) (grouping : Option GroupingStrategy) (settings : UnitSettings)
+    → percent_found_in book preferences grouping ≡ Ok settings → AreReaderTexts (reader_texts settings)
+
+-- and so is what the amounts of a currency are written with, of which the code is three capitals
+abbrev pub FoundAmountsAreTexts : Type 0
+FoundAmountsAreTexts = (value : Data) (book : BookTables) → IsBook value book → (preferences : Preferences) (code : Text) (options : CurrencyFormatterOptions) (found : CurrencySettings)
+    → is_currency_code code ≡ true → currency_found_in book preferences code options ≡ Ok found → AreReaderTexts (reader_texts found.unit)
 
 -- the bound on steps cuts no chain of a book: where that many steps lead, no locale comes next
 abbrev pub BookChainsEnd : Type 0

@@ -1,6 +1,6 @@
 //! Laws of the definitions, each the contract of a function that does nothing.
 
-ghost use Rattle.locale_numbers_book.specs.Laws.{TagsAreRead, DataLocalesAreRead, KeysAreOneWhereEqual, TablesAreMade, IsOneBook, OldBooksStay, BookTablesAreSound, BookTablesAreTexts, BookChainsEnd, SampleBookIsKnown, SampleUnitsBookIsKnown};
+ghost use Rattle.locale_numbers_book.specs.Laws.{TagsAreRead, DataLocalesAreRead, KeysAreOneWhereEqual, TablesAreMade, IsOneBook, OldBooksStay, BookTablesAreSound, BookTablesAreTexts, FoundPercentsAreTexts, FoundAmountsAreTexts, BookChainsEnd, SampleBookIsKnown, SampleUnitsBookIsKnown};
 
 pub use locale_numbers_parents::laws::cycles_are_met;
 
@@ -50,6 +50,14 @@ pub fn tables_are_sound()
 /// `SAMPLE_BOOK` under `en` and `latn` `-`, `+`, `.`, `,` and `0` to `9`.
 pub fn tables_are_texts()
     ensures { BookTablesAreTexts }
+{}
+
+/// What percents and amounts of a book are written with is made of texts, as the laws of reading back ask for: each
+/// affix, with its sign and its unit, is UTF-8. In `SAMPLE_UNITS_BOOK` under `en` with `EUR` `-€` and the empty text are
+/// those of a minus sign. The code of a currency is three letters `A` to `Z`.
+pub fn units_are_texts()
+    ensures percents { FoundPercentsAreTexts }
+    ensures amounts { FoundAmountsAreTexts }
 {}
 
 /// The bound on the steps from a locale to its parents cuts no chain of a book: `en-AU`, `en-001`, `en` under

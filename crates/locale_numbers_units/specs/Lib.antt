@@ -8,6 +8,8 @@ pub mod CurrencyDigits
 pub mod CurrencySymbols
 pub mod Faults
 pub mod Units
+-- Statements of laws.
+pub mod UnitTexts
 -- What private steps follow.
 pub mod Allocation
 pub mod Adding

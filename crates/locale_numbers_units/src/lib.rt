@@ -11,6 +11,7 @@ mod array;
 mod currency_digits;
 mod currency_symbols;
 mod fields;
+pub mod laws;
 mod own_symbols;
 mod patterns;
 mod percents;

@@ -1,5 +1,5 @@
 use Rattle.locale_numbers.proofs.FrontLemmas.{line_asked}
 use Rattle.locale_numbers.proofs.front.cut_text.Goals as goal
 
-pub returns : goal.returns
-returns c = line_asked c.args.line.now c.cut_last.result.0.now c.cut_last.result.1.now c.cut_last.ensures
+pub returns-clause-asks : goal.returns-clause-asks
+returns-clause-asks c = line_asked c.args.line.now c.cut_last.result.0.now c.cut_last.result.1.now c.cut_last.ensures

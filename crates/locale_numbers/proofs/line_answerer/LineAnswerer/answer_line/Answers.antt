@@ -1,0 +1,68 @@
+use Rattle.std.proofs.Common.{◌≡◌, ◌++◌, map, refl, sym, ap, ◌∙◌, subst}
+use Rattle.std.specs.Prelude.{IsTrue, string_bytes}
+use Rattle.std.proofs.lemmas.Bool.{false≢true}
+use Rattle.locale_numbers_answers.specs.AnswerSink.{HasRoom}
+use Rattle.locale_numbers_cache.specs.Cached.{IsLatest, recent_of}
+use Rattle.locale_numbers_cache.specs.Recent.{has}
+use Rattle.locale_numbers.specs.FormatterKeys.{key_of}
+use Rattle.locale_numbers.specs.KeptFormatters.{IsKeptFor}
+use Rattle.locale_numbers.specs.Front.{answer_behind, key_behind}
+use Rattle.locale_numbers.specs.LineMemory.{IsRemembered}
+use Rattle.locale_numbers.specs.contracts.formatter_key.FormatterKeyPartialEq.TheImpl as keys
+use Rattle.locale_numbers.proofs.AnsweringLemmas.{grows_by_none, on_ok_by, one_of}
+use Rattle.locale_numbers.proofs.FrontLemmas.{answer_of_line, fits_form, key_of_line, still_held}
+use Rattle.locale_numbers.proofs.LineMemoryLemmas.{formatter_behind, front_is_before, front_of_request, text_behind}
+use Rattle.locale_numbers.proofs.line_answerer.LineAnswerer.answer_line.Goals as goal
+
+pub answer_behind_front-requires : goal.answer_behind_front-requires
+answer_behind_front-requires g c κs =
+    let book = g.T.Tables.book c.args.self.now.kept.maker.tables.now in (
+      (refl, tt {0}),
+      (
+        c.requires.0,
+        (
+          fits_form c.latest.result.now c.cut_text.result.0.now (one_of _ _ _ c.latest.ensures c.in_ok-same.ensures.value),
+          still_held (λ key. IsLatest (IsKeptFor book) key c.args.self.now.kept.formatters) c.args.self.now.is_held c.in_ok-same.same c.args.self.now.read c.find.new.self c.latest.result.now
+              c.requires.2 c.in_ok-same.ensures.same c.latest.ensures,
+        ),
+      ),
+    )
+
+pub returns-clause-text : goal.returns-clause-text
+returns-clause-text g c =
+    let book = g.T.Tables.book c.args.self.now.kept.maker.tables.now in
+    on_ok_by c.answer_behind_front.result
+    (λ p. p ∙ ap (λ answer. string_bytes c.args.out.now ++ answer)
+    (ap (λ front. answer_behind book front c.cut_text.result.1.now) (one_of _ _ _ c.latest.ensures c.in_ok-same.ensures.value)
+    ∙ sym (answer_of_line c.args.line.now c.cut_text.result.0.now c.cut_text.result.1.now c.cut_text.ensures.asks book)))
+    c.answer_behind_front.ensures.text
+
+pub returns-clause-made : goal.returns-clause-made
+returns-clause-made g c =
+    let key : key_of c.args.line.now ≡ key_behind c.latest.result.now c.cut_text.result.1.now =
+    key_of_line c.args.line.now c.cut_text.result.0.now c.cut_text.result.1.now c.cut_text.ensures.asks
+    ∙ ap (λ front. key_behind front c.cut_text.result.1.now) (sym (one_of _ _ _ c.latest.ensures c.in_ok-same.ensures.value)) in
+    on_ok_by c.answer_behind_front.result
+    (λ counted more. rw key (counted (map key_of more)))
+    c.answer_behind_front.ensures.counted
+
+pub returns-in_err-same-clause-err : goal.returns-in_err-same-clause-err
+returns-in_err-same-clause-err g c = grows_by_none c.from_residual.result (string_bytes c.args.out.now)
+
+pub returns-in_err-same-clause-room : goal.returns-in_err-same-clause-room
+returns-in_err-same-clause-room g c = λ asked is room remembered takes.
+    let whole = front_of_request c.args.line.now c.cut_text.result.0.now c.cut_text.result.1.now asked c.cut_text.ensures.asks is in
+    let kept = subst (λ front. IsRemembered front c.args.self.now.read) (front_is_before c.args.line.now c.cut_text.result.0.now c.cut_text.result.1.now asked c.cut_text.ensures.whole whole.texts) remembered in
+    absurd (false≢true (c.in_err-same.ensures.room kept.short kept.there))
+
+pub returns-clause-room : goal.returns-clause-room
+returns-clause-room g c = λ asked is room remembered takes.
+    let book = g.T.Tables.book c.args.self.now.kept.maker.tables.now in
+    let whole = front_of_request c.args.line.now c.cut_text.result.0.now c.cut_text.result.1.now asked c.cut_text.ensures.asks is in
+    let read = one_of _ _ _ c.latest.ensures c.in_ok-same.ensures.value in
+    c.answer_behind_front.ensures.room
+    (subst (λ answer. HasRoom c.args.out.now answer)
+    (answer_of_line c.args.line.now c.cut_text.result.0.now c.cut_text.result.1.now c.cut_text.ensures.asks book
+    ∙ ap (λ front. answer_behind book front c.cut_text.result.1.now) (sym read)) room)
+    (formatter_behind (λ key. ¬ (IsTrue (has keys.ghosts.eq key (recent_of c.args.self.now.kept.formatters)))) c.latest.result.now c.cut_text.result.0.now c.cut_text.result.1.now asked read whole takes.formatter)
+    (text_behind book c.args.self.now.value c.latest.result.now c.cut_text.result.0.now c.cut_text.result.1.now asked read whole takes.text)
