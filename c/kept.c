@@ -114,6 +114,8 @@ static void write_units(void) {
     expect_text("-98,765,432,109.5%");
     TWICE(legumeyet_unit_formatter_read(&percents, TEXT("-98,765,432,109.5%"), out, sizeof out, &length));
     expect_text("-98765432109.5");
+    TWICE(legumeyet_unit_formatter_read_lenient(&percents, TEXT("-98765432109.5 %"), out, sizeof out, &length));
+    expect_text("-98765432109.5");
     TWICE(legumeyet_unit_formatter_format(&dollars, TEXT("1234567.8"), &cash, out, sizeof out, &length));
     expect_text("$1,234,567.75");
     TWICE(legumeyet_unit_formatter_format_i64(&dollars, -98765432109, 0, &AS_GIVEN, out, sizeof out, &length));
@@ -126,6 +128,8 @@ static void write_units(void) {
     expect("parts", (int64_t)count, 7);
     TWICE(legumeyet_unit_formatter_read(&dollars, TEXT("($98,765,432,109.00)"), out, sizeof out, &length));
     expect_text("-98765432109.00");
+    TWICE(legumeyet_unit_formatter_read_lenient(&dollars, TEXT("USD -1234567890.5"), out, sizeof out, &length));
+    expect_text("-1234567890.5");
 }
 
 /* Calls on a kept book answer as on any other. */

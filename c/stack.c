@@ -97,6 +97,8 @@ static void *units(void *given) {
         if (legumeyet_unit_formatter_format_double(&it, -123456789.25, &ROUNDED, out, sizeof out, &length) != 0) return NULL;
         if (legumeyet_unit_formatter_format_parts(&it, digits, LONG, &AS_GIVEN, out, sizeof out, &length, parts, 1 << 15, &count) != 0) return NULL;
         if (legumeyet_unit_formatter_read(&it, out, length, out + length, sizeof out - length, &count) != 0) return NULL;
+        if (legumeyet_unit_formatter_read_lenient(&it, out, length, out + length, sizeof out - length, &count) != 0) return NULL;
+        if (legumeyet_unit_formatter_read_lenient(&it, digits, LONG, out, sizeof out, &length) != 0) return NULL;
         legumeyet_unit_formatter_close(&it);
     }
     return legumeyet_book_close(&world) == 0 ? given : NULL;

@@ -416,6 +416,8 @@ static void money() {
 #if defined(__cpp_lib_format)
     expect(std::format("{:>9}", dollars(-5)), "  ($5.00)");
 #endif
+    expect(dollars.read_lenient("5.00") + ' ' + dollars.read_lenient(" -5 USD") + ' ' + euros.read_lenient("1234,5€"), "5.00 -5 1234.5");
+    expect_error(LEGUMEYET_NOT_WRITTEN, [&] { dollars.read_lenient("5 EUR"); });
     expect_error(LEGUMEYET_NOT_WRITTEN, [&] { dollars.read("5.00"); });
     expect_error(LEGUMEYET_UTF8, [&] { dollars.read("\xff"); });
     expect_error(LEGUMEYET_NUMBER, [&] { dollars.format("5."); });
@@ -425,6 +427,7 @@ static void money() {
     expect(moved.format(-5), "($5.00)");
     expect_error(LEGUMEYET_CLOSED, [&] { dollars.format(-5); });
     expect_error(LEGUMEYET_CLOSED, [&] { dollars.read("$5"); });
+    expect_error(LEGUMEYET_CLOSED, [&] { dollars.read_lenient("$5"); });
 }
 
 // Formatters of money that are refused; a book that is not kept, or has no units.
@@ -457,6 +460,7 @@ static void percents() {
     expect(german.format(-0.25, Options().with_rounding(Rounding::HalfEven, -1)), spaced("-0,2_%"));
     expect(named(turkish.format_parts("-12.5")), "1- 8% 312 5, 65 ");
     expect(german.read(spaced("12,5_%")) + ' ' + turkish.read("-%12,5"), "12.5 -12.5");
+    expect(german.read_lenient("12,5") + ' ' + turkish.read_lenient("12,5 %"), "12.5 12.5");
     expect_error(LEGUMEYET_NOT_WRITTEN, [&] { german.read("12,5"); });
     expect_error(LEGUMEYET_OPTION, [&] { german.format(1, 0, Options().with_rounding(Rounding::Cash)); });
     expect_error(LEGUMEYET_OPTION, [&] { german.format(1, 0, Options().with_rounding(Rounding::None)); });

@@ -92,6 +92,8 @@ static void units() {
     expect_text(dollars->try_format(-5), "($5.00)");
     expect_text(dollars->try_read("($5.00)"), "-5.00");
     expect_code(dollars->try_read("5").error(), Code::NotWritten);
+    expect_text(dollars->try_read_lenient("5 $"), "5");
+    expect_code(dollars->try_read_lenient("5 EUR").error(), Code::NotWritten);
     expect_text(percents->try_format(12.5), "%12,5");
     expect_code(percents->try_format(1, Options().with_rounding(Rounding::Cash)).error(), Code::Option);
     expect_code(CurrencyFormatter::try_open("en", "usd").error(), Code::Code);

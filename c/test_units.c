@@ -70,6 +70,10 @@ static int32_t read_back(legumeyet_unit_formatter *formatter, const char *text) 
     return legumeyet_unit_formatter_read(formatter, TEXT(text), out, sizeof out, &length);
 }
 
+static int32_t read_lenient(legumeyet_unit_formatter *formatter, const char *text) {
+    return legumeyet_unit_formatter_read_lenient(formatter, TEXT(text), out, sizeof out, &length);
+}
+
 static int32_t open_currency(const char *tag, const char *code, uint32_t style, uint32_t width, legumeyet_unit_formatter *formatter) {
     return legumeyet_currency_formatter_open(&book, TEXT(tag), TEXT(code), style, width, LEGUMEYET_GROUPING_AUTO, formatter);
 }
@@ -165,6 +169,28 @@ static void reads(void) {
     expect_error("a closed formatter", read_back(&closed, "\xff"), LEGUMEYET_CLOSED);
 }
 
+static void reads_leniently(void) {
+    expect_text(read_lenient(&euros, "-" EURO "1,234.50"), "-1234.50");
+    expect_text(read_lenient(&euros, " 1234.5 "), "1234.5");
+    expect_text(read_lenient(&euros, EURO "1234.5"), "1234.5");
+    expect_text(read_lenient(&euros, "1,234.5 " EURO), "1234.5");
+    expect_text(read_lenient(&euros, "5 EUR"), "5");
+    expect_text(read_lenient(&euros, "-EUR 5"), "-5");
+    expect_text(read_lenient(&euros, "987654321.5 EUR"), "987654321.5");
+    expect_text(read_lenient(&accounts, "(" EURO "5)"), "-5");
+    expect_text(read_lenient(&francs, "CHF-5.00"), "-5.00");
+    expect_text(read_lenient(&percents, "12.5 %"), "12.5");
+    expect_text(read_lenient(&percents, "-12.5"), "-12.5");
+    expect_error("another unit", read_lenient(&euros, "$1.00"), LEGUMEYET_NOT_WRITTEN);
+    expect_error("a group of two", read_lenient(&euros, EURO "1,23"), LEGUMEYET_NOT_WRITTEN);
+    expect_error("no text", read_lenient(&euros, ""), LEGUMEYET_NOT_WRITTEN);
+    expect_error("bytes", read_lenient(&euros, "\xff"), LEGUMEYET_UTF8);
+    expect_error("a closed formatter", read_lenient(&closed, "\xff"), LEGUMEYET_CLOSED);
+    expect("no room", legumeyet_unit_formatter_read_lenient(&euros, TEXT("5 EUR"), NULL, 0, &length), LEGUMEYET_TOO_SMALL);
+    expect("what it needs", (int64_t)length, 1);
+    length = 77;
+}
+
 static void locales(void) {
     static const char *const TAGS[] = {"de-CH", "en", "tr"};
     size_t count = 77, at;
@@ -204,6 +230,7 @@ int main(void) {
     writes();
     parts();
     reads();
+    reads_leniently();
     locales();
     faults();
     closes();

@@ -32,12 +32,14 @@ static void expect_text(const char *what, int32_t error, const char *text) {
     wrong = 1;
 }
 
-/* The formatter writes the number so; what it reads of that is written so again. The formatter is closed. */
+/* The formatter writes the number so; what it reads of that, also leniently, is written so again. The formatter is closed. */
 static void expect_trip(legumeyet_unit_formatter *formatter, const char *number, legumeyet_options options, const char *text) {
-    uint8_t digits[HALF];
-    size_t count = 0;
+    uint8_t digits[HALF], typed[HALF];
+    size_t count = 0, typed_count = 0;
     expect_text(number, legumeyet_unit_formatter_format(formatter, LEGUMEYET_TEXT(number), &options, out, ROOM, &length), text);
     expect(text, legumeyet_unit_formatter_read(formatter, out, length, digits, HALF, &count), LEGUMEYET_OK);
+    expect(text, legumeyet_unit_formatter_read_lenient(formatter, out, length, typed, HALF, &typed_count), LEGUMEYET_OK);
+    expect(text, typed_count == count && memcmp(typed, digits, count) == 0, 1);
     expect_text(text, legumeyet_unit_formatter_format(formatter, digits, count, &options, out, ROOM, &length), text);
     expect(text, legumeyet_unit_formatter_close(formatter), LEGUMEYET_OK);
 }

@@ -63,7 +63,7 @@ extern "C" {
 #define LEGUMEYET_VERSION 1
 
 /* The minor version, which rises when a function or a number is added. */
-#define LEGUMEYET_MINOR 2
+#define LEGUMEYET_MINOR 3
 
 /* The two arguments that a text with a NUL at its end is given by. */
 #define LEGUMEYET_TEXT(text) (const uint8_t *)(text), strlen(text)
@@ -389,9 +389,9 @@ int32_t legumeyet_decimal_formatter_read(legumeyet_decimal_formatter *formatter,
  * `1,23`, `1,234,5` and `1 234` are not.
  *
  * docs/reading.md of the repository has what is folded. A separator is never dropped: digits are grouped wholly, by the sizes of the
- * locale, or not at all. ASCII digits are read in every locale; the separators are always those of the formatter. A formatter of a kept
- * book folds its symbols at the first call, and keeps them so until it is closed. One with its own copy of the tables, or one to which
- * memory for that is refused, folds them for each text that it does not write so, and keeps nothing of it.
+ * locale, or not at all. ASCII digits are read in every locale; the separators are always those of the formatter. A formatter folds its
+ * symbols at the first call, and keeps them so until it is closed. One to which memory for that is refused folds them for each text that
+ * it does not write so, and keeps nothing of it.
  *
  * Returns as legumeyet_decimal_formatter_read; LEGUMEYET_UNREADABLE also where two numbers may have one text once the symbols are
  * folded, but not of a text that the formatter writes; LEGUMEYET_MEMORY also where the formatter does not write the text.
@@ -562,11 +562,28 @@ int32_t legumeyet_unit_formatter_format_parts(legumeyet_unit_formatter *formatte
  * Reads a text back as the one number that the formatter writes so, and writes it as digits: in English with euros `-€1,234.50` as
  * `-1234.50`. How many digits the currency has is not looked at: `€1.5` is 1.5.
  *
+ * A formatter puts the affixes of the signs together at the first call, and keeps them so until it is closed.
+ *
  * Returns 0; LEGUMEYET_CLOSED; LEGUMEYET_UTF8; LEGUMEYET_UNREADABLE; LEGUMEYET_NOT_WRITTEN, as of `$1.00`; LEGUMEYET_MEMORY of any text;
  * LEGUMEYET_TOO_SMALL.
  */
 int32_t legumeyet_unit_formatter_read(legumeyet_unit_formatter *formatter, const uint8_t *text, size_t text_length, uint8_t *out,
                                       size_t room, size_t *length);
+
+/*
+ * Reads a text that somebody typed: as legumeyet_unit_formatter_read does what the formatter writes, and other texts by folding, with the
+ * unit or its code before or after the number, with a space between or none, or without it. The code is the one of the currency, and of
+ * percents `%`. In English with euros ` 1234.5 `, `€1234.5`, `1,234.5 €`, `EUR 5` and `-5 EUR` are read, as `1234.5`, `1234.5`, `1234.5`,
+ * `5` and `-5`; `$5`, `€1,23` and `5 euros` are not.
+ *
+ * docs/units.md of the repository has the rule. Nothing is dropped or guessed: another unit is none of the formatter's, and a number is
+ * grouped wholly or not at all.
+ *
+ * Returns as legumeyet_unit_formatter_read; LEGUMEYET_UNREADABLE also where two numbers may have one text once the symbols, the affixes
+ * and the unit are folded.
+ */
+int32_t legumeyet_unit_formatter_read_lenient(legumeyet_unit_formatter *formatter, const uint8_t *text, size_t text_length, uint8_t *out,
+                                              size_t room, size_t *length);
 
 /*
  * Writes what a number of these calls means, in English: of LEGUMEYET_TAG `no locale tag`.

@@ -733,8 +733,14 @@ class UnitFormatter : public Formatter<legumeyet_unit_formatter, UnitCalls> {
         return text_of([&](auto... out) { return legumeyet_unit_formatter_read(&handle, bytes(text), text.size(), out...); });
     }
 
+    // The number that somebody typed, as digits: `1234.5` of `1234.5 €` in English; legumeyet_unit_formatter_read_lenient has the rule.
+    Result<std::string> try_read_lenient(std::string_view text) {
+        return text_of([&](auto... out) { return legumeyet_unit_formatter_read_lenient(&handle, bytes(text), text.size(), out...); });
+    }
+
 #ifdef __cpp_exceptions
     std::string read(std::string_view text) { return try_read(text).value(); }
+    std::string read_lenient(std::string_view text) { return try_read_lenient(text).value(); }
 #endif
 };
 

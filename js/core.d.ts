@@ -116,6 +116,8 @@ export class PercentFormatter extends Formatter<PercentFormatterOptions> {
   constructor(locales?: Locales, options?: PercentFormatterOptions);
   /** The digits of the one number that is written so: `-12.5%` is `-12.5` in English. */
   read(text: string): string;
+  /** The digits of the number that was typed so: `12.5`, `12.5 %` and `%12.5` are read too. */
+  readLenient(text: string): string;
   /** Those of the locales that the book has tables for. */
   static supportedLocalesOf(locales: Locales, options?: PercentFormatterOptions): string[];
 }
@@ -125,6 +127,8 @@ export class CurrencyFormatter extends Formatter<CurrencyFormatterOptions> {
   constructor(locales: Locales | undefined, options: CurrencyFormatterOptions);
   /** The digits of the one number that is written so: `-€1,234.50` is `-1234.50` in English. */
   read(text: string): string;
+  /** The digits of the number that was typed so: `1234.5`, `5 €` and `EUR 5` are read too. */
+  readLenient(text: string): string;
   /** Those of the locales that the book has tables for. */
   static supportedLocalesOf(locales: Locales, options: CurrencyFormatterOptions): string[];
 }

@@ -1,9 +1,11 @@
-import type { DecimalFormatter, Num } from "./core.js";
+import type { CurrencyFormatter, DecimalFormatter, Num, PercentFormatter } from "./core.js";
 
-/** The text of a field while somebody types, of a formatter of plain numbers that does not round. */
+export type FieldFormatter = DecimalFormatter | PercentFormatter | CurrencyFormatter;
+
+/** The text of a field while somebody types, of a formatter of plain numbers, of percents or of amounts that does not round. */
 export class FieldText {
   /** `latin` is one of the same locale with the digits 0 to 9, for what the formatter does not read. */
-  constructor(formatter: DecimalFormatter, latin?: DecimalFormatter | null);
+  constructor(formatter: FieldFormatter, latin?: FieldFormatter | null);
   /** What the field has. */
   text: string;
   /** Writes a number; nothing for an empty text. Returns the text. */

@@ -306,6 +306,11 @@ class UnitFormatter extends Formatter {
   read(text) {
     return written(atOf(this), calls.js_unit_read, textOf(text));
   }
+
+  /** The digits of the number that was typed so, with its unit or code on either side, or without it. */
+  readLenient(text) {
+    return written(atOf(this), calls.js_unit_read_lenient, textOf(text));
+  }
 }
 
 /** Writes percents for a locale, and reads them back. A percent is written as it is given: a ratio is multiplied by 100 first. */

@@ -1,18 +1,22 @@
-import type { DecimalFormatter } from "./core.js";
+import type { CurrencyFormatter, DecimalFormatter, PercentFormatter } from "./core.js";
 
 /** The direction in which a locale is written. */
 export function directionOf(locale: string): "rtl" | "ltr";
 
-/** `<number-field locale="de">`: a form field of a number. */
+/** `<number-field locale="de">`: a form field of a number; with `currency="EUR"` of an amount, with `percent` of percents. */
 export class NumberField extends HTMLElement {
   /** The number as digits; empty where there is none. */
   value: string;
   locale: string;
+  /** The code of the currency, or null. */
+  currency: string | null;
+  /** Whether it is of percents; a currency comes first. */
+  percent: boolean;
   required: boolean;
   disabled: boolean;
   /** What is shown. */
   readonly text: string;
-  readonly formatter: DecimalFormatter | null;
+  readonly formatter: DecimalFormatter | PercentFormatter | CurrencyFormatter | null;
   readonly name: string | null;
   readonly type: "number-field";
   readonly form: HTMLFormElement | null;

@@ -1,9 +1,11 @@
-// <number-field locale="de">: a form field of a number, which is written as the readers of a locale write it while somebody types. Its value is
-// the decimal as digits, as `-1234.50`, and that is what its form sends. It is defined where this module is imported, over the world's book.
-import { DecimalFormatter } from "./index.js";
+// <number-field locale="de">: a form field of a number, which is written as the readers of a locale write it while somebody types. With
+// `currency="EUR"` it is of amounts of money, with `percent` of percents. Its value is the decimal as digits, as `-1234.50`, and that is what its
+// form sends. It is defined where this module is imported, over the world's book.
+import { CurrencyFormatter, DecimalFormatter, PercentFormatter } from "./index.js";
 import { FieldText } from "./field.js";
 
 const RIGHT_TO_LEFT = new Set(["Adlm", "Arab", "Hebr", "Mand", "Nkoo", "Rohg", "Samr", "Syrc", "Thaa", "Yezi"]);
+const OPENING = ["locale", "currency", "percent"];
 const HANDED_ON = ["placeholder", "readonly", "autocomplete", "enterkeyhint"];
 const STYLE = `
   :host { display: inline-block }
@@ -22,7 +24,7 @@ export function directionOf(locale) {
 
 export class NumberField extends HTMLElement {
   static formAssociated = true;
-  static observedAttributes = ["locale", "value", "required", "disabled", "aria-label", ...HANDED_ON];
+  static observedAttributes = [...OPENING, "value", "required", "disabled", "aria-label", ...HANDED_ON];
 
   #internals = this.attachInternals();
   #input = document.createElement("input");
@@ -74,20 +76,28 @@ export class NumberField extends HTMLElement {
   }
 
   attributeChangedCallback(name, before, now) {
-    if (name === "locale") this.#open();
+    if (OPENING.includes(name)) this.#open();
     else if (name === "value") this.#isTouched || this.#put(now ?? "");
     else if (name === "aria-label") this.#label();
     else if (HANDED_ON.includes(name)) now === null ? this.#input.removeAttribute(name) : this.#input.setAttribute(name, now);
     else if (name === "required") this.#judge();
   }
 
+  // The formatter of a locale: of amounts, of percents or of plain numbers. It shows the digits that are typed.
+  #formatterOf(locale) {
+    const { currency } = this;
+    if (currency !== null) return new CurrencyFormatter(locale, { currency, currencyDigits: "given" });
+    return this.percent ? new PercentFormatter(locale) : new DecimalFormatter(locale);
+  }
+
   // Opens the formatter of the locale, and writes the number anew.
   #open() {
     const locale = this.locale;
-    const formatter = new DecimalFormatter(locale);
+    const formatter = this.#formatterOf(locale);
     for (const it of [this.#formatter, this.#latin]) it?.close();
     this.#formatter = formatter;
-    this.#latin = formatter.format("0") === "0" ? null : new DecimalFormatter(new Intl.Locale(locale, { numberingSystem: "latn" }));
+    const isLatin = formatter.formatToParts("0").some((it) => it.type === "integer" && it.value === "0");
+    this.#latin = isLatin ? null : this.#formatterOf(new Intl.Locale(locale, { numberingSystem: "latn" }));
     this.#field = new FieldText(formatter, this.#latin);
     this.#input.lang = locale;
     this.#input.dir = directionOf(locale);
@@ -188,6 +198,10 @@ export class NumberField extends HTMLElement {
   get formatter() { return this.#formatter; }
   get locale() { return this.getAttribute("locale") || this.closest("[lang]")?.lang || "en"; }
   set locale(locale) { this.setAttribute("locale", locale); }
+  get currency() { return this.getAttribute("currency"); }
+  set currency(code) { code === null ? this.removeAttribute("currency") : this.setAttribute("currency", code); }
+  get percent() { return this.hasAttribute("percent"); }
+  set percent(isPercent) { this.toggleAttribute("percent", Boolean(isPercent)); }
   get required() { return this.hasAttribute("required"); }
   set required(isRequired) { this.toggleAttribute("required", Boolean(isRequired)); }
   get disabled() { return this.hasAttribute("disabled"); }

@@ -63,6 +63,7 @@ number legumeyet_unit_formatter_close(handle *);
 number legumeyet_unit_formatter_format(handle *, const u8 *, u64, const options *, u8 *, u64, u64 *);
 number legumeyet_unit_formatter_format_parts(handle *, const u8 *, u64, const options *, u8 *, u64, u64 *, interval *, u64, u64 *);
 number legumeyet_unit_formatter_read(handle *, const u8 *, u64, u8 *, u64, u64 *);
+number legumeyet_unit_formatter_read_lenient(handle *, const u8 *, u64, u8 *, u64, u64 *);
 number legumeyet_error_text(number, u8 *, u64, u64 *);
 u32 legumeyet_version(void);
 u32 legumeyet_minor(void);
@@ -192,6 +193,7 @@ number js_currency_open(opened *book, u32 n, u32 code, u32 style, u32 width, u32
 number js_unit_format(opened *it, u32 n) { WRITTEN(legumeyet_unit_formatter_format(&it->of, text_in(), n, &it->how, OUT)) }
 number js_unit_parts(opened *it, u32 n) { WRITTEN(legumeyet_unit_formatter_format_parts(&it->of, text_in(), n, &it->how, PARTS_OUT)) }
 number js_unit_read(opened *it, u32 n) { WRITTEN(legumeyet_unit_formatter_read(&it->of, text_in(), n, OUT)) }
+number js_unit_read_lenient(opened *it, u32 n) { WRITTEN(legumeyet_unit_formatter_read_lenient(&it->of, text_in(), n, OUT)) }
 void js_unit_close(opened *it) {
     legumeyet_unit_formatter_close(&it->of);
     free(it);

@@ -218,6 +218,16 @@ test("percents", () => {
   assert.deepEqual(PercentFormatter.supportedLocalesOf(["en", "zz"]), ["en"]);
 });
 
+test("amounts and percents are read leniently", () => {
+  const rows = [["-€1,234.50", "-1234.50"], [" €1234.5 ", "1234.5"], ["1,234.5 €", "1234.5"], ["EUR 5", "5"], ["5 EUR", "5"], ["-5", "-5"], ["€.5", "0.5"]];
+  const it = money("en", "EUR");
+  for (const [text, digits] of rows) assert.equal(it.readLenient(text), digits, text);
+  for (const [text, digits] of [["%12,5", "12.5"], ["12,5 %", "12.5"], ["1.234,5", "1234.5"]]) assert.equal(new PercentFormatter("tr").readLenient(text), digits, text);
+  for (const wrong of ["$5.00", "€1,23", "5 euros", ""]) refuses(ErrorNumber.NOT_WRITTEN, () => it.readLenient(wrong));
+  refuses(ErrorNumber.UTF8, () => it.readLenient("\ud800"));
+  assert.throws(() => it.readLenient(5), TypeError);
+});
+
 test("amounts and percents that are refused", () => {
   for (const code of ["eur", "EURO", "EU", "", "EÜR", "A1B", "\ud800UR", "\u0145UR"]) refuses(ErrorNumber.CODE, () => money("e", code), `: ${JSON.stringify(code)}`);
   refuses(ErrorNumber.TAG, () => money("de_DE", "EUR"), '"de_DE" is written "de-DE"');

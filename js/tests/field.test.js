@@ -1,11 +1,11 @@
 // What a field shows after each key; `<` is a step to the left, `~` a deletion of the character before the caret.
 import assert from "node:assert/strict";
 import { test } from "node:test";
-import { DecimalFormatter } from "legumeyet";
+import { CurrencyFormatter, DecimalFormatter, PercentFormatter } from "legumeyet";
 import { FieldText } from "legumeyet/field";
 
-function typed(locale, keys) {
-  const field = new FieldText(new DecimalFormatter(locale), new DecimalFormatter(new Intl.Locale(locale, { numberingSystem: "latn" })));
+function typed(locale, keys, open = (it) => new DecimalFormatter(it)) {
+  const field = new FieldText(open(locale), open(new Intl.Locale(locale, { numberingSystem: "latn" })));
   let it = { text: "", caret: 0, value: "" };
   for (const key of keys) {
     const { text, caret } = it;
@@ -27,6 +27,23 @@ test("typing", () => {
     ["ar-EG", "1234.5", "١٬٢٣٤٫٥| 1234.5"], ["ar-EG", "1234.", "١٬٢٣٤٫| 1234"], ["ar-EG", "12,5", "١٢,5| null"], ["fa", "-1234.5", "\u200e\u2212۱٬۲۳۴٫۵| -1234.5"], ["es", "1234", "1234| 1234"], ["es", "12345", "12.345| 12345"],
   ];
   for (const [locale, keys, wanted] of rows) assert.equal(typed(locale, keys), wanted, `${locale} ${keys}`);
+});
+
+test("typing amounts and percents", () => {
+  const amounts = (currency) => (it) => new CurrencyFormatter(it, { currency, currencyDigits: "given" });
+  const percents = (it) => new PercentFormatter(it);
+  const rows = [
+    ["en", "1234.5", amounts("EUR"), "€1,234.5| 1234.5"], ["en", "1234.", amounts("EUR"), "€1,234.| 1234"], ["en", "-5", amounts("EUR"), "-€5| -5"], ["en", "5~", amounts("EUR"), "| "],
+    ["en", "€5", amounts("EUR"), "€5| 5"], ["en", "5<<€", amounts("EUR"), "€|5 5"], ["de", "1234€", amounts("EUR"), "1.234\u00a0€| 1234"], ["en", "$", amounts("EUR"), "$| null"], ["en", "1,5", amounts("EUR"), "€1,5| null"], ["en", "1234<<9", amounts("USD"), "$12,9|34 12934"],
+    ["de", "1234,5", amounts("EUR"), "1.234,5|\u00a0€ 1234.5"], ["de", "1234,", amounts("EUR"), "1.234,|\u00a0€ 1234"], ["de", "12,5~~", amounts("EUR"), "12|\u00a0€ 12"], ["de", "5~", amounts("EUR"), "| "],
+    ["de-CH", "-5", amounts("CHF"), "CHF-5| -5"], ["ar-EG", "1234.5", amounts("EGP"), null],
+    ["tr", "12,5", percents, "%12,5| 12.5"], ["de", "12,5", percents, "12,5|\u00a0% 12.5"], ["de", "12,5~", percents, "12,|\u00a0% 12"], ["en", "5%", percents, "5%| 5"],
+  ];
+  for (const [locale, keys, open, wanted] of rows) {
+    const got = typed(locale, keys, open);
+    if (wanted === null) assert.match(got, / 1234\.5$/, `${locale} ${keys}`);
+    else assert.equal(got, wanted, `${locale} ${keys}`);
+  }
 });
 
 test("a paste is read as it is", () => {

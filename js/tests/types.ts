@@ -18,7 +18,7 @@ const short = new CompactDecimalFormatter("en", { compactDisplay: "short", book:
 const answer: string = new Book(new Uint8Array(0)).keep().answer(short.formatExact(short.shown(5)));
 const inAccounts: CurrencyFormatterOptions = { currency: "USD", currencySign: "accounting", currencyDisplay: "code", currencyDigits: "cash" };
 const dollars = new CurrencyFormatter(undefined, { ...inAccounts, maximumFractionDigits: 2 });
-const percent: string = new PercentFormatter("tr", options).read(dollars.read(dollars.format(5)));
+const percent: string = new PercentFormatter("tr", options).read(dollars.readLenient(dollars.format(5)));
 const types: string[] = [...dollars.formatToParts(5), ...new PercentFormatter().formatToParts("1")].filter(({ type }) => type === "currency" || type === "percentSign").map((it) => it.type);
 const listed: string[] = [...new Book("[]").locales(), ...CurrencyFormatter.supportedLocalesOf("de", inAccounts), dollars.resolvedOptions().currency];
 const supported: string[] = DecimalFormatter.supportedLocalesOf(["de"]);

@@ -289,6 +289,7 @@ static int32_t ask_unit(legumeyet_unit_formatter *it, const struct request *aske
     if (asked->what == READ) return legumeyet_unit_formatter_read(it, asked->at, asked->length, out, room, length);
     if (asked->what == NATURAL) return legumeyet_unit_formatter_format_u64(it, (uint64_t)asked->integer, 0, options, out, room, length);
     if (asked->what == REAL) return legumeyet_unit_formatter_format_double(it, asked->real, options, out, room, length);
+    if (asked->what == LENIENT) return legumeyet_unit_formatter_read_lenient(it, asked->at, asked->length, out, room, length);
     return legumeyet_unit_formatter_format(it, asked->at, asked->length, options, out, room, length);
 }
 
@@ -477,19 +478,6 @@ static PyObject *read_back(PyObject *self, PyObject *arguments, PyObject *given)
         if (is_lenient < 0 || !is_ready(it)) return NULL;
         if (is_lenient) asked.what = LENIENT;
     }
-    if (take_text(&asked, text)) digits = written(it, &asked, -1);
-    if (digits != NULL) number = PyObject_CallFunctionObjArgs(it->shared->decimal, digits, NULL);
-    Py_XDECREF(digits);
-    let_go(&asked);
-    return number;
-}
-
-/* The number of a text that a formatter of percents, or of amounts, writes. */
-static PyObject *read_unit(PyObject *self, PyObject *text) {
-    struct open *it = (struct open *)self;
-    struct request asked = {.what = READ};
-    PyObject *digits = NULL, *number = NULL;
-    if (!is_ready(it)) return NULL;
     if (take_text(&asked, text)) digits = written(it, &asked, -1);
     if (digits != NULL) number = PyObject_CallFunctionObjArgs(it->shared->decimal, digits, NULL);
     Py_XDECREF(digits);
@@ -990,16 +978,19 @@ static PyMethodDef unit_methods[] = {
      ">>> text, parts = CurrencyFormatter('en', 'USD').format_parts(-5)\n"
      ">>> [(it.kind.name, text[it.start : it.end]) for it in parts]\n"
      "[('MINUS_SIGN', '-'), ('CURRENCY', '$'), ('INTEGER', '5'), ('DECIMAL', '.'), ('FRACTION', '00')]"},
-    {"read", read_unit, METH_O,
-     "read($self, text, /)\n--\n\n"
-     "The number that is written so, with all digits that are shown. How many digits the currency has is not looked at.\n\n"
+    {"read", CALL(read_back),
+     "read($self, text, /, *, lenient=False)\n--\n\n"
+     "The number that is written so, with all digits that are shown. How many digits the currency has is not looked at. With lenient also\n"
+     "the number of a text that somebody typed, with the unit or its code before or after the number, or without it. Another unit is none.\n\n"
      "Raises Error 10 where the text is not UTF-8, 11 where two numbers may have one text under the symbols, 12 where no number is written\n"
      "so, 2 where the formatter is closed, 1 where memory was refused.\n\n"
      ">>> CurrencyFormatter('en', 'USD', accounting=True).read('($1,234.50)')\n"
      "Decimal('-1234.50')\n"
      ">>> CurrencyFormatter('en', 'USD').read('5.00')\n"
      "Traceback (most recent call last):\n"
-     "legumeyet.InputError: 12: no number is written so"},
+     "legumeyet.InputError: 12: no number is written so\n"
+     ">>> [CurrencyFormatter('en', 'USD').read(it, lenient=True) for it in ('5.00', '5 $', '-USD 1234.5')]\n"
+     "[Decimal('5.00'), Decimal('5'), Decimal('-1234.5')]"},
     {NULL, NULL, 0, NULL}};
 
 static PyType_Slot book_slots[] = {{Py_tp_dealloc, dealloc}, {Py_tp_methods, book_methods}, {Py_tp_getset, properties}, {0, NULL}};

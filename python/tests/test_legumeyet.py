@@ -576,6 +576,17 @@ class Calls(unittest.TestCase):
             self.assertRaises(InputError, self.english.read, text, lenient=True)
         self.assertEqual(DecimalFormatter("ar-EG").read("1234", lenient=True), 1234)
 
+    def test_reads_units_leniently(self):
+        euros, percents = CurrencyFormatter("en", "EUR"), PercentFormatter("tr")
+        for text, number in (
+            ("-€1,234.50", "-1234.50"), (" €1234.5 ", "1234.5"), ("1,234.5 €", "1234.5"), ("EUR 5", "5"), ("5 EUR", "5"), ("-5", "-5"), ("€.5", "0.5"),
+        ):
+            self.assertEqual(str(euros.read(text, lenient=True)), number)
+        for text, number in (("%12,5", "12.5"), ("12,5 %", "12.5"), ("1.234,5", "1234.5"), ("-5%", "-5")):
+            self.assertEqual(str(percents.read(text, lenient=True)), number)
+        self.assertEqual(str(CurrencyFormatter("en", "USD", accounting=True).read("($1234.5)", lenient=True)), "-1234.5")
+        self.assertEqual(str(CurrencyFormatter("ar-EG", "EGP").read("1234", lenient=True)), "1234")
+
     def test_what_was_never_opened(self):
         for kind in (Book, DecimalFormatter, CompactDecimalFormatter, PercentFormatter, CurrencyFormatter):
             it = kind.__new__(kind)
@@ -758,7 +769,10 @@ class Calls(unittest.TestCase):
             self.refused(12, euros.read, text)
         self.refused(10, euros.read, "\udcff")
         self.assertRaises(TypeError, euros.read, 5)
-        self.assertRaises(TypeError, euros.read, "€5", lenient=True)
+        for text in ("$5.00", "€1,23", "5 euros", ""):
+            self.assertRaises(InputError, euros.read, text, lenient=True)
+        self.assertRaises(TypeError, euros.read, "€5", True)
+        self.assertRaises(TypeError, euros.read, "€5", strict=True)
         self.refused(7, euros.format, "5.")
         self.refused(7, euros.format, float("nan"))
         self.refused(8, euros.format, "1e40000")

@@ -1,9 +1,14 @@
 -- What is written with a unit behind a handle, opened and read, and faults that are not that a text is too long.
-use Rattle.std.proofs.Common.{◌≡◌, ◌≢◌, ℕ, Bool, true, false, List, Option, Some, None, Result, Ok, Err, IfOk, IfErr, refl, sym, subst, inl, inr}
+use Rattle.std.proofs.Common.{◌≡◌, ◌≢◌, ◌↔◌, ℕ, Bool, true, false, List, Option, Some, None, Result, Ok, Err, IfOk, IfErr, IsErrOf, refl, sym, subst, inl, inr}
 use Rattle.fixed_decimal.specs.Number.{Number}
 use Rattle.fixed_decimal.specs.SignedValue.{SignedValue}
+use Rattle.icu_decimal.specs.PlainReading.{PlainReading, decimal, not_written}
+use Rattle.icu_decimal.specs.declared.error.ReadError.{ReadError}
+use Rattle.icu_decimal.specs.declared.error.ReadError.TheVariants.{Unreadable as ReadUnreadable, NotWritten as ReadNotWritten}
+use Rattle.icu_dimension.specs.UnitReading.{HasNoDecimal, IsUnitReading, IsUnitText as IsReadText, ReaderTexts, is_unit_readable_by}
 use Rattle.icu_dimension.specs.UnitText.{UnitSettings}
 use Rattle.icu_dimension.specs.declared.FractionInfo.{FractionInfo}
+use Rattle.icu_dimension_lenient.specs.LenientUnits.{IsUnitAnswer, LenientTexts, is_leniently_unit_readable_by}
 use Rattle.writeable.specs.HeldParts.{HeldParts}
 use Rattle.locale_numbers.specs.Book.{BookTables}
 use Rattle.locale_numbers.specs.declared.FormatterError.{FormatterError}
@@ -20,7 +25,7 @@ use Rattle.legumeyet_c.specs.HeldUnits.{HeldUnit}
 use Rattle.legumeyet_c.specs.Kinds.{unit_in}
 use Rattle.legumeyet_c.specs.Opening.{IsOpening, IsTagFault}
 use Rattle.legumeyet_c.specs.UnitOpening.{FindsUnit, IsUnitFindingFault}
-use Rattle.legumeyet_c.specs.UnitReading.{IsUnitReadFault, IsUnitUnread}
+use Rattle.legumeyet_c.specs.UnitReading.{IsTypedReading, IsUnitReadFault, IsUnitUnread}
 use Rattle.legumeyet_c.specs.declared.content.Content.{Content}
 use Rattle.legumeyet_c.specs.UnitWriting.{IsUnitAnnotated, IsUnitPartsFault, IsUnitText, IsUnitWritingFault, WritesUnit}
 
@@ -90,9 +95,9 @@ unit_parts_other None options number error other is = λ same. absurd (cc (is, s
 unit_parts_other (Some held) options number error other (inl failed) = unit_fault_other (Some held) options number error other failed
 unit_parts_other (Some held) options number error other (inr is) = λ same. absurd (cc (is, same))
 
-pub unit_read_other : (open_units : Option HeldUnit) (text : List ℕ) (error : CallError) → IsUnitReadFault open_units text error → error ≢ TooSmall
-unit_read_other None text error is = λ same. absurd (cc (is, same))
-unit_read_other (Some held) text error caused = λ same. subst (λ (e : CallError). IsUnitUnread held text e) same caused
+pub unit_read_other : (reads : HeldUnit → List ℕ → PlainReading → Type 0) (open_units : Option HeldUnit) (text : List ℕ) (error : CallError) → IsUnitReadFault reads open_units text error → error ≢ TooSmall
+unit_read_other reads None text error is = λ same. absurd (cc (is, same))
+unit_read_other reads (Some held) text error caused = λ same. subst (λ (e : CallError). IsUnitUnread reads held text e) same caused
 
 -- ---- behind a handle
 
@@ -147,6 +152,26 @@ unit_unannotated held options number (Err error) is = inr is
 
 -- ---- reading
 
-pub true_if_not_false : (b : Bool) → (b ≡ false → ⊥) → b ≡ true
+true_if_not_false : (b : Bool) → (b ≡ false → ⊥) → b ≡ true
 true_if_not_false true other = refl
 true_if_not_false false other = absurd (other refl)
+
+-- what a reader reads
+pub exactly_read : (r : ReaderTexts) (text : List ℕ) (outcome : Result (SignedValue Number) ReadError) → IsErrOf outcome ReadUnreadable ↔ (is_unit_readable_by r ≡ false)
+    → IfOk outcome (λ v. IsReadText r text v) → IfOk outcome (λ v. IsUnitReading r text (decimal v))
+exactly_read r text (Ok v) unreadable is = (true_if_not_false (is_unit_readable_by r) (λ no. absurd (cc (unreadable.1 no))), is)
+exactly_read r text (Err error) unreadable is = tt
+
+pub exactly_missing : (r : ReaderTexts) (text : List ℕ) (outcome : Result (SignedValue Number) ReadError) → IsErrOf outcome ReadUnreadable ↔ (is_unit_readable_by r ≡ false)
+    → (IsErrOf outcome ReadNotWritten → HasNoDecimal r text) → IsErrOf outcome ReadNotWritten → IsUnitReading r text not_written
+exactly_missing r text outcome unreadable none missing = (true_if_not_false (is_unit_readable_by r) (λ no. absurd (cc (unreadable.1 no, missing))), none missing)
+
+-- what a lenient reader reads
+pub typed_read : (a : LenientTexts) (text : List ℕ) (outcome : Result (SignedValue Number) ReadError) → is_leniently_unit_readable_by a ≡ true
+    → IsUnitAnswer a text outcome → IfOk outcome (λ v. IsTypedReading a text (decimal v))
+typed_read a text (Ok v) readable is = (readable, is)
+typed_read a text (Err error) readable is = tt
+
+pub typed_missing : (a : LenientTexts) (text : List ℕ) (outcome : Result (SignedValue Number) ReadError) → is_leniently_unit_readable_by a ≡ true
+    → IsUnitAnswer a text outcome → IsErrOf outcome ReadNotWritten → IsTypedReading a text not_written
+typed_missing a text outcome readable is missing = (readable, subst (λ (r : Result (SignedValue Number) ReadError). IsUnitAnswer a text r) missing is)

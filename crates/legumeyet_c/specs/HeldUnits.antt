@@ -1,7 +1,7 @@
--- What a formatter of percents or of amounts writes with: the settings of its unit, and of an amount the digits of its currency.
+-- What a formatter of percents or of amounts writes with: the settings of its unit, of an amount the digits of its currency, and the code that people type beside a number.
 -- Defined in docs/c-api.md, "Handles".
 -- Cited by the model of `HeldUnits`, and by the exports of formatters of percents and amounts.
-use Rattle.std.specs.Prelude.{Option, Some, None}
+use Rattle.std.specs.Prelude.{ℕ, List, Option, Some, None, codes}
 use Rattle.icu_dimension.specs.FoundUnits.{CurrencySettings}
 use Rattle.icu_dimension.specs.HeldFormatters.{currency_settings_of, settings_of_percent}
 use Rattle.icu_dimension.specs.UnitText.{UnitSettings}
@@ -12,13 +12,15 @@ use Rattle.legumeyet_c.specs.declared.held_units.UnitPlace.TheVariants as unit
 pub record HeldUnit : Type 0 where
   pub settings : UnitSettings
   pub fractions : Option FractionInfo
+  pub code : List ℕ
 
+-- percents have their sign in place of a code
 abbrev pub held_percent : UnitSettings → HeldUnit
-held_percent settings = record { settings = settings; fractions = None }
+held_percent settings = record { settings = settings; fractions = None; code = codes "%" }
 
-abbrev pub held_amount : CurrencySettings → HeldUnit
-held_amount settings = record { settings = settings.unit; fractions = Some settings.fractions }
+abbrev pub held_amount : List ℕ → CurrencySettings → HeldUnit
+held_amount code settings = record { settings = settings.unit; fractions = Some settings.fractions; code = code }
 
 abbrev pub unit_at : UnitPlace → HeldUnit
 unit_at (unit.Percent formatter) = held_percent (settings_of_percent formatter)
-unit_at (unit.Currency formatter) = held_amount (currency_settings_of formatter)
+unit_at (unit.Currency formatter code) = held_amount code (currency_settings_of formatter)

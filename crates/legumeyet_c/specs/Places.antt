@@ -3,6 +3,7 @@
 -- Cited by the models of `DecimalTables` and `HeldCompactTables`.
 use Rattle.icu_decimal.specs.CompactTables.{CompactTables}
 use Rattle.icu_decimal.specs.HeldCompact.{compact_tables_of}
+use Rattle.icu_decimal.specs.HeldTables.{tables_of}
 use Rattle.icu_decimal.specs.PlainText.{Tables}
 use Rattle.legumeyet_c.specs.declared.compact_tables.CompactPlace.{CompactPlace}
 use Rattle.legumeyet_c.specs.declared.compact_tables.CompactPlace.TheVariants as compact
@@ -11,7 +12,7 @@ use Rattle.legumeyet_c.specs.declared.decimal_tables.DecimalPlace.TheVariants as
 
 abbrev pub decimal_at : DecimalPlace → Tables
 decimal_at (decimal.Own tables) = tables
-decimal_at (decimal.Kept tables) = tables
+decimal_at (decimal.Kept formatter) = tables_of formatter
 
 abbrev pub compact_at : CompactPlace → CompactTables
 compact_at (compact.Own tables) = tables

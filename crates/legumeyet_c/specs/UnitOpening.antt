@@ -63,7 +63,7 @@ abbrev pub percent_held : BookTables → GroupingStrategy → List ℕ → Resul
 percent_held book strategy tag = result_map_both held_percent (λ error. error) (percent_for book tag (percent_options strategy))
 
 abbrev pub amount_held : BookTables → AskedAmount → List ℕ → Result HeldUnit FormatterError
-amount_held book asked tag = result_map_both held_amount (λ error. error) (currency_for book tag asked.code asked.options)
+amount_held book asked tag = result_map_both (held_amount asked.code) (λ error. error) (currency_for book tag asked.code asked.options)
 
 -- ---- what is opened
 

@@ -1,17 +1,17 @@
 //! What plain numbers are written with: tables of one's own, or those of a book that is kept.
 
-ghost use Rattle.std.specs.Prelude.{◌≡◌, IfOk, IsErrOf};
+ghost use Rattle.std.specs.Prelude.{◌≡◌, IfOk, IfSome, IsErrOf};
 ghost use Rattle.icu_decimal.specs.HeldTables.{tables_of};
 ghost use Rattle.icu_decimal.specs.LenientReading.{MayAllocate, lenient_reading};
 ghost use Rattle.icu_decimal.specs.PlainReading.{IsAnswered};
-ghost use Rattle.legumeyet_c.specs.Places.{decimal_at};
+ghost use Rattle.icu_decimal_lenient.specs.KeptFolds.{folds_of};
 
-use crate::kept_formatter::KeptFormatter;
 use fixed_decimal::Decimal;
 use icu_decimal::error::ReadError;
 use icu_decimal::options::{DecimalFormatterOptions, GroupingStrategy};
 use icu_decimal::provider::DecimalSymbols;
 use icu_decimal::{DecimalFormatter, read_lenient};
+use icu_decimal_lenient::FoldedSymbols;
 use std::alloc::{AllocError, Global};
 use std::marker::Model;
 
@@ -62,34 +62,40 @@ enum DecimalPlace {
     // In memory of their own.
     Own(OwnedDecimalTables),
     // In a book that is kept.
-    Kept(KeptFormatter),
+    Kept(DecimalFormatter<'static>),
 }
 
-/// What a handle writes plain numbers with.
+/// What a handle writes plain numbers with, and its symbols folded, from the first text on that is read leniently.
 #[derive(Drop)]
 pub struct DecimalTables {
     place: DecimalPlace,
+    folded: Option<Box<FoldedSymbols>>,
 }
 
 impl Model for DecimalTables {
+    ghost use Rattle.std.specs.Prelude.{◌≡◌, IfSome};
     ghost use Rattle.icu_decimal.specs.PlainText.{Tables};
+    ghost use Rattle.icu_decimal_lenient.specs.KeptFolds.{folds_of};
 
     ghost Value = { Tables };
 
     ghost use Rattle.legumeyet_c.specs.Places.{decimal_at};
 
     ghost view = { λ t. decimal_at t.place };
+
+    ghost invariant = { λ t. IfSome t.folded (λ folded. folded.value ≡ folds_of (decimal_at t.place)) };
 }
 
-// The decimal that was typed, with the tables that are there.
-fn read_at(alloc: Global, place: &mut DecimalPlace, text: &str) -> Result<Decimal, ReadError>
-    ensures same { place.new ≡ place.old }
-    ensures answered { IsAnswered result (lenient_reading (decimal_at place.old) text.now) }
-    ensures memory { IsErrOf result ReadError.Memory → MayAllocate (decimal_at place.old) text.now }
+// The symbols of a formatter, folded, where memory is not refused.
+fn fold(alloc: Global, formatter: &DecimalFormatter<'_>) -> Option<Box<FoldedSymbols>>
+    ensures { IfSome result (λ folded. folded.value ≡ folds_of (tables_of formatter.now)) }
 {
-    match place {
-        DecimalPlace::Own(tables) => read_lenient(alloc, &tables.formatter(), text),
-        DecimalPlace::Kept(kept) => kept.read_lenient(alloc, text),
+    let Ok(folded) = FoldedSymbols::try_new(alloc, formatter.tables()) else {
+        return None;
+    };
+    match Box::new(alloc, folded) {
+        Ok(folded) => Some(folded),
+        Err(_) => None,
     }
 }
 
@@ -115,6 +121,7 @@ impl DecimalTables {
         let own = OwnedDecimalTables::of(formatter, strategy)?;
         Ok(DecimalTables {
             place: DecimalPlace::Own(own),
+            folded: None,
         })
     }
 
@@ -126,7 +133,8 @@ impl DecimalTables {
         ensures { result ≡ record (tables_of formatter.now) { strategy = strategy } }
     {
         DecimalTables {
-            place: DecimalPlace::Kept(KeptFormatter::new(with_strategy(formatter, strategy))),
+            place: DecimalPlace::Kept(with_strategy(formatter, strategy)),
+            folded: None,
         }
     }
 
@@ -136,18 +144,41 @@ impl DecimalTables {
     {
         match &self.place {
             DecimalPlace::Own(tables) => tables.formatter(),
-            DecimalPlace::Kept(kept) => kept.formatter(),
+            DecimalPlace::Kept(formatter) => *formatter,
         }
     }
 
-    // The decimal that was typed. Symbols of a book that is kept are folded for the first text, and stay folded for the
-    // later ones; where memory for them is refused, and of tables of one's own, they are folded for each text that is
-    // not the formatter's own.
+    // Folds the symbols, unless they are folded, where memory is not refused.
+    pub(crate) fn keep_folds(&mut self, alloc: Global)
+        ensures { self.new ≡ self.old }
+    {
+        if self.folded.is_none() {
+            let folded = fold(alloc, &self.formatter());
+            self.folded = folded;
+        }
+    }
+
+    // The decimal that was typed, with what is folded by now. Symbols that are not are folded for each text that is not
+    // the formatter's own.
+    pub(crate) fn read_typed(&self, alloc: Global, text: &str) -> Result<Decimal, ReadError>
+        ensures answered { IsAnswered result (lenient_reading self.now text.now) }
+        ensures memory { IsErrOf result ReadError.Memory → MayAllocate self.now text.now }
+    {
+        let formatter = self.formatter();
+        match &self.folded {
+            Some(folded) => folded.read(alloc, formatter.tables(), text),
+            None => read_lenient(alloc, &formatter, text),
+        }
+    }
+
+    // The decimal that was typed. The symbols are folded for the first text, and stay folded for the later ones; where
+    // memory for them is refused, they are folded for each text that is not the formatter's own.
     pub(crate) fn read_lenient(&mut self, alloc: Global, text: &str) -> Result<Decimal, ReadError>
         ensures same { self.new ≡ self.old }
         ensures answered { IsAnswered result (lenient_reading self.old text.now) }
         ensures memory { IsErrOf result ReadError.Memory → MayAllocate self.old text.now }
     {
-        read_at(alloc, &mut self.place, text)
+        self.keep_folds(alloc);
+        self.read_typed(alloc, text)
     }
 }

@@ -26,7 +26,6 @@ mod handles;
 mod held_units;
 pub mod information;
 pub mod keeping;
-mod kept_formatter;
 pub mod locales;
 mod opening;
 pub mod parts;

@@ -114,6 +114,7 @@ impl AskedUnit for GroupingStrategy {
         match book.percent_formatter(alloc, tag, options) {
             Ok(formatter) => Ok(HeldUnits {
                 place: UnitPlace::Percent(formatter),
+                reader: None,
             }),
             Err(error) => Err(error),
         }
@@ -131,7 +132,8 @@ impl AskedUnit for AskedAmount {
     ) -> Result<HeldUnits, FormatterError> {
         match book.currency_formatter(alloc, tag, self.code.as_str(), self.options) {
             Ok(formatter) => Ok(HeldUnits {
-                place: UnitPlace::Currency(formatter),
+                place: UnitPlace::Currency(formatter, self.code),
+                reader: None,
             }),
             Err(error) => Err(error),
         }

@@ -1,9 +1,10 @@
-//! Percents and amounts read back: `legumeyet_unit_formatter_read`.
+//! Percents and amounts read back, and what people type of them: `legumeyet_unit_formatter_read` and `_read_lenient`.
 
-ghost use Rattle.std.specs.Prelude.{◌≡◌, Some, IfOk, IfErr};
+ghost use Rattle.std.specs.Prelude.{◌≡◌, Some, IfOk, IfErr, IsErrOf};
+ghost use Rattle.icu_decimal.specs.PlainReading.{decimal, not_written, unreadable};
 ghost use Rattle.legumeyet_c_values.specs.Putting.{Answers, IsPut};
 ghost use Rattle.legumeyet_c.specs.Kinds.{unit_in};
-ghost use Rattle.legumeyet_c.specs.UnitReading.{IsUnitReadFault, ReadsUnit, SaysUnitRead};
+ghost use Rattle.legumeyet_c.specs.UnitReading.{HasUnitReading, IsExactUnit, IsTypedUnit, IsUnitReadFault, IsUnitUnread, ReadsUnit, SaysUnitRead};
 ghost use Rattle.legumeyet_c.specs.Views.{unit_content, unit_open};
 
 use crate::content::{Content, Held};
@@ -14,15 +15,67 @@ use icu_decimal::error::ReadError;
 use legumeyet_c_values::{CallError, answer, put};
 use std::alloc::Global;
 
-// The number whose text with its unit this is.
-fn read_with(alloc: Global, units: &HeldUnits, text: &[u8]) -> Result<Decimal, CallError>
-    ensures value { IfOk result (λ value. ReadsUnit (Some units.now) text.now value) }
-    ensures fault { IfErr result (λ error. IsUnitReadFault (Some units.now) text.now error) }
+// How a text with a unit is read. A type that holds nothing stands for it.
+pub(crate) trait Reading {
+    ghost use Rattle.std.specs.Prelude.{List, ℕ};
+    ghost use Rattle.icu_decimal.specs.PlainReading.{PlainReading};
+    ghost use Rattle.legumeyet_c.specs.HeldUnits.{HeldUnit};
+
+    // what it is read as
+    ghost reads: { HeldUnit → List ℕ → PlainReading → Type 0 };
+
+    /// Keeps with the units what makes later texts faster to read, where memory is not refused.
+    fn ready(alloc: Global, units: &mut HeldUnits)
+        ensures { units.new ≡ units.old };
+
+    /// The number of the text. Memory may be wanted for any.
+    fn read(alloc: Global, units: &HeldUnits, text: &str) -> Result<Decimal, ReadError>
+        ensures value { IfOk result (λ v. reads units.now text.now (decimal v)) }
+        ensures unreadable { IsErrOf result ReadError.Unreadable → reads units.now text.now unreadable }
+        ensures not_written { IsErrOf result ReadError.NotWritten → reads units.now text.now not_written };
+}
+
+// As the formatter writes numbers.
+pub(crate) struct Exact;
+
+impl Reading for Exact {
+    ghost reads = { IsExactUnit };
+
+    fn ready(alloc: Global, units: &mut HeldUnits) {
+        units.keep_reader(alloc)
+    }
+
+    fn read(alloc: Global, units: &HeldUnits, text: &str) -> Result<Decimal, ReadError> {
+        units.read(alloc, text)
+    }
+}
+
+// As people type them.
+pub(crate) struct Lenient;
+
+impl Reading for Lenient {
+    ghost reads = { IsTypedUnit };
+
+    fn ready(_alloc: Global, _units: &mut HeldUnits) {}
+
+    fn read(alloc: Global, units: &HeldUnits, text: &str) -> Result<Decimal, ReadError> {
+        units.read_lenient(alloc, text)
+    }
+}
+
+// The number that a text is read as.
+fn read_with<R: Reading>(
+    alloc: Global,
+    units: &HeldUnits,
+    text: &[u8],
+) -> Result<Decimal, CallError>
+    ensures value { IfOk result (λ value. HasUnitReading R.reads units.now text.now (decimal value)) }
+    ensures fault { IfErr result (λ error. IsUnitUnread R.reads units.now text.now error) }
 {
     let Ok(text) = str::from_utf8(text) else {
         return Err(CallError::NoUtf8);
     };
-    match units.read(alloc, text) {
+    match R::read(alloc, units, text) {
         Ok(value) => Ok(value),
         Err(ReadError::Unreadable) => Err(CallError::Unreadable),
         Err(ReadError::NotWritten) => Err(CallError::NotWritten),
@@ -31,26 +84,49 @@ fn read_with(alloc: Global, units: &HeldUnits, text: &[u8]) -> Result<Decimal, C
 }
 
 // The same with what a content has.
-fn read_held(alloc: Global, content: &Content, text: &[u8]) -> Result<Decimal, CallError>
-    ensures value { IfOk result (λ value. ReadsUnit (unit_in (Some content.now)) text.now value) }
-    ensures fault { IfErr result (λ error. IsUnitReadFault (unit_in (Some content.now)) text.now error) }
+pub(crate) fn read_held<R: Reading>(
+    alloc: Global,
+    content: &Content,
+    text: &[u8],
+) -> Result<Decimal, CallError>
+    ensures value { IfOk result (λ value. ReadsUnit R.reads (unit_in (Some content.now)) text.now value) }
+    ensures fault { IfErr result (λ error. IsUnitReadFault R.reads (unit_in (Some content.now)) text.now error) }
 {
     match HeldUnits::held_by(content) {
-        Some(units) => read_with(alloc, units, text),
+        Some(units) => read_with::<R>(alloc, units, text),
         None => Err(CallError::Closed),
     }
 }
 
-// The same with what is behind a handle, which stays as it is.
-fn read_behind(alloc: Global, formatter: &mut UnitHandle, text: &[u8]) -> Result<Decimal, CallError>
-    ensures same { unit_content formatter.new ≡ unit_content formatter.old }
-    ensures value { IfOk result (λ value. ReadsUnit (unit_open formatter.old) text.now value) }
-    ensures fault { IfErr result (λ error. IsUnitReadFault (unit_open formatter.old) text.now error) }
+// Readies the units that a content has, where it has some.
+fn ready_held<R: Reading>(alloc: Global, content: &mut Content)
+    ensures { content.new ≡ content.old }
 {
-    let Some(content) = formatter.handle.take(alloc) else {
+    match content {
+        Content::Unit(units) => R::ready(alloc, units),
+        Content::Book(_)
+        | Content::Kept(_)
+        | Content::Decimal(_)
+        | Content::Compact(_)
+        | Content::Nothing => (),
+    }
+}
+
+// The same with what is behind a handle, which stays as it is.
+fn read_behind<R: Reading>(
+    alloc: Global,
+    formatter: &mut UnitHandle,
+    text: &[u8],
+) -> Result<Decimal, CallError>
+    ensures same { unit_content formatter.new ≡ unit_content formatter.old }
+    ensures value { IfOk result (λ value. ReadsUnit R.reads (unit_open formatter.old) text.now value) }
+    ensures fault { IfErr result (λ error. IsUnitReadFault R.reads (unit_open formatter.old) text.now error) }
+{
+    let Some(mut content) = formatter.handle.take(alloc) else {
         return Err(CallError::Closed);
     };
-    let found = read_held(alloc, &content, text);
+    ready_held::<R>(alloc, &mut content);
+    let found = read_held::<R>(alloc, &content, text);
     formatter.handle.put(alloc, content);
     found
 }
@@ -70,10 +146,35 @@ pub extern "C" fn legumeyet_unit_formatter_read(
 ) -> i32
     ensures same { unit_content formatter.new ≡ unit_content formatter.old }
     ensures told { Answers
-        (IsPut (SaysUnitRead (unit_open formatter.old) text.now) (IsUnitReadFault (unit_open formatter.old) text.now)
-        out.old out.new length.old length.new) result }
+        (IsPut (SaysUnitRead IsExactUnit (unit_open formatter.old) text.now)
+        (IsUnitReadFault IsExactUnit (unit_open formatter.old) text.now) out.old out.new length.old length.new) result }
 {
-    match read_behind(alloc, formatter, text) {
+    match read_behind::<Exact>(alloc, formatter, text) {
+        Ok(value) => answer(put(&value, out, length)),
+        Err(error) => error.number(),
+    }
+}
+
+/// Reads a text that somebody typed, with the unit or its code before or after the number, or without it: in English
+/// with euros ` 1234.5 `, `€1,234.5`, `5 EUR` and `-5 €` as `1234.5`, `1234.5`, `5` and `-5`, and `$5` and `€1,23` as
+/// none. What the formatter writes is read as `legumeyet_unit_formatter_read` reads it, and another text is folded.
+///
+/// Returns as `legumeyet_unit_formatter_read`; 11 also where two numbers may have one text once the symbols, the affixes
+/// and the unit are folded.
+#[unsafe(no_mangle)]
+pub extern "C" fn legumeyet_unit_formatter_read_lenient(
+    alloc: Global,
+    formatter: &mut UnitHandle,
+    text: &[u8],
+    out: &mut [u8],
+    length: &mut usize,
+) -> i32
+    ensures same { unit_content formatter.new ≡ unit_content formatter.old }
+    ensures told { Answers
+        (IsPut (SaysUnitRead IsTypedUnit (unit_open formatter.old) text.now)
+        (IsUnitReadFault IsTypedUnit (unit_open formatter.old) text.now) out.old out.new length.old length.new) result }
+{
+    match read_behind::<Lenient>(alloc, formatter, text) {
         Ok(value) => answer(put(&value, out, length)),
         Err(error) => error.number(),
     }

@@ -50,6 +50,13 @@ impl Unit {
             sys::legumeyet_unit_formatter_read(self.0.at(), text.as_ptr(), text.len(), out, room, length)
         })
     }
+
+    fn read_lenient(&self, text: &str) -> Result<String, Error> {
+        // SAFETY: as for `call`.
+        written(|out, room, length| unsafe {
+            sys::legumeyet_unit_formatter_read_lenient(self.0.at(), text.as_ptr(), text.len(), out, room, length)
+        })
+    }
 }
 
 /// The calls that both formatters have.
@@ -89,6 +96,11 @@ macro_rules! calls_of {
             pub fn read(&self, text: &str) -> Result<String, Error> {
                 self.0.read(text)
             }
+
+            /// The number that somebody typed, with its unit or code on either side or without it, as digits. Refused as `read`.
+            pub fn read_lenient(&self, text: &str) -> Result<String, Error> {
+                self.0.read_lenient(text)
+            }
         }
     };
 }
@@ -104,6 +116,7 @@ macro_rules! calls_of {
 /// let turkish: PercentFormatter = "tr".parse()?;
 /// assert_eq!(turkish.format(-12.5, &Options::default())?, "-%12,5");
 /// assert_eq!(turkish.read("%1.234,50")?, "1234.50");
+/// assert_eq!(turkish.read_lenient("1234,5 %")?, "1234.5");
 /// # Ok::<(), legumeyet::Error>(())
 /// ```
 #[derive(Debug)]
@@ -155,6 +168,7 @@ impl PercentFormatter {
 /// let dollars = CurrencyFormatter::with_options("en", "USD", &in_accounts)?;
 /// assert_eq!(dollars.format(-5, &as_given)?, "($5.00)");
 /// assert_eq!(dollars.read("($1,234.50)")?, "-1234.50");
+/// assert_eq!(dollars.read_lenient("-1234.5 USD")?, "-1234.5");
 /// assert_eq!(CurrencyFormatter::new("en", "usd").unwrap_err(), Error::CODE);
 /// # Ok::<(), Error>(())
 /// ```

@@ -152,6 +152,27 @@ fn reads_leniently() {
 }
 
 #[test]
+fn reads_units_leniently() {
+    let (euros, percents) = (CurrencyFormatter::new("en", "EUR").unwrap(), PercentFormatter::new("tr").unwrap());
+    for (text, number) in [
+        ("-€1,234.50", "-1234.50"),
+        (" €1234.5 ", "1234.5"),
+        ("1,234.5 €", "1234.5"),
+        ("EUR 5", "5"),
+        ("5 EUR", "5"),
+        ("-5", "-5"),
+    ] {
+        assert_eq!(euros.read_lenient(text).as_deref(), Ok(number), "{text}");
+    }
+    for text in ["$5.00", "€1,23", "5 euros", ""] {
+        assert_eq!(euros.read_lenient(text), Err(Error::NOT_WRITTEN), "{text}");
+    }
+    for (text, number) in [("%12,5", "12.5"), ("12,5 %", "12.5"), ("1.234,5", "1234.5")] {
+        assert_eq!(percents.read_lenient(text).as_deref(), Ok(number), "{text}");
+    }
+}
+
+#[test]
 fn newer_options() {
     let english = english();
     let trimmed = Options::default().rounded(Rounding::HalfEven, -2).trailing_zeros(TrailingZeros::Trim);
