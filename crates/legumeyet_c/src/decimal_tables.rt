@@ -4,7 +4,6 @@ ghost use Rattle.std.specs.Prelude.{◌≡◌, IfOk, IsErrOf};
 ghost use Rattle.icu_decimal.specs.HeldTables.{tables_of};
 ghost use Rattle.icu_decimal.specs.LenientReading.{MayAllocate, lenient_reading};
 ghost use Rattle.icu_decimal.specs.PlainReading.{IsAnswered};
-ghost use Rattle.legumeyet_c.specs.Places.{decimal_at};
 
 use crate::kept_formatter::KeptFormatter;
 use fixed_decimal::Decimal;
@@ -81,18 +80,6 @@ impl Model for DecimalTables {
     ghost view = { λ t. decimal_at t.place };
 }
 
-// The decimal that was typed, with the tables that are there.
-fn read_at(alloc: Global, place: &mut DecimalPlace, text: &str) -> Result<Decimal, ReadError>
-    ensures same { place.new ≡ place.old }
-    ensures answered { IsAnswered result (lenient_reading (decimal_at place.old) text.now) }
-    ensures memory { IsErrOf result ReadError.Memory → MayAllocate (decimal_at place.old) text.now }
-{
-    match place {
-        DecimalPlace::Own(tables) => read_lenient(alloc, &tables.formatter(), text),
-        DecimalPlace::Kept(kept) => kept.read_lenient(alloc, text),
-    }
-}
-
 // The same formatter with another strategy. It does not allocate.
 pub(crate) fn with_strategy<'b>(
     formatter: &DecimalFormatter<'b>,
@@ -140,14 +127,25 @@ impl DecimalTables {
         }
     }
 
-    // The decimal that was typed. Symbols of a book that is kept are folded for the first text, and stay folded for the
-    // later ones; where memory for them is refused, and of tables of one's own, they are folded for each text that is
-    // not the formatter's own.
-    pub(crate) fn read_lenient(&mut self, alloc: Global, text: &str) -> Result<Decimal, ReadError>
-        ensures same { self.new ≡ self.old }
-        ensures answered { IsAnswered result (lenient_reading self.old text.now) }
-        ensures memory { IsErrOf result ReadError.Memory → MayAllocate self.old text.now }
+    // Folds the symbols of a book that is kept, unless they are folded, where memory is not refused.
+    pub(crate) fn keep_folds(&mut self, alloc: Global)
+        ensures { self.new ≡ self.old }
     {
-        read_at(alloc, &mut self.place, text)
+        match &mut self.place {
+            DecimalPlace::Own(_) => (),
+            DecimalPlace::Kept(kept) => kept.fold(alloc),
+        }
+    }
+
+    // The decimal that was typed, with what is folded by now. Symbols that are not are folded for each text that is not
+    // the formatter's own.
+    pub(crate) fn read_typed(&self, alloc: Global, text: &str) -> Result<Decimal, ReadError>
+        ensures answered { IsAnswered result (lenient_reading self.now text.now) }
+        ensures memory { IsErrOf result ReadError.Memory → MayAllocate self.now text.now }
+    {
+        match &self.place {
+            DecimalPlace::Own(tables) => read_lenient(alloc, &tables.formatter(), text),
+            DecimalPlace::Kept(kept) => kept.read_folded(alloc, text),
+        }
     }
 }

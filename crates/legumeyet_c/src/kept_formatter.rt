@@ -49,7 +49,7 @@ impl KeptFormatter {
     }
 
     // Folds the symbols, unless they are, where they are leniently readable and memory is not refused.
-    fn fold(&mut self, alloc: Global)
+    pub(crate) fn fold(&mut self, alloc: Global)
         ensures { self.new ≡ self.old }
     {
         if self.folded.is_none() {
@@ -60,7 +60,7 @@ impl KeptFormatter {
     }
 
     // The decimal that was typed, with what is folded by now.
-    fn read_folded(&self, alloc: Global, text: &str) -> Result<Decimal, ReadError>
+    pub(crate) fn read_folded(&self, alloc: Global, text: &str) -> Result<Decimal, ReadError>
         ensures answered { IsAnswered result (lenient_reading self.now text.now) }
         ensures memory { IsErrOf result ReadError.Memory → MayAllocate self.now text.now }
     {
@@ -68,15 +68,5 @@ impl KeptFormatter {
             Some(folded) => folded.read(alloc, text),
             None => read_lenient(alloc, &self.formatter, text),
         }
-    }
-
-    // The decimal that was typed. The symbols are folded once, and for each text where memory for that is refused.
-    pub(crate) fn read_lenient(&mut self, alloc: Global, text: &str) -> Result<Decimal, ReadError>
-        ensures same { self.new ≡ self.old }
-        ensures answered { IsAnswered result (lenient_reading self.old text.now) }
-        ensures memory { IsErrOf result ReadError.Memory → MayAllocate self.old text.now }
-    {
-        self.fold(alloc);
-        self.read_folded(alloc, text)
     }
 }

@@ -31,7 +31,7 @@ fn read_with(alloc: Global, units: &HeldUnits, text: &[u8]) -> Result<Decimal, C
 }
 
 // The same with what a content has.
-fn read_held(alloc: Global, content: &Content, text: &[u8]) -> Result<Decimal, CallError>
+pub(crate) fn read_held(alloc: Global, content: &Content, text: &[u8]) -> Result<Decimal, CallError>
     ensures value { IfOk result (λ value. ReadsUnit (unit_in (Some content.now)) text.now value) }
     ensures fault { IfErr result (λ error. IsUnitReadFault (unit_in (Some content.now)) text.now error) }
 {
