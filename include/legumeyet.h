@@ -29,6 +29,9 @@
  * A program that uses a book until it ends may keep it, by legumeyet_book_keep. Formatters of a kept book borrow its tables: they are
  * opened sooner, hold less memory and write faster.
  *
+ * A formatter that threads use at once, as one in a static variable, is a shared one: it is opened as any other and then shared, for the
+ * rest of the program. See "Shared formatters" below.
+ *
  * A call that returns a number other than 0 leaves its handles as they were. Where several numbers apply, it returns the one that
  * is first in its list.
  *
@@ -40,7 +43,8 @@
  * What a call writes to, as `out`, `length`, `count` and the handles, overlaps nothing else that it is given, and nothing else writes
  * meanwhile to what a call is given.
  *
- * Threads: one call at a time has a handle, also a call that only reads, as legumeyet_decimal_formatter_format. A handle may go to another
+ * Threads: one call at a time has a handle, also a call that only reads, as legumeyet_decimal_formatter_format, but for the calls that take
+ * the handle of a shared formatter as `const`: any number of these run at once. A handle may go to another
  * thread by a lock, a thread's start or join, or a sequentially consistent atomic. Two handles may be used at once, also two formatters
  * of one book; to open a formatter is a call on its book. No call is made in a signal handler, or in a forked child of a process with
  * threads.
@@ -584,6 +588,118 @@ int32_t legumeyet_unit_formatter_read(legumeyet_unit_formatter *formatter, const
  */
 int32_t legumeyet_unit_formatter_read_lenient(legumeyet_unit_formatter *formatter, const uint8_t *text, size_t text_length, uint8_t *out,
                                               size_t room, size_t *length);
+
+/*
+ * Shared formatters: one formatter for any number of threads at once. It is opened as any other, and then shared:
+ *
+ *     static legumeyet_shared_decimal_formatter german;
+ *     legumeyet_decimal_formatter opened = {0};
+ *     legumeyet_decimal_formatter_open(&world, LEGUMEYET_TEXT("de"), LEGUMEYET_GROUPING_AUTO, &opened);
+ *     legumeyet_decimal_formatter_share(&opened, &german);
+ *     legumeyet_shared_decimal_formatter_format(&german, LEGUMEYET_TEXT("1234.5"), &as_given, out, sizeof out, &length);
+ *
+ * Each call that takes a shared formatter as `const` may run in any thread, any number of them at once, with the same handle: it takes no
+ * lock of its own, and writes only to `out`, `length` and the like. It writes and returns what the call of that name without `shared` does.
+ *
+ * A shared formatter stays for the rest of the program: its memory is never given back. So share those that a program uses until it ends,
+ * and not one for each request. Those of a kept book have one small block, others their copy of the tables too. A tool that looks for lost
+ * memory reports what no handle shows any more.
+ *
+ * The handle of a shared formatter may be copied by `=`, as to another thread: each copy is a handle of its own, and serves as long as the
+ * program runs. Two kinds of calls write to a handle: that which shares a formatter by it, and that which closes it. They come before and
+ * after all other calls on this very handle, ordered by a lock, a thread's start or join, or a sequentially consistent atomic. Zeroed
+ * memory is a closed handle, and a call on a closed one returns LEGUMEYET_CLOSED. To close a handle frees nothing, so to close it twice
+ * does not either. A handle of a shared formatter is not cast to one of another kind of formatter, nor to one that is not shared.
+ */
+typedef struct {
+    const void *content;
+    bool is_open;
+} legumeyet_shared_decimal_formatter;
+
+typedef struct {
+    const void *content;
+    bool is_open;
+} legumeyet_shared_compact_formatter;
+
+typedef struct {
+    const void *content;
+    bool is_open;
+} legumeyet_shared_unit_formatter;
+
+/*
+ * Shares an open formatter for the rest of the program. `formatter` is closed, where the call returns 0: the shared handle has what it had.
+ * What the shared handle had open before stays too.
+ *
+ * Returns 0; LEGUMEYET_CLOSED, of `formatter`, and then both handles are as they were.
+ */
+int32_t legumeyet_decimal_formatter_share(legumeyet_decimal_formatter *formatter, legumeyet_shared_decimal_formatter *shared);
+int32_t legumeyet_compact_formatter_share(legumeyet_compact_formatter *formatter, legumeyet_shared_compact_formatter *shared);
+int32_t legumeyet_unit_formatter_share(legumeyet_unit_formatter *formatter, legumeyet_shared_unit_formatter *shared);
+
+/* Closes the handle of a shared formatter. Returns 0; LEGUMEYET_CLOSED, where it was closed already. */
+int32_t legumeyet_shared_decimal_formatter_close(legumeyet_shared_decimal_formatter *formatter);
+int32_t legumeyet_shared_compact_formatter_close(legumeyet_shared_compact_formatter *formatter);
+int32_t legumeyet_shared_unit_formatter_close(legumeyet_shared_unit_formatter *formatter);
+
+/* Of plain numbers: each as the call of legumeyet_decimal_formatter of its name. */
+int32_t legumeyet_shared_decimal_formatter_format(const legumeyet_shared_decimal_formatter *formatter, const uint8_t *number,
+                                                  size_t number_length, const legumeyet_options *options, uint8_t *out, size_t room,
+                                                  size_t *length);
+int32_t legumeyet_shared_decimal_formatter_format_i64(const legumeyet_shared_decimal_formatter *formatter, int64_t mantissa,
+                                                      int16_t exponent, const legumeyet_options *options, uint8_t *out, size_t room,
+                                                      size_t *length);
+int32_t legumeyet_shared_decimal_formatter_format_u64(const legumeyet_shared_decimal_formatter *formatter, uint64_t mantissa,
+                                                      int16_t exponent, const legumeyet_options *options, uint8_t *out, size_t room,
+                                                      size_t *length);
+int32_t legumeyet_shared_decimal_formatter_format_double(const legumeyet_shared_decimal_formatter *formatter, double number,
+                                                         const legumeyet_options *options, uint8_t *out, size_t room, size_t *length);
+int32_t legumeyet_shared_decimal_formatter_format_parts(const legumeyet_shared_decimal_formatter *formatter, const uint8_t *number,
+                                                        size_t number_length, const legumeyet_options *options, uint8_t *out, size_t room,
+                                                        size_t *length, legumeyet_interval *intervals, size_t intervals_room,
+                                                        size_t *count);
+int32_t legumeyet_shared_decimal_formatter_read(const legumeyet_shared_decimal_formatter *formatter, const uint8_t *text,
+                                                size_t text_length, uint8_t *out, size_t room, size_t *length);
+int32_t legumeyet_shared_decimal_formatter_read_lenient(const legumeyet_shared_decimal_formatter *formatter, const uint8_t *text,
+                                                        size_t text_length, uint8_t *out, size_t room, size_t *length);
+
+/* Of compact numbers: each as the call of legumeyet_compact_formatter of its name. */
+int32_t legumeyet_shared_compact_formatter_format(const legumeyet_shared_compact_formatter *formatter, const uint8_t *number,
+                                                  size_t number_length, const legumeyet_options *options, uint8_t *out, size_t room,
+                                                  size_t *length);
+int32_t legumeyet_shared_compact_formatter_format_i64(const legumeyet_shared_compact_formatter *formatter, int64_t mantissa,
+                                                      int16_t exponent, const legumeyet_options *options, uint8_t *out, size_t room,
+                                                      size_t *length);
+int32_t legumeyet_shared_compact_formatter_format_u64(const legumeyet_shared_compact_formatter *formatter, uint64_t mantissa,
+                                                      int16_t exponent, const legumeyet_options *options, uint8_t *out, size_t room,
+                                                      size_t *length);
+int32_t legumeyet_shared_compact_formatter_format_double(const legumeyet_shared_compact_formatter *formatter, double number,
+                                                         const legumeyet_options *options, uint8_t *out, size_t room, size_t *length);
+int32_t legumeyet_shared_compact_formatter_format_parts(const legumeyet_shared_compact_formatter *formatter, const uint8_t *number,
+                                                        size_t number_length, const legumeyet_options *options, uint8_t *out, size_t room,
+                                                        size_t *length, legumeyet_interval *intervals, size_t intervals_room,
+                                                        size_t *count);
+int32_t legumeyet_shared_compact_formatter_shown(const legumeyet_shared_compact_formatter *formatter, const uint8_t *number,
+                                                 size_t number_length, const legumeyet_options *options, uint8_t *out, size_t room,
+                                                 size_t *length);
+int32_t legumeyet_shared_compact_formatter_format_exact(const legumeyet_shared_compact_formatter *formatter, const uint8_t *number,
+                                                        size_t number_length, const legumeyet_options *options, uint8_t *out, size_t room,
+                                                        size_t *length);
+
+/* Of percents and amounts: each as the call of legumeyet_unit_formatter of its name. */
+int32_t legumeyet_shared_unit_formatter_format(const legumeyet_shared_unit_formatter *formatter, const uint8_t *number,
+                                               size_t number_length, const legumeyet_options *options, uint8_t *out, size_t room,
+                                               size_t *length);
+int32_t legumeyet_shared_unit_formatter_format_i64(const legumeyet_shared_unit_formatter *formatter, int64_t mantissa, int16_t exponent,
+                                                   const legumeyet_options *options, uint8_t *out, size_t room, size_t *length);
+int32_t legumeyet_shared_unit_formatter_format_u64(const legumeyet_shared_unit_formatter *formatter, uint64_t mantissa, int16_t exponent,
+                                                   const legumeyet_options *options, uint8_t *out, size_t room, size_t *length);
+int32_t legumeyet_shared_unit_formatter_format_double(const legumeyet_shared_unit_formatter *formatter, double number,
+                                                      const legumeyet_options *options, uint8_t *out, size_t room, size_t *length);
+int32_t legumeyet_shared_unit_formatter_format_parts(const legumeyet_shared_unit_formatter *formatter, const uint8_t *number,
+                                                     size_t number_length, const legumeyet_options *options, uint8_t *out, size_t room,
+                                                     size_t *length, legumeyet_interval *intervals, size_t intervals_room, size_t *count);
+int32_t legumeyet_shared_unit_formatter_read(const legumeyet_shared_unit_formatter *formatter, const uint8_t *text, size_t text_length,
+                                             uint8_t *out, size_t room, size_t *length);
 
 /*
  * Writes what a number of these calls means, in English: of LEGUMEYET_TAG `no locale tag`.

@@ -12,7 +12,9 @@
 // A call that makes a std::string or a std::vector may throw std::bad_alloc.
 //
 // Threads: a book or a formatter may go to another thread, and is used by one call at a time, also by a call that only reads, so no call
-// is const.
+// is const. A shared formatter, as SharedDecimalFormatter, is used by any number of threads at once, and its calls are const:
+//
+//     static const legumeyet::SharedDecimalFormatter german(legumeyet::DecimalFormatter("de"));
 #ifndef LEGUMEYET_HPP
 #define LEGUMEYET_HPP
 
@@ -626,8 +628,8 @@ template <class Formatter> class Formatted;
 
 namespace inner {
 
-// What a formatter of any kind writes; `Calls` has the functions of legumeyet.h for the kind.
-template <class Handle, class Calls> class Formatter : Owned<Handle, Calls::close> {
+// What a formatter of any kind writes; `Calls` has the functions of legumeyet.h for the kind, and `Base` the handle.
+template <class Handle, class Calls, class Base = Owned<Handle, Calls::close>> class Formatter : Base {
     friend class Formatted<Formatter>;
 
     // Calls with the text of a number.
@@ -637,7 +639,7 @@ template <class Handle, class Calls> class Formatter : Owned<Handle, Calls::clos
     }
 
   protected:
-    using Owned<Handle, Calls::close>::handle;
+    using Base::handle;
 
     Formatter() = default;
 
@@ -776,6 +778,8 @@ template <class Formatter> class Formatted {
 
 // The formatter of plain numbers for a locale tag. It may outlive its book.
 class DecimalFormatter : public inner::Formatter<legumeyet_decimal_formatter, inner::DecimalCalls> {
+    friend class SharedDecimalFormatter;
+
     DecimalFormatter() = default;
 
   public:
@@ -820,6 +824,8 @@ class DecimalFormatter : public inner::Formatter<legumeyet_decimal_formatter, in
 
 // The formatter of compact numbers for a locale tag. It may outlive its book.
 class CompactDecimalFormatter : public inner::Formatter<legumeyet_compact_formatter, inner::CompactCalls> {
+    friend class SharedCompactDecimalFormatter;
+
     CompactDecimalFormatter() = default;
 
   public:
@@ -868,6 +874,8 @@ class CompactDecimalFormatter : public inner::Formatter<legumeyet_compact_format
 // The formatter of percents for a locale tag. A percent is written as it is given: 12.5 as `12.5%`. It is of the world's book, or of another
 // that is kept: Code::Unkept of one that is not. Of amounts alone are Rounding::Cash and Rounding::None: Code::Option.
 class PercentFormatter : public inner::UnitFormatter {
+    friend class SharedUnitFormatter;
+
     PercentFormatter() = default;
 
   public:
@@ -900,6 +908,8 @@ class PercentFormatter : public inner::UnitFormatter {
 // kept: Code::Unkept of one that is not. Without a rounding an amount is rounded to the digits of its currency, half even, and shown down to
 // them: 5 dollars as `$5.00`. With Rounding::Cash they are those of the currency in cash, and with Rounding::None it is written as given.
 class CurrencyFormatter : public inner::UnitFormatter {
+    friend class SharedUnitFormatter;
+
     CurrencyFormatter() = default;
 
   public:
@@ -936,6 +946,140 @@ class CurrencyFormatter : public inner::UnitFormatter {
         inner::expect_opened(opened.error(), tag, currency);
         *this = *std::move(opened);
     }
+#endif
+};
+
+namespace inner {
+
+// The handle of a shared formatter: it is copied as its bytes are, and what it shows stays for the rest of the program.
+template <class Handle> class Kept {
+  protected:
+    Handle handle{};
+};
+
+// What shared formatters have in common: the calls of a formatter, as const. The functions of `Calls` take the handle as const, so none of
+// these calls writes to it.
+template <class Handle, class Calls> class SharedFormatter : Formatter<Handle, Calls, Kept<Handle>> {
+    using Calling = Formatter<Handle, Calls, Kept<Handle>>;
+
+    Calling &calling() const noexcept { return const_cast<SharedFormatter &>(*this); }
+
+  protected:
+    using Calling::handle;
+
+    SharedFormatter() = default;
+
+    template <class Call> Result<std::string> of_text(Call call, std::string_view number, const Options &options) const {
+        return const_cast<SharedFormatter &>(*this).Calling::of_text(call, number, options);
+    }
+
+  public:
+    FormatToResult<char *> format_to(char *first, std::size_t room, Number number, const Options &options = {}) const noexcept {
+        return calling().format_to(first, room, number, options);
+    }
+    template <class Out, std::enable_if_t<!std::is_pointer_v<Out>, int> = 0>
+    FormatToResult<Out> format_to(Out out, Number number, const Options &options = {}) const {
+        return calling().format_to(std::move(out), number, options);
+    }
+    Formatted<Calling> operator()(Number number, const Options &options = {}) const &noexcept { return calling()(number, options); }
+    Result<std::string> try_format(Number number, const Options &options = {}) const { return calling().try_format(number, options); }
+    Result<Annotated> try_format_parts(const Digits &number, const Options &options = {}) const {
+        return calling().try_format_parts(number, options);
+    }
+
+#ifdef __cpp_exceptions
+    std::string format(Number number, const Options &options = {}) const { return calling().format(number, options); }
+    template <class T, class E, std::enable_if_t<is_number<T> && is_number<E>, int> = 0>
+    std::string format(T mantissa, E exponent, const Options &options = {}) const {
+        return calling().format(mantissa, exponent, options);
+    }
+    Annotated format_parts(const Digits &number, const Options &options = {}) const { return calling().format_parts(number, options); }
+#endif
+};
+
+struct SharedDecimalCalls {
+    static constexpr auto format = legumeyet_shared_decimal_formatter_format;
+    static constexpr auto format_i64 = legumeyet_shared_decimal_formatter_format_i64;
+    static constexpr auto format_u64 = legumeyet_shared_decimal_formatter_format_u64;
+    static constexpr auto format_double = legumeyet_shared_decimal_formatter_format_double;
+    static constexpr auto format_parts = legumeyet_shared_decimal_formatter_format_parts;
+};
+
+struct SharedCompactCalls {
+    static constexpr auto format = legumeyet_shared_compact_formatter_format;
+    static constexpr auto format_i64 = legumeyet_shared_compact_formatter_format_i64;
+    static constexpr auto format_u64 = legumeyet_shared_compact_formatter_format_u64;
+    static constexpr auto format_double = legumeyet_shared_compact_formatter_format_double;
+    static constexpr auto format_parts = legumeyet_shared_compact_formatter_format_parts;
+};
+
+struct SharedUnitCalls {
+    static constexpr auto format = legumeyet_shared_unit_formatter_format;
+    static constexpr auto format_i64 = legumeyet_shared_unit_formatter_format_i64;
+    static constexpr auto format_u64 = legumeyet_shared_unit_formatter_format_u64;
+    static constexpr auto format_double = legumeyet_shared_unit_formatter_format_double;
+    static constexpr auto format_parts = legumeyet_shared_unit_formatter_format_parts;
+};
+
+} // namespace inner
+
+// A formatter of plain numbers for any number of threads at once. It is copied as a pointer is, and what it writes with stays for the rest
+// of the program. A call on one that was made of a formatter that was moved from returns Code::Closed.
+class SharedDecimalFormatter : public inner::SharedFormatter<legumeyet_shared_decimal_formatter, inner::SharedDecimalCalls> {
+  public:
+    explicit SharedDecimalFormatter(DecimalFormatter &&formatter) noexcept { legumeyet_decimal_formatter_share(&formatter.handle, &handle); }
+
+    // The number that is written so, and the one that somebody typed, as of DecimalFormatter.
+    Result<std::string> try_read(std::string_view text) const {
+        return inner::text_of(
+            [&](auto... out) { return legumeyet_shared_decimal_formatter_read(&handle, inner::bytes(text), text.size(), out...); });
+    }
+    Result<std::string> try_read_lenient(std::string_view text) const {
+        return inner::text_of(
+            [&](auto... out) { return legumeyet_shared_decimal_formatter_read_lenient(&handle, inner::bytes(text), text.size(), out...); });
+    }
+
+#ifdef __cpp_exceptions
+    std::string read(std::string_view text) const { return try_read(text).value(); }
+    std::string read_lenient(std::string_view text) const { return try_read_lenient(text).value(); }
+#endif
+};
+
+// The same of compact numbers.
+class SharedCompactDecimalFormatter : public inner::SharedFormatter<legumeyet_shared_compact_formatter, inner::SharedCompactCalls> {
+  public:
+    explicit SharedCompactDecimalFormatter(CompactDecimalFormatter &&formatter) noexcept {
+        legumeyet_compact_formatter_share(&formatter.handle, &handle);
+    }
+
+    // The value that the text shows, and the text of a significand with an exponent, as of CompactDecimalFormatter.
+    Result<std::string> try_shown(const inner::Digits &number, const Options &options = {}) const {
+        return of_text(legumeyet_shared_compact_formatter_shown, number.view(), options);
+    }
+    Result<std::string> try_format_exact(std::string_view number, const Options &options = {}) const {
+        return of_text(legumeyet_shared_compact_formatter_format_exact, number, options);
+    }
+
+#ifdef __cpp_exceptions
+    std::string shown(const inner::Digits &number, const Options &options = {}) const { return try_shown(number, options).value(); }
+    std::string format_exact(std::string_view number, const Options &options = {}) const { return try_format_exact(number, options).value(); }
+#endif
+};
+
+// The same of percents and of amounts.
+class SharedUnitFormatter : public inner::SharedFormatter<legumeyet_shared_unit_formatter, inner::SharedUnitCalls> {
+  public:
+    explicit SharedUnitFormatter(PercentFormatter &&formatter) noexcept { legumeyet_unit_formatter_share(&formatter.handle, &handle); }
+    explicit SharedUnitFormatter(CurrencyFormatter &&formatter) noexcept { legumeyet_unit_formatter_share(&formatter.handle, &handle); }
+
+    // The number that is written so, as of PercentFormatter and CurrencyFormatter.
+    Result<std::string> try_read(std::string_view text) const {
+        return inner::text_of(
+            [&](auto... out) { return legumeyet_shared_unit_formatter_read(&handle, inner::bytes(text), text.size(), out...); });
+    }
+
+#ifdef __cpp_exceptions
+    std::string read(std::string_view text) const { return try_read(text).value(); }
 #endif
 };
 

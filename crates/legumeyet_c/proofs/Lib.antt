@@ -1,4 +1,6 @@
 pub mod AsBox
+pub mod LentSent
+pub mod LentSteps
 pub mod OpeningLemmas
 pub mod PointerValues
 pub mod Sent

@@ -3,11 +3,13 @@ pub mod CompactWriting
 pub mod DecimalWriting
 pub mod HeldUnits
 pub mod Kinds
+pub mod Lent
 pub mod Locales
 pub mod Opening
 pub mod Owned
 pub mod Places
 pub mod Reading
+pub mod SharedViews
 pub mod UnitOpening
 pub mod UnitReading
 pub mod UnitWriting

@@ -1,6 +1,7 @@
 //! A handle may be used in another thread than the one that opened it.
 
 use crate::handles::{BookHandle, CompactHandle, DecimalHandle, UnitHandle};
+use crate::shared_handles::{SharedCompactHandle, SharedDecimalHandle, SharedUnitHandle};
 
 // Asks for no more than that.
 fn crosses<T: Send>(_value: &T) {}
@@ -16,4 +17,18 @@ pub fn handles_cross(
     crosses(decimal);
     crosses(compact);
     crosses(unit)
+}
+
+// Asks for no more than that.
+fn is_shared<T: Send + Sync>(_value: &T) {}
+
+/// A shared formatter of each kind may be used in any number of threads at once.
+pub fn shared_handles_cross(
+    decimal: &SharedDecimalHandle,
+    compact: &SharedCompactHandle,
+    unit: &SharedUnitHandle,
+) {
+    is_shared(decimal);
+    is_shared(compact);
+    is_shared(unit)
 }

@@ -1,13 +1,13 @@
 //! Numbers written with their parts: `legumeyet_decimal_formatter_format_parts`.
 
-ghost use Rattle.std.specs.Prelude.{◌≡◌, ◌≢◌, IfOk, IfErr};
+ghost use Rattle.std.specs.Prelude.{◌≡◌, ◌≢◌, Some, IfOk, IfErr};
 ghost use Rattle.legumeyet_c_values.specs.Parts.{IsPutInParts, given, held_text};
 ghost use Rattle.legumeyet_c_values.specs.Putting.{Answers};
 ghost use Rattle.legumeyet_c.specs.DecimalWriting.{IsDecimalAnnotated, WantsMemory};
 ghost use Rattle.legumeyet_c.specs.Views.{decimal_content, decimal_open};
 ghost use Rattle.legumeyet_c.specs.Writing.{IsNumberWritingFault, IsValueFault, WritesNumber, WritesValue};
 
-use crate::content::Held;
+use crate::content::{Content, Held};
 use crate::decimal_tables::DecimalTables;
 use crate::handle::Handle;
 use crate::handles::DecimalHandle;
@@ -59,6 +59,23 @@ impl Annotates for DecimalTables {
     ghost other = { memory_other };
 }
 
+// The text, with its parts, of a number, where there is one, with what a content has.
+pub(crate) fn annotated_in<T: Annotates>(
+    alloc: Global,
+    content: &Content,
+    number: &Result<Decimal, CallError>,
+) -> Result<PartsSink, CallError>
+    ensures value { IfOk result
+        (λ sink. WritesValue T.says (T.held_in (Some content.now)) number.now (held_text sink)) }
+    ensures fault { IfErr result (λ error. IsValueFault T.fails (T.held_in (Some content.now)) number.now error) }
+{
+    match (T::held_by(content), number) {
+        (Some(tables), Ok(value)) => tables.annotated(alloc, value),
+        (Some(_), Err(error)) => Err(*error),
+        (None, _) => Err(CallError::Closed),
+    }
+}
+
 // The text, with its parts, of a number, where there is one, with what is behind a handle, which stays as it is.
 fn annotated_behind<T: Annotates>(
     alloc: Global,
@@ -73,11 +90,7 @@ fn annotated_behind<T: Annotates>(
     let Some(content) = handle.take(alloc) else {
         return Err(CallError::Closed);
     };
-    let found = match (T::held_by(&content), number) {
-        (Some(tables), Ok(value)) => tables.annotated(alloc, value),
-        (Some(_), Err(error)) => Err(*error),
-        (None, _) => Err(CallError::Closed),
-    };
+    let found = annotated_in::<T>(alloc, &content, number);
     handle.put(alloc, content);
     found
 }

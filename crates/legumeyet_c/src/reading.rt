@@ -18,7 +18,7 @@ use legumeyet_c_values::{CallError, answer, put};
 use std::alloc::Global;
 
 // How a text is read. A type that holds nothing stands for it.
-trait Reader {
+pub(crate) trait Reader {
     ghost use Rattle.std.specs.Prelude.{List, ℕ};
     ghost use Rattle.icu_decimal.specs.PlainReading.{PlainReading};
     ghost use Rattle.icu_decimal.specs.PlainText.{Tables};
@@ -29,48 +29,56 @@ trait Reader {
     // memory may be wanted for it
     ghost allocates: { Tables → List ℕ → Type 0 };
 
+    /// Keeps with the tables what makes later texts faster to read, where memory is not refused.
+    fn ready(alloc: Global, tables: &mut DecimalTables)
+        ensures { tables.new ≡ tables.old };
+
     /// The number of the text.
-    fn read(alloc: Global, tables: &mut DecimalTables, text: &str) -> Result<Decimal, ReadError>
-        ensures same { tables.new ≡ tables.old }
-        ensures answered { IsAnswered result (reading tables.old text.now) }
-        ensures memory { IsErrOf result ReadError.Memory → allocates tables.old text.now };
+    fn read(alloc: Global, tables: &DecimalTables, text: &str) -> Result<Decimal, ReadError>
+        ensures answered { IsAnswered result (reading tables.now text.now) }
+        ensures memory { IsErrOf result ReadError.Memory → allocates tables.now text.now };
 }
 
 // As the formatter writes numbers.
-struct Exact;
+pub(crate) struct Exact;
 
 impl Reader for Exact {
     ghost reading = { plain_reading };
 
     ghost allocates = { HasManyDigits };
 
-    fn read(alloc: Global, tables: &mut DecimalTables, text: &str) -> Result<Decimal, ReadError> {
+    fn ready(_alloc: Global, _tables: &mut DecimalTables) {}
+
+    fn read(alloc: Global, tables: &DecimalTables, text: &str) -> Result<Decimal, ReadError> {
         read_plain(alloc, &tables.formatter(), text)
     }
 }
 
 // As people type them.
-struct Lenient;
+pub(crate) struct Lenient;
 
 impl Reader for Lenient {
     ghost reading = { lenient_reading };
 
     ghost allocates = { MayAllocate };
 
-    fn read(alloc: Global, tables: &mut DecimalTables, text: &str) -> Result<Decimal, ReadError> {
-        tables.read_lenient(alloc, text)
+    fn ready(alloc: Global, tables: &mut DecimalTables) {
+        tables.keep_folds(alloc)
+    }
+
+    fn read(alloc: Global, tables: &DecimalTables, text: &str) -> Result<Decimal, ReadError> {
+        tables.read_typed(alloc, text)
     }
 }
 
 // The number that is written so with tables.
-fn read_with<R: Reader>(
+pub(crate) fn read_with<R: Reader>(
     alloc: Global,
-    tables: &mut DecimalTables,
+    tables: &DecimalTables,
     text: &[u8],
 ) -> Result<Decimal, CallError>
-    ensures same { tables.new ≡ tables.old }
-    ensures value { IfOk result (λ value. HasReading R.reading tables.old text.now (decimal value)) }
-    ensures fault { IfErr result (λ error. IsUnread R.reading R.allocates tables.old text.now error) }
+    ensures value { IfOk result (λ value. HasReading R.reading tables.now text.now (decimal value)) }
+    ensures fault { IfErr result (λ error. IsUnread R.reading R.allocates tables.now text.now error) }
 {
     let Ok(text) = str::from_utf8(text) else {
         return Err(CallError::NoUtf8);
@@ -95,7 +103,10 @@ fn read_content<R: Reader>(
         (λ error. IsReadFault R.reading R.allocates (decimal_in (Some content.old)) text.now error) }
 {
     match content {
-        Content::Decimal(tables) => read_with::<R>(alloc, tables, text),
+        Content::Decimal(tables) => {
+            R::ready(alloc, tables);
+            read_with::<R>(alloc, tables, text)
+        }
         Content::Book(_)
         | Content::Kept(_)
         | Content::Compact(_)

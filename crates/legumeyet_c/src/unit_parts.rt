@@ -53,7 +53,7 @@ fn annotated(
 }
 
 // The same with what a content has.
-fn annotated_held(
+pub(crate) fn annotated_held(
     alloc: Global,
     content: &Content,
     number: Result<Decimal, CallError>,

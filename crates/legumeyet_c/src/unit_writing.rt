@@ -40,7 +40,7 @@ fn write_changed(
 }
 
 // Writes a number, where there is one, with what a content has.
-fn write_held(
+pub(crate) fn write_held(
     content: &Content,
     number: Result<Decimal, CallError>,
     options: &Options,

@@ -55,7 +55,7 @@ fn write_value<F: Form>(
 }
 
 // Writes a number, where there is one, with what a content has.
-fn write_held<F: Form>(
+pub(crate) fn write_held<F: Form>(
     content: &Content,
     number: &Result<F::Number, CallError>,
     out: &mut [u8],

@@ -41,7 +41,22 @@
 //! # Ok::<(), legumeyet::Error>(())
 //! ```
 //!
-//! Books and formatters may move to another thread, and are used by one thread at a time:
+//! A formatter that any number of threads use at once, as one in a static, is a shared one. It is `Copy`, and stays for the rest of the
+//! program:
+//!
+//! ```
+//! use legumeyet::{DecimalFormatter, Options, SharedDecimalFormatter};
+//!
+//! fn serves_all<T: Copy + Send + Sync + 'static>(it: T) -> T {
+//!     it
+//! }
+//!
+//! let german: SharedDecimalFormatter = serves_all(DecimalFormatter::new("de")?.share());
+//! assert_eq!(german.format(1234.5, &Options::default())?, "1.234,5");
+//! # Ok::<(), legumeyet::Error>(())
+//! ```
+//!
+//! Other formatters, and books, may move to another thread, and are used by one thread at a time:
 //!
 //! ```compile_fail
 //! fn is_shared<T: Sync>() {}
@@ -57,6 +72,7 @@ mod error;
 mod number;
 mod options;
 mod owned;
+mod shared;
 mod sys;
 mod units;
 mod world;
@@ -66,6 +82,7 @@ pub use number::Number;
 pub use options::{
     CurrencyOptions, CurrencyStyle, CurrencyWidth, Grouping, Increment, Kind, Options, Rounding, Sign, TrailingZeros, Width,
 };
+pub use shared::{SharedCompactDecimalFormatter, SharedCurrencyFormatter, SharedDecimalFormatter, SharedPercentFormatter};
 pub use units::{CurrencyFormatter, PercentFormatter};
 pub use world::{tag_of_locale_name, world_locales};
 
@@ -168,6 +185,12 @@ impl DecimalFormatter {
         let open =
             |formatter| unsafe { sys::legumeyet_decimal_formatter_open(book.0.at(), tag.as_ptr(), tag.len(), grouping as u32, formatter) };
         Owned::open(sys::legumeyet_decimal_formatter_close, open).map(DecimalFormatter)
+    }
+
+    /// Shares the formatter: any number of threads use it at once, and it stays for the rest of the program: its memory is never given back.
+    /// So share those that a program uses until it ends, and not one for each request.
+    pub fn share(self) -> SharedDecimalFormatter {
+        SharedDecimalFormatter::of(&self.0)
     }
 
     /// The text of a number. Refused by `NUMBER`, `LIMIT`, `MEMORY`.
@@ -274,6 +297,11 @@ impl CompactDecimalFormatter {
         let open =
             |formatter| unsafe { sys::legumeyet_compact_formatter_open(book.0.at(), tag.as_ptr(), tag.len(), width, grouping, formatter) };
         Owned::open(sys::legumeyet_compact_formatter_close, open).map(CompactDecimalFormatter)
+    }
+
+    /// Shares the formatter, as `DecimalFormatter::share` does.
+    pub fn share(self) -> SharedCompactDecimalFormatter {
+        SharedCompactDecimalFormatter::of(&self.0)
     }
 
     /// The text of a number: -1172700 is `-1.2M` in short English. Refused by `NUMBER`, `LIMIT`, `RANGE`, `MEMORY`.

@@ -17,6 +17,22 @@ impl Handle {
     pub const CLOSED: Handle = Handle { content: std::ptr::null_mut(), is_open: false };
 }
 
+/// A shared formatter: in C one of each kind is a type of its own with these fields. The calls that read it leave it as it is.
+#[repr(C)]
+#[derive(Clone, Copy)]
+pub struct SharedHandle {
+    content: *const c_void,
+    is_open: bool,
+}
+
+impl SharedHandle {
+    pub const CLOSED: SharedHandle = SharedHandle { content: std::ptr::null(), is_open: false };
+}
+
+// SAFETY: what it shows stays for the rest of the program, and the library lets any number of threads read it at once.
+unsafe impl Send for SharedHandle {}
+unsafe impl Sync for SharedHandle {}
+
 #[repr(C)]
 pub struct Options {
     pub sign: u32,
@@ -69,6 +85,23 @@ extern "C" {
     pub fn legumeyet_unit_formatter_format_parts(formatter: *mut Handle, number: *const u8, number_length: usize, options: *const Options, out: *mut u8, room: usize, length: *mut usize, intervals: *mut Interval, intervals_room: usize, count: *mut usize) -> i32;
     pub fn legumeyet_unit_formatter_read(formatter: *mut Handle, text: *const u8, text_length: usize, out: *mut u8, room: usize, length: *mut usize) -> i32;
     pub fn legumeyet_unit_formatter_read_lenient(formatter: *mut Handle, text: *const u8, text_length: usize, out: *mut u8, room: usize, length: *mut usize) -> i32;
+    pub fn legumeyet_decimal_formatter_share(formatter: *mut Handle, shared: *mut SharedHandle) -> i32;
+    pub fn legumeyet_shared_decimal_formatter_format(formatter: *const SharedHandle, number: *const u8, number_length: usize, options: *const Options, out: *mut u8, room: usize, length: *mut usize) -> i32;
+    pub fn legumeyet_shared_decimal_formatter_format_i64(formatter: *const SharedHandle, mantissa: i64, exponent: i16, options: *const Options, out: *mut u8, room: usize, length: *mut usize) -> i32;
+    pub fn legumeyet_shared_decimal_formatter_format_parts(formatter: *const SharedHandle, number: *const u8, number_length: usize, options: *const Options, out: *mut u8, room: usize, length: *mut usize, intervals: *mut Interval, intervals_room: usize, count: *mut usize) -> i32;
+    pub fn legumeyet_shared_decimal_formatter_read(formatter: *const SharedHandle, text: *const u8, text_length: usize, out: *mut u8, room: usize, length: *mut usize) -> i32;
+    pub fn legumeyet_shared_decimal_formatter_read_lenient(formatter: *const SharedHandle, text: *const u8, text_length: usize, out: *mut u8, room: usize, length: *mut usize) -> i32;
+    pub fn legumeyet_compact_formatter_share(formatter: *mut Handle, shared: *mut SharedHandle) -> i32;
+    pub fn legumeyet_shared_compact_formatter_format(formatter: *const SharedHandle, number: *const u8, number_length: usize, options: *const Options, out: *mut u8, room: usize, length: *mut usize) -> i32;
+    pub fn legumeyet_shared_compact_formatter_format_i64(formatter: *const SharedHandle, mantissa: i64, exponent: i16, options: *const Options, out: *mut u8, room: usize, length: *mut usize) -> i32;
+    pub fn legumeyet_shared_compact_formatter_format_parts(formatter: *const SharedHandle, number: *const u8, number_length: usize, options: *const Options, out: *mut u8, room: usize, length: *mut usize, intervals: *mut Interval, intervals_room: usize, count: *mut usize) -> i32;
+    pub fn legumeyet_shared_compact_formatter_shown(formatter: *const SharedHandle, number: *const u8, number_length: usize, options: *const Options, out: *mut u8, room: usize, length: *mut usize) -> i32;
+    pub fn legumeyet_shared_compact_formatter_format_exact(formatter: *const SharedHandle, number: *const u8, number_length: usize, options: *const Options, out: *mut u8, room: usize, length: *mut usize) -> i32;
+    pub fn legumeyet_unit_formatter_share(formatter: *mut Handle, shared: *mut SharedHandle) -> i32;
+    pub fn legumeyet_shared_unit_formatter_format(formatter: *const SharedHandle, number: *const u8, number_length: usize, options: *const Options, out: *mut u8, room: usize, length: *mut usize) -> i32;
+    pub fn legumeyet_shared_unit_formatter_format_i64(formatter: *const SharedHandle, mantissa: i64, exponent: i16, options: *const Options, out: *mut u8, room: usize, length: *mut usize) -> i32;
+    pub fn legumeyet_shared_unit_formatter_format_parts(formatter: *const SharedHandle, number: *const u8, number_length: usize, options: *const Options, out: *mut u8, room: usize, length: *mut usize, intervals: *mut Interval, intervals_room: usize, count: *mut usize) -> i32;
+    pub fn legumeyet_shared_unit_formatter_read(formatter: *const SharedHandle, text: *const u8, text_length: usize, out: *mut u8, room: usize, length: *mut usize) -> i32;
     pub fn legumeyet_tag_of_locale_name(name: *const c_char, out: *mut u8, room: usize, length: *mut usize) -> i32;
     pub fn legumeyet_error_text(error: i32, out: *mut u8, room: usize, length: *mut usize) -> i32;
     pub fn legumeyet_version() -> u32;

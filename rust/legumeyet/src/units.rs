@@ -2,6 +2,7 @@
 
 use crate::number::Of;
 use crate::owned::{annotated, written, written_to, Owned};
+use crate::shared::{SharedCurrencyFormatter, SharedPercentFormatter};
 use crate::world::with_world;
 use crate::{sys, Book, CurrencyOptions, Error, Grouping, Number, Options, Parts, WriteError};
 use std::fmt;
@@ -61,8 +62,13 @@ impl Unit {
 
 /// The calls that both formatters have.
 macro_rules! calls_of {
-    ($type:ident) => {
+    ($type:ident, $shared:ident) => {
         impl $type {
+            /// Shares the formatter, as `DecimalFormatter::share` does.
+            pub fn share(self) -> $shared {
+                $shared::of(&self.0 .0)
+            }
+
             /// The text of a number. Refused by `OPTION`, `NUMBER`, `LIMIT`, `MEMORY`.
             pub fn format<'a>(&self, number: impl Into<Number<'a>>, options: &Options) -> Result<String, Error> {
                 let (number, options) = (number.into(), options.numbers());
@@ -122,7 +128,7 @@ macro_rules! calls_of {
 #[derive(Debug)]
 pub struct PercentFormatter(Unit);
 
-calls_of!(PercentFormatter);
+calls_of!(PercentFormatter, SharedPercentFormatter);
 
 /// The formatter of a tag, as of `new`.
 impl FromStr for PercentFormatter {
@@ -175,7 +181,7 @@ impl PercentFormatter {
 #[derive(Debug)]
 pub struct CurrencyFormatter(Unit);
 
-calls_of!(CurrencyFormatter);
+calls_of!(CurrencyFormatter, SharedCurrencyFormatter);
 
 impl CurrencyFormatter {
     /// The formatter of a tag and a code, of the world's book, which the process opens once and keeps. Refused by `CODE`, `TAG`, `TABLE`,
