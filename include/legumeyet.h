@@ -700,6 +700,8 @@ int32_t legumeyet_shared_unit_formatter_format_parts(const legumeyet_shared_unit
                                                      size_t *length, legumeyet_interval *intervals, size_t intervals_room, size_t *count);
 int32_t legumeyet_shared_unit_formatter_read(const legumeyet_shared_unit_formatter *formatter, const uint8_t *text, size_t text_length,
                                              uint8_t *out, size_t room, size_t *length);
+int32_t legumeyet_shared_unit_formatter_read_lenient(const legumeyet_shared_unit_formatter *formatter, const uint8_t *text,
+                                                     size_t text_length, uint8_t *out, size_t room, size_t *length);
 
 /*
  * Writes what a number of these calls means, in English: of LEGUMEYET_TAG `no locale tag`.

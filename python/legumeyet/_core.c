@@ -3,7 +3,8 @@
  *
  * A call holds the lock of the interpreter, the GIL, and runs nothing of Python while the library has a handle. So one call at a time has a handle,
  * whatever threads and signal handlers do. Two calls let go of the GIL: that which reads a book, whose handle nobody else has yet, and format_all over
- * memory, whose formatter is marked as busy until then. Nothing is shared by two interpreters.
+ * memory, whose formatter is marked as busy until then, unless it is shared: of a shared one any number of threads may be inside a call. Nothing else
+ * is shared by two interpreters.
  */
 #define PY_SSIZE_T_CLEAN
 #define Py_LIMITED_API 0x03080000
@@ -59,6 +60,12 @@ struct open {
         legumeyet_compact_formatter compact;
         legumeyet_unit_formatter unit;
     } handle;
+    union {
+        legumeyet_shared_decimal_formatter decimal;
+        legumeyet_shared_compact_formatter compact;
+        legumeyet_shared_unit_formatter unit;
+    } shared_handle;           /* of a shared formatter, whose `handle` is closed then */
+    bool is_shared;            /* whether it is one */
     legumeyet_options options; /* those of each call, where it has no others */
     PyThread_type_lock lock;   /* held while format_all is without the GIL */
     bool is_busy;              /* whether it is; written under the GIL */
@@ -260,40 +267,47 @@ static int32_t take_number(struct shared *shared, struct request *asked, PyObjec
     return raise_wrong(shared, number);
 }
 
-/* Asks a formatter of plain numbers. */
-static int32_t ask_decimal(legumeyet_decimal_formatter *it, const struct request *asked, uint8_t *out, size_t room, size_t *length) {
-    const legumeyet_options *options = &asked->options;
-    if (asked->what == INTEGER) return legumeyet_decimal_formatter_format_i64(it, asked->integer, 0, options, out, room, length);
-    if (asked->what == READ) return legumeyet_decimal_formatter_read(it, asked->at, asked->length, out, room, length);
-    if (asked->what == NATURAL) return legumeyet_decimal_formatter_format_u64(it, (uint64_t)asked->integer, 0, options, out, room, length);
-    if (asked->what == REAL) return legumeyet_decimal_formatter_format_double(it, asked->real, options, out, room, length);
-    if (asked->what == LENIENT) return legumeyet_decimal_formatter_read_lenient(it, asked->at, asked->length, out, room, length);
-    return legumeyet_decimal_formatter_format(it, asked->at, asked->length, options, out, room, length);
-}
+/* Asks a formatter that reads too, of plain numbers or of those with a unit, by the functions of `calls`. */
+#define ASK_READING(name, handle, calls) \
+    static int32_t name(handle *it, const struct request *asked, uint8_t *out, size_t room, size_t *length) { \
+        const legumeyet_options *options = &asked->options; \
+        if (asked->what == INTEGER) return calls##_format_i64(it, asked->integer, 0, options, out, room, length); \
+        if (asked->what == READ) return calls##_read(it, asked->at, asked->length, out, room, length); \
+        if (asked->what == NATURAL) return calls##_format_u64(it, (uint64_t)asked->integer, 0, options, out, room, length); \
+        if (asked->what == REAL) return calls##_format_double(it, asked->real, options, out, room, length); \
+        if (asked->what == LENIENT) return calls##_read_lenient(it, asked->at, asked->length, out, room, length); \
+        return calls##_format(it, asked->at, asked->length, options, out, room, length); \
+    }
+ASK_READING(ask_decimal, legumeyet_decimal_formatter, legumeyet_decimal_formatter)
+ASK_READING(ask_shared_decimal, const legumeyet_shared_decimal_formatter, legumeyet_shared_decimal_formatter)
 
 /* Asks a formatter of compact numbers. */
-static int32_t ask_compact(legumeyet_compact_formatter *it, const struct request *asked, uint8_t *out, size_t room, size_t *length) {
-    const legumeyet_options *options = &asked->options;
-    if (asked->what == INTEGER) return legumeyet_compact_formatter_format_i64(it, asked->integer, 0, options, out, room, length);
-    if (asked->what == SHOWN) return legumeyet_compact_formatter_shown(it, asked->at, asked->length, options, out, room, length);
-    if (asked->what == EXACT) return legumeyet_compact_formatter_format_exact(it, asked->at, asked->length, options, out, room, length);
-    if (asked->what == NATURAL) return legumeyet_compact_formatter_format_u64(it, (uint64_t)asked->integer, 0, options, out, room, length);
-    if (asked->what == REAL) return legumeyet_compact_formatter_format_double(it, asked->real, options, out, room, length);
-    return legumeyet_compact_formatter_format(it, asked->at, asked->length, options, out, room, length);
-}
+#define ASK_COMPACT(name, handle, calls) \
+    static int32_t name(handle *it, const struct request *asked, uint8_t *out, size_t room, size_t *length) { \
+        const legumeyet_options *options = &asked->options; \
+        if (asked->what == INTEGER) return calls##_format_i64(it, asked->integer, 0, options, out, room, length); \
+        if (asked->what == SHOWN) return calls##_shown(it, asked->at, asked->length, options, out, room, length); \
+        if (asked->what == EXACT) return calls##_format_exact(it, asked->at, asked->length, options, out, room, length); \
+        if (asked->what == NATURAL) return calls##_format_u64(it, (uint64_t)asked->integer, 0, options, out, room, length); \
+        if (asked->what == REAL) return calls##_format_double(it, asked->real, options, out, room, length); \
+        return calls##_format(it, asked->at, asked->length, options, out, room, length); \
+    }
+ASK_COMPACT(ask_compact, legumeyet_compact_formatter, legumeyet_compact_formatter)
+ASK_COMPACT(ask_shared_compact, const legumeyet_shared_compact_formatter, legumeyet_shared_compact_formatter)
 
 /* Asks a formatter of percents, or of amounts of money. */
-static int32_t ask_unit(legumeyet_unit_formatter *it, const struct request *asked, uint8_t *out, size_t room, size_t *length) {
-    const legumeyet_options *options = &asked->options;
-    if (asked->what == INTEGER) return legumeyet_unit_formatter_format_i64(it, asked->integer, 0, options, out, room, length);
-    if (asked->what == READ) return legumeyet_unit_formatter_read(it, asked->at, asked->length, out, room, length);
-    if (asked->what == NATURAL) return legumeyet_unit_formatter_format_u64(it, (uint64_t)asked->integer, 0, options, out, room, length);
-    if (asked->what == REAL) return legumeyet_unit_formatter_format_double(it, asked->real, options, out, room, length);
-    if (asked->what == LENIENT) return legumeyet_unit_formatter_read_lenient(it, asked->at, asked->length, out, room, length);
-    return legumeyet_unit_formatter_format(it, asked->at, asked->length, options, out, room, length);
+ASK_READING(ask_unit, legumeyet_unit_formatter, legumeyet_unit_formatter)
+ASK_READING(ask_shared_unit, const legumeyet_shared_unit_formatter, legumeyet_shared_unit_formatter)
+
+/* Asks a shared formatter, which is only read. */
+static int32_t ask_shared(const struct open *it, const struct request *asked, uint8_t *out, size_t room, size_t *length) {
+    if (it->kind == DECIMAL) return ask_shared_decimal(&it->shared_handle.decimal, asked, out, room, length);
+    if (it->kind == COMPACT) return ask_shared_compact(&it->shared_handle.compact, asked, out, room, length);
+    return ask_shared_unit(&it->shared_handle.unit, asked, out, room, length);
 }
 
 static int32_t ask(struct open *it, const struct request *asked, uint8_t *out, size_t room, size_t *length) {
+    if (it->is_shared) return ask_shared(it, asked, out, room, length);
     if (it->kind == DECIMAL) return ask_decimal(&it->handle.decimal, asked, out, room, length);
     if (it->kind == COMPACT) return ask_compact(&it->handle.compact, asked, out, room, length);
     if (it->kind == UNIT) return ask_unit(&it->handle.unit, asked, out, room, length);
@@ -489,11 +503,14 @@ static PyObject *read_back(PyObject *self, PyObject *arguments, PyObject *given)
 static int32_t ask_parts(struct open *it, const struct request *asked, uint8_t *out, size_t room, size_t *length, legumeyet_interval *parts,
                          size_t places, size_t *count) {
     const legumeyet_options *options = &asked->options;
-    if (it->kind == DECIMAL)
-        return legumeyet_decimal_formatter_format_parts(&it->handle.decimal, asked->at, asked->length, options, out, room, length, parts, places, count);
-    if (it->kind == UNIT)
-        return legumeyet_unit_formatter_format_parts(&it->handle.unit, asked->at, asked->length, options, out, room, length, parts, places, count);
-    return legumeyet_compact_formatter_format_parts(&it->handle.compact, asked->at, asked->length, options, out, room, length, parts, places, count);
+#define PARTS(name, it) legumeyet_##name##_formatter_format_parts(it, asked->at, asked->length, options, out, room, length, parts, places, count)
+    if (it->is_shared && it->kind == DECIMAL) return PARTS(shared_decimal, &it->shared_handle.decimal);
+    if (it->is_shared && it->kind == UNIT) return PARTS(shared_unit, &it->shared_handle.unit);
+    if (it->is_shared) return PARTS(shared_compact, &it->shared_handle.compact);
+    if (it->kind == DECIMAL) return PARTS(decimal, &it->handle.decimal);
+    if (it->kind == UNIT) return PARTS(unit, &it->handle.unit);
+    return PARTS(compact, &it->handle.compact);
+#undef PARTS
 }
 
 /* The text and the parts of a call, in memory that is as large as they need. */
@@ -639,8 +656,15 @@ static void write_some(struct open *it, struct request *asked, const struct colu
     }
 }
 
-/* Writes them without the GIL. No other call has the formatter meanwhile. */
+/* Writes them without the GIL. No other call has the formatter meanwhile, unless it is shared. */
 static bool write_aside(struct open *it, struct request *asked, const struct column *from, Py_ssize_t first, struct texts *into) {
+    if (it->is_shared) {
+        struct open copied = *it; /* of the handle: another thread may close the formatter meanwhile */
+        Py_BEGIN_ALLOW_THREADS
+        write_some(&copied, asked, from, first, into);
+        Py_END_ALLOW_THREADS
+        return true;
+    }
     if (it->lock == NULL || it->forks != it->shared->forks) it->lock = PyThread_allocate_lock(); /* one of before a fork may be held by nobody */
     if (it->lock == NULL) return PyErr_NoMemory(), false;
     PyThread_acquire_lock(it->lock, WAIT_LOCK);
@@ -798,9 +822,15 @@ static PyObject *book_locales(PyObject *self, PyObject *none) {
     return list;
 }
 
-/* Closes a handle, also one that is closed. */
+/* Closes a handle, also one that is closed. What a shared one shows stays. */
 static void close_handle(struct open *it) {
-    if (it->kind == DECIMAL)
+    if (it->is_shared && it->kind == DECIMAL)
+        legumeyet_shared_decimal_formatter_close(&it->shared_handle.decimal);
+    else if (it->is_shared && it->kind == COMPACT)
+        legumeyet_shared_compact_formatter_close(&it->shared_handle.compact);
+    else if (it->is_shared)
+        legumeyet_shared_unit_formatter_close(&it->shared_handle.unit);
+    else if (it->kind == DECIMAL)
         legumeyet_decimal_formatter_close(&it->handle.decimal);
     else if (it->kind == COMPACT)
         legumeyet_compact_formatter_close(&it->handle.compact);
@@ -821,9 +851,31 @@ static PyObject *close_it(PyObject *self, PyObject *none) {
     return Py_None;
 }
 
+/* Shares a formatter for the rest of the process, unless it is shared. */
+static PyObject *share(PyObject *self, PyObject *none) {
+    struct open *it = (struct open *)self;
+    int32_t number;
+    (void)none;
+    if (!is_ready(it)) return NULL;
+    if (it->is_shared) return Py_INCREF(Py_None), Py_None;
+    if (it->kind == DECIMAL)
+        number = legumeyet_decimal_formatter_share(&it->handle.decimal, &it->shared_handle.decimal);
+    else if (it->kind == COMPACT)
+        number = legumeyet_compact_formatter_share(&it->handle.compact, &it->shared_handle.compact);
+    else
+        number = legumeyet_unit_formatter_share(&it->handle.unit, &it->shared_handle.unit);
+    if (number != LEGUMEYET_OK) return refused(it->shared, number, -1);
+    it->is_shared = true;
+    Py_INCREF(Py_None);
+    return Py_None;
+}
+
 static PyObject *is_open(PyObject *self, void *none) {
     struct open *it = (struct open *)self;
     (void)none;
+    if (it->is_shared && it->kind == DECIMAL) return PyBool_FromLong(it->shared_handle.decimal.is_open);
+    if (it->is_shared && it->kind == COMPACT) return PyBool_FromLong(it->shared_handle.compact.is_open);
+    if (it->is_shared) return PyBool_FromLong(it->shared_handle.unit.is_open);
     if (it->kind == DECIMAL) return PyBool_FromLong(it->handle.decimal.is_open);
     if (it->kind == COMPACT) return PyBool_FromLong(it->handle.compact.is_open);
     return PyBool_FromLong(it->kind == UNIT ? it->handle.unit.is_open : it->handle.book.is_open);
@@ -853,6 +905,15 @@ static PyGetSetDef properties[] = {{"is_open", is_open, NULL, "Whether it is ope
 
 #define CLOSE \
     {"close", close_it, METH_NOARGS, "close($self, /)\n--\n\nCloses it. What is closed already stays so."}
+#define SHARE \
+    {"share", share, METH_NOARGS, \
+     "share($self, /)\n--\n\n" \
+     "Shares the formatter: no call waits for one of format_all that is under way in another thread. It stays for the rest of the process, so\n" \
+     "share those that a program uses until it ends. What is shared already stays so. Raises Error 2 where the formatter is closed.\n\n" \
+     ">>> german = DecimalFormatter('de')\n" \
+     ">>> german.share()\n" \
+     ">>> german.format(1234)\n" \
+     "'1.234'"}
 #define FORMAT \
     {"format", CALL(format), \
      "format($self, number, /, **options)\n--\n\n" \
@@ -913,6 +974,7 @@ static PyMethodDef book_methods[] = {
 
 static PyMethodDef decimal_methods[] = {
     CLOSE,
+    SHARE,
     FORMAT,
     FORMAT_ALL,
     FORMAT_PARTS,
@@ -934,6 +996,7 @@ static PyMethodDef decimal_methods[] = {
 
 static PyMethodDef compact_methods[] = {
     CLOSE,
+    SHARE,
     FORMAT,
     FORMAT_ALL,
     FORMAT_PARTS,
@@ -959,6 +1022,7 @@ static PyMethodDef compact_methods[] = {
 
 static PyMethodDef unit_methods[] = {
     CLOSE,
+    SHARE,
     {"format", CALL(format),
      "format($self, number, /, **options)\n--\n\n"
      "The text of a percent or of an amount of money, which is a number as DecimalFormatter.format takes it. A percent is written as it is\n"
@@ -1076,7 +1140,10 @@ static PyObject *open_formatter(PyObject *module, PyObject *arguments) {
     int32_t number = width < 0
         ? legumeyet_decimal_formatter_open(from, asked.at, asked.length, (uint32_t)grouping, &it->handle.decimal)
         : legumeyet_compact_formatter_open(from, asked.at, asked.length, (uint32_t)width, (uint32_t)grouping, &it->handle.compact);
-    if (number == LEGUMEYET_OK) it->options = asked.options;
+    if (number == LEGUMEYET_OK) {
+        it->options = asked.options;
+        it->is_shared = false;
+    }
     let_go(&asked);
     return PyLong_FromLong(number);
 }
@@ -1103,7 +1170,10 @@ static PyObject *open_unit_formatter(PyObject *module, PyObject *arguments) {
     else
         number = legumeyet_currency_formatter_open(from, asked.at, asked.length, (const uint8_t *)at, (size_t)length, (uint32_t)style,
                                                    (uint32_t)width, (uint32_t)grouping, &it->handle.unit);
-    if (number == LEGUMEYET_OK) it->options = asked.options;
+    if (number == LEGUMEYET_OK) {
+        it->options = asked.options;
+        it->is_shared = false;
+    }
     let_go(&asked);
     return PyLong_FromLong(number);
 }

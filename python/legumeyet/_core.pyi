@@ -20,6 +20,7 @@ class Book(Open):
     def locales(self) -> List[str]: ...
 
 class Formatter(Open):
+    def share(self) -> None: ...
     def format(
         self,
         number: Number,

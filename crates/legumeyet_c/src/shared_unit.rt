@@ -9,7 +9,7 @@ ghost use Rattle.legumeyet_c_values.specs.Putting.{Answers, IsPut};
 ghost use Rattle.legumeyet_c.specs.Kinds.{unit_in};
 ghost use Rattle.legumeyet_c.specs.Opening.{IsClosing};
 ghost use Rattle.legumeyet_c.specs.SharedViews.{shared_unit_content, shared_unit_open};
-ghost use Rattle.legumeyet_c.specs.UnitReading.{IsUnitReadFault, ReadsUnit, SaysUnitRead};
+ghost use Rattle.legumeyet_c.specs.UnitReading.{IsExactUnit, IsTypedUnit, IsUnitReadFault, ReadsUnit, SaysUnitRead};
 ghost use Rattle.legumeyet_c.specs.UnitWriting.{IsUnitAnnotated, IsUnitPartsFault, IsUnitText, IsUnitWritingFault, WritesUnit};
 ghost use Rattle.legumeyet_c.specs.Views.{unit_content, unit_open};
 
@@ -19,7 +19,7 @@ use crate::lent::SharedHandle;
 use crate::shared_handles::SharedUnitHandle;
 use crate::sharing::{close_shared, share};
 use crate::unit_parts::annotated_held;
-use crate::unit_reading::read_held;
+use crate::unit_reading::{Exact, Lenient, Reading, read_held};
 use crate::unit_writing::write_held;
 use fixed_decimal::Decimal;
 use legumeyet_c_values::{
@@ -69,13 +69,17 @@ fn annotated_shared(
     }
 }
 
-// The number whose text with its unit this is.
-fn read_shared(alloc: Global, shared: &SharedHandle, text: &[u8]) -> Result<Decimal, CallError>
-    ensures value { IfOk result (λ value. ReadsUnit (unit_in shared.now.lent.value) text.now value) }
-    ensures fault { IfErr result (λ error. IsUnitReadFault (unit_in shared.now.lent.value) text.now error) }
+// The number that a text with its unit is read as.
+fn read_shared<R: Reading>(
+    alloc: Global,
+    shared: &SharedHandle,
+    text: &[u8],
+) -> Result<Decimal, CallError>
+    ensures value { IfOk result (λ value. ReadsUnit R.reads (unit_in shared.now.lent.value) text.now value) }
+    ensures fault { IfErr result (λ error. IsUnitReadFault R.reads (unit_in shared.now.lent.value) text.now error) }
 {
     match shared.content() {
-        Some(content) => read_held(alloc, content, text),
+        Some(content) => read_held::<R>(alloc, content, text),
         None => Err(CallError::Closed),
     }
 }
@@ -241,10 +245,33 @@ pub extern "C" fn legumeyet_shared_unit_formatter_read(
     length: &mut usize,
 ) -> i32
     ensures { Answers
-        (IsPut (SaysUnitRead (shared_unit_open formatter.now) text.now)
-        (IsUnitReadFault (shared_unit_open formatter.now) text.now) out.old out.new length.old length.new) result }
+        (IsPut (SaysUnitRead IsExactUnit (shared_unit_open formatter.now) text.now)
+        (IsUnitReadFault IsExactUnit (shared_unit_open formatter.now) text.now) out.old out.new length.old length.new)
+        result }
 {
-    match read_shared(alloc, &formatter.handle, text) {
+    match read_shared::<Exact>(alloc, &formatter.handle, text) {
+        Ok(value) => answer(put(&value, out, length)),
+        Err(error) => error.number(),
+    }
+}
+
+/// Reads a text that somebody typed, as `legumeyet_unit_formatter_read_lenient` does.
+///
+/// Returns as that call.
+#[unsafe(no_mangle)]
+pub extern "C" fn legumeyet_shared_unit_formatter_read_lenient(
+    alloc: Global,
+    formatter: &SharedUnitHandle,
+    text: &[u8],
+    out: &mut [u8],
+    length: &mut usize,
+) -> i32
+    ensures { Answers
+        (IsPut (SaysUnitRead IsTypedUnit (shared_unit_open formatter.now) text.now)
+        (IsUnitReadFault IsTypedUnit (shared_unit_open formatter.now) text.now) out.old out.new length.old length.new)
+        result }
+{
+    match read_shared::<Lenient>(alloc, &formatter.handle, text) {
         Ok(value) => answer(put(&value, out, length)),
         Err(error) => error.number(),
     }

@@ -26,11 +26,8 @@ fn prepare(alloc: Global, content: &mut Content)
 {
     match content {
         Content::Decimal(tables) => tables.keep_folds(alloc),
-        Content::Book(_)
-        | Content::Kept(_)
-        | Content::Compact(_)
-        | Content::Unit(_)
-        | Content::Nothing => (),
+        Content::Unit(units) => units.keep_reader(alloc),
+        Content::Book(_) | Content::Kept(_) | Content::Compact(_) | Content::Nothing => (),
     }
 }
 
