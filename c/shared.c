@@ -94,6 +94,7 @@ static void use_others(work *it) {
                 legumeyet_shared_unit_formatter_format_parts(&dollars, TEXT("-5"), &AS_GIVEN, out, ROOM, length, intervals, 8, &count),
                 "-$5.00");
     expect_text(it, "read", legumeyet_shared_unit_formatter_read(&dollars, TEXT("-$1,234.50"), out, ROOM, length), "-1234.50");
+    expect_text(it, "lenient", legumeyet_shared_unit_formatter_read_lenient(&dollars, TEXT("1234.5 $"), out, ROOM, length), "1234.5");
 }
 
 static void *do_work(void *given) {

@@ -54,6 +54,7 @@ static void use_all(const SharedCompactDecimalFormatter &compact, const SharedUn
     expect("exact", compact.format_exact("-1.20c6"), "-1.20M");
     expect("an amount", euros.format(1234.5), "€1,234.50");
     expect("read", euros.read("€1,234.50"), "1234.50");
+    expect("lenient", euros.read_lenient("1234.5 EUR"), "1234.5");
 }
 
 int main() {

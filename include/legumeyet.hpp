@@ -1072,14 +1072,19 @@ class SharedUnitFormatter : public inner::SharedFormatter<legumeyet_shared_unit_
     explicit SharedUnitFormatter(PercentFormatter &&formatter) noexcept { legumeyet_unit_formatter_share(&formatter.handle, &handle); }
     explicit SharedUnitFormatter(CurrencyFormatter &&formatter) noexcept { legumeyet_unit_formatter_share(&formatter.handle, &handle); }
 
-    // The number that is written so, as of PercentFormatter and CurrencyFormatter.
+    // The number that is written so, and the one that somebody typed, as of PercentFormatter and CurrencyFormatter.
     Result<std::string> try_read(std::string_view text) const {
         return inner::text_of(
             [&](auto... out) { return legumeyet_shared_unit_formatter_read(&handle, inner::bytes(text), text.size(), out...); });
     }
+    Result<std::string> try_read_lenient(std::string_view text) const {
+        return inner::text_of(
+            [&](auto... out) { return legumeyet_shared_unit_formatter_read_lenient(&handle, inner::bytes(text), text.size(), out...); });
+    }
 
 #ifdef __cpp_exceptions
     std::string read(std::string_view text) const { return try_read(text).value(); }
+    std::string read_lenient(std::string_view text) const { return try_read_lenient(text).value(); }
 #endif
 };
 

@@ -170,6 +170,11 @@ reads! {
     SharedPercentFormatter: read, legumeyet_shared_unit_formatter_read
 }
 
+reads! {
+    /// The number of a text that somebody typed, as digits, by the rule of `PercentFormatter::read_lenient`. Refused as `read`.
+    SharedPercentFormatter: read_lenient, legumeyet_shared_unit_formatter_read_lenient
+}
+
 shared! {
     /// A formatter of amounts of money that any number of threads use at once: what `CurrencyFormatter::share` makes.
     SharedCurrencyFormatter: legumeyet_unit_formatter_share, legumeyet_shared_unit_formatter_format,
@@ -180,4 +185,9 @@ reads! {
     /// The number that is written so, as digits. How many digits the currency has is not looked at. Refused by `UNREADABLE`,
     /// `NOT_WRITTEN`, `MEMORY`.
     SharedCurrencyFormatter: read, legumeyet_shared_unit_formatter_read
+}
+
+reads! {
+    /// The number of a text that somebody typed, as digits, by the rule of `CurrencyFormatter::read_lenient`. Refused as `read`.
+    SharedCurrencyFormatter: read_lenient, legumeyet_shared_unit_formatter_read_lenient
 }

@@ -102,6 +102,7 @@ extern "C" {
     pub fn legumeyet_shared_unit_formatter_format_i64(formatter: *const SharedHandle, mantissa: i64, exponent: i16, options: *const Options, out: *mut u8, room: usize, length: *mut usize) -> i32;
     pub fn legumeyet_shared_unit_formatter_format_parts(formatter: *const SharedHandle, number: *const u8, number_length: usize, options: *const Options, out: *mut u8, room: usize, length: *mut usize, intervals: *mut Interval, intervals_room: usize, count: *mut usize) -> i32;
     pub fn legumeyet_shared_unit_formatter_read(formatter: *const SharedHandle, text: *const u8, text_length: usize, out: *mut u8, room: usize, length: *mut usize) -> i32;
+    pub fn legumeyet_shared_unit_formatter_read_lenient(formatter: *const SharedHandle, text: *const u8, text_length: usize, out: *mut u8, room: usize, length: *mut usize) -> i32;
     pub fn legumeyet_tag_of_locale_name(name: *const c_char, out: *mut u8, room: usize, length: *mut usize) -> i32;
     pub fn legumeyet_error_text(error: i32, out: *mut u8, room: usize, length: *mut usize) -> i32;
     pub fn legumeyet_version() -> u32;

@@ -61,6 +61,7 @@ fn calls() {
     let copied = euros;
     assert_eq!(thread::spawn(move || copied.format(5, &as_given)).join().unwrap().unwrap(), "€5.00");
     assert_eq!(euros.read("€1,234.50").unwrap(), "1234.50");
+    assert_eq!(euros.read_lenient("1234.5 EUR").unwrap(), "1234.5");
     let percents = PercentFormatter::new("tr").unwrap().share();
     assert_eq!(percents.format(12.5, &as_given).unwrap(), "%12,5");
     assert_eq!(percents.read("%12,5").unwrap(), "12.5");
