@@ -1,10 +1,11 @@
 //! A formatter of amounts of money.
 
-ghost use Rattle.std.specs.Prelude.{◌≡◌, ◌≢◌, ◌⊎◌, false, IfErr, IfOk, IsErrOf, IsOk, string_bytes};
+ghost use Rattle.std.specs.Prelude.{◌≡◌, ◌≢◌, ◌⊎◌, false, true, IfErr, IfOk, IsErrOf, IsOk, OnOk, string_bytes};
 ghost use Rattle.std.specs.Result.{result_map_both};
 ghost use Rattle.icu_dimension_affixes.specs.HeldUnits.{name_of, settings_of};
-ghost use Rattle.icu_dimension_affixes.specs.UnitReading.{HasNoDecimal, IsUnitText, is_unit_readable_by, reader_texts};
+ghost use Rattle.icu_dimension_affixes.specs.UnitReading.{AreReaderTexts, HasNoDecimal, IsUnitText, is_unit_readable_by, reader_texts};
 ghost use Rattle.icu_dimension_affixes.specs.UnitText.{unit_decimal_text, unit_formatted};
+ghost use Rattle.icu_dimension_lenient.specs.LenientUnits.{is_leniently_unit_readable_by, lenient_texts};
 ghost use Rattle.icu_dimension_fractions.specs.FractionRounding.{RoundsAmount, ShowsAmount};
 ghost use Rattle.icu_dimension_fractions.specs.Fractions.{fraction_for};
 ghost use Rattle.icu_dimension_fractions.specs.declared.increment.FractionIncrement.{FractionIncrement};
@@ -25,6 +26,7 @@ use icu_decimal::provider::{
 use icu_decimal::{DecimalFormatterPreferences, DecimalTables};
 use icu_dimension_affixes::{FormattedUnit, Unit, UnitKind, UnitPattern, UnitReader, UnitTables};
 use icu_dimension_fractions::{CurrencyCode, CurrencyUsage, FractionInfo};
+use icu_dimension_lenient::LenientUnitReader;
 use std::alloc::{AllocError, AllocFailed, Global};
 
 /// A formatter of amounts in one currency: the tables of a locale, which it borrows, the currency with its digits, and
@@ -61,7 +63,8 @@ impl<'b> CurrencyFormatter<'b> {
             + DataProvider<CurrencySymbolsV1>
             + DataProvider<CurrencyFractionsV1>
             + ParentProvider,
-        ensures { result_map_both currency_settings_of (λ error. error) result ≡ found_currency
+        ensures code { IfOk result (λ formatter. code_of formatter ≡ code) }
+        ensures found { result_map_both currency_settings_of (λ error. error) result ≡ found_currency
             (record {
               decimals = record {
                 next = P.next provider.now;
@@ -184,6 +187,30 @@ impl<'b> CurrencyFormatter<'b> {
         ensures { IfOk result (λ reader. reader ≡ reader_texts (settings_of_currency self.now)) }
     {
         UnitReader::of_parts(alloc, &self.decimals, self.pattern, self.unit())
+    }
+
+    /// The reader of what people type of amounts: that of `en` and `EUR` reads `€1,234.5`, `1234.5`, `5 €` and `EUR 5`. As
+    /// that of `reader`, it can be kept beside the formatter.
+    ///
+    /// `Unreadable`: texts can't be read back, or not once they are folded. `Memory`: out of memory. It allocates for each
+    /// affix, and for each folded text.
+    pub fn lenient_reader(&self, alloc: Global) -> Result<LenientUnitReader<'b>, ReadError>
+        ensures unreadable { IsErrOf result ReadError.Unreadable
+            → is_leniently_unit_readable_by (lenient_texts (settings_of_currency self.now) (code_of self.now)) ≡ false }
+        ensures not_written { ¬ (IsErrOf result ReadError.NotWritten) }
+        ensures texts { OnOk result (AreReaderTexts (reader_texts (settings_of_currency self.now))) }
+        ensures readable { OnOk result
+            (is_leniently_unit_readable_by (lenient_texts (settings_of_currency self.now) (code_of self.now)) ≡ true) }
+        ensures value { IfOk result
+            (λ reader. reader ≡ lenient_texts (settings_of_currency self.now) (code_of self.now)) }
+    {
+        LenientUnitReader::of_parts(
+            alloc,
+            &self.decimals,
+            self.pattern,
+            self.unit(),
+            self.code.as_str(),
+        )
     }
 
     /// Whether texts can be read back: in English with `EUR` they can.

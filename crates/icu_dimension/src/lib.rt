@@ -30,6 +30,7 @@ pub use icu_dimension_affixes::{
 pub use icu_dimension_fractions::{
     CurrencyCode, CurrencyCodeError, CurrencyUsage, Fraction, FractionIncrement, FractionInfo,
 };
+pub use icu_dimension_lenient::LenientUnitReader;
 pub use options::{
     CurrencyFormatterOptions, CurrencyStyle, CurrencyWidth, PercentFormatterOptions,
 };

@@ -1,10 +1,11 @@
 //! A formatter of percents.
 
-ghost use Rattle.std.specs.Prelude.{◌≡◌, ◌⊎◌, false, IfOk, IsErrOf, string_bytes};
+ghost use Rattle.std.specs.Prelude.{◌≡◌, ◌⊎◌, false, true, IfOk, IsErrOf, OnOk, codes, string_bytes};
 ghost use Rattle.std.specs.Result.{result_map_both};
 ghost use Rattle.icu_dimension_affixes.specs.HeldUnits.{name_of, settings_of};
-ghost use Rattle.icu_dimension_affixes.specs.UnitReading.{HasNoDecimal, IsUnitText, is_unit_readable_by, reader_texts};
+ghost use Rattle.icu_dimension_affixes.specs.UnitReading.{AreReaderTexts, HasNoDecimal, IsUnitText, is_unit_readable_by, reader_texts};
 ghost use Rattle.icu_dimension_affixes.specs.UnitText.{unit_decimal_text, unit_formatted};
+ghost use Rattle.icu_dimension_lenient.specs.LenientUnits.{is_leniently_unit_readable_by, lenient_texts};
 ghost use Rattle.icu_dimension.specs.FoundUnits.{found_percent};
 ghost use Rattle.icu_dimension.specs.HeldFormatters.{settings_of_percent};
 
@@ -18,6 +19,7 @@ use icu_decimal::provider::{
 };
 use icu_decimal::{DecimalFormatterPreferences, DecimalTables};
 use icu_dimension_affixes::{FormattedUnit, Unit, UnitKind, UnitPattern, UnitReader, UnitTables};
+use icu_dimension_lenient::LenientUnitReader;
 use std::alloc::{AllocError, Global};
 
 /// A formatter of percents: the tables of a locale, which it borrows, and when separators are written.
@@ -111,6 +113,23 @@ impl<'b> PercentFormatter<'b> {
         ensures { IfOk result (λ reader. reader ≡ reader_texts (settings_of_percent self.now)) }
     {
         UnitReader::of_parts(alloc, &self.decimals, self.pattern, self.unit())
+    }
+
+    /// The reader of what people type of percents: that of `en` reads `12.5%`, `12.5 %` and `12.5` as 12.5. As that of
+    /// `reader`, it can be kept beside the formatter.
+    ///
+    /// `Unreadable`: texts can't be read back, or not once they are folded. `Memory`: out of memory. It allocates for each
+    /// affix, and for each folded text.
+    pub fn lenient_reader(&self, alloc: Global) -> Result<LenientUnitReader<'b>, ReadError>
+        ensures unreadable { IsErrOf result ReadError.Unreadable
+            → is_leniently_unit_readable_by (lenient_texts (settings_of_percent self.now) (codes "%")) ≡ false }
+        ensures not_written { ¬ (IsErrOf result ReadError.NotWritten) }
+        ensures texts { OnOk result (AreReaderTexts (reader_texts (settings_of_percent self.now))) }
+        ensures readable { OnOk result
+            (is_leniently_unit_readable_by (lenient_texts (settings_of_percent self.now) (codes "%")) ≡ true) }
+        ensures value { IfOk result (λ reader. reader ≡ lenient_texts (settings_of_percent self.now) (codes "%")) }
+    {
+        LenientUnitReader::of_parts(alloc, &self.decimals, self.pattern, self.unit(), "%")
     }
 
     /// Whether texts can be read back: in English they can.

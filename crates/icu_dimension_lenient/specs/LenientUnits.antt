@@ -65,15 +65,18 @@ folded_pairs digits pairs = record {
   plus = folded_pair digits pairs.plus;
 }
 
-abbrev pub lenient_texts : UnitSettings → List ℕ → LenientTexts
-lenient_texts s code = record {
-  reader = reader_texts s;
+abbrev pub texts_with : ReaderTexts → List ℕ → List ℕ → LenientTexts
+texts_with r unit code = record {
+  reader = r;
   folded = record {
-    pairs = folded_pairs s.tables.digits (reader_texts s).pairs;
-    unit = folded_text s.tables.digits s.unit.text;
-    code = folded_text s.tables.digits code;
+    pairs = folded_pairs r.tables.digits r.pairs;
+    unit = folded_text r.tables.digits unit;
+    code = folded_text r.tables.digits code;
   };
 }
+
+abbrev pub lenient_texts : UnitSettings → List ℕ → LenientTexts
+lenient_texts s code = texts_with (reader_texts s) s.unit.text code
 
 -- texts are readable, and the folded ones tell a number and its sign too
 abbrev pub is_leniently_unit_readable_by : LenientTexts → Bool

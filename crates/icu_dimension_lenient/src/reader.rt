@@ -5,18 +5,20 @@ ghost use Rattle.std.specs.Str.{trim};
 ghost use Rattle.icu_decimal_reading.specs.DecimalOfText.{IsAnswered};
 ghost use Rattle.icu_decimal_lenient.specs.Folding.{folded_symbols, folded_text};
 ghost use Rattle.icu_decimal_lenient.specs.LenientReading.{filled_text, is_leniently_readable_by, or_else};
-ghost use Rattle.icu_dimension_affixes.specs.HeldUnits.{settings_of};
-ghost use Rattle.icu_dimension_affixes.specs.UnitReading.{is_unit_readable_by, reader_texts};
+ghost use Rattle.icu_decimal_plain.specs.BorrowedTables.{borrowed_tables};
+ghost use Rattle.icu_dimension_affixes.specs.HeldUnits.{name_of, settings_of};
+ghost use Rattle.icu_dimension_affixes.specs.UnitReading.{AreReaderTexts, is_unit_readable_by, reader_texts};
 ghost use Rattle.icu_dimension_lenient.specs.HeldPairs.{pairs_of, unit_of};
-ghost use Rattle.icu_dimension_lenient.specs.LenientUnits.{IsUnitAnswer, MayAllocateUnit, is_leniently_unit_readable_by, lenient_texts, read_named, read_own, read_unit_folded, typed_unit_reading};
+ghost use Rattle.icu_dimension_lenient.specs.LenientUnits.{IsUnitAnswer, MayAllocateUnit, is_leniently_unit_readable_by, lenient_texts, read_named, read_own, read_unit_folded, texts_with, typed_unit_reading};
 
 use crate::beside::read_by_name;
 use crate::own::read_affixes;
 use crate::pairs::{FoldedTexts, do_tell, fold_texts};
 use fixed_decimal::Decimal;
 use icu_decimal_lenient::LenientTables;
+use icu_decimal_plain::DecimalTables;
 use icu_decimal_reading::ReadError;
-use icu_dimension_affixes::{UnitReader, UnitTables};
+use icu_dimension_affixes::{Unit, UnitPattern, UnitReader, UnitTables};
 use std::alloc::Global;
 use std::marker::Model;
 
@@ -155,12 +157,13 @@ impl<'b> Model for LenientUnitReader<'b> {
 fn keep_tables<'b>(
     alloc: Global,
     exact: &UnitReader<'b>,
-    tables: &UnitTables<'b>,
+    decimals: &DecimalTables<'b>,
 ) -> Result<LenientTables<'b>, ReadError>
-    requires { exact.now ≡ reader_texts (settings_of tables.now) }
+    requires { exact.now.tables ≡ borrowed_tables decimals.now }
     ensures unreadable { IsErrOf result ReadError.Unreadable
         → (is_unit_readable_by exact.now && is_leniently_readable_by exact.now.tables) ≡ false }
     ensures not_written { ¬ (IsErrOf result ReadError.NotWritten) }
+    ensures texts { OnOk result (AreReaderTexts exact.now) }
     ensures exact { OnOk result (is_unit_readable_by exact.now ≡ true) }
     ensures folded { OnOk result (is_leniently_readable_by exact.now.tables ≡ true) }
     ensures value { IfOk result (λ kept. kept ≡ exact.now.tables) }
@@ -168,7 +171,34 @@ fn keep_tables<'b>(
     if !exact.is_readable() {
         return Err(ReadError::Unreadable);
     }
-    LenientTables::new(alloc, tables.decimals())
+    LenientTables::new(alloc, decimals)
+}
+
+// An exact reader with its tables, and beside it what is folded of them, of a unit and of its code.
+fn with_folded<'b>(
+    alloc: Global,
+    exact: UnitReader<'b>,
+    decimals: &DecimalTables<'b>,
+    unit: &str,
+    code: &str,
+) -> Result<LenientUnitReader<'b>, ReadError>
+    requires { exact.tables ≡ borrowed_tables decimals.now }
+    ensures unreadable { IsErrOf result ReadError.Unreadable
+        → is_leniently_unit_readable_by (texts_with exact.entry unit.now code.now) ≡ false }
+    ensures not_written { ¬ (IsErrOf result ReadError.NotWritten) }
+    ensures texts { OnOk result (AreReaderTexts exact.entry) }
+    ensures readable { OnOk result (is_leniently_unit_readable_by (texts_with exact.entry unit.now code.now) ≡ true) }
+    ensures value { IfOk result (λ reader. reader ≡ texts_with exact.entry unit.now code.now) }
+{
+    let kept = match keep_tables(alloc, &exact, decimals) {
+        Ok(kept) => kept,
+        Err(error) => return Err(error),
+    };
+    let texts = fold_texts(alloc, &kept, &exact, unit, code)?;
+    if !do_tell(&texts.pairs) {
+        return Err(ReadError::Unreadable);
+    }
+    Ok(LenientUnitReader { exact, kept, texts })
 }
 
 impl<'b> LenientUnitReader<'b> {
@@ -182,20 +212,52 @@ impl<'b> LenientUnitReader<'b> {
         ensures unreadable { IsErrOf result ReadError.Unreadable
             → is_leniently_unit_readable_by (lenient_texts (settings_of tables.now) code.now) ≡ false }
         ensures not_written { ¬ (IsErrOf result ReadError.NotWritten) }
+        ensures texts { OnOk result (AreReaderTexts (reader_texts (settings_of tables.now))) }
         ensures readable { OnOk result
             (is_leniently_unit_readable_by (lenient_texts (settings_of tables.now) code.now) ≡ true) }
         ensures value { IfOk result (λ reader. reader ≡ lenient_texts (settings_of tables.now) code.now) }
     {
         let exact = UnitReader::try_new(alloc, tables)?;
-        let kept = match keep_tables(alloc, &exact, tables) {
-            Ok(kept) => kept,
-            Err(error) => return Err(error),
-        };
-        let texts = fold_texts(alloc, &kept, &exact, tables.unit().text, code)?;
-        if !do_tell(&texts.pairs) {
-            return Err(ReadError::Unreadable);
-        }
-        Ok(LenientUnitReader { exact, kept, texts })
+        with_folded(alloc, exact, tables.decimals(), tables.unit().text, code)
+    }
+
+    /// As `try_new`, of the parts of the tables: it borrows only what the tables of decimals borrow, so it can be kept
+    /// beside these.
+    ///
+    /// Of English, `¤` before the number, `€` and `EUR` it reads `5 €` as 5. `Unreadable`, `Memory`: as `try_new`. It
+    /// allocates for each affix, and for each folded text.
+    pub fn of_parts<'l>(
+        alloc: Global,
+        decimals: &'l DecimalTables<'b>,
+        pattern: &'l UnitPattern,
+        unit: Unit<'l>,
+        code: &str,
+    ) -> Result<Self, ReadError>
+        ensures unreadable { IsErrOf result ReadError.Unreadable
+            → is_leniently_unit_readable_by (lenient_texts (record {
+              tables = borrowed_tables decimals.now;
+              pattern = pattern.now;
+              unit = name_of unit.entry;
+            }) code.now) ≡ false }
+        ensures not_written { ¬ (IsErrOf result ReadError.NotWritten) }
+        ensures texts { OnOk result (AreReaderTexts (reader_texts (record {
+          tables = borrowed_tables decimals.now;
+          pattern = pattern.now;
+          unit = name_of unit.entry;
+        }))) }
+        ensures readable { OnOk result (is_leniently_unit_readable_by (lenient_texts (record {
+          tables = borrowed_tables decimals.now;
+          pattern = pattern.now;
+          unit = name_of unit.entry;
+        }) code.now) ≡ true) }
+        ensures value { IfOk result (λ reader. reader ≡ lenient_texts (record {
+          tables = borrowed_tables decimals.now;
+          pattern = pattern.now;
+          unit = name_of unit.entry;
+        }) code.now) }
+    {
+        let exact = UnitReader::of_parts(alloc, decimals, pattern, unit)?;
+        with_folded(alloc, exact, decimals, unit.text, code)
     }
 
     /// The decimal that was typed, with its unit or without: in English with `€` and `EUR` the texts `1234.5`,

@@ -10,4 +10,4 @@ returns g c =
     (g.T.DataProvider-7.table tables) (g.T.DataProvider-8.table tables) (g.T.DataProvider-9.table tables) (g.T.DataProvider-10.table tables)
     c.args.key.now.preferences c.args.code c.amount_options.result (options_of c.args.style c.args.key.now.grouping) _
     (g.met.T.Tables.currencies tables) (g.met.T.Tables.accounts tables) (g.met.T.Tables.currency_symbols tables) (g.met.T.Tables.fractions tables)
-    c.amount_options.ensures c.try_new_unstable.ensures
+    c.amount_options.ensures c.try_new_unstable.ensures.found

@@ -1,14 +1,13 @@
-use Rattle.std.proofs.Common.{◌≡◌, ◌&&◌, Bool, true, false, Result, Ok, Err, IsErrOf, refl, sym, ap, subst}
+use Rattle.std.proofs.Common.{◌≡◌, ◌&&◌, Bool, true, false, Result, Ok, Err, IsErrOf, refl, sym, ap}
 use Rattle.std.proofs.lemmas.Bool.{false≢true}
 use Rattle.icu_decimal_plain.specs.PlainText.{Tables}
 use Rattle.icu_decimal_reading.specs.declared.error.ReadError.{ReadError}
 use Rattle.icu_decimal_reading.specs.declared.error.ReadError.TheVariants.{Unreadable}
 use Rattle.icu_decimal_lenient.specs.Folding.{plain_digits}
 use Rattle.icu_decimal_lenient.specs.LenientReading.{is_leniently_readable_by}
-use Rattle.icu_dimension_affixes.specs.HeldUnits.{settings_of}
-use Rattle.icu_dimension_affixes.specs.UnitReading.{ReaderTexts, are_clear_pairs, do_pairs_differ, is_unit_readable_by}
-use Rattle.icu_dimension_lenient.specs.LenientUnits.{LenientTexts, lenient_texts}
-use Rattle.icu_dimension_lenient.proofs.reader.LenientUnitReader.try_new.Goals as goal
+use Rattle.icu_dimension_affixes.specs.UnitReading.{are_clear_pairs, do_pairs_differ, is_unit_readable_by}
+use Rattle.icu_dimension_lenient.specs.LenientUnits.{LenientTexts, texts_with}
+use Rattle.icu_dimension_lenient.proofs.reader.with_folded.Goals as goal
 
 fails_before : (a b rest : Bool) → (a && b) ≡ false → (a && (b && rest)) ≡ false
 fails_before true true rest e = absurd (false≢true (sym e))
@@ -31,6 +30,6 @@ refused_too e f is = ap of_tables (ap (error_or e) is)
 
 pub returns-in-Err-clause-unreadable : goal.returns-in-Err-clause-unreadable
 returns-in-Err-clause-unreadable c = λ refused.
-    let a : LenientTexts = lenient_texts (settings_of c.args.tables.now) c.args.code.now in
+    let a : LenientTexts = texts_with c.args.exact c.args.unit.now c.args.code.now in
     fails_before (is_unit_readable_by a.reader) (is_leniently_readable_by a.reader.tables) (are_clear_pairs plain_digits a.folded.pairs && do_pairs_differ a.folded.pairs)
-    (subst (λ (r : ReaderTexts). (is_unit_readable_by r && is_leniently_readable_by r.tables) ≡ false) c.in_ok-exact.ensures (c.in-Err.ensures.unreadable (refused_too c.in-Err.error Unreadable refused)))
+    (c.in-Err.ensures.unreadable (refused_too c.in-Err.error Unreadable refused))
