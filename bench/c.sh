@@ -1,6 +1,7 @@
 #!/bin/sh
 # Times the library for C beside ICU4C's calls for C, in one run, for 1 to 18 digits: given as text and as integers, in short form, and
-# read back; as text and in short form also by formatters of a kept book. Prints the one over the other: below 1 this library is faster.
+# read back; as text and in short form also by formatters of a kept book, and as text by a shared one of these. Prints the one over the
+# other: below 1 this library is faster.
 # It needs a C compiler and libicu-dev.
 # usage: bench/c.sh [LIBRARY [TURNS]]
 # Without LIBRARY, a folder as tools/build_c leaves it, it is made of the proved crate.

@@ -1,6 +1,6 @@
 /*
  * Times the calls of legumeyet.h beside those of ICU4C, in turns, and prints the one over the other: below 1 this library is faster.
- * `k` is of formatters that borrow the tables of a book that is kept.
+ * `k` is of formatters that borrow the tables of a book that is kept, and `s` of one of these that is shared.
  * ICU4C's texts are UTF-16, as its calls for C write and read them; what it reads is an integer, and here the digits.
  *
  * usage: main BOOK [TURNS]
@@ -19,6 +19,7 @@ enum { ROOM = 128, DIGITS = 18, CALLS = 20000, HANDLES = 64 };
 
 static legumeyet_book book, kept_book;
 static legumeyet_decimal_formatter plain, kept_plain;
+static legumeyet_shared_decimal_formatter shared_plain;
 static legumeyet_compact_formatter compact, kept_compact;
 static const legumeyet_options AS_GIVEN = {0, 0, 0};
 static UNumberFormatter *icu_plain, *icu_compact;
@@ -47,6 +48,11 @@ static void text_by(legumeyet_decimal_formatter *formatter) {
 static void text_here(void) { text_by(&plain); }
 
 static void kept_text_here(void) { text_by(&kept_plain); }
+
+static void shared_text_here(void) {
+    if (legumeyet_shared_decimal_formatter_format(&shared_plain, (const uint8_t *)NUMBER, count, &AS_GIVEN, out, ROOM, &length) != 0)
+        end("format of a shared one");
+}
 
 static void text_there(void) {
     unumf_formatDecimal(icu_plain, NUMBER, (int32_t)count, icu_result, &status);
@@ -93,6 +99,7 @@ static const row ROWS[] = {
     {"read", read_here, read_there},
     {"text k", kept_text_here, text_there},
     {"short k", kept_short_here, short_there},
+    {"text s", shared_text_here, text_there},
 };
 
 enum { KINDS = sizeof ROWS / sizeof ROWS[0] };
@@ -136,6 +143,8 @@ static void prepare(size_t digits) {
     expect_same("the texts differ");
     kept_text_here();
     expect_same("the texts of a kept book differ");
+    shared_text_here();
+    expect_same("the texts of a shared formatter differ");
     short_there();
     short_here();
     expect_same("the short texts differ");
@@ -169,6 +178,8 @@ static void open_all(const char *path) {
     fclose(file);
     open_plain(&book, &plain);
     open_plain(&kept_book, &kept_plain);
+    if (legumeyet_decimal_formatter_share(&kept_plain, &shared_plain) != 0) end("share");
+    open_plain(&kept_book, &kept_plain);
     open_compact(&book, &compact);
     open_compact(&kept_book, &kept_compact);
     icu_plain = unumf_openForSkeletonAndLocale(u"", 0, "en", &status);
@@ -195,12 +206,12 @@ static void print_memory(const char *whose, legumeyet_book *from) {
 int main(int words, char **word) {
     int turns = words > 2 ? atoi(word[2]) : 15, turn;
     size_t digits, kind;
-    double sums[KINDS] = {0}, text_sum = 0, integer_sum = 0;
+    double sums[KINDS] = {0}, text_sum = 0, integer_sum = 0, kept_sum = 0, shared_sum = 0;
     if (words < 2) end("usage: main BOOK [TURNS]");
     open_all(word[1]);
     printf("digits");
     for (kind = 0; kind < KINDS; kind++) printf("%9s  ns here", ROWS[kind].name);
-    printf("  integer, text\n");
+    printf("  integer, text  text s, text k\n");
     for (digits = 1; digits <= DIGITS; digits++) {
         double here[KINDS] = {0}, there[KINDS] = {0};
         prepare(digits);
@@ -214,13 +225,15 @@ int main(int words, char **word) {
             printf("%9.2f%9.0f", here[kind] / there[kind], here[kind]);
             sums[kind] += here[kind] / there[kind] / DIGITS;
         }
-        printf("%15.2f\n", here[1] / here[0]);
+        printf("%15.2f%16.2f\n", here[1] / here[0], here[6] / here[4]);
         text_sum += here[0];
         integer_sum += here[1];
+        kept_sum += here[4];
+        shared_sum += here[6];
     }
     printf("mean  ");
     for (kind = 0; kind < KINDS; kind++) printf("%9.2f         ", sums[kind]);
-    printf("%6.2f\n", integer_sum / text_sum);
+    printf("%6.2f%16.2f\n", integer_sum / text_sum, shared_sum / kept_sum);
     printf("a handle has %zu bytes\n", sizeof plain);
     print_memory("a book", &book);
     print_memory("a kept book", &kept_book);
