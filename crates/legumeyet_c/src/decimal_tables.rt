@@ -170,15 +170,4 @@ impl DecimalTables {
             None => read_lenient(alloc, &formatter, text),
         }
     }
-
-    // The decimal that was typed. The symbols are folded for the first text, and stay folded for the later ones; where
-    // memory for them is refused, they are folded for each text that is not the formatter's own.
-    pub(crate) fn read_lenient(&mut self, alloc: Global, text: &str) -> Result<Decimal, ReadError>
-        ensures same { self.new ≡ self.old }
-        ensures answered { IsAnswered result (lenient_reading self.old text.now) }
-        ensures memory { IsErrOf result ReadError.Memory → MayAllocate self.old text.now }
-    {
-        self.keep_folds(alloc);
-        self.read_typed(alloc, text)
-    }
 }
