@@ -12,6 +12,8 @@ pub mod KeptLemmas
 pub mod KnownPrinted
 pub mod KnownValues
 pub mod LastTabLemmas
+pub mod LenientUnitSteps
+pub mod LenientUnitTrips
 pub mod PrintedLemmas
 pub mod PrintedSizes
 pub mod ReadingTrips
