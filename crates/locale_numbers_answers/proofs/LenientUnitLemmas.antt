@@ -17,6 +17,7 @@ use Rattle.locale_numbers_answers.specs.UnitReadings.{unit_reading}
 
 -- the reading of the relation is that of the function
 lenient_is : HasOneUnitReading → (a : LenientTexts) (text : List ℕ) (reading : PlainReading) → IsLenient a → IsLenientUnitReading a text reading → lenient_unit_reading (leniently a) text ≡ reading
+unfolding lenient_unit_reading
 lenient_is one a text reading held (inl found) =
     ap (λ r. or_else r (typed_unit_reading a.reader.tables a.folded text)) (sym ((one a.reader text (decimal found.0) held.texts).0 (held.readable, found.1.0)))
     ∙ sym found.1.1
@@ -33,12 +34,15 @@ answered_leniently one a text (Err Memory) held is = tt
 
 -- where texts can't be read leniently
 pub answered_exactly : (r : ReaderTexts) (text : List ℕ) (v : SignedValue Number) → unit_reading r text ≡ decimal v → lenient_unit_reading (record { reader = r; folded = None }) text ≡ decimal v
+unfolding lenient_unit_reading
 answered_exactly r text v is = ap (λ reading. or_else reading unreadable) is
 
 pub unread_exactly : (r : ReaderTexts) (text : List ℕ) → unit_reading r text ≡ unreadable → lenient_unit_reading (record { reader = r; folded = None }) text ≡ unreadable
+unfolding lenient_unit_reading
 unread_exactly r text broken = ap (λ reading. or_else reading unreadable) broken
 
 pub none_exactly : (r : ReaderTexts) (text : List ℕ) → unit_reading r text ≡ not_written → lenient_unit_reading (record { reader = r; folded = None }) text ≡ unreadable
+unfolding lenient_unit_reading
 none_exactly r text none = ap (λ reading. or_else reading unreadable) none
 
 -- ---- in turn

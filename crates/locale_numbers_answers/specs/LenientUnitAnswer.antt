@@ -36,7 +36,7 @@ typed_by tables None text = unreadable
 typed_by tables (Some folded) text = typed_unit_reading tables folded text
 
 -- any text: exactly, or else leniently
-abbrev pub lenient_unit_reading : TypedTexts → List ℕ → PlainReading
+unfoldable pub lenient_unit_reading : TypedTexts → List ℕ → PlainReading
 lenient_unit_reading a text = or_else (unit_reading a.reader text) (typed_by a.reader.tables a.folded text)
 
 -- ---- in turn
