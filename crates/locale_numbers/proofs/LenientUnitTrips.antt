@@ -7,7 +7,7 @@ use Rattle.icu_decimal.specs.LenientReading.{or_else}
 use Rattle.icu_decimal.specs.PlainReading.{PlainReading, decimal, not_written, unreadable}
 use Rattle.icu_decimal.specs.declared.error.DataError.{DataError}
 use Rattle.icu_locale_core.specs.TagPreferences.{Preferences}
-use Rattle.locale_numbers_answers.specs.LenientUnitAnswer.{lenient_unit_with, second_unit, typed_by, typed_code, typed_in_turn}
+use Rattle.locale_numbers_answers.specs.LenientUnitAnswer.{lenient_unit_reading, lenient_unit_with, second_unit, typed_by, typed_code, typed_in_turn}
 use Rattle.locale_numbers_answers.specs.ReadAnswer.{read_answer}
 use Rattle.locale_numbers_answers.specs.UnitAnswer.{UnitFound, fraction_asked, read_unit_with, reading_found}
 use Rattle.locale_numbers_answers.specs.UnitReadings.{unit_reading}
@@ -38,6 +38,7 @@ read_as (decimal value) digits same = record { value = value; is = refl; printed
 
 read_leniently : (code : List ℕ) (found latin : Result UnitFound DataError) (rounding : RoundingAsked) (text digits : List ℕ)
     → read_unit_with found rounding text ≡ written digits → lenient_unit_with code found latin text ≡ written digits
+unfolding lenient_unit_reading
 read_leniently code (Err error) latin rounding text digits same = absurd (refused_no refusal.Table digits same)
 read_leniently code (Ok found) latin rounding text digits same =
     let readers = typed_in_turn code found (second_unit found latin) in

@@ -34,7 +34,7 @@ use Rattle.locale_numbers.specs.CompactAnswer.{compact_with, exact_with, found_c
 use Rattle.locale_numbers_answers.specs.CompactReading.{CompactReading, compact_beyond, compact_nothing, compact_number, compact_reading_of}
 use Rattle.locale_numbers.specs.Laws.{AutoIsAnsweredAsAlways, EachGroupingIsReadLeniently, FindsTables, ReadIsReadLeniently, ReadIsWrittenAgain, RoundedIsWrittenAgain, WrittenReadsBack, grouped_by, lenient_request, plain_request, reading_request}
 use Rattle.locale_numbers_answers.specs.LenientAnswer.{lenient_with, reading_by, second_of, where_found}
-use Rattle.locale_numbers_answers.specs.LenientUnitAnswer.{lenient_unit_with, typed_code, typed_found, unit_reading_by}
+use Rattle.locale_numbers_answers.specs.LenientUnitAnswer.{lenient_unit_reading, lenient_unit_with, typed_code, typed_found, unit_reading_by}
 use Rattle.locale_numbers_answers.specs.NumberReading.{Reading, beyond, nothing, number, reading_of}
 use Rattle.locale_numbers_answers.specs.ReadAnswer.{read_answer, read_with}
 use Rattle.locale_numbers_answers.specs.UnitAnswer.{UnitFound, read_unit_with, unit_to}
@@ -218,6 +218,7 @@ typed_twins : (code : List ℕ) (latin latin_two : Result UnitFound DataError) �
     ≡ unit_reading_by
     (typed_found code (record { settings = record { tables = record { symbols = symbols; digits = digits; strategy = Always }; pattern = pattern; unit = unit }; digits = fractions }))
     (option_map (typed_found code) (if ascii then None else where_found latin_two)) text
+unfolding lenient_unit_reading
 typed_twins code latin latin_two twins symbols digits pattern unit fractions text true = refl
 typed_twins code latin latin_two (unit_found s d p u f) symbols digits pattern unit fractions text false = refl
 typed_twins code latin latin_two (unit_failed error) symbols digits pattern unit fractions text false = refl
