@@ -266,14 +266,16 @@ fn reading_with(
     front_of(alloc, &fields)
 }
 
-// The front of each request line of a text that is read: a percent or an amount exactly, or else by a form.
+// The front of each request line of a text that is read: a percent or an amount by the form after a word, or else by
+// another form.
 fn reading_by(
     alloc: Global,
     matches: &ArgMatches<'_>,
     tag: &str,
+    before: &'static str,
     other: &'static str,
 ) -> Result<String, AllocError> {
-    let form = form_by(alloc, matches, "read-", other)?;
+    let form = form_by(alloc, matches, before, other)?;
     reading_with(alloc, matches, tag, form.as_str())
 }
 
@@ -281,8 +283,15 @@ fn reading_by(
 fn make_fronts(rt: &HostRuntime, matches: &ArgMatches<'_>) -> Result<[String; 4], AllocError> {
     let tag = tag_for(rt, matches.get_str("tag"))?;
     let front = front_by(rt.alloc(), matches, tag.as_str())?;
-    let lenient = reading_by(rt.alloc(), matches, tag.as_str(), "read-lenient")?;
-    let exact = reading_by(rt.alloc(), matches, tag.as_str(), "read")?;
+    let tag_text = tag.as_str();
+    let lenient = reading_by(
+        rt.alloc(),
+        matches,
+        tag_text,
+        "read-lenient-",
+        "read-lenient",
+    )?;
+    let exact = reading_by(rt.alloc(), matches, tag_text, "read-", "read")?;
     Ok([tag, front, lenient, exact])
 }
 

@@ -24,14 +24,15 @@ Reading:
   it, with the digits of the locale or, where the locale has others, 0 to 9. Nothing is guessed: 1.23
   is no number under de. --read-exact takes a text only as it is written under the tag and the
   grouping, so that each number has one text: for texts that a program wrote. The forms are
-  read-lenient and read.
+  read-lenient and read; of a percent read-lenient-percent and read-percent, of an amount
+  read-lenient-currency-EUR, read-currency-EUR and so on.
 
 Money and percents:
   --currency EUR writes an amount: 1.234,50 € under de. The code is three capitals; one that the book
   does not know is written by itself. The amount is rounded to the digits of the currency, half to
   even, or with --cash to what is paid in cash, or as --round says. --accounting is for accounts:
   ($5.00). --code writes EUR in place of €. --percent writes a number as it is given: 12.5 is 12.5%.
-  With either of these --read takes a text only as it is written, as --read-exact does.
+  With either of these --read takes a text with the unit on either side, with its code or without.
 
 Rounding:
   --round -2 rounds to hundredths, 0 to whole numbers, 3 to thousands. A mode may follow, and then an

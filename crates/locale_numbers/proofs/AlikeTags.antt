@@ -21,6 +21,7 @@ use Rattle.icu_decimal.specs.declared.options.GroupingStrategy.{GroupingStrategy
 use Rattle.locale_numbers_book.specs.Book.{BookTables}
 use Rattle.locale_numbers_book.specs.Tables.{chain_in, symbols_under, digits_under, rules_under}
 use Rattle.locale_numbers_answers.specs.LenientAnswer.{lenient_with}
+use Rattle.locale_numbers_answers.specs.LenientUnitAnswer.{lenient_unit_with, typed_code}
 use Rattle.locale_numbers_answers.specs.NumberReading.{reading_of}
 use Rattle.locale_numbers_answers.specs.ReadAnswer.{read_with}
 use Rattle.locale_numbers_answers.specs.UnitAnswer.{read_unit_with, unit_to}
@@ -31,7 +32,7 @@ use Rattle.locale_numbers_requests.specs.RoundingField.{rounding_named}
 use Rattle.locale_numbers_requests.specs.declared.SignAsked.{SignAsked}
 use Rattle.locale_numbers_requests.specs.declared.RoundingAsked.{RoundingAsked}
 use Rattle.locale_numbers_requests.specs.declared.Form.{Form}
-use Rattle.locale_numbers_requests.specs.declared.Form.TheVariants.{Plain, Compact, Exact, Read, ReadLenient, Unit, ReadUnit}
+use Rattle.locale_numbers_requests.specs.declared.Form.TheVariants.{Plain, Compact, Exact, Read, ReadLenient, Unit, ReadUnit, ReadLenientUnit}
 use Rattle.locale_numbers_requests.specs.declared.PatternLength.{PatternLength}
 use Rattle.locale_numbers_requests.specs.declared.UnitAsked.{UnitAsked}
 use Rattle.locale_numbers.specs.FoundUnit.{found_unit}
@@ -179,6 +180,11 @@ unit_same : (book : BookTables) (m n : TagMeaning) → AreAlike m n → (unit : 
 unit_same book m n a unit grouping =
     unit_alike book (preferences_of m) (preferences_of n) (locales_same m n a) a.numbering_system grouping unit
 
+latin_unit_same : (book : BookTables) (m n : TagMeaning) → AreAlike m n → (unit : UnitAsked) (grouping : GroupingStrategy)
+    → found_unit unit book (in_latin (preferences_of m)) grouping ≡ found_unit unit book (in_latin (preferences_of n)) grouping
+latin_unit_same book m n a unit grouping =
+    unit_alike book (in_latin (preferences_of m)) (in_latin (preferences_of n)) (locales_same m n a) refl grouping unit
+
 asks_alike : (book : BookTables) (text other : List ℕ) (m n : TagMeaning) → AreAlike m n → AreAnsweredAlike book text other (Some (preferences_of m)) (Some (preferences_of n))
 asks_alike book text other m n a Plain grouping sign rounding digits =
     ap (λ found. answer_to (answer_with found) sign rounding (reading_of digits)) (found_same book m n a grouping)
@@ -194,6 +200,9 @@ asks_alike book text other m n a (Unit unit) grouping sign rounding digits =
     ap (λ found. unit_to found sign rounding (reading_of digits)) (unit_same book m n a unit grouping)
 asks_alike book text other m n a (ReadUnit unit) grouping sign rounding digits =
     ap (λ found. read_unit_with found rounding digits) (unit_same book m n a unit grouping)
+asks_alike book text other m n a (ReadLenientUnit unit) grouping sign rounding digits =
+    ap (λ found. lenient_unit_with (typed_code unit) found (found_unit unit book (in_latin (preferences_of m)) grouping) digits) (unit_same book m n a unit grouping)
+    ∙ ap (λ latin. lenient_unit_with (typed_code unit) (found_unit unit book (preferences_of n) grouping) latin digits) (latin_unit_same book m n a unit grouping)
 
 pub alike_tags : AlikeTagsAreAnsweredAlike
 alike_tags book text other rest m n first second a =

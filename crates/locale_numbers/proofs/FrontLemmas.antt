@@ -26,7 +26,7 @@ use Rattle.locale_numbers_requests.specs.declared.Refusal.TheVariants as refusal
 use Rattle.locale_numbers_requests.specs.declared.SignAsked.{SignAsked}
 use Rattle.locale_numbers_requests.specs.declared.RoundingAsked.{RoundingAsked}
 use Rattle.locale_numbers_requests.specs.declared.Form.{Form}
-use Rattle.locale_numbers_requests.specs.declared.Form.TheVariants.{Plain, Compact, Exact, Read, ReadLenient, Unit, ReadUnit}
+use Rattle.locale_numbers_requests.specs.declared.Form.TheVariants.{Plain, Compact, Exact, Read, ReadLenient, Unit, ReadUnit, ReadLenientUnit}
 
 -- ---- the fields
 
@@ -181,6 +181,7 @@ answered_in Read book p asked key text = refl
 answered_in ReadLenient book p asked key text = refl
 answered_in (Unit unit) book p asked key text = refl
 answered_in (ReadUnit unit) book p asked key text = refl
+answered_in (ReadLenientUnit unit) book p asked key text = refl
 
 answered_by : (book : BookTables) (asked : Asked) (key : Option FormatterKey) (wanted : Option Preferences) (text : List ℕ)
     → answer_tagged book wanted (texted asked text) ≡ answer_keyed book (fronted asked key) (option_map (key_with asked.form asked.grouping) wanted) text

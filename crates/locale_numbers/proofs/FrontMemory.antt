@@ -7,23 +7,27 @@ use Rattle.fixed_decimal.specs.Number.{Number}
 use Rattle.fixed_decimal.specs.SignedValue.{SignedValue}
 use Rattle.icu_locale_core.specs.TagPreferences.{Preferences}
 use Rattle.locale_numbers_book.specs.Book.{BookTables}
-use Rattle.locale_numbers.specs.Answer.{answer_in, answer_to, exact_to, refused}
+use Rattle.locale_numbers.specs.Answer.{answer_in, answer_to, exact_to, in_latin, refused}
 use Rattle.locale_numbers_answers.specs.Changing.{MayGrowRead, ReadsMore}
 use Rattle.locale_numbers.specs.CompactAnswer.{found_compact}
 use Rattle.locale_numbers_answers.specs.CompactReading.{compact_reading_of}
+use Rattle.locale_numbers_answers.specs.LenientUnitAnswer.{lenient_unit_with, typed_code}
 use Rattle.locale_numbers_answers.specs.UnitAnswer.{MayGrowUnit, read_unit_with, unit_to}
 use Rattle.locale_numbers.specs.FoundUnit.{found_unit}
-use Rattle.locale_numbers.specs.FormatterKeys.{code_of, kind_of, unit_code, unit_kind}
+use Rattle.locale_numbers.specs.FormatterKeys.{code_of, found_keyed_unit, keyed_unit, kind_of, unit_code}
 use Rattle.locale_numbers.specs.KeptFormatters.{IsOfUnit, answer_of_kind, found_keyed}
 use Rattle.locale_numbers.specs.Front.{FitsForm, FitsKey, HasKeyThat, MayTakeBehind, MayTakeIn, MayTakeKeyed, answer_behind, answer_keyed, asked_behind, if_text}
 use Rattle.locale_numbers_answers.specs.NumberReading.{reading_of}
 use Rattle.locale_numbers_requests.specs.Request.{Asked}
-use Rattle.locale_numbers.proofs.KeptLemmas.{kind_of_unit, unit_keyed}
+use Rattle.locale_numbers.specs.UnitHeld.{keyed_code}
+use Rattle.locale_numbers.proofs.KeptLemmas.{code_keyed, unit_keyed}
 use Rattle.locale_numbers.specs.declared.formatter_key.FormatterKey.{FormatterKey}
+use Rattle.locale_numbers.specs.declared.formatter_key.KeyedUnit.{KeyedUnit}
+use Rattle.locale_numbers.specs.declared.formatter_key.Kind.TheVariants as kinds
 use Rattle.locale_numbers.specs.declared.front.Front.{Front}
 use Rattle.locale_numbers_requests.specs.declared.Refusal.TheVariants as refusal
 use Rattle.locale_numbers_requests.specs.declared.Form.{Form}
-use Rattle.locale_numbers_requests.specs.declared.Form.TheVariants.{Plain, Compact, Exact, Unit, ReadUnit}
+use Rattle.locale_numbers_requests.specs.declared.Form.TheVariants.{Plain, Compact, Exact, Unit, ReadUnit, ReadLenientUnit}
 use Rattle.locale_numbers_requests.specs.declared.PatternLength.{PatternLength}
 use Rattle.locale_numbers_requests.specs.declared.RoundingAsked.{RoundingAsked}
 use Rattle.locale_numbers_requests.specs.declared.UnitAsked.{UnitAsked}
@@ -81,11 +85,11 @@ module _ (book : BookTables) (asked : Option Front) (front : Front) (key : Forma
       ∙ ap (λ t. exact_to (found_compact length book key.preferences key.grouping) front.sign (compact_reading_of t)) (sym whole)
 
   -- to a number with a unit, and to a text with one
-  pub found_fits : (unit : UnitAsked) → key.kind ≡ unit_kind unit → key.code ≡ unit_code unit
+  pub found_fits : (unit : UnitAsked) → key.kind ≡ kinds.Unit (keyed_unit unit) → key.code ≡ unit_code unit
       → found_keyed key.kind key.code book key.preferences key.grouping ≡ found_unit unit book key.preferences key.grouping
   found_fits unit kind code =
       ap (λ k. found_keyed k key.code book key.preferences key.grouping) kind
-      ∙ ap (λ c. found_keyed (unit_kind unit) c book key.preferences key.grouping) code
+      ∙ ap (λ c. found_keyed_unit (keyed_unit unit) c book key.preferences key.grouping) code
       ∙ unit_keyed unit book key.preferences key.grouping
 
   -- the key of a form with a unit
@@ -95,8 +99,8 @@ module _ (book : BookTables) (asked : Option Front) (front : Front) (key : Forma
   pub read_unit_fits : (unit : UnitAsked) → front.form ≡ ReadUnit unit → IfSome asked FitsForm → FitsKey (ReadUnit unit) key
   read_unit_fits unit form fits = subst (λ f. FitsKey f key) form (key_fits fits)
 
-  pub is_of_unit : (unit : UnitAsked) → key.kind ≡ unit_kind unit → IsOfUnit key.kind
-  is_of_unit unit kind = subst IsOfUnit (sym kind) (kind_of_unit unit)
+  pub is_of_unit : (unit : UnitAsked) → key.kind ≡ kinds.Unit (keyed_unit unit) → IsOfUnit key.kind
+  is_of_unit unit kind = subst IsOfUnit (sym kind) tt
 
   pub answer_unit : (unit : UnitAsked) → front.form ≡ Unit unit → IfSome asked FitsForm
       → answer_behind book asked text ≡ if_text text (unit_to (found_keyed key.kind key.code book key.preferences key.grouping) front.sign front.rounding (reading_of text))
@@ -115,6 +119,31 @@ module _ (book : BookTables) (asked : Option Front) (front : Front) (key : Forma
       ∙ ap (λ b. if b then read_unit_with (found_unit unit book key.preferences key.grouping) front.rounding text else refused refusal.Shape) utf8
       ∙ ap (λ found. read_unit_with found front.rounding text) (sym (found_fits unit fitting.kind fitting.code))
       ∙ ap (read_unit_with (found_keyed key.kind key.code book key.preferences key.grouping) front.rounding) (sym whole)
+
+  -- to a text with a unit that was typed
+  pub lenient_unit_fits : (unit : UnitAsked) → front.form ≡ ReadLenientUnit unit → IfSome asked FitsForm → FitsKey (ReadLenientUnit unit) key
+  lenient_unit_fits unit form fits = subst (λ f. FitsKey f key) form (key_fits fits)
+
+  abbrev typed_with : KeyedUnit → Option (List ℕ) → List ℕ → List ℕ
+  typed_with of code shown =
+      lenient_unit_with (keyed_code of code) (found_keyed_unit of code book key.preferences key.grouping) (found_keyed_unit of code book (in_latin key.preferences) key.grouping) shown
+
+  pub answer_lenient_unit : (unit : UnitAsked) (of : KeyedUnit) (shown : List ℕ) → front.form ≡ ReadLenientUnit unit → of ≡ keyed_unit unit → IfSome asked FitsForm → is_utf8 text ≡ true → shown ≡ text
+      → answer_behind book asked text ≡ lenient_unit_with (keyed_code of key.code)
+      (found_keyed_unit of key.code book key.preferences key.grouping) (found_keyed_unit of key.code book (in_latin key.preferences) key.grouping) shown
+  answer_lenient_unit unit of shown form keyed fits utf8 whole =
+      let code : key.code ≡ unit_code unit = (lenient_unit_fits unit form fits).code in
+      let found = found_unit unit book key.preferences key.grouping in
+      let latin = found_unit unit book (in_latin key.preferences) key.grouping in
+      answer_formed
+      ∙ ap (λ f. if_text text (answer_in f book key.preferences (asked_behind front key text))) form
+      ∙ ap (λ b. if b then lenient_unit_with (typed_code unit) found latin text else refused refusal.Shape) utf8
+      ∙ ap (λ c. lenient_unit_with c found latin text) (sym (code_keyed unit))
+      ∙ ap (λ f. lenient_unit_with (keyed_code (keyed_unit unit) (unit_code unit)) f latin text) (sym (unit_keyed unit book key.preferences key.grouping))
+      ∙ ap (λ l. lenient_unit_with (keyed_code (keyed_unit unit) (unit_code unit)) (found_keyed_unit (keyed_unit unit) (unit_code unit) book key.preferences key.grouping) l text) (sym (unit_keyed unit book (in_latin key.preferences) key.grouping))
+      ∙ ap (λ c. typed_with (keyed_unit unit) c text) (sym code)
+      ∙ ap (λ u. typed_with u key.code text) (sym keyed)
+      ∙ ap (λ t. typed_with of key.code t) (sym whole)
 
   -- ---- the memory
 
@@ -138,3 +167,7 @@ module _ (book : BookTables) (asked : Option Front) (front : Front) (key : Forma
     -- any text that is read back with a unit
     pub read_unit_may_take_behind : (unit : UnitAsked) → front.form ≡ ReadUnit unit → is_utf8 text ≡ true → MayTakeBehind book asked text value
     read_unit_may_take_behind unit form utf8 = may_take (subst (λ f. MayTakeIn f book key front.rounding text value) (sym form) utf8)
+
+    -- and any that is read leniently with one
+    pub lenient_unit_may_take_behind : (unit : UnitAsked) → front.form ≡ ReadLenientUnit unit → is_utf8 text ≡ true → MayTakeBehind book asked text value
+    lenient_unit_may_take_behind unit form utf8 = may_take (subst (λ f. MayTakeIn f book key front.rounding text value) (sym form) utf8)

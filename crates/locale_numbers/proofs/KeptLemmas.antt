@@ -15,23 +15,27 @@ use Rattle.icu_decimal.specs.PlainText.{Tables}
 use Rattle.icu_decimal.specs.Symbols.{Symbols}
 use Rattle.icu_dimension.specs.UnitText.{UnitSettings, unit_decimal_text}
 use Rattle.icu_dimension.specs.declared.FractionInfo.{FractionInfo}
+use Rattle.locale_numbers_answers.specs.LenientUnitAnswer.{lenient_unit_with, second_unit, typed_code, typed_in_turn, unit_reading_in_turn}
 use Rattle.locale_numbers_answers.specs.NumberReading.{number}
+use Rattle.locale_numbers_answers.specs.ReadAnswer.{read_answer}
 use Rattle.locale_numbers_answers.specs.UnitAnswer.{MayGrowBy, MayGrowUnit, UnitFound, fraction_asked, read_unit_with, unit_changed, unit_with, unit_written}
 use Rattle.locale_numbers_book.specs.Book.{BookTables}
 use Rattle.locale_numbers_book.specs.Tables.{symbols_under, digits_under, chain_in}
 use Rattle.locale_numbers_cache.specs.Cached.{Cached, IsFirst}
-use Rattle.locale_numbers.specs.Answer.{answer_with, found_in, refused, written}
+use Rattle.locale_numbers.specs.Answer.{answer_with, found_in, in_latin, refused, written}
 use Rattle.locale_numbers.specs.CompactAnswer.{compact_with, found_compact}
-use Rattle.locale_numbers.specs.FormatterKeys.{finds, finds_kind, unit_code, unit_kind}
-use Rattle.locale_numbers.specs.FoundUnit.{found_amounts, found_unit}
+use Rattle.locale_numbers.specs.FormatterKeys.{finds, finds_kind, found_keyed_unit, keyed_unit, unit_code}
+use Rattle.locale_numbers.specs.FoundUnit.{found_unit}
 use Rattle.locale_numbers.specs.KeptFormatters.{HasKind, IsMadeFor, IsOfUnit, answer_of_kind, found_keyed}
-use Rattle.locale_numbers.specs.UnitHeld.{WritesUnit}
+use Rattle.locale_numbers.specs.UnitHeld.{ReadsUnit, WritesUnit, keyed_code, typed_of_both, unit_held}
 use Rattle.locale_numbers.specs.declared.formatter_key.FormatterKey.{FormatterKey}
+use Rattle.locale_numbers.specs.declared.formatter_key.KeyedUnit.{KeyedUnit}
 use Rattle.locale_numbers.specs.declared.formatter_key.Kind.{Kind}
-use Rattle.locale_numbers.specs.declared.formatter_key.Kind.TheVariants.{Plain, Compact, Lenient, Percent, Amount}
+use Rattle.locale_numbers.specs.declared.formatter_key.Kind.TheVariants.{Plain, Compact, Lenient, Unit, LenientUnit}
 use Rattle.locale_numbers.specs.declared.kept_formatter.KeptFormatter.{KeptFormatter}
 use Rattle.locale_numbers.specs.declared.kept_formatter.KeptFormatter.TheVariants as kept
 use Rattle.locale_numbers.specs.declared.kept_formatter.PlainFormatter.{PlainFormatter}
+use Rattle.locale_numbers.specs.declared.lenient_unit_formatter.LenientUnitFormatter.{LenientUnitFormatter}
 use Rattle.locale_numbers.specs.declared.unit_formatter.UnitFormatter.{UnitFormatter}
 use Rattle.locale_numbers_requests.specs.declared.Refusal.TheVariants as refusal
 use Rattle.locale_numbers_requests.specs.declared.RoundingAsked.{RoundingAsked}
@@ -75,8 +79,8 @@ pub none_of_kind : (kind : Kind) (code : Option (List ℕ)) (book : BookTables) 
 none_of_kind Plain code book p grouping value none = none_plain (found_in book p grouping) value none
 none_of_kind (Compact length) code book p grouping value none = none_compact (found_compact length book p grouping) value none
 none_of_kind Lenient code book p grouping value none = none_plain (found_in book p grouping) value none
-none_of_kind Percent code book p grouping value none = none_unit (found_unit asked.Percent book p grouping) value none
-none_of_kind (Amount style) code book p grouping value none = none_unit (found_amounts style code book p grouping) value none
+none_of_kind (Unit unit) code book p grouping value none = none_unit (found_keyed_unit unit code book p grouping) value none
+none_of_kind (LenientUnit unit) code book p grouping value none = none_unit (found_keyed_unit unit code book p grouping) value none
 
 -- the key of the first entry is the first key
 pub first_key : {K F : Type 0} (cache : Cached K F) (key : K) (kept : F) → slice_get cache.entries 0 ≡ Some (key, kept) → IsFirst key cache
@@ -89,13 +93,13 @@ first_key {K = K} {F = F} cache key kept first = at cache.entries first
 -- ---- the kind and the code of a unit
 
 pub unit_keyed : (unit : UnitAsked) (book : BookTables) (p : Preferences) (grouping : GroupingStrategy)
-    → found_keyed (unit_kind unit) (unit_code unit) book p grouping ≡ found_unit unit book p grouping
+    → found_keyed_unit (keyed_unit unit) (unit_code unit) book p grouping ≡ found_unit unit book p grouping
 unit_keyed asked.Percent book p grouping = refl
 unit_keyed (asked.Currency style code) book p grouping = refl
 
-pub kind_of_unit : (unit : UnitAsked) → IsOfUnit (unit_kind unit)
-kind_of_unit asked.Percent = tt
-kind_of_unit (asked.Currency style code) = tt
+pub code_keyed : (unit : UnitAsked) → keyed_code (keyed_unit unit) (unit_code unit) ≡ typed_code unit
+code_keyed asked.Percent = refl
+code_keyed (asked.Currency style code) = refl
 
 -- where none is found, a number and a text with a unit are refused
 none_found_with : (found : Result UnitFound DataError) (sign : SignAsked) (rounding : RoundingAsked) (value : SignedValue Number) → is_ok found ≡ false → unit_with found sign rounding value ≡ refused refusal.Table
@@ -116,8 +120,8 @@ module _ (book : BookTables) (key : FormatterKey) where
   none_by Plain of none = absurd of
   none_by (Compact length) of none = absurd of
   none_by Lenient of none = absurd of
-  none_by Percent of none = none
-  none_by (Amount style) of none = none
+  none_by (Unit unit) of none = none
+  none_by (LenientUnit unit) of none = absurd of
 
   pub none_with_unit : IsOfUnit key.kind → finds book key ≡ false → (sign : SignAsked) (rounding : RoundingAsked) (value : SignedValue Number) → unit_with keyed sign rounding value ≡ refused refusal.Table
   none_with_unit of none sign rounding value = none_found_with keyed sign rounding value (none_by key.kind of none)
@@ -131,20 +135,19 @@ module _ (book : BookTables) (key : FormatterKey) where
   MadeAs (kept.Compact formatter) found = ⊥
   MadeAs (kept.Lenient reader) found = ⊥
   MadeAs (kept.Units formatter) found = WritesUnit found formatter
+  MadeAs (kept.LenientUnits formatter) found = ⊥
 
   made_by : (kind : Kind) (formatter : KeptFormatter) → IsOfUnit kind → HasKind kind key.code book key.preferences key.grouping formatter
       → MadeAs formatter (found_keyed kind key.code book key.preferences key.grouping)
   made_by Plain formatter of made = absurd of
   made_by (Compact length) formatter of made = absurd of
   made_by Lenient formatter of made = absurd of
-  made_by Percent (kept.Plain plain) of made = made
-  made_by Percent (kept.Compact formatter) of made = made
-  made_by Percent (kept.Lenient reader) of made = made
-  made_by Percent (kept.Units formatter) of made = made
-  made_by (Amount style) (kept.Plain plain) of made = made
-  made_by (Amount style) (kept.Compact formatter) of made = made
-  made_by (Amount style) (kept.Lenient reader) of made = made
-  made_by (Amount style) (kept.Units formatter) of made = made
+  made_by (Unit unit) (kept.Plain plain) of made = made
+  made_by (Unit unit) (kept.Compact formatter) of made = made
+  made_by (Unit unit) (kept.Lenient reader) of made = made
+  made_by (Unit unit) (kept.Units formatter) of made = made
+  made_by (Unit unit) (kept.LenientUnits formatter) of made = made
+  made_by (LenientUnit unit) formatter of made = absurd of
 
   pub unit_is_made : (formatter : UnitFormatter) → IsOfUnit key.kind → IsMadeFor book key (kept.Units formatter) → WritesUnit keyed formatter
   unit_is_made formatter of made = made_by key.kind (kept.Units formatter) of made
@@ -168,3 +171,27 @@ pub grows_by : (found : Result UnitFound DataError) (held : UnitFound) (digits :
     → (rounding : RoundingAsked) (value : SignedValue Number) → MayGrowBy (fraction_asked digits rounding) rounding value → MayGrowUnit found rounding (number value)
 grows_by found held digits is alike rounding value grows =
     subst (λ f. MayGrowUnit f rounding (number value)) (sym is) (subst (λ d. MayGrowBy (fraction_asked d rounding) rounding value) alike grows)
+
+-- ---- typed texts
+
+-- where none is found, a typed text is refused
+pub none_read_leniently : (code : List ℕ) (found latin : Result UnitFound DataError) (text : List ℕ) → is_ok found ≡ false → lenient_unit_with code found latin text ≡ refused refusal.Table
+none_read_leniently code (Ok found) latin text none = absurd (cc)
+none_read_leniently code (Err error) latin text none = refl
+
+-- where a key finds none, it has none
+pub none_typed : (book : BookTables) (key : FormatterKey) (unit : KeyedUnit) → key.kind ≡ LenientUnit unit → finds book key ≡ false
+    → is_ok (found_keyed_unit unit key.code book key.preferences key.grouping) ≡ false
+none_typed book key unit is none = subst (λ k. finds_kind k key.code book key.preferences key.grouping ≡ false) is none
+
+-- its formatter reads what is found
+pub typed_is_made : (book : BookTables) (key : FormatterKey) (unit : KeyedUnit) (formatter : LenientUnitFormatter) → key.kind ≡ LenientUnit unit → IsMadeFor book key (kept.LenientUnits formatter)
+    → ReadsUnit (found_keyed_unit unit key.code book key.preferences key.grouping) (found_keyed_unit unit key.code book (in_latin key.preferences) key.grouping) (keyed_code unit key.code) formatter
+typed_is_made book key unit formatter is made = subst (λ k. HasKind k key.code book key.preferences key.grouping (kept.LenientUnits formatter)) is made
+
+-- what the readers of a formatter read is the answer
+pub read_in_turn : (found latin : Result UnitFound DataError) (code : List ℕ) (formatter : LenientUnitFormatter) (text : List ℕ) → ReadsUnit found latin code formatter
+    → lenient_unit_with code found latin text ≡ read_answer (unit_reading_in_turn (typed_of_both formatter.numbers formatter.second) text)
+read_in_turn found latin code formatter text reads =
+    ap (λ f. lenient_unit_with code f latin text) reads.found
+    ∙ ap (λ readers. read_answer (unit_reading_in_turn readers text)) (sym reads.in_turn)

@@ -13,6 +13,7 @@ use Rattle.locale_numbers_book.specs.Wanted.{wanted_of}
 use Rattle.locale_numbers.specs.FormatterKeys.{code_of, kind_of, same_grouping, same_kind}
 use Rattle.locale_numbers.specs.Laws.{joined_fields}
 use Rattle.locale_numbers.specs.Words.{words_said, capacity_named}
+use Rattle.locale_numbers.specs.declared.formatter_key.KeyedUnit.TheVariants as keyed
 use Rattle.locale_numbers.specs.declared.formatter_key.Kind.TheVariants as kind
 use Rattle.icu_decimal.specs.declared.options.GroupingStrategy.TheVariants.{Auto, Always}
 use Rattle.locale_numbers_requests.specs.declared.AmountStyle.TheVariants.{Standard, Code}
@@ -124,15 +125,25 @@ two_groupings : same_grouping Auto Always ≡ false
 two_groupings = refl
 
 -- two ways of writing an amount are two
-two_ways : same_kind (kind.Amount Standard) (kind.Amount Code) ≡ false
+two_ways : same_kind (kind.Unit (keyed.Amount Standard)) (kind.Unit (keyed.Amount Code)) ≡ false
 two_ways = refl
 
-one_way : same_kind (kind.Amount Standard) (kind.Amount Standard) ≡ true
+one_way : same_kind (kind.Unit (keyed.Amount Standard)) (kind.Unit (keyed.Amount Standard)) ≡ true
 one_way = refl
 
 -- what is read back has the kind and the code of what is written
 one_unit : kind_of (form.ReadUnit Percent) ≡ kind_of (form.Unit Percent)
 one_unit = refl
+
+-- what was typed has a kind of its own, with the same code
+typed_unit : kind_of (form.ReadLenientUnit Percent) ≡ kind.LenientUnit keyed.Percent
+typed_unit = refl
+
+typed_apart : same_kind (kind.Unit keyed.Percent) (kind.LenientUnit keyed.Percent) ≡ false
+typed_apart = refl
+
+typed_euros : code_of (form.ReadLenientUnit (Currency Code (codes "EUR"))) ≡ Some (codes "EUR")
+typed_euros = refl
 
 euros : code_of (form.ReadUnit (Currency Code (codes "EUR"))) ≡ Some (codes "EUR")
 euros = refl

@@ -13,6 +13,8 @@ pub mod KnownPrinted
 pub mod KnownValues
 pub mod LineMemoryLemmas
 pub mod LastTabLemmas
+pub mod LenientUnitSteps
+pub mod LenientUnitTrips
 pub mod PrintedLemmas
 pub mod PrintedSizes
 pub mod ReadingTrips

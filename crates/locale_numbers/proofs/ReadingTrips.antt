@@ -1,6 +1,6 @@
 -- What is read back is written again, and what was written reads back: `specs/Laws.antt`.
 use Rattle.std.proofs.Common.{◌≡◌, ℕ, Bool, true, false, List, drop, get_or, Option, Some, None, Result, Ok, Err, refl, sym, ap, ◌∙◌, subst, arith}
-use Rattle.std.specs.Prelude.{if◌then◌else◌}
+use Rattle.std.specs.Prelude.{if◌then◌else◌, option_map}
 use Rattle.std.specs.Str.{bytes_eq}
 use Rattle.fixed_decimal.specs.CompactText.{CompactValue}
 use Rattle.fixed_decimal.specs.Number.{Number}
@@ -34,6 +34,7 @@ use Rattle.locale_numbers.specs.CompactAnswer.{compact_with, exact_with, found_c
 use Rattle.locale_numbers_answers.specs.CompactReading.{CompactReading, compact_beyond, compact_nothing, compact_number, compact_reading_of}
 use Rattle.locale_numbers.specs.Laws.{AutoIsAnsweredAsAlways, EachGroupingIsReadLeniently, FindsTables, ReadIsReadLeniently, ReadIsWrittenAgain, RoundedIsWrittenAgain, WrittenReadsBack, grouped_by, lenient_request, plain_request, reading_request}
 use Rattle.locale_numbers_answers.specs.LenientAnswer.{lenient_with, reading_by, second_of, where_found}
+use Rattle.locale_numbers_answers.specs.LenientUnitAnswer.{lenient_unit_reading, lenient_unit_with, typed_code, typed_found, unit_reading_by}
 use Rattle.locale_numbers_answers.specs.NumberReading.{Reading, beyond, nothing, number, reading_of}
 use Rattle.locale_numbers_answers.specs.ReadAnswer.{read_answer, read_with}
 use Rattle.locale_numbers_answers.specs.UnitAnswer.{UnitFound, read_unit_with, unit_to}
@@ -53,7 +54,7 @@ use Rattle.locale_numbers_book.specs.Wanted.{wanted_of}
 use Rattle.locale_numbers_requests.specs.declared.Refusal.{Refusal}
 use Rattle.locale_numbers_requests.specs.declared.Refusal.TheVariants as refusal
 use Rattle.locale_numbers_requests.specs.declared.Form.{Form}
-use Rattle.locale_numbers_requests.specs.declared.Form.TheVariants.{Plain, Compact, Exact, Read, ReadLenient, Unit, ReadUnit}
+use Rattle.locale_numbers_requests.specs.declared.Form.TheVariants.{Plain, Compact, Exact, Read, ReadLenient, Unit, ReadUnit, ReadLenientUnit}
 use Rattle.locale_numbers_requests.specs.declared.PatternLength.{PatternLength}
 use Rattle.locale_numbers_requests.specs.declared.RoundingAsked.{RoundingAsked}
 use Rattle.locale_numbers_requests.specs.declared.RoundingAsked.TheVariants.{Unrounded}
@@ -210,6 +211,24 @@ twins_read_unit : (one two : Result UnitFound DataError) → AreUnitTwins one tw
 twins_read_unit one two (unit_found symbols digits pattern unit fractions) rounding text = refl
 twins_read_unit one two (unit_failed error) rounding text = refl
 
+typed_twins : (code : List ℕ) (latin latin_two : Result UnitFound DataError) → AreUnitTwins latin latin_two → (symbols : Symbols) (digits : List ℕ) (pattern : PatternTexts) (unit : UnitName) (fractions : Option FractionInfo) (text : List ℕ) (ascii : Bool)
+    → unit_reading_by
+    (typed_found code (record { settings = record { tables = record { symbols = symbols; digits = digits; strategy = Auto }; pattern = pattern; unit = unit }; digits = fractions }))
+    (option_map (typed_found code) (if ascii then None else where_found latin)) text
+    ≡ unit_reading_by
+    (typed_found code (record { settings = record { tables = record { symbols = symbols; digits = digits; strategy = Always }; pattern = pattern; unit = unit }; digits = fractions }))
+    (option_map (typed_found code) (if ascii then None else where_found latin_two)) text
+unfolding lenient_unit_reading
+typed_twins code latin latin_two twins symbols digits pattern unit fractions text true = refl
+typed_twins code latin latin_two (unit_found s d p u f) symbols digits pattern unit fractions text false = refl
+typed_twins code latin latin_two (unit_failed error) symbols digits pattern unit fractions text false = refl
+
+twins_lenient_unit : (code : List ℕ) (one two latin latin_two : Result UnitFound DataError) → AreUnitTwins one two → AreUnitTwins latin latin_two → (text : List ℕ)
+    → lenient_unit_with code one latin text ≡ lenient_unit_with code two latin_two text
+twins_lenient_unit code one two latin latin_two (unit_found symbols digits pattern unit fractions) twins text =
+    ap read_answer (typed_twins code latin latin_two twins symbols digits pattern unit fractions text (bytes_eq digits plain_digits))
+twins_lenient_unit code one two latin latin_two (unit_failed error) twins text = refl
+
 auto_in : (book : BookTables) (p : Preferences) (asked : Asked) (form : Form)
     → answer_in form book p (grouped_by Auto asked) ≡ answer_in form book p (grouped_by Always asked)
 auto_in book p asked Plain =
@@ -228,6 +247,9 @@ auto_in book p asked (Unit unit) =
     twins_with_unit (found_unit unit book p Auto) (found_unit unit book p Always) (unit_twins_of unit book p) asked.sign asked.rounding (reading_of asked.text)
 auto_in book p asked (ReadUnit unit) =
     twins_read_unit (found_unit unit book p Auto) (found_unit unit book p Always) (unit_twins_of unit book p) asked.rounding asked.text
+auto_in book p asked (ReadLenientUnit unit) =
+    twins_lenient_unit (typed_code unit) (found_unit unit book p Auto) (found_unit unit book p Always) (found_unit unit book (in_latin p) Auto) (found_unit unit book (in_latin p) Always)
+    (unit_twins_of unit book p) (unit_twins_of unit book (in_latin p)) asked.text
 
 auto_tagged : (book : BookTables) (asked : Asked) (p : Option Preferences)
     → answer_tagged book p (grouped_by Auto asked) ≡ answer_tagged book p (grouped_by Always asked)

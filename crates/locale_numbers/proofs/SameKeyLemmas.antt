@@ -9,11 +9,13 @@ use Rattle.icu_decimal.specs.declared.options.GroupingStrategy.TheVariants.{Auto
 use Rattle.icu_locale_core.specs.SamePreferences.{same_preferences}
 use Rattle.icu_locale_core.specs.TagPreferences.{Preferences}
 use Rattle.icu_locale_core.proofs.SameLemmas.{same_locale_preferences, texts_decide}
-use Rattle.locale_numbers.specs.FormatterKeys.{same_grouping, same_keys, same_kind, same_length, same_style}
+use Rattle.locale_numbers.specs.FormatterKeys.{same_grouping, same_keys, same_kind, same_length, same_style, same_unit}
 use Rattle.locale_numbers.specs.Laws.{TellsKeys}
 use Rattle.locale_numbers.specs.declared.formatter_key.FormatterKey.{FormatterKey}
+use Rattle.locale_numbers.specs.declared.formatter_key.KeyedUnit.{KeyedUnit}
+use Rattle.locale_numbers.specs.declared.formatter_key.KeyedUnit.TheVariants.{Percent, Amount}
 use Rattle.locale_numbers.specs.declared.formatter_key.Kind.{Kind}
-use Rattle.locale_numbers.specs.declared.formatter_key.Kind.TheVariants.{Plain, Compact, Lenient, Percent, Amount}
+use Rattle.locale_numbers.specs.declared.formatter_key.Kind.TheVariants as kind
 use Rattle.locale_numbers_requests.specs.declared.AmountStyle.{AmountStyle}
 use Rattle.locale_numbers_requests.specs.declared.AmountStyle.TheVariants.{Standard, Accounting, Code}
 use Rattle.locale_numbers_requests.specs.declared.PatternLength.{PatternLength}
@@ -36,39 +38,49 @@ styles_decide Code Standard = (λ e. cc, λ e. cc)
 styles_decide Code Accounting = (λ e. cc, λ e. cc)
 styles_decide Code Code = (λ e. refl, λ e. refl)
 
-abbrev style_or : AmountStyle → Kind → AmountStyle
+abbrev style_or : AmountStyle → KeyedUnit → AmountStyle
 style_or other (Amount s) = s
-style_or other Plain = other
-style_or other (Compact l) = other
-style_or other Lenient = other
 style_or other Percent = other
 
+units_decide : (a b : KeyedUnit) → Decides (same_unit a b) (a ≡ b)
+units_decide Percent Percent = (λ e. refl, λ e. refl)
+units_decide Percent (Amount t) = (λ e. cc, λ e. cc)
+units_decide (Amount s) Percent = (λ e. cc, λ e. cc)
+units_decide (Amount s) (Amount t) = (λ e. ap Amount ((styles_decide s t).0 e), λ e. (styles_decide s t).1 (ap (style_or s) e))
+
+abbrev unit_or : KeyedUnit → Kind → KeyedUnit
+unit_or other (kind.Unit u) = u
+unit_or other (kind.LenientUnit u) = u
+unit_or other kind.Plain = other
+unit_or other (kind.Compact l) = other
+unit_or other kind.Lenient = other
+
 kinds_decide : (a b : Kind) → Decides (same_kind a b) (a ≡ b)
-kinds_decide Plain Plain = (λ e. refl, λ e. refl)
-kinds_decide Plain (Compact m) = (λ e. cc, λ e. cc)
-kinds_decide Plain Lenient = (λ e. cc, λ e. cc)
-kinds_decide (Compact l) Plain = (λ e. cc, λ e. cc)
-kinds_decide (Compact l) Lenient = (λ e. cc, λ e. cc)
-kinds_decide Lenient Plain = (λ e. cc, λ e. cc)
-kinds_decide Lenient (Compact m) = (λ e. cc, λ e. cc)
-kinds_decide Lenient Lenient = (λ e. refl, λ e. refl)
-kinds_decide Plain Percent = (λ e. cc, λ e. cc)
-kinds_decide Plain (Amount s) = (λ e. cc, λ e. cc)
-kinds_decide (Compact l) Percent = (λ e. cc, λ e. cc)
-kinds_decide (Compact l) (Amount s) = (λ e. cc, λ e. cc)
-kinds_decide Lenient Percent = (λ e. cc, λ e. cc)
-kinds_decide Lenient (Amount s) = (λ e. cc, λ e. cc)
-kinds_decide Percent Plain = (λ e. cc, λ e. cc)
-kinds_decide Percent (Compact m) = (λ e. cc, λ e. cc)
-kinds_decide Percent Lenient = (λ e. cc, λ e. cc)
-kinds_decide Percent Percent = (λ e. refl, λ e. refl)
-kinds_decide Percent (Amount s) = (λ e. cc, λ e. cc)
-kinds_decide (Amount s) Plain = (λ e. cc, λ e. cc)
-kinds_decide (Amount s) (Compact m) = (λ e. cc, λ e. cc)
-kinds_decide (Amount s) Lenient = (λ e. cc, λ e. cc)
-kinds_decide (Amount s) Percent = (λ e. cc, λ e. cc)
-kinds_decide (Amount s) (Amount t) = (λ e. ap Amount ((styles_decide s t).0 e), λ e. (styles_decide s t).1 (ap (style_or s) e))
-kinds_decide (Compact l) (Compact m) = (λ e. ap Compact ((lengths_decide l m).0 e), λ e. (lengths_decide l m).1 (cc))
+kinds_decide kind.Plain kind.Plain = (λ e. refl, λ e. refl)
+kinds_decide kind.Plain (kind.Compact m) = (λ e. cc, λ e. cc)
+kinds_decide kind.Plain kind.Lenient = (λ e. cc, λ e. cc)
+kinds_decide kind.Plain (kind.Unit v) = (λ e. cc, λ e. cc)
+kinds_decide kind.Plain (kind.LenientUnit v) = (λ e. cc, λ e. cc)
+kinds_decide (kind.Compact l) kind.Plain = (λ e. cc, λ e. cc)
+kinds_decide (kind.Compact l) (kind.Compact m) = (λ e. ap kind.Compact ((lengths_decide l m).0 e), λ e. (lengths_decide l m).1 (cc))
+kinds_decide (kind.Compact l) kind.Lenient = (λ e. cc, λ e. cc)
+kinds_decide (kind.Compact l) (kind.Unit v) = (λ e. cc, λ e. cc)
+kinds_decide (kind.Compact l) (kind.LenientUnit v) = (λ e. cc, λ e. cc)
+kinds_decide kind.Lenient kind.Plain = (λ e. cc, λ e. cc)
+kinds_decide kind.Lenient (kind.Compact m) = (λ e. cc, λ e. cc)
+kinds_decide kind.Lenient kind.Lenient = (λ e. refl, λ e. refl)
+kinds_decide kind.Lenient (kind.Unit v) = (λ e. cc, λ e. cc)
+kinds_decide kind.Lenient (kind.LenientUnit v) = (λ e. cc, λ e. cc)
+kinds_decide (kind.Unit u) kind.Plain = (λ e. cc, λ e. cc)
+kinds_decide (kind.Unit u) (kind.Compact m) = (λ e. cc, λ e. cc)
+kinds_decide (kind.Unit u) kind.Lenient = (λ e. cc, λ e. cc)
+kinds_decide (kind.Unit u) (kind.Unit v) = (λ e. ap kind.Unit ((units_decide u v).0 e), λ e. (units_decide u v).1 (ap (unit_or u) e))
+kinds_decide (kind.Unit u) (kind.LenientUnit v) = (λ e. cc, λ e. cc)
+kinds_decide (kind.LenientUnit u) kind.Plain = (λ e. cc, λ e. cc)
+kinds_decide (kind.LenientUnit u) (kind.Compact m) = (λ e. cc, λ e. cc)
+kinds_decide (kind.LenientUnit u) kind.Lenient = (λ e. cc, λ e. cc)
+kinds_decide (kind.LenientUnit u) (kind.Unit v) = (λ e. cc, λ e. cc)
+kinds_decide (kind.LenientUnit u) (kind.LenientUnit v) = (λ e. ap kind.LenientUnit ((units_decide u v).0 e), λ e. (units_decide u v).1 (ap (unit_or u) e))
 
 groupings_decide : (a b : GroupingStrategy) → Decides (same_grouping a b) (a ≡ b)
 groupings_decide Auto Auto = (λ e. refl, λ e. refl)

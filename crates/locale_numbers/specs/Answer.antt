@@ -16,13 +16,14 @@ pub use Rattle.locale_numbers_answers.specs.CompactAnswer.{exact_to}
 use Rattle.locale_numbers_answers.specs.CompactReading.{compact_reading_of}
 pub use Rattle.locale_numbers_answers.specs.NumberAnswer.{answer_to, answer_with}
 use Rattle.locale_numbers_answers.specs.LenientAnswer.{lenient_with}
+use Rattle.locale_numbers_answers.specs.LenientUnitAnswer.{lenient_unit_with, typed_code}
 use Rattle.locale_numbers_answers.specs.NumberReading.{reading_of}
 use Rattle.locale_numbers_answers.specs.ReadAnswer.{read_with}
 use Rattle.locale_numbers_answers.specs.UnitAnswer.{read_unit_with, unit_to}
 use Rattle.locale_numbers_requests.specs.Request.{Asked, request_of}
 use Rattle.locale_numbers_book.specs.Wanted.{wanted_of}
 use Rattle.locale_numbers_requests.specs.declared.Form.{Form}
-use Rattle.locale_numbers_requests.specs.declared.Form.TheVariants.{Plain, Compact, Exact, Read, ReadLenient, Unit, ReadUnit}
+use Rattle.locale_numbers_requests.specs.declared.Form.TheVariants.{Plain, Compact, Exact, Read, ReadLenient, Unit, ReadUnit, ReadLenientUnit}
 use Rattle.locale_numbers_requests.specs.declared.Refusal.TheVariants as refusal
 
 -- the tables of a book that preferences find, with a grouping
@@ -47,6 +48,8 @@ answer_in ReadLenient book preferences asked =
 answer_in (Unit unit) book preferences asked =
     unit_to (found_unit unit book preferences asked.grouping) asked.sign asked.rounding (reading_of asked.text)
 answer_in (ReadUnit unit) book preferences asked = read_unit_with (found_unit unit book preferences asked.grouping) asked.rounding asked.text
+answer_in (ReadLenientUnit unit) book preferences asked =
+    lenient_unit_with (typed_code unit) (found_unit unit book preferences asked.grouping) (found_unit unit book (in_latin preferences) asked.grouping) asked.text
 
 -- the answer by what the tag prefers, where it is a tag
 abbrev pub answer_tagged : BookTables → Option Preferences → Asked → List ℕ

@@ -2,9 +2,10 @@
 -- Defined in docs/requests.md, "What a cache keeps".
 -- Cited by `run`.
 -- A key depends on the tag, the form, the grouping and the text, and each of these is defined in a file of its own to import.
-use Rattle.std.specs.Prelude.{ℕ, Bool, true, false, ◌&&◌, List, [], map, min, Option, Some, None, is_ok}
+use Rattle.std.specs.Prelude.{ℕ, Bool, true, false, ◌&&◌, List, [], map, min, Option, Some, None, Result, is_ok}
 use Rattle.std.specs.Option.{option_eq}
 use Rattle.std.specs.Str.{bytes_eq}
+use Rattle.icu_decimal.specs.declared.error.DataError.{DataError}
 use Rattle.icu_decimal.specs.declared.options.GroupingStrategy.{GroupingStrategy}
 use Rattle.icu_decimal.specs.declared.options.GroupingStrategy.TheVariants.{Auto, Never, Always, Min2}
 use Rattle.icu_locale_core.specs.SamePreferences.{same_preferences}
@@ -17,6 +18,7 @@ use Rattle.locale_numbers.specs.CompactAnswer.{found_compact}
 use Rattle.locale_numbers.specs.FoundUnit.{found_amounts, found_unit}
 use Rattle.locale_numbers_answers.specs.CompactReading.{CompactReading, compact_beyond, compact_nothing, compact_number, compact_reading_of}
 use Rattle.locale_numbers_answers.specs.NumberReading.{Reading, number, beyond, nothing, reading_of}
+use Rattle.locale_numbers_answers.specs.UnitAnswer.{UnitFound}
 use Rattle.locale_numbers_requests.specs.Request.{Asked, request_of}
 use Rattle.locale_numbers_book.specs.Wanted.{wanted_of}
 use Rattle.locale_numbers_requests.specs.declared.AmountStyle.{AmountStyle}
@@ -28,13 +30,15 @@ use Rattle.locale_numbers_requests.specs.declared.PatternLength.TheVariants.{Sho
 use Rattle.locale_numbers_requests.specs.declared.UnitAsked.{UnitAsked}
 use Rattle.locale_numbers_requests.specs.declared.UnitAsked.TheVariants.{Percent, Currency}
 use Rattle.locale_numbers.specs.declared.formatter_key.FormatterKey.{FormatterKey}
+use Rattle.locale_numbers.specs.declared.formatter_key.KeyedUnit.{KeyedUnit}
+use Rattle.locale_numbers.specs.declared.formatter_key.KeyedUnit.TheVariants as keyed
 use Rattle.locale_numbers.specs.declared.formatter_key.Kind.{Kind}
 use Rattle.locale_numbers.specs.declared.formatter_key.Kind.TheVariants as kind
 
--- the kind of tables that the numbers of a unit are written with
-abbrev pub unit_kind : UnitAsked → Kind
-unit_kind Percent = kind.Percent
-unit_kind (Currency style code) = kind.Amount style
+-- the unit of a key, without its code
+abbrev pub keyed_unit : UnitAsked → KeyedUnit
+keyed_unit Percent = keyed.Percent
+keyed_unit (Currency style code) = keyed.Amount style
 
 -- the kind of tables that a form is written with; what is read back is read with those that it was written with, and what was typed
 -- with folded ones
@@ -44,8 +48,9 @@ kind_of (form.Compact length) = kind.Compact length
 kind_of (form.Exact length) = kind.Compact length
 kind_of form.Read = kind.Plain
 kind_of form.ReadLenient = kind.Lenient
-kind_of (form.Unit unit) = unit_kind unit
-kind_of (form.ReadUnit unit) = unit_kind unit
+kind_of (form.Unit unit) = kind.Unit (keyed_unit unit)
+kind_of (form.ReadUnit unit) = kind.Unit (keyed_unit unit)
+kind_of (form.ReadLenientUnit unit) = kind.LenientUnit (keyed_unit unit)
 
 -- the code of the currency that a form names
 abbrev pub unit_code : UnitAsked → Option (List ℕ)
@@ -60,6 +65,7 @@ code_of form.Read = None
 code_of form.ReadLenient = None
 code_of (form.Unit unit) = unit_code unit
 code_of (form.ReadUnit unit) = unit_code unit
+code_of (form.ReadLenientUnit unit) = unit_code unit
 
 -- the key of what a tag prefers, a form and a grouping
 abbrev pub key_with : Form → GroupingStrategy → Preferences → FormatterKey
@@ -86,6 +92,7 @@ key_in form.Read key text = Some key
 key_in form.ReadLenient key text = Some key
 key_in (form.Unit unit) key text = key_text key (reading_of text)
 key_in (form.ReadUnit unit) key text = Some key
+key_in (form.ReadLenientUnit unit) key text = Some key
 
 -- the key of a request by what its tag prefers, where it is a tag
 abbrev pub key_tagged : Asked → Option Preferences → Option FormatterKey
@@ -101,13 +108,18 @@ key_asked (Some asked) = key_tagged asked (wanted_of asked.tag)
 abbrev pub key_of : List ℕ → Option FormatterKey
 key_of line = key_asked (request_of line)
 
+-- what a book has for the unit of a key, with a code where it has one
+abbrev pub found_keyed_unit : KeyedUnit → Option (List ℕ) → BookTables → Preferences → GroupingStrategy → Result UnitFound DataError
+found_keyed_unit keyed.Percent code book preferences grouping = found_unit Percent book preferences grouping
+found_keyed_unit (keyed.Amount style) code book preferences grouping = found_amounts style code book preferences grouping
+
 -- whether a book has the tables of a kind, and of a code where the kind has one
 abbrev pub finds_kind : Kind → Option (List ℕ) → BookTables → Preferences → GroupingStrategy → Bool
 finds_kind kind.Plain code book preferences grouping = is_ok (found_in book preferences grouping)
 finds_kind (kind.Compact length) code book preferences grouping = is_ok (found_compact length book preferences grouping)
 finds_kind kind.Lenient code book preferences grouping = is_ok (found_in book preferences grouping)
-finds_kind kind.Percent code book preferences grouping = is_ok (found_unit Percent book preferences grouping)
-finds_kind (kind.Amount style) code book preferences grouping = is_ok (found_amounts style code book preferences grouping)
+finds_kind (kind.Unit unit) code book preferences grouping = is_ok (found_keyed_unit unit code book preferences grouping)
+finds_kind (kind.LenientUnit unit) code book preferences grouping = is_ok (found_keyed_unit unit code book preferences grouping)
 
 -- whether it has those of a key
 abbrev pub finds : BookTables → FormatterKey → Bool
@@ -126,13 +138,19 @@ same_style Accounting Accounting = true
 same_style Code Code = true
 same_style _ _ = false
 
+-- two units are one, but for their codes
+abbrev pub same_unit : KeyedUnit → KeyedUnit → Bool
+same_unit keyed.Percent keyed.Percent = true
+same_unit (keyed.Amount one) (keyed.Amount other) = same_style one other
+same_unit _ _ = false
+
 -- two kinds of tables are one
 abbrev pub same_kind : Kind → Kind → Bool
 same_kind kind.Plain kind.Plain = true
 same_kind (kind.Compact one) (kind.Compact other) = same_length one other
 same_kind kind.Lenient kind.Lenient = true
-same_kind kind.Percent kind.Percent = true
-same_kind (kind.Amount one) (kind.Amount other) = same_style one other
+same_kind (kind.Unit one) (kind.Unit other) = same_unit one other
+same_kind (kind.LenientUnit one) (kind.LenientUnit other) = same_unit one other
 same_kind _ _ = false
 
 -- two groupings are one; `auto` and `always` are two

@@ -91,7 +91,7 @@ key_behind front text = key_if_text text (key_front front text)
 -- a text that may want memory, beside its answer and its formatter. To write a number: one that says a number of more than eight digits, and
 -- of more than the one that is there, or one whose number a rounding to multiples of 25 may lengthen. In an exact form: one that says a
 -- number of more than eight digits. To be read back: one with more than eight digits of the tables. To be read leniently: this too, and one
--- that is folded. To be read back with a unit: any text, since what it is read with may be put together for it.
+-- that is folded. To be read back with a unit, or leniently with one: any text, since what it is read with may be put together for it.
 abbrev pub MayTakeIn : Form → BookTables → FormatterKey → RoundingAsked → List ℕ → SignedValue Number → Type 0
 MayTakeIn form.Plain book key rounding text value = ReadsMore text value ⊎ MayGrowRead rounding (reading_of text)
 MayTakeIn (form.Compact length) book key rounding text value = ReadsMore text value ⊎ MayGrowRead rounding (reading_of text)
@@ -102,6 +102,7 @@ MayTakeIn form.ReadLenient book key rounding text value =
 MayTakeIn (form.Unit unit) book key rounding text value =
     ReadsMore text value ⊎ MayGrowUnit (found_unit unit book key.preferences key.grouping) rounding (reading_of text)
 MayTakeIn (form.ReadUnit unit) book key rounding text value = is_utf8 text ≡ true
+MayTakeIn (form.ReadLenientUnit unit) book key rounding text value = is_utf8 text ≡ true
 
 -- the same behind a front, by its key: where its tag is none, no text wants memory
 abbrev pub MayTakeKeyed : BookTables → Front → Option FormatterKey → List ℕ → SignedValue Number → Type 0

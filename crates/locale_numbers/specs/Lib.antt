@@ -21,6 +21,7 @@ pub mod Laws
 pub mod Printed
 pub mod PrintedLaws
 pub mod UnitLaws
+pub mod LenientUnitLaws
 -- Of the inner crates: books.
 pub use Rattle.locale_numbers_book.specs.Book
 pub use Rattle.locale_numbers_book.specs.BookError
@@ -56,6 +57,7 @@ pub use Rattle.locale_numbers_answers.specs.Changing
 pub use Rattle.locale_numbers_answers.specs.CompactReading
 pub use Rattle.locale_numbers_answers.specs.Laws as AnswerLaws
 pub use Rattle.locale_numbers_answers.specs.LenientAnswer
+pub use Rattle.locale_numbers_answers.specs.LenientUnitAnswer
 pub use Rattle.locale_numbers_answers.specs.NumberReading
 pub use Rattle.locale_numbers_answers.specs.ReadAnswer
 pub use Rattle.locale_numbers_answers.specs.Rounded

@@ -10,10 +10,12 @@ ghost use Rattle.locale_numbers_requests.specs.Request.{Asked, request_of};
 ghost use Rattle.locale_numbers.specs.declared.formatter_key.FormatterKey.{FormatterKey};
 
 use crate::exact_answer::answer_exact;
+use crate::formatter_key::keyed_unit;
 use crate::formatters::Formatters;
 use crate::front::{Front, cut_text, read_front};
 use crate::kept_formatter::MadeFormatter;
 use crate::lenient_answer::answer_lenient;
+use crate::lenient_unit_answer::answer_lenient_unit;
 use crate::number_answer::answer_number;
 use crate::read_answer::answer_read;
 use crate::unit_answer::{answer_read_unit, answer_unit};
@@ -110,6 +112,13 @@ pub(crate) fn answer_behind_front<'a, F: Formatters<'a>>(
             };
             answer_read_unit(alloc, formatters, key, is_held, front.rounding, text, out)
         }
+        Form::ReadLenientUnit(unit) => {
+            let Some(text) = as_text(text) else {
+                return write_refusal(out, Refusal::Shape);
+            };
+            let unit = keyed_unit(&unit);
+            answer_lenient_unit(alloc, formatters, unit, key, is_held, text, out)
+        }
     }
 }
 
@@ -156,7 +165,8 @@ fn answer_whole_line<'a, F: Formatters<'a>>(
 /// `1.6c3`, the value shown, with tabs between; with `exact-short` and `-1.20c6` by `ok`, a tab and
 /// `-1.20M`; with `read` and `-987,654.321` by `ok`, a tab and `-987654.321`; with `read-lenient` and
 /// `.5` by `ok`, a tab and `0.5`. Under the sample book of units `currency-EUR` and `-1234.5` are answered by `ok`, a tab
-/// and `-€1,234.50`, and `read-currency-EUR` with this text by `ok`, a tab and `-1234.50`. A line that is refused is
+/// and `-€1,234.50`, `read-currency-EUR` with this text by `ok`, a tab and `-1234.50`, and `read-lenient-currency-EUR`
+/// with `-1234.5 €` by `ok`, a tab and `-1234.5`. A line that is refused is
 /// answered by `err`, a tab and the first word that applies: `shape`, `tag`, `number`, `limit`,
 /// `table`, `range`, `exponent`, `unreadable`, `not-written`; an empty line by `shape`. A line feed in it
 /// is an ordinary byte. Allocates. `AllocError`: out of memory. Tags are the whole locale tags of

@@ -54,9 +54,10 @@ fn write_exact_answer_of_key<'a, F: Formatters<'a>>(
     }
     match formatters.found(key) {
         KeptFormatter::Compact(compact) => write_exact_answer(compact, significand, exponent, out),
-        KeptFormatter::Plain(_) | KeptFormatter::Lenient(_) | KeptFormatter::Units(_) => {
-            unreachable!()
-        }
+        KeptFormatter::Plain(_)
+        | KeptFormatter::Lenient(_)
+        | KeptFormatter::Units(_)
+        | KeptFormatter::LenientUnits(_) => unreachable!(),
     }
 }
 

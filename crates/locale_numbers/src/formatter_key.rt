@@ -1,13 +1,22 @@
 //! What a formatter is kept under.
 
 ghost use Rattle.std.specs.Prelude.{◌≡◌};
-ghost use Rattle.locale_numbers.specs.FormatterKeys.{code_of, kind_of, unit_code, unit_kind};
+ghost use Rattle.locale_numbers.specs.FormatterKeys.{code_of, keyed_unit, kind_of, unit_code};
 
 use icu_decimal::DecimalFormatterPreferences;
 use icu_decimal::options::GroupingStrategy;
 use icu_dimension::CurrencyCode;
 use locale_numbers_cache::CacheKey;
 use locale_numbers_requests::{AmountStyle, Form, PatternLength, UnitAsked};
+
+// Which unit the tables are of, without its code.
+#[derive(Clone, Copy, PartialEq, Eq, Hash)]
+pub(crate) enum KeyedUnit {
+    /// A percent sign.
+    Percent,
+    /// A currency, with its amounts written so.
+    Amount(AmountStyle),
+}
 
 // Which tables a form is written with.
 #[derive(Clone, Copy, PartialEq, Eq, Hash)]
@@ -18,10 +27,10 @@ pub(crate) enum Kind {
     Compact(PatternLength),
     /// Symbols and digits, and the symbols folded.
     Lenient,
-    /// Symbols and digits, and the pattern and the sign of percents.
-    Percent,
-    /// Symbols and digits, and the pattern and the text of a currency.
-    Amount(AmountStyle),
+    /// Symbols and digits, and the pattern and the text of a unit.
+    Unit(KeyedUnit),
+    /// These, and all of them folded.
+    LenientUnit(KeyedUnit),
 }
 
 // What a formatter is kept under: what a tag prefers, a kind, a code and a grouping. Tags that prefer the same have one key.
@@ -47,13 +56,13 @@ impl CacheKey for FormatterKey {
         (Prim.search (comparing, rules)) (Prim.search (comparing, rules)) (Prim.search (comparing, rules)) };
 }
 
-// The kind of tables that the numbers of a unit are written with.
-fn kind_of_unit(unit: &UnitAsked) -> Kind
-    ensures { result ≡ unit_kind unit.now }
+// The unit of a key, without its code.
+pub(crate) fn keyed_unit(unit: &UnitAsked) -> KeyedUnit
+    ensures { result ≡ keyed_unit unit.now }
 {
     match *unit {
-        UnitAsked::Percent => Kind::Percent,
-        UnitAsked::Currency(style, _) => Kind::Amount(style),
+        UnitAsked::Percent => KeyedUnit::Percent,
+        UnitAsked::Currency(style, _) => KeyedUnit::Amount(style),
     }
 }
 
@@ -72,7 +81,7 @@ pub(crate) fn code_of_form(form: &Form) -> Option<CurrencyCode>
     ensures { result ≡ code_of form.now }
 {
     match form {
-        Form::Unit(unit) | Form::ReadUnit(unit) => code_of_unit(unit),
+        Form::Unit(unit) | Form::ReadUnit(unit) | Form::ReadLenientUnit(unit) => code_of_unit(unit),
         Form::Plain | Form::Compact(_) | Form::Exact(_) | Form::Read | Form::ReadLenient => None,
     }
 }
@@ -86,6 +95,7 @@ pub(crate) fn kind_of_form(form: &Form) -> Kind
         Form::Compact(length) => Kind::Compact(*length),
         Form::Exact(length) => Kind::Compact(*length),
         Form::ReadLenient => Kind::Lenient,
-        Form::Unit(unit) | Form::ReadUnit(unit) => kind_of_unit(unit),
+        Form::Unit(unit) | Form::ReadUnit(unit) => Kind::Unit(keyed_unit(unit)),
+        Form::ReadLenientUnit(unit) => Kind::LenientUnit(keyed_unit(unit)),
     }
 }

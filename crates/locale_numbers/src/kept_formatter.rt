@@ -12,8 +12,9 @@ ghost use Rattle.locale_numbers.specs.KeptFormatters.{IsMadeFor, KnowsAll, Knows
 use crate::formatter_key::{FormatterKey, Kind};
 use crate::formatters::Formatters;
 use crate::lenient_reader::lenient_reader;
+use crate::lenient_unit_formatter::{LenientUnitFormatter, made_lenient_units};
 use crate::tables::Tables;
-use crate::unit_formatter::{UnitFormatter, made_amounts, made_percents};
+use crate::unit_formatter::{UnitFormatter, made_units};
 use icu_decimal::options::{CompactDecimalFormatterOptions, DecimalFormatterOptions};
 use icu_decimal::provider::DataError;
 use icu_decimal::{CompactDecimalFormatter, DecimalFormatter, is_readable};
@@ -42,6 +43,8 @@ pub(crate) enum KeptFormatter<'a> {
     Lenient(LenientReader<'a>),
     /// One of numbers with a unit.
     Units(UnitFormatter<'a>),
+    /// One that reads what people type of these.
+    LenientUnits(LenientUnitFormatter<'a>),
 }
 
 // One that makes the formatters of keys, with these tables.
@@ -132,12 +135,12 @@ fn formatter_by<'a, T: Tables>(
             Some(reader) => Some(KeptFormatter::Lenient(reader)),
             None => None,
         },
-        Kind::Percent => match made_percents(alloc, tables, &key, asks) {
-            Some(unit) => Some(KeptFormatter::Units(unit)),
+        Kind::Unit(unit) => match made_units(alloc, tables, unit, &key, asks) {
+            Some(made) => Some(KeptFormatter::Units(made)),
             None => None,
         },
-        Kind::Amount(style) => match made_amounts(alloc, tables, style, &key, asks) {
-            Some(unit) => Some(KeptFormatter::Units(unit)),
+        Kind::LenientUnit(unit) => match made_lenient_units(alloc, tables, unit, &key, asks) {
+            Some(made) => Some(KeptFormatter::LenientUnits(made)),
             None => None,
         },
     }

@@ -6,6 +6,7 @@ ghost use Rattle.locale_numbers.specs.CompactAnswer.{found_compact};
 ghost use Rattle.locale_numbers.specs.FormatterKeys.{same_keys};
 ghost use Rattle.locale_numbers.specs.Laws.{AlikeTagsAreAnsweredAlike, NormalTextIsAnsweredAlike, AutoIsAnsweredAsAlways, AreTexts, EachGroupingIsReadLeniently, FoundTablesAreTexts, LinesAskTheirFields, ReadIsReadLeniently, ReadIsWrittenAgain, RoundedIsWrittenAgain, TellsKeys, WrittenIsUtf8, WrittenReadsBack};
 ghost use Rattle.locale_numbers.specs.PrintedLaws.{FoundTablesAreSound, IsSoundWhereFound, PrintedIsAnswered, PrintedIsNear, PrintedIsWrittenAgain, PrintedKeepsOrder, PrintedPrintsItself, ZeroIsPrintedForZero};
+ghost use Rattle.locale_numbers.specs.LenientUnitLaws.{ReadUnitIsReadLeniently};
 ghost use Rattle.locale_numbers.specs.UnitLaws.{FoundUnitsAreTexts, ReadUnitIsWrittenAgain, WrittenUnitIsUtf8, WrittenUnitReadsBack};
 ghost use Rattle.locale_numbers_requests.specs.declared.PatternLength.TheVariants.{Short, Long};
 
@@ -145,6 +146,12 @@ pub fn found_units_are_texts()
 {
     units_are_texts();
 }
+
+/// A text that `read-currency-EUR` answers by a number, `read-lenient-currency-EUR` answers by the same one, and so for
+/// each unit, whatever the roundings: with `en`, `-€1,234.50` has the answer `ok`, a tab and `-1234.50` by both.
+pub fn read_unit_is_read_leniently()
+    ensures { ReadUnitIsReadLeniently }
+{}
 
 /// The text of each decimal with its unit is UTF-8, as a field of a line is: the one of -1234.5 with `€` in English is
 /// `-€1,234.5`.

@@ -58,8 +58,9 @@ pub(crate) fn answer_lenient<'a, F: Formatters<'a>>(
     }
     match formatters.found(key) {
         KeptFormatter::Lenient(reader) => write_lenient_answer(alloc, reader, text, out),
-        KeptFormatter::Plain(_) | KeptFormatter::Compact(_) | KeptFormatter::Units(_) => {
-            unreachable!()
-        }
+        KeptFormatter::Plain(_)
+        | KeptFormatter::Compact(_)
+        | KeptFormatter::Units(_)
+        | KeptFormatter::LenientUnits(_) => unreachable!(),
     }
 }

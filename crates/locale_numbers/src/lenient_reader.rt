@@ -1,7 +1,6 @@
 //! What reads the typed texts of a key.
 
 ghost use Rattle.std.specs.Prelude.{◌≡◌, false, MatchOption, None, codes, if◌then◌else◌, is_ok, option_map};
-ghost use Rattle.std.specs.Result.{result_map_both};
 ghost use Rattle.icu_decimal.specs.HeldTables.{tables_of};
 ghost use Rattle.locale_numbers_answers.specs.LenientAnswer.{second_of, where_found};
 ghost use Rattle.locale_numbers.specs.Answer.{found_in, in_latin};
@@ -10,7 +9,6 @@ ghost use Rattle.locale_numbers.specs.KeptFormatters.{ReadsInTurn};
 use crate::formatter_key::FormatterKey;
 use crate::kept_formatter::plain_formatter;
 use crate::tables::Tables;
-use icu_decimal::provider::DataError;
 use icu_decimal::{DecimalFormatter, DecimalFormatterPreferences};
 use icu_locale_core::preferences::extensions::unicode::keywords::NumberingSystem;
 use icu_locale_core::subtags::Subtag;
@@ -30,27 +28,23 @@ fn latin() -> NumberingSystem
     }
 }
 
-// The plain formatter of a key, but with the numbering system `latn`.
-fn latin_formatter<'a, T: Tables>(
-    tables: &'a T,
-    key: FormatterKey,
-) -> Result<DecimalFormatter<'a>, DataError>
-    ensures { result_map_both tables_of (λ error. error) result
-        ≡ found_in (T.book tables.now) (in_latin key.preferences) key.grouping }
+// A key with the numbering system `latn`.
+pub(crate) fn latin_key(key: FormatterKey) -> FormatterKey
+    ensures preferences { result.preferences ≡ in_latin key.preferences }
+    ensures kind { result.kind ≡ key.kind }
+    ensures code { result.code ≡ key.code }
+    ensures grouping { result.grouping ≡ key.grouping }
 {
     let preferences = DecimalFormatterPreferences {
         locale_preferences: key.preferences.locale_preferences,
         numbering_system: Some(latin()),
     };
-    plain_formatter(
-        tables,
-        FormatterKey {
-            preferences,
-            kind: key.kind,
-            code: None,
-            grouping: key.grouping,
-        },
-    )
+    FormatterKey {
+        preferences,
+        kind: key.kind,
+        code: key.code,
+        grouping: key.grouping,
+    }
 }
 
 // The formatter for what that of a key does not read: `None` where its digits are those of ASCII, or there is none.
@@ -65,7 +59,7 @@ fn second_formatter<'a, T: Tables>(
     if is_ascii {
         return None;
     }
-    match latin_formatter(tables, key) {
+    match plain_formatter(tables, latin_key(key)) {
         Ok(second) => Some(second),
         Err(_) => None,
     }
@@ -83,7 +77,7 @@ fn reader_by<'a, T: Tables>(
     ensures second { result.second ≡ second_of (tables_of first.now)
         (found_in (T.book tables.now) (in_latin key.now.preferences) key.now.grouping) }
 {
-    let second = second_formatter(tables, *key, has_ascii_digits(first));
+    let second = second_formatter(tables, *key, has_ascii_digits(first.tables()));
     if keeps {
         LenientReader::keeping(alloc, *first, second)
     } else {

@@ -26,6 +26,8 @@ mod kept_formatter;
 pub mod laws;
 mod lenient_answer;
 mod lenient_reader;
+mod lenient_unit_answer;
+mod lenient_unit_formatter;
 mod line_answerer;
 mod number_answer;
 pub mod prelude;

@@ -39,6 +39,9 @@ fn write_answer_of_formatter(
         KeptFormatter::Compact(compact) => write_compact_answer(compact, value, out),
         KeptFormatter::Lenient(reader) => write_plain_answer(reader.formatter(), value, out),
         KeptFormatter::Units(unit) => write_with_unit(unit.numbers.parts().tables, value, out),
+        KeptFormatter::LenientUnits(unit) => {
+            write_with_unit(unit.numbers.parts().tables, value, out)
+        }
     }
 }
 

@@ -58,8 +58,9 @@ pub(crate) fn answer_read<'a, F: Formatters<'a>>(
         KeptFormatter::Plain(plain) => {
             write_read_answer(alloc, &plain.formatter, plain.is_readable, text, out)
         }
-        KeptFormatter::Compact(_) | KeptFormatter::Lenient(_) | KeptFormatter::Units(_) => {
-            unreachable!()
-        }
+        KeptFormatter::Compact(_)
+        | KeptFormatter::Lenient(_)
+        | KeptFormatter::Units(_)
+        | KeptFormatter::LenientUnits(_) => unreachable!(),
     }
 }

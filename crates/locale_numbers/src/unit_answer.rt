@@ -65,9 +65,10 @@ fn write_unit_of_key<'a, F: Formatters<'a>>(
         KeptFormatter::Units(made) => {
             write_unit_answer(alloc, made.numbers.parts(), value, rounding, sign, out)
         }
-        KeptFormatter::Plain(_) | KeptFormatter::Compact(_) | KeptFormatter::Lenient(_) => {
-            unreachable!()
-        }
+        KeptFormatter::Plain(_)
+        | KeptFormatter::Compact(_)
+        | KeptFormatter::Lenient(_)
+        | KeptFormatter::LenientUnits(_) => unreachable!(),
     }
 }
 
@@ -175,8 +176,9 @@ pub(crate) fn answer_read_unit<'a, F: Formatters<'a>>(
     }
     match formatters.found(key) {
         KeptFormatter::Units(made) => write_read_unit(alloc, made, rounding, text, out),
-        KeptFormatter::Plain(_) | KeptFormatter::Compact(_) | KeptFormatter::Lenient(_) => {
-            unreachable!()
-        }
+        KeptFormatter::Plain(_)
+        | KeptFormatter::Compact(_)
+        | KeptFormatter::Lenient(_)
+        | KeptFormatter::LenientUnits(_) => unreachable!(),
     }
 }

@@ -1,24 +1,28 @@
 //! The formatter of a unit that a key asks for: of percents, or of the amounts of a currency.
 
-ghost use Rattle.std.specs.Prelude.{◌≡◌, false, IfOk, MatchOption, Some, is_ok};
+ghost use Rattle.std.specs.Prelude.{◌≡◌, false, true, IfOk, IsErrOf, MatchOption, OnOk, Some, codes, is_ok};
 ghost use Rattle.std.specs.Result.{result_map_both};
-ghost use Rattle.icu_dimension.specs.HeldFormatters.{currency_settings_of, settings_of_percent};
+ghost use Rattle.icu_dimension.specs.HeldFormatters.{code_of, currency_settings_of, settings_of_percent};
 ghost use Rattle.icu_dimension.specs.HeldUnits.{settings_of};
-ghost use Rattle.icu_dimension.specs.UnitReading.{reader_texts};
+ghost use Rattle.icu_dimension.specs.LenientUnits.{is_leniently_unit_readable_by, lenient_texts};
+ghost use Rattle.icu_dimension.specs.UnitReading.{AreReaderTexts, reader_texts};
 ghost use Rattle.locale_numbers_book.specs.TagFormatters.{currency_found_in, percent_found_in};
+ghost use Rattle.locale_numbers.specs.FormatterKeys.{found_keyed_unit};
 ghost use Rattle.locale_numbers.specs.FoundUnit.{found_amounts, found_unit, options_of};
+ghost use Rattle.locale_numbers.specs.declared.formatter_key.KeyedUnit.{KeyedUnit};
 ghost use Rattle.locale_numbers_requests.specs.declared.UnitAsked.{UnitAsked};
-ghost use Rattle.locale_numbers.specs.UnitHeld.{KnowsReader, WritesUnit, unit_held};
+ghost use Rattle.locale_numbers.specs.UnitHeld.{KnowsReader, WritesUnit, code_held, keyed_code, typed_of, unit_held};
 
-use crate::formatter_key::FormatterKey;
+use crate::formatter_key::{FormatterKey, KeyedUnit};
 use crate::tables::Tables;
+use icu_decimal::error::ReadError;
 use icu_decimal::options::GroupingStrategy;
 use icu_decimal::provider::DataError;
 use icu_dimension::{
     CurrencyCode, CurrencyFormatter, CurrencyFormatterOptions, CurrencyStyle, CurrencyWidth,
-    PercentFormatter, PercentFormatterOptions,
+    LenientUnitReader, PercentFormatter, PercentFormatterOptions,
 };
-use locale_numbers_answers::{KnownReader, UnitParts};
+use locale_numbers_answers::{KnownLenientReader, KnownReader, UnitParts};
 use locale_numbers_requests::AmountStyle;
 use std::alloc::{AllocError, Global};
 
@@ -55,6 +59,39 @@ impl<'a> UnitNumbers<'a> {
                 tables: amounts.tables(),
                 digits: Some(amounts.fractions()),
             },
+        }
+    }
+
+    // What reads what people type of its numbers, where texts can be read leniently. It allocates each folded text.
+    fn typed_reader(&self, alloc: Global) -> Result<LenientUnitReader<'a>, ReadError>
+        ensures unreadable { IsErrOf result ReadError.Unreadable
+            → is_leniently_unit_readable_by (lenient_texts (unit_held self.now).settings (code_held self.now)) ≡ false }
+        ensures not_written { ¬ (IsErrOf result ReadError.NotWritten) }
+        ensures texts { OnOk result (AreReaderTexts (reader_texts (unit_held self.now).settings)) }
+        ensures readable { OnOk result
+            (is_leniently_unit_readable_by (lenient_texts (unit_held self.now).settings (code_held self.now)) ≡ true) }
+        ensures value { IfOk result
+            (λ reader. reader ≡ lenient_texts (unit_held self.now).settings (code_held self.now)) }
+    {
+        match self {
+            UnitNumbers::Percents(percents) => percents.lenient_reader(alloc),
+            UnitNumbers::Amounts(amounts) => amounts.lenient_reader(alloc),
+        }
+    }
+
+    // The same, or what reads exactly alone. It allocates the affixes of each sign, and each folded text.
+    #[tactic(auto, using(crate::proofs::LenientUnitSteps::is_lenient, crate::proofs::LenientUnitSteps::read_leniently, crate::proofs::LenientUnitSteps::read_exactly))]
+    pub(crate) fn lenient_reader(&self, alloc: Global) -> Result<KnownLenientReader<'a>, AllocError>
+        ensures { IfOk result (λ reader. reader ≡ typed_of self.now) }
+    {
+        match self.typed_reader(alloc) {
+            Ok(reader) => Ok(KnownLenientReader::leniently(reader)),
+            Err(ReadError::Unreadable) => match self.reader(alloc) {
+                Ok(reader) => Ok(KnownLenientReader::exactly(reader)),
+                Err(refused) => Err(refused),
+            },
+            Err(ReadError::NotWritten) => unreachable!(),
+            Err(ReadError::Memory) => Err(AllocError),
         }
     }
 
@@ -115,8 +152,9 @@ fn amounts<'a, T: Tables>(
     code: CurrencyCode,
     key: &FormatterKey,
 ) -> Result<CurrencyFormatter<'a>, DataError>
-    ensures { result_map_both currency_settings_of (λ error. error) result
+    ensures found { result_map_both currency_settings_of (λ error. error) result
         ≡ currency_found_in (T.book tables.now) key.now.preferences code (options_of style key.now.grouping) }
+    ensures code { IfOk result (λ formatter. code_of formatter ≡ code) }
 {
     CurrencyFormatter::try_new_unstable(
         tables,
@@ -131,8 +169,9 @@ fn found_percents<'a, T: Tables>(
     tables: &'a T,
     key: &FormatterKey,
 ) -> Result<UnitNumbers<'a>, DataError>
-    ensures { result_map_both unit_held (λ error. error) result
+    ensures found { result_map_both unit_held (λ error. error) result
         ≡ found_unit UnitAsked.Percent (T.book tables.now) key.now.preferences key.now.grouping }
+    ensures code { IfOk result (λ numbers. code_held numbers ≡ codes "%") }
 {
     match percents(tables, key) {
         Ok(formatter) => Ok(UnitNumbers::Percents(formatter)),
@@ -146,8 +185,9 @@ fn found_amounts<'a, T: Tables>(
     style: AmountStyle,
     key: &FormatterKey,
 ) -> Result<UnitNumbers<'a>, DataError>
-    ensures { result_map_both unit_held (λ error. error) result
+    ensures found { result_map_both unit_held (λ error. error) result
         ≡ found_amounts style key.now.code (T.book tables.now) key.now.preferences key.now.grouping }
+    ensures code { IfOk result (λ numbers. code_held numbers ≡ keyed_code (KeyedUnit.Amount style) key.now.code) }
 {
     let Some(code) = key.code else {
         return Err(DataError::IdentifierNotFound);
@@ -155,6 +195,22 @@ fn found_amounts<'a, T: Tables>(
     match amounts(tables, style, code, key) {
         Ok(formatter) => Ok(UnitNumbers::Amounts(formatter)),
         Err(error) => Err(error),
+    }
+}
+
+// What writes the numbers of a unit of a key.
+pub(crate) fn found_numbers<'a, T: Tables>(
+    tables: &'a T,
+    unit: KeyedUnit,
+    key: &FormatterKey,
+) -> Result<UnitNumbers<'a>, DataError>
+    ensures found { result_map_both unit_held (λ error. error) result
+        ≡ found_keyed_unit unit key.now.code (T.book tables.now) key.now.preferences key.now.grouping }
+    ensures code { IfOk result (λ numbers. code_held numbers ≡ keyed_code unit key.now.code) }
+{
+    match unit {
+        KeyedUnit::Percent => found_percents(tables, key),
+        KeyedUnit::Amount(style) => found_amounts(tables, style, key),
     }
 }
 
@@ -171,43 +227,22 @@ fn kept_reader<'a>(alloc: Global, numbers: &UnitNumbers<'a>, keeps: bool) -> Opt
     }
 }
 
-// The formatter of the percents of a key; `None` where the book lacks one of its tables.
+// The formatter of the numbers of a unit of a key; `None` where the book lacks one of its tables.
 //
 // One that is to be kept puts together now what it reads texts with, which allocates.
-pub(crate) fn made_percents<'a, T: Tables>(
+pub(crate) fn made_units<'a, T: Tables>(
     alloc: Global,
     tables: &'a T,
+    unit: KeyedUnit,
     key: &FormatterKey,
     keeps: bool,
 ) -> Option<UnitFormatter<'a>>
     ensures { MatchOption result
-        (is_ok (found_unit UnitAsked.Percent (T.book tables.now) key.now.preferences key.now.grouping) ≡ false)
+        (is_ok (found_keyed_unit unit key.now.code (T.book tables.now) key.now.preferences key.now.grouping) ≡ false)
         (λ made. WritesUnit
-        (found_unit UnitAsked.Percent (T.book tables.now) key.now.preferences key.now.grouping) made) }
+        (found_keyed_unit unit key.now.code (T.book tables.now) key.now.preferences key.now.grouping) made) }
 {
-    match found_percents(tables, key) {
-        Ok(numbers) => {
-            let reader = kept_reader(alloc, &numbers, keeps);
-            Some(UnitFormatter { numbers, reader })
-        }
-        Err(_) => None,
-    }
-}
-
-// The same of the amounts of a key, in its currency.
-pub(crate) fn made_amounts<'a, T: Tables>(
-    alloc: Global,
-    tables: &'a T,
-    style: AmountStyle,
-    key: &FormatterKey,
-    keeps: bool,
-) -> Option<UnitFormatter<'a>>
-    ensures { MatchOption result
-        (is_ok (found_amounts style key.now.code (T.book tables.now) key.now.preferences key.now.grouping) ≡ false)
-        (λ made. WritesUnit
-        (found_amounts style key.now.code (T.book tables.now) key.now.preferences key.now.grouping) made) }
-{
-    match found_amounts(tables, style, key) {
+    match found_numbers(tables, unit, key) {
         Ok(numbers) => {
             let reader = kept_reader(alloc, &numbers, keeps);
             Some(UnitFormatter { numbers, reader })

@@ -18,7 +18,13 @@ use Rattle.locale_numbers_answers.specs.Rounded.{multiple_of, highest_of}
 use Rattle.locale_numbers_answers.specs.LenientAnswer.{lenient_with, second_of}
 use Rattle.locale_numbers_answers.specs.ReadAnswer.{read_answer, read_with}
 use Rattle.locale_numbers_answers.specs.NumberReading.{reading_of, parts_of, nothing, beyond}
+use Rattle.icu_dimension_affixes.specs.UnitPatterns.{PatternTexts}
+use Rattle.icu_dimension_affixes.specs.UnitText.{UnitName}
+use Rattle.locale_numbers_answers.specs.LenientUnitAnswer.{lenient_unit_with, second_unit, typed_code}
+use Rattle.locale_numbers_answers.specs.UnitAnswer.{UnitFound}
 use Rattle.locale_numbers_requests.specs.Request.{tab}
+use Rattle.locale_numbers_requests.specs.declared.AmountStyle.TheVariants.{Standard}
+use Rattle.locale_numbers_requests.specs.declared.UnitAsked.TheVariants.{Percent, Currency}
 
 -- ---- roundings
 
@@ -109,3 +115,20 @@ no_latin symbols = refl
 
 no_table_typed : (latin : Tables) → lenient_with (Err DataError.IdentifierNotFound) (Ok latin) (codes "5") ≡ codes "err" ++ tab ∷ codes "table"
 no_table_typed latin = refl
+
+-- ---- typed texts with a unit
+
+-- beside a number stands the code of the currency, or a percent sign
+euro_beside : typed_code (Currency Standard (codes "EUR")) ≡ codes "EUR"
+euro_beside = refl
+
+percent_beside : typed_code Percent ≡ codes "%"
+percent_beside = refl
+
+no_unit_typed : (latin : UnitFound) → lenient_unit_with (codes "EUR") (Err DataError.IdentifierNotFound) (Ok latin) (codes "5") ≡ codes "err" ++ tab ∷ codes "table"
+no_unit_typed latin = refl
+
+-- an amount in the digits of ASCII has no second reader
+ascii_amount : (symbols : Symbols) (pattern : PatternTexts) (unit : UnitName) (latin : UnitFound)
+    → second_unit (record { settings = record { tables = record { symbols = symbols; digits = codes "0123456789"; strategy = Auto }; pattern = pattern; unit = unit }; digits = None }) (Ok latin) ≡ None
+ascii_amount symbols pattern unit latin = refl

@@ -7,6 +7,7 @@ pub mod KnownCompactAnswers
 mod KnownValues
 pub mod LawsLemmas
 pub mod LenientLemmas
+pub mod LenientUnitLemmas
 mod MagnitudeLemmas
 pub mod NumberBounds
 pub mod NumberReadingLemmas

@@ -17,14 +17,17 @@ pub record TablesInTurn : Type 0 where
   pub first : Tables
   pub second : Option Tables
 
--- the tables, where they are found
-abbrev pub where_found : Result Tables DataError → Option Tables
-where_found (Ok tables) = Some tables
+-- what is found, where it is
+abbrev pub where_found : {T : Type 0} → Result T DataError → Option T
+where_found (Ok found) = Some found
 where_found (Err error) = None
 
--- second are those of the numbering system `latn`, where the first ones have other digits than those of ASCII
+-- second is what is found for the numbering system `latn`, where the digits are other ones than those of ASCII
+abbrev pub second_found : {T : Type 0} → List ℕ → Result T DataError → Option T
+second_found digits latin = if bytes_eq digits plain_digits then None else where_found latin
+
 abbrev pub second_of : Tables → Result Tables DataError → Option Tables
-second_of tables latin = if bytes_eq tables.digits plain_digits then None else where_found latin
+second_of tables latin = second_found tables.digits latin
 
 abbrev pub in_turn : Tables → Result Tables DataError → TablesInTurn
 in_turn tables latin = record { first = tables; second = second_of tables latin }

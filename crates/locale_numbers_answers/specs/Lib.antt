@@ -6,6 +6,7 @@ pub mod CompactAnswer
 pub mod ReadAnswer
 pub mod LenientAnswer
 pub mod UnitAnswer
+pub mod LenientUnitAnswer
 -- What the answers go by, which a law makes needless to believe.
 pub mod NumberReading
 pub mod CompactReading
@@ -15,5 +16,6 @@ pub mod UnitReadings
 -- What private steps follow.
 pub mod AnswerSink
 pub mod AnswerSinkLaws
+pub mod TypedHeld
 -- Statements of laws.
 pub mod Laws

@@ -2,6 +2,7 @@
 
 ghost use Rattle.std.specs.Prelude.{◌≡◌, Option, None, Some, IsErrOf, IfSome, option_map};
 ghost use Rattle.std.specs.Str.{bytes_eq};
+ghost use Rattle.icu_decimal.specs.BorrowedTables.{borrowed_tables};
 ghost use Rattle.icu_decimal.specs.Folding.{plain_digits};
 ghost use Rattle.icu_decimal.specs.HeldTables.{tables_of};
 ghost use Rattle.icu_decimal.specs.LenientReading.{MayAllocate, lenient_reading};
@@ -10,19 +11,19 @@ ghost use Rattle.locale_numbers_answers.specs.LenientAnswer.{MayAllocateInTurn, 
 
 use fixed_decimal::Decimal;
 use icu_decimal::error::ReadError;
-use icu_decimal::{DecimalFormatter, LenientTables, read_lenient};
+use icu_decimal::{DecimalFormatter, DecimalTables, LenientTables, read_lenient};
 use std::alloc::Global;
 use std::marker::Model;
 
 const ASCII_DIGITS: [char; 10] = ['0', '1', '2', '3', '4', '5', '6', '7', '8', '9'];
 
-/// Whether the digits of a formatter are those of ASCII: of `en` they are, of `ar-EG` they are not.
+/// Whether the digits of tables are those of ASCII: of `en` they are, of `ar-EG` they are not.
 ///
 /// It does not allocate.
-pub fn has_ascii_digits(formatter: &DecimalFormatter<'_>) -> bool
-    ensures { result ≡ bytes_eq (tables_of formatter.now).digits plain_digits }
+pub fn has_ascii_digits(tables: &DecimalTables<'_>) -> bool
+    ensures { result ≡ bytes_eq (borrowed_tables tables.now).digits plain_digits }
 {
-    *formatter.digits() == ASCII_DIGITS
+    *tables.digits() == ASCII_DIGITS
 }
 
 // A formatter, and its symbols folded, where they are kept.

@@ -7,7 +7,7 @@ use Rattle.icu_decimal_symbols.specs.declared.options.GroupingStrategy.TheVarian
 use Rattle.locale_numbers_requests.specs.FormField.{form_named}
 use Rattle.locale_numbers_requests.specs.Request.{tab, fields, request_in, grouping_named, sign_named}
 use Rattle.locale_numbers_requests.specs.RoundingField.{position_named, rounding_named}
-use Rattle.locale_numbers_requests.specs.declared.form_field.Form.TheVariants.{Plain, Read, ReadLenient, Unit, ReadUnit}
+use Rattle.locale_numbers_requests.specs.declared.form_field.Form.TheVariants.{Plain, Read, ReadLenient, Unit, ReadUnit, ReadLenientUnit}
 use Rattle.locale_numbers_requests.specs.declared.form_field.AmountStyle.TheVariants.{Standard, Accounting, Code}
 use Rattle.locale_numbers_requests.specs.declared.form_field.UnitAsked.TheVariants.{Percent, Currency}
 use Rattle.locale_numbers_requests.specs.declared.sign_field.SignAsked.TheVariants.{Keep}
@@ -77,9 +77,24 @@ code_word = refl
 read_amount_word : form_named (codes "read-code-CHF") ≡ Some (ReadUnit (Currency Code (codes "CHF")))
 read_amount_word = refl
 
+typed_percent_word : form_named (codes "read-lenient-percent") ≡ Some (ReadLenientUnit Percent)
+typed_percent_word = refl
+
+typed_amount_word : form_named (codes "read-lenient-currency-EUR") ≡ Some (ReadLenientUnit (Currency Standard (codes "EUR")))
+typed_amount_word = refl
+
+typed_accounting_word : form_named (codes "read-lenient-accounting-USD") ≡ Some (ReadLenientUnit (Currency Accounting (codes "USD")))
+typed_accounting_word = refl
+
+typed_code_word : form_named (codes "read-lenient-code-QQQ") ≡ Some (ReadLenientUnit (Currency Code (codes "QQQ")))
+typed_code_word = refl
+
 -- a code is three capitals
 small_code : form_named (codes "currency-eur") ≡ None
 small_code = refl
+
+small_typed_code : form_named (codes "read-lenient-currency-eur") ≡ None
+small_typed_code = refl
 
 long_code : form_named (codes "currency-EURO") ≡ None
 long_code = refl
@@ -101,6 +116,19 @@ cash_line = refl
 read_cash_line : request_in (codes "en" ∷ codes "read-currency-CHF" ∷ codes "auto" ∷ codes "keep" ∷ codes "cash" ∷ codes "2.35" ∷ [])
     ≡ Some (record { tag = codes "en"; form = ReadUnit (Currency Standard (codes "CHF")); grouping = Auto; sign = Keep; rounding = Cash; text = codes "2.35" })
 read_cash_line = refl
+
+typed_cash_line : request_in (codes "en" ∷ codes "read-lenient-currency-CHF" ∷ codes "auto" ∷ codes "keep" ∷ codes "cash" ∷ codes "2.35" ∷ [])
+    ≡ Some (record { tag = codes "en"; form = ReadLenientUnit (Currency Standard (codes "CHF")); grouping = Auto; sign = Keep; rounding = Cash; text = codes "2.35" })
+typed_cash_line = refl
+
+typed_percent_in_cash : request_in (codes "en" ∷ codes "read-lenient-percent" ∷ codes "auto" ∷ codes "keep" ∷ codes "cash" ∷ codes "1" ∷ []) ≡ None
+typed_percent_in_cash = refl
+
+typed_amount_with_a_sign : request_in (codes "en" ∷ codes "read-lenient-currency-EUR" ∷ codes "auto" ∷ codes "auto" ∷ codes "-" ∷ codes "5" ∷ []) ≡ None
+typed_amount_with_a_sign = refl
+
+typed_amount_with_a_rounding : request_in (codes "en" ∷ codes "read-lenient-currency-EUR" ∷ codes "auto" ∷ codes "keep" ∷ codes "0,trunc,1" ∷ codes "5" ∷ []) ≡ None
+typed_amount_with_a_rounding = refl
 
 percent_in_cash : request_in (codes "en" ∷ codes "percent" ∷ codes "auto" ∷ codes "keep" ∷ codes "cash" ∷ codes "1" ∷ []) ≡ None
 percent_in_cash = refl

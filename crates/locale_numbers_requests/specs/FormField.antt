@@ -7,9 +7,9 @@ use Rattle.std.specs.Str.{bytes_eq}
 use Rattle.icu_dimension_fractions.specs.CurrencyCodes.{is_currency_code}
 use Rattle.locale_numbers_requests.specs.declared.form_field.AmountStyle.TheVariants.{Standard, Accounting, Code}
 use Rattle.locale_numbers_requests.specs.declared.form_field.AmountWord.{AmountWord}
-use Rattle.locale_numbers_requests.specs.declared.form_field.AmountWord.TheVariants.{Written, ReadBack}
+use Rattle.locale_numbers_requests.specs.declared.form_field.AmountWord.TheVariants.{Written, ReadBack, ReadTyped}
 use Rattle.locale_numbers_requests.specs.declared.form_field.Form.{Form}
-use Rattle.locale_numbers_requests.specs.declared.form_field.Form.TheVariants.{Plain, Compact, Exact, Read, ReadLenient, Unit, ReadUnit}
+use Rattle.locale_numbers_requests.specs.declared.form_field.Form.TheVariants.{Plain, Compact, Exact, Read, ReadLenient, Unit, ReadUnit, ReadLenientUnit}
 use Rattle.locale_numbers_requests.specs.declared.form_field.PatternLength.TheVariants.{Short, Long}
 use Rattle.locale_numbers_requests.specs.declared.form_field.UnitAsked.TheVariants.{Percent, Currency}
 
@@ -22,11 +22,15 @@ amount_word front =
     else if bytes_eq front (codes "read-currency-") then Some (ReadBack Standard)
     else if bytes_eq front (codes "read-accounting-") then Some (ReadBack Accounting)
     else if bytes_eq front (codes "read-code-") then Some (ReadBack Code)
+    else if bytes_eq front (codes "read-lenient-currency-") then Some (ReadTyped Standard)
+    else if bytes_eq front (codes "read-lenient-accounting-") then Some (ReadTyped Accounting)
+    else if bytes_eq front (codes "read-lenient-code-") then Some (ReadTyped Code)
     else None
 
 abbrev pub amount_form : AmountWord → List ℕ → Form
 amount_form (Written style) code = Unit (Currency style code)
 amount_form (ReadBack style) code = ReadUnit (Currency style code)
+amount_form (ReadTyped style) code = ReadLenientUnit (Currency style code)
 
 -- the form of a front and a code, where both are known
 abbrev pub amount_by : Option AmountWord → List ℕ → Option Form
@@ -49,4 +53,5 @@ form_named word =
     else if bytes_eq word (codes "read-lenient") then Some ReadLenient
     else if bytes_eq word (codes "percent") then Some (Unit Percent)
     else if bytes_eq word (codes "read-percent") then Some (ReadUnit Percent)
+    else if bytes_eq word (codes "read-lenient-percent") then Some (ReadLenientUnit Percent)
     else coded_form word

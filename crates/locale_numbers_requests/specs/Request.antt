@@ -14,7 +14,7 @@ use Rattle.locale_numbers_requests.specs.declared.sign_field.SignAsked.{SignAske
 use Rattle.locale_numbers_requests.specs.declared.sign_field.SignAsked.TheVariants.{Keep, Show}
 use Rattle.locale_numbers_requests.specs.declared.rounding_field.RoundingAsked.{RoundingAsked}
 use Rattle.locale_numbers_requests.specs.declared.form_field.Form.{Form}
-use Rattle.locale_numbers_requests.specs.declared.form_field.Form.TheVariants.{Plain, Compact, Exact, Read, ReadLenient, Unit, ReadUnit}
+use Rattle.locale_numbers_requests.specs.declared.form_field.Form.TheVariants.{Plain, Compact, Exact, Read, ReadLenient, Unit, ReadUnit, ReadLenientUnit}
 use Rattle.locale_numbers_requests.specs.declared.form_field.UnitAsked.TheVariants.{Percent, Currency}
 
 -- the code of a tab
@@ -62,6 +62,8 @@ takes (Unit Percent) sign rounding = not (is_cash rounding)
 takes (Unit (Currency style code)) sign rounding = true
 takes (ReadUnit Percent) sign rounding = keeps_sign sign && keeps_digits rounding
 takes (ReadUnit (Currency style code)) sign rounding = keeps_sign sign && (keeps_digits rounding || is_cash rounding)
+takes (ReadLenientUnit Percent) sign rounding = keeps_sign sign && keeps_digits rounding
+takes (ReadLenientUnit (Currency style code)) sign rounding = keeps_sign sign && (keeps_digits rounding || is_cash rounding)
 
 -- a request as it is asked: a tag, a form, a grouping, a sign, a rounding and the text of a number
 pub record Asked : Type 0 where

@@ -52,10 +52,12 @@ pub enum Form {
     Unit(UnitAsked),
     /// The number itself, read back from its text with a unit.
     ReadUnit(UnitAsked),
+    /// The number itself, read from what people type of numbers with a unit.
+    ReadLenientUnit(UnitAsked),
 }
 
 // The words of forms, but for those with the code of a currency.
-const FORMS: [(&[u8], Form); 9] = [
+const FORMS: [(&[u8], Form); 10] = [
     (b"plain", Form::Plain),
     (b"short", Form::Compact(PatternLength::Short)),
     (b"long", Form::Compact(PatternLength::Long)),
@@ -65,6 +67,10 @@ const FORMS: [(&[u8], Form); 9] = [
     (b"read-lenient", Form::ReadLenient),
     (b"percent", Form::Unit(UnitAsked::Percent)),
     (b"read-percent", Form::ReadUnit(UnitAsked::Percent)),
+    (
+        b"read-lenient-percent",
+        Form::ReadLenientUnit(UnitAsked::Percent),
+    ),
 ];
 
 // What the front of a word says of an amount, before the code.
@@ -74,10 +80,12 @@ enum AmountWord {
     Written(AmountStyle),
     /// It is read back, written so.
     ReadBack(AmountStyle),
+    /// It is read from what people type, as one that is written so.
+    ReadTyped(AmountStyle),
 }
 
 // The fronts of words before the code of a currency.
-const AMOUNTS: [(&[u8], AmountWord); 6] = [
+const AMOUNTS: [(&[u8], AmountWord); 9] = [
     (b"currency-", AmountWord::Written(AmountStyle::Standard)),
     (b"accounting-", AmountWord::Written(AmountStyle::Accounting)),
     (b"code-", AmountWord::Written(AmountStyle::Code)),
@@ -90,6 +98,18 @@ const AMOUNTS: [(&[u8], AmountWord); 6] = [
         AmountWord::ReadBack(AmountStyle::Accounting),
     ),
     (b"read-code-", AmountWord::ReadBack(AmountStyle::Code)),
+    (
+        b"read-lenient-currency-",
+        AmountWord::ReadTyped(AmountStyle::Standard),
+    ),
+    (
+        b"read-lenient-accounting-",
+        AmountWord::ReadTyped(AmountStyle::Accounting),
+    ),
+    (
+        b"read-lenient-code-",
+        AmountWord::ReadTyped(AmountStyle::Code),
+    ),
 ];
 
 // The form of an amount of this currency.
@@ -99,6 +119,7 @@ fn amount_form(word: AmountWord, code: CurrencyCode) -> Form
     match word {
         AmountWord::Written(style) => Form::Unit(UnitAsked::Currency(style, code)),
         AmountWord::ReadBack(style) => Form::ReadUnit(UnitAsked::Currency(style, code)),
+        AmountWord::ReadTyped(style) => Form::ReadLenientUnit(UnitAsked::Currency(style, code)),
     }
 }
 

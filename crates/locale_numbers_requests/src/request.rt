@@ -51,10 +51,12 @@ fn takes(form: &Form, sign: SignAsked, rounding: RoundingAsked) -> bool
         Form::Plain | Form::Compact(_) | Form::Unit(UnitAsked::Percent) => !is_cash(rounding),
         Form::Unit(UnitAsked::Currency(_, _)) => true,
         Form::Exact(_) => keeps_digits(rounding),
-        Form::Read | Form::ReadLenient | Form::ReadUnit(UnitAsked::Percent) => {
-            keeps_sign(sign) && keeps_digits(rounding)
-        }
-        Form::ReadUnit(UnitAsked::Currency(_, _)) => {
+        Form::Read
+        | Form::ReadLenient
+        | Form::ReadUnit(UnitAsked::Percent)
+        | Form::ReadLenientUnit(UnitAsked::Percent) => keeps_sign(sign) && keeps_digits(rounding),
+        Form::ReadUnit(UnitAsked::Currency(_, _))
+        | Form::ReadLenientUnit(UnitAsked::Currency(_, _)) => {
             keeps_sign(sign) && (keeps_digits(rounding) || is_cash(rounding))
         }
     }

@@ -87,6 +87,38 @@ const THAI_BEHIND: &str = r#"[[["en","","latn","-","","+","",".",",",3,3,1],
   ["en-US","","latn","-","","+","",".","'",3,3,1]],
  [["latn","0123456789"],["thai","๐๑๒๓๔๕๖๗๘๙"]],[],[],[]]"#;
 
+// Entries of six locales, from CLDR, with units: Arabic in Egypt has those of `latn` too.
+const TYPED: &str = r#"[[[["en","","latn","-","","+","",".",",",3,3,1],
+  ["de","","latn","-","","+","",",",".",3,3,1],
+  ["de-CH","","latn","-","","+","",".","'",3,3,1],
+  ["fr","","latn","-","","+","",",","\u202f",3,3,1],
+  ["hi","","latn","-","","+","",".",",",3,2,1],
+  ["ar-EG","","arab","\u061c-","","\u061c+","","٫","٬",3,3,1],
+  ["ar-EG","latn","latn","\u200e-","","\u200e+","",".",",",3,3,1]],
+ [["latn","0123456789"],["arab","٠١٢٣٤٥٦٧٨٩"]],[],[],[]],
+ [[["en","","%",null,["","¤"]],
+  ["de","","%",null,["","\u00a0¤"]],
+  ["de-CH","","%",null,["","¤"]],
+  ["fr","","%",null,["","\u00a0¤"]],
+  ["hi","","%",null,["","¤"]],
+  ["ar-EG","","٪\u061c",null,["","¤"]],
+  ["ar-EG","latn","\u200e%\u200e",null,["","¤"]]],
+ [["en","",null,["¤",""],["¤\u00a0",""]],
+  ["de","",null,["","\u00a0¤"],null],
+  ["de-CH","",null,["¤\u00a0","","¤-","","¤+",""],null],
+  ["fr","",null,["","\u00a0¤"],null],
+  ["hi","",null,["¤",""],["¤\u00a0",""]],
+  ["ar-EG","",null,["\u200f","\u00a0¤"],null],
+  ["ar-EG","latn",null,["\u200f","\u00a0¤","\u200f\u200e-","\u00a0¤","\u200f\u200e+","\u00a0¤"],null]],
+ [["en","",null,["¤","","(¤",")","+¤",""],["¤\u00a0","","(¤\u00a0",")","+¤\u00a0",""]]],
+ [["en","EUR","€",0],
+  ["en","USD","$",0],
+  ["de","EUR","€",0],
+  ["de","USD","$",0],
+  ["fr","EUR","€",0],
+  ["hi","INR","₹",0],
+  ["ar-EG","EGP","ج.م.\u200f",3]],[]]]"#;
+
 /// The text of the book with this name.
 pub fn book_named(name: &str) -> Option<&'static str> {
     match name {
@@ -107,6 +139,7 @@ pub fn book_named(name: &str) -> Option<&'static str> {
         "long-thousands" => Some(LONG_THOUSANDS),
         "no-rules" => Some(NO_RULES),
         "thai-behind" => Some(THAI_BEHIND),
+        "typed" => Some(TYPED),
         _ => None,
     }
 }

@@ -2,7 +2,7 @@ use Rattle.std.proofs.Common.{◌++◌, sym, ap, ◌∙◌, subst, inl, inr}
 use Rattle.std.specs.Prelude.{string_bytes}
 use Rattle.locale_numbers_answers.specs.AnswerSink.{HasRoom}
 use Rattle.locale_numbers.proofs.AnsweringLemmas.{on_ok_by}
-use Rattle.locale_numbers.proofs.FrontMemory.{answer_exact, answer_number, answer_read_unit, answer_unit, exact_may_take_behind, number_may_take_behind, of_key, read_unit_may_take_behind, unit_may_take_behind}
+use Rattle.locale_numbers.proofs.FrontMemory.{answer_exact, answer_lenient_unit, answer_number, answer_read_unit, answer_unit, exact_may_take_behind, lenient_unit_may_take_behind, number_may_take_behind, of_key, read_unit_may_take_behind, unit_may_take_behind}
 use Rattle.locale_numbers.proofs.answering.answer_behind_front.Goals as goal
 
 pub returns-in-Plain-clause-room : goal.returns-in-Plain-clause-room
@@ -51,3 +51,17 @@ returns-in-Some-as_text-4-clause-text g c =
     (λ p. p ∙ ap (λ answer. string_bytes c.args.out.now ++ answer)
     (sym (answer_read_unit book c.args.front.now c.in-Some.front c.in-Some-key.key c.args.text.now c.in-Some.is c.in-Some-key.is c.in-ReadUnit.field-0 c.in-Some-as_text-4.text.now c.in-ReadUnit.is c.requires.kind c.in-Some-as_text-4.ensures.0 c.in-Some-as_text-4.ensures.1)))
     c.answer_read_unit.ensures.text
+
+pub returns-in-Some-as_text-5-clause-room : goal.returns-in-Some-as_text-5-clause-room
+returns-in-Some-as_text-5-clause-room g c = λ room quiet small.
+    absurd (small (lenient_unit_may_take_behind (g.F.Formatters.book c.args.formatters.now) c.args.front.now c.in-Some.front c.in-Some-key.key c.args.text.now c.in-Some.is c.in-Some-key.is c.args.value.now
+    c.in-ReadLenientUnit.unit c.in-ReadLenientUnit.is c.in-Some-as_text-5.ensures.0))
+
+pub returns-in-Some-as_text-5-clause-text : goal.returns-in-Some-as_text-5-clause-text
+returns-in-Some-as_text-5-clause-text g c =
+    let book = g.F.Formatters.book c.args.formatters.now in
+    on_ok_by c.answer_lenient_unit.result
+    (λ p. p ∙ ap (λ answer. string_bytes c.args.out.now ++ answer)
+    (sym (answer_lenient_unit book c.args.front.now c.in-Some.front c.in-Some-key.key c.args.text.now c.in-Some.is c.in-Some-key.is c.in-ReadLenientUnit.unit c.keyed_unit-unit.result c.in-Some-as_text-5.text.now
+    c.in-ReadLenientUnit.is c.keyed_unit-unit.ensures c.requires.kind c.in-Some-as_text-5.ensures.0 c.in-Some-as_text-5.ensures.1)))
+    c.answer_lenient_unit.ensures.text

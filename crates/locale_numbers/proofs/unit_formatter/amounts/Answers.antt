@@ -2,8 +2,8 @@ use Rattle.locale_numbers.specs.FoundUnit.{options_of}
 use Rattle.locale_numbers.proofs.FoundUnitLemmas.{amounts_found_by}
 use Rattle.locale_numbers.proofs.unit_formatter.amounts.Goals as goal
 
-pub returns : goal.returns
-returns g c =
+pub returns-clause-found : goal.returns-clause-found
+returns-clause-found g c =
     let tables = c.args.tables.now in
     amounts_found_by (g.T.ParentProvider.next tables) (g.T.ParentProvider.limit tables) (g.T.DataProvider-1.table tables) (g.T.DataProvider-2.table tables) (g.T.Tables.book tables)
     (g.met.T.Tables.parents tables) (g.met.T.Tables.limits tables) (g.met.T.Tables.symbols tables) (g.met.T.Tables.digits tables)

@@ -1,0 +1,76 @@
+-- The answer of the forms that read what people type of numbers with a unit: the decimal that was typed, as it is printed, or why there is none. A form with digits of its own is also read in those of ASCII.
+-- Defined in docs/requests.md, "Answer line", and docs/units.md, "Lenient reading".
+-- Cited by `answer` and `run`, through Answer.antt, and by `KnownLenientReader`, `UnitReadersInTurn` and `write_lenient_unit_answer`.
+-- A text is read exactly, and else leniently, and each is defined in a file of its own to import.
+use Rattle.std.specs.Prelude.{ℕ, cond, List, Option, Some, None, option_map, Result, Ok, Err, codes}
+use Rattle.icu_decimal.specs.LenientReading.{or_else}
+use Rattle.icu_decimal.specs.PlainReading.{PlainReading, unreadable}
+use Rattle.icu_decimal.specs.PlainText.{Tables}
+use Rattle.icu_decimal.specs.declared.error.DataError.{DataError}
+use Rattle.icu_dimension_affixes.specs.UnitReading.{ReaderTexts, reader_texts}
+use Rattle.icu_dimension_affixes.specs.UnitText.{UnitSettings}
+use Rattle.icu_dimension_lenient.specs.LenientUnits.{FoldedUnit, is_leniently_unit_readable_by, lenient_texts, typed_unit_reading}
+use Rattle.locale_numbers_answers.specs.AnswerLine.{refused}
+use Rattle.locale_numbers_answers.specs.LenientAnswer.{second_found}
+use Rattle.locale_numbers_answers.specs.ReadAnswer.{read_answer}
+use Rattle.locale_numbers_answers.specs.UnitAnswer.{UnitFound}
+use Rattle.locale_numbers_answers.specs.UnitReadings.{unit_reading}
+use Rattle.locale_numbers_requests.specs.declared.Refusal.TheVariants as refusal
+use Rattle.locale_numbers_requests.specs.declared.UnitAsked.{UnitAsked}
+use Rattle.locale_numbers_requests.specs.declared.UnitAsked.TheVariants.{Percent, Currency}
+
+-- what typed texts are read with: what is read exactly with, and beside it the folded affixes, unit and code, where texts can be read leniently
+pub record TypedTexts : Type 0 where
+  pub reader : ReaderTexts
+  pub folded : Option FoldedUnit
+
+abbrev pub typed_texts : UnitSettings → List ℕ → TypedTexts
+typed_texts s code = record {
+  reader = reader_texts s;
+  folded = cond (is_leniently_unit_readable_by (lenient_texts s code)) (Some (lenient_texts s code).folded) None;
+}
+
+-- a text that the formatter does not write
+abbrev pub typed_by : Tables → Option FoldedUnit → List ℕ → PlainReading
+typed_by tables None text = unreadable
+typed_by tables (Some folded) text = typed_unit_reading tables folded text
+
+-- any text: exactly, or else leniently
+unfoldable pub lenient_unit_reading : TypedTexts → List ℕ → PlainReading
+lenient_unit_reading a text = or_else (unit_reading a.reader text) (typed_by a.reader.tables a.folded text)
+
+-- ---- in turn
+
+-- what a text is read with, and others, where there are any, for what the first ones do not read
+pub record TypedInTurn : Type 0 where
+  pub first : TypedTexts
+  pub second : Option TypedTexts
+
+abbrev pub unit_reading_by : TypedTexts → Option TypedTexts → List ℕ → PlainReading
+unit_reading_by first None text = lenient_unit_reading first text
+unit_reading_by first (Some second) text = or_else (lenient_unit_reading first text) (lenient_unit_reading second text)
+
+abbrev pub unit_reading_in_turn : TypedInTurn → List ℕ → PlainReading
+unit_reading_in_turn readers text = unit_reading_by readers.first readers.second text
+
+-- second is what is found for the numbering system `latn`, where the digits are other ones than those of ASCII
+abbrev pub second_unit : UnitFound → Result UnitFound DataError → Option UnitFound
+second_unit found latin = second_found found.settings.tables.digits latin
+
+abbrev pub typed_found : List ℕ → UnitFound → TypedTexts
+typed_found code found = typed_texts found.settings code
+
+abbrev pub typed_in_turn : List ℕ → UnitFound → Option UnitFound → TypedInTurn
+typed_in_turn code found second = record { first = typed_found code found; second = option_map (typed_found code) second }
+
+-- ---- the answer
+
+-- the code that may stand beside a number in place of its unit: that of the currency, or a percent sign
+abbrev pub typed_code : UnitAsked → List ℕ
+typed_code Percent = codes "%"
+typed_code (Currency style code) = code
+
+-- the answer to a text with a unit of this code, where it is found, and by what is found for the system `latn`
+abbrev pub lenient_unit_with : List ℕ → Result UnitFound DataError → Result UnitFound DataError → List ℕ → List ℕ
+lenient_unit_with code (Err error) latin text = refused refusal.Table
+lenient_unit_with code (Ok found) latin text = read_answer (unit_reading_in_turn (typed_in_turn code found (second_unit found latin)) text)

@@ -1,0 +1,56 @@
+//! What people type of numbers with a unit, read by a reader, and where its digits are its own, also by one of the digits of
+//! ASCII.
+
+ghost use Rattle.std.specs.Prelude.{◌≡◌};
+ghost use Rattle.icu_decimal.specs.PlainReading.{IsAnswered};
+ghost use Rattle.locale_numbers_answers.specs.LenientUnitAnswer.{unit_reading_in_turn};
+
+use crate::known_lenient_reader::KnownLenientReader;
+use fixed_decimal::Decimal;
+use icu_decimal::error::ReadError;
+use std::alloc::Global;
+use std::marker::Model;
+
+/// What reads the texts with a unit of a form that people type into: by a reader, and what this does not read by a second
+/// one, where there is one, as that of `ar-EG-u-nu-latn` beside that of `ar-EG`.
+#[derive(Drop)]
+pub struct UnitReadersInTurn<'a> {
+    first: KnownLenientReader<'a>,
+    second: Option<KnownLenientReader<'a>>,
+}
+
+impl<'a> Model for UnitReadersInTurn<'a> {
+    ghost use Rattle.locale_numbers_answers.specs.LenientUnitAnswer.{TypedInTurn};
+
+    ghost Value = { TypedInTurn };
+
+    ghost view = { λ s. record { first = s.first; second = s.second } };
+}
+
+impl<'a> UnitReadersInTurn<'a> {
+    /// A reader and a second one. It does not allocate.
+    pub fn new(first: KnownLenientReader<'a>, second: Option<KnownLenientReader<'a>>) -> Self
+        ensures { result ≡ record { first = first.entry; second = second.entry } }
+    {
+        UnitReadersInTurn { first, second }
+    }
+
+    /// The number that was typed: by the reader of `en` and `EUR` 1234.5 of `€1234.5`, and 5 of `5 EUR`.
+    ///
+    /// `Unreadable`, `NotWritten`: as `KnownLenientReader::read` by the first reader, or, where by this the text is no
+    /// number, by the second one. `Memory`: out of memory. Allocates as these.
+    #[tactic(auto, using(crate::proofs::LenientUnitLemmas::read_first, crate::proofs::LenientUnitLemmas::unread_first, crate::proofs::LenientUnitLemmas::read_second))]
+    pub fn read(&self, alloc: Global, text: &str) -> Result<Decimal, ReadError>
+        ensures { IsAnswered result (unit_reading_in_turn self.now text.now) }
+    {
+        match self.first.read(alloc, text) {
+            Ok(number) => Ok(number),
+            Err(ReadError::NotWritten) => match &self.second {
+                Some(second) => second.read(alloc, text),
+                None => Err(ReadError::NotWritten),
+            },
+            Err(ReadError::Unreadable) => Err(ReadError::Unreadable),
+            Err(ReadError::Memory) => Err(ReadError::Memory),
+        }
+    }
+}
