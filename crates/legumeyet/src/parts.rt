@@ -1,6 +1,8 @@
 //! The parts of a number's text.
 
-ghost use Rattle.std.specs.Prelude.{◌≡◌, false};
+ghost use Rattle.std.specs.Prelude.{◌≡◌, ◌++◌, ◌∷◌, [], OnOk, codes, false};
+ghost use Rattle.std.specs.Io.KnownBytes.{Appends};
+ghost use Rattle.legumeyet.specs.Output.{line_feed};
 
 use fixed_decimal::ParseError;
 use icu_decimal::options::{
@@ -23,7 +25,9 @@ use std::io::Write;
 use std::mem;
 
 // Writes a piece of a line.
-fn put_piece<W: Write>(piece: &[u8], out: &mut W) -> Result<(), ProgramFault> {
+fn put_piece<W: Write>(piece: &[u8], out: &mut W) -> Result<(), ProgramFault>
+    ensures output { OnOk result (Appends (W.contents out.old) (W.contents out.new) piece.now) }
+{
     match out.write_all(piece) {
         Ok(()) => Ok(()),
         Err(_) => Err(ProgramFault::Run(RunError::Write)),
@@ -31,7 +35,10 @@ fn put_piece<W: Write>(piece: &[u8], out: &mut W) -> Result<(), ProgramFault> {
 }
 
 // Writes a part: its name and its text.
-fn put_part<W: Write>(name: &str, text: &str, out: &mut W) -> Result<(), ProgramFault> {
+fn put_part<W: Write>(name: &str, text: &str, out: &mut W) -> Result<(), ProgramFault>
+    ensures output { OnOk result (Appends (W.contents out.old) (W.contents out.new)
+        (codes "  " ++ (name.now ++ (codes " " ++ (text.now ++ line_feed ∷ []))))) }
+{
     put_piece(b"  ", out)?;
     put_piece(name.as_bytes(), out)?;
     put_piece(b" ", out)?;

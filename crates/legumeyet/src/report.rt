@@ -1,5 +1,8 @@
 //! What standard error is told.
 
+ghost use Rattle.std.specs.Prelude.{◌≡◌};
+ghost use Rattle.locale_numbers.specs.Fault.{status_of};
+
 use locale_numbers::ProgramFault;
 
 // What a word of refusal means.
@@ -35,7 +38,9 @@ pub fn tell_refused(rt: &HostRuntime, tag: &str, text: &[u8], word: &[u8]) {
 }
 
 /// Tells a fault, and returns its status.
-pub fn tell_fault(rt: &HostRuntime, fault: &ProgramFault) -> u8 {
+pub fn tell_fault(rt: &HostRuntime, fault: &ProgramFault) -> u8
+    ensures status { result ≡ status_of fault.now }
+{
     let _ = eprintln!(rt; "legumeyet: {fault}");
     fault.status()
 }
@@ -52,19 +57,25 @@ pub fn tell_usage(rt: &HostRuntime, error: &clap::Error) -> u8 {
 }
 
 /// Tells that a word is no text, and returns the status.
-pub fn tell_words(rt: &HostRuntime) -> u8 {
+pub fn tell_words(rt: &HostRuntime) -> u8
+    ensures status { result ≡ 2 }
+{
     let _ = eprintln!(rt; "error: a word is not UTF-8");
     2
 }
 
 /// Tells that a tag can't be in a request line, and returns the status.
-pub fn tell_tag(rt: &HostRuntime) -> u8 {
+pub fn tell_tag(rt: &HostRuntime) -> u8
+    ensures status { result ≡ 2 }
+{
     let _ = eprintln!(rt; "error: the tag has a tab");
     2
 }
 
 /// Tells that the code of a currency is none, and returns the status.
-pub fn tell_code(rt: &HostRuntime, code: &str) -> u8 {
+pub fn tell_code(rt: &HostRuntime, code: &str) -> u8
+    ensures status { result ≡ 2 }
+{
     let _ = eprintln!(rt;
         "error: --currency {code}: the code of a currency is three capitals, as EUR"
     );
@@ -72,7 +83,9 @@ pub fn tell_code(rt: &HostRuntime, code: &str) -> u8 {
 }
 
 /// Tells that a sign or a rounding is none, or that the form takes none, and returns the status.
-pub fn tell_fields(rt: &HostRuntime, form: &str, sign: &str, rounding: &str) -> u8 {
+pub fn tell_fields(rt: &HostRuntime, form: &str, sign: &str, rounding: &str) -> u8
+    ensures status { result ≡ 2 }
+{
     let _ = eprintln!(rt;
         "error: --form {form} --sign {sign} --round {rounding}: a rounding is a position from -32768 to 32767, then, where given, a mode and an increment of 1, 2, 5 or 25, as -2,half-even,5; exact forms take no rounding, and read and read-lenient neither sign nor rounding"
     );
@@ -80,7 +93,9 @@ pub fn tell_fields(rt: &HostRuntime, form: &str, sign: &str, rounding: &str) -> 
 }
 
 /// Tells that a form has no parts, and returns the status.
-pub fn tell_parts(rt: &HostRuntime, form: &str) -> u8 {
+pub fn tell_parts(rt: &HostRuntime, form: &str) -> u8
+    ensures status { result ≡ 2 }
+{
     let _ = eprintln!(rt;
         "error: --form {form} --parts: parts are for plain, short and long, --currency and --percent"
     );
