@@ -7,19 +7,19 @@ use Rattle.fixed_decimal_signed.specs.Number.{Number}
 use Rattle.fixed_decimal_signed.specs.NumberText.{AreDigits, spelled, character, digit_zero}
 use Rattle.fixed_decimal_signed.proofs.PrintedLemmas.{character_value}
 use Rattle.fixed_decimal_signed.proofs.TextPartsLemmas.{cons_tail}
-use Rattle.fixed_decimal.specs.CompactText.{CompactValue, IsCompact, behind_compact_mark, StartsNoZero, SpellsCompact, ReadsCompact, PassesExponent, IsBeyondCompact, compact_text_of}
+use Rattle.fixed_decimal.specs.CompactText.{CompactValue, IsCompact, after_compact_mark, StartsNoZero, SpellsCompact, ReadsCompact, PassesExponent, IsBeyondCompact, compact_text_of}
 use Rattle.fixed_decimal.specs.PlainText.{compact_mark}
 use Rattle.fixed_decimal_signed.specs.SignedText.{ReadsSigned, signed_text_of}
 use Rattle.fixed_decimal_signed.specs.SignedValue.{SignedValue}
-use Rattle.fixed_decimal.proofs.CompactTextLemmas.{behind_marked, found_compact}
+use Rattle.fixed_decimal.proofs.CompactTextLemmas.{after_marked, found_compact}
 use Rattle.fixed_decimal.proofs.PlainTextLemmas.{plain_printed}
 use Rattle.fixed_decimal.proofs.SignedReadOnceLemmas.{signed_reads_once, signed_not_beyond, signed_printed, same_printed}
 
-same_behind : (ds es : List ℕ) → behind_compact_mark ds ≡ behind_compact_mark es → ds ≡ es
-same_behind [] [] e = refl
-same_behind [] (d ∷ ds) e = absurd (cc)
-same_behind (d ∷ ds) [] e = absurd (cc)
-same_behind (d ∷ ds) (c ∷ cs) e = cons_tail compact_mark compact_mark (d ∷ ds) (c ∷ cs) e
+same_after : (ds es : List ℕ) → after_compact_mark ds ≡ after_compact_mark es → ds ≡ es
+same_after [] [] e = refl
+same_after [] (d ∷ ds) e = absurd (cc)
+same_after (d ∷ ds) [] e = absurd (cc)
+same_after (d ∷ ds) (c ∷ cs) e = cons_tail compact_mark compact_mark (d ∷ ds) (c ∷ cs) e
 
 record IsSameCompact (a b c d : List ℕ) : Type 0 where
   pub front : a ≡ b
@@ -27,8 +27,8 @@ record IsSameCompact (a b c d : List ℕ) : Type 0 where
 
 same_spelled : (text front digits other more : List ℕ) → SpellsCompact text front digits → SpellsCompact text other more → IsSameCompact front other digits more
 same_spelled text front digits other more h k =
-    let found = found_compact text front (behind_compact_mark digits) h.whole h.plain (behind_marked digits) other more k in
-    record { front = found.0; digits = same_behind digits more found.1 }
+    let found = found_compact text front (after_compact_mark digits) h.whole h.plain (after_marked digits) other more k in
+    record { front = found.0; digits = same_after digits more found.1 }
 
 abbrev compact_of : SignedValue Number → ℕ → CompactValue
 compact_of significand exponent = record { significand = significand; exponent = exponent }

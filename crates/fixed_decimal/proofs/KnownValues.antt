@@ -8,7 +8,7 @@ use Rattle.fixed_decimal_signed.proofs.KnownValues.{padded, one, one_read, minus
 use Rattle.fixed_decimal_signed.proofs.TextPartsLemmas.{cons_head, cons_tail}
 use Rattle.fixed_decimal_signed.proofs.TenLemmas.{tens_positive}
 use Rattle.fixed_decimal.specs.Calls.{Run, MayGrowIn}
-use Rattle.fixed_decimal.specs.CompactText.{behind_compact_mark, StartsNoZero, SpellsCompact, ReadsCompact, IsBeyondCompact, IsNoCompactText, compact_text_of}
+use Rattle.fixed_decimal.specs.CompactText.{after_compact_mark, StartsNoZero, SpellsCompact, ReadsCompact, IsBeyondCompact, IsNoCompactText, compact_text_of}
 use Rattle.fixed_decimal.specs.IntegerText.{ReadsInteger, ReadsFraction}
 use Rattle.fixed_decimal.specs.PlainText.{MarksExponent, HasNoMark, compact_mark}
 use Rattle.fixed_decimal.specs.ScientificText.{ReadsScientific, scientific_text_of}
@@ -33,7 +33,7 @@ whole_one : ReadsInteger (codes "-1") (record { sign = Negative; absolute = one 
 unfolding one
 whole_one = record { reads = minus_one_read; whole = refl }
 
--- `10e-1` shows a digit behind the point
+-- `10e-1` shows a digit after the point
 tenths_shown : ReadsFraction (codes "10e-1")
 unfolding one_and_tenths
 tenths_shown = record {
@@ -100,14 +100,14 @@ compact_read = record {
   fits = lit≤ tt;
 }
 
-starts_with_zero : (digits : List ℕ) → codes "c06" ≡ behind_compact_mark digits → StartsNoZero digits → ⊥
+starts_with_zero : (digits : List ℕ) → codes "c06" ≡ after_compact_mark digits → StartsNoZero digits → ⊥
 starts_with_zero [] e first = absurd (cc)
 starts_with_zero (d ∷ ds) e first = first (sym (cons_head 48 d (codes "6") ds (cons_tail 99 compact_mark (codes "06") (d ∷ ds) e)))
 
 leading_zero : IsNoCompactText (codes "1c06")
 leading_zero front digits h = absurd (starts_with_zero digits (found_compact (codes "1c06") (codes "1") (codes "c06") refl one_digit_plain (inl refl) front digits h).1 h.first)
 
-no_compact_mark : (digits : List ℕ) → codes "e3" ≡ behind_compact_mark digits → ⊥
+no_compact_mark : (digits : List ℕ) → codes "e3" ≡ after_compact_mark digits → ⊥
 no_compact_mark [] e = absurd (cc)
 no_compact_mark (d ∷ ds) e = let bad : 101 + 0 ≡ 99 = cons_head 101 compact_mark (codes "3") (d ∷ ds) e in omega arith
 

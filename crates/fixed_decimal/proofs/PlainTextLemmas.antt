@@ -1,8 +1,8 @@
--- A text has one first mark: what stands before it, and the rest.
+-- A text has one first mark: what is before it, and the rest.
 use Rattle.std.proofs.Common.{◌≡◌, ℕ, zero, suc, ◌+◌, ◌-◌, ◌<◌, List, [], ◌∷◌, ◌++◌, length, get_or, map, take, refl, sym, subst, arith, add-one, inl, inr}
 use Rattle.std.specs.Char.{digit_value}
 use Rattle.fixed_decimal_signed.specs.Number.{Number, whole_digits, fraction_digits}
-use Rattle.fixed_decimal_signed.specs.NumberText.{AreDigits, minus, point, behind_point, character, text_of}
+use Rattle.fixed_decimal_signed.specs.NumberText.{AreDigits, minus, point, after_point, character, text_of}
 use Rattle.fixed_decimal_signed.proofs.PrintedLemmas.{printed_digits}
 use Rattle.fixed_decimal_signed.proofs.TextPartsLemmas.{cons_both, cons_head, cons_tail}
 use Rattle.fixed_decimal.specs.PlainText.{MarksExponent, HasNoMark}
@@ -50,7 +50,7 @@ plain_append : (a b : List ℕ) → HasNoMark a → HasNoMark b → HasNoMark (a
 plain_append [] b h k = k
 plain_append (c ∷ cs) b h k = (h.0, plain_append cs b h.1 k)
 
-plain_fraction : (text : List ℕ) → HasNoMark text → HasNoMark (behind_point text)
+plain_fraction : (text : List ℕ) → HasNoMark text → HasNoMark (after_point text)
 plain_fraction [] h = tt
 plain_fraction (c ∷ cs) h = (not_mark point (omega arith), h)
 
@@ -65,5 +65,5 @@ plain_printed v =
     let whole = map character (whole_digits v.absolute) in
     let part = map character (fraction_digits v.absolute) in
     plain_append (sign_text v.sign) (text_of v.absolute) (plain_sign v.sign)
-    (plain_append whole (behind_point part) (plain_digits whole (printed_digits v.absolute.count 32768 (v.absolute.high - 32767)))
+    (plain_append whole (after_point part) (plain_digits whole (printed_digits v.absolute.count 32768 (v.absolute.high - 32767)))
     (plain_fraction part (plain_digits part (printed_digits v.absolute.count v.absolute.low (32768 - v.absolute.low)))))

@@ -14,10 +14,10 @@ pub record CompactValue : Type 0 where
   pub significand : SignedValue Number
   pub exponent : ℕ
 
--- an exponent behind its mark; no digits, no exponent
-abbrev pub behind_compact_mark : List ℕ → List ℕ
-behind_compact_mark [] = []
-behind_compact_mark (d ∷ ds) = compact_mark ∷ (d ∷ ds)
+-- an exponent after its mark; no digits, no exponent
+abbrev pub after_compact_mark : List ℕ → List ℕ
+after_compact_mark [] = []
+after_compact_mark (d ∷ ds) = compact_mark ∷ (d ∷ ds)
 
 -- digits that do not begin with a zero
 abbrev pub StartsNoZero : List ℕ → Type 0
@@ -26,7 +26,7 @@ StartsNoZero (d ∷ ds) = ¬ (d ≡ digit_zero)
 
 -- the text is a front without a mark, and an exponent of these digits
 pub record SpellsCompact (text front digits : List ℕ) : Type 0 where
-  pub whole : text ≡ front ++ behind_compact_mark digits
+  pub whole : text ≡ front ++ after_compact_mark digits
   pub plain : HasNoMark front
   pub are_digits : AreDigits digits
   pub first : StartsNoZero digits
@@ -66,7 +66,7 @@ IsNoCompactText text = (front digits : List ℕ) → SpellsCompact text front di
 
 -- the printed text: the significand, and the exponent where it is not 0
 abbrev pub compact_text_of : CompactValue → List ℕ
-compact_text_of v = signed_text_of v.significand ++ behind_compact_mark (map character (digits_of 10 v.exponent))
+compact_text_of v = signed_text_of v.significand ++ after_compact_mark (map character (digits_of 10 v.exponent))
 
 -- every value of the type
 pub record IsCompact (v : CompactValue) : Type 0 where

@@ -5,7 +5,7 @@ use Rattle.std.specs.Prelude.{ℕ}
 use Rattle.fixed_decimal.specs.declared.call.CallsError.{CallsError}
 use Rattle.fixed_decimal.specs.declared.call.CallsError.TheVariants.{Parse, Write, Memory}
 
--- a number that shows digits behind the point is no whole number
+-- a number that shows digits after the point is no whole number
 abbrev pub limit_error_number : ℕ
 limit_error_number = 1
 

@@ -1,4 +1,4 @@
-//! Decimals with an exponent of at most 255 behind the mark `c`: `1.2c6`.
+//! Decimals with an exponent of at most 255 after the mark `c`: `1.2c6`.
 
 ghost use Rattle.std.specs.Prelude.{◌≡◌, ◌<◌, ◌≤◌, ◌++◌, ◌↔◌, codes, false, is_err, length, map, IsTrue, IfOk, IfSome, IfNone, IsErrOf, OnOk, OnErr};
 ghost use Rattle.std.specs.Int.Digits.{digits_of};
@@ -6,7 +6,7 @@ ghost use Rattle.writeable.specs.AnnotatedText.{bytes};
 ghost use Rattle.writeable.specs.Taking.{HasBegun};
 ghost use Rattle.fixed_decimal_signed.specs.NumberText.{AreDigits, spelled, character};
 ghost use Rattle.fixed_decimal_signed.specs.DigitCount.{IsLong};
-ghost use Rattle.fixed_decimal.specs.CompactText.{SpellsCompact, ReadsCompact, ReadsLongCompact, IsBeyondCompact, IsNoCompactText, IsCompact, behind_compact_mark, compact_text_of};
+ghost use Rattle.fixed_decimal.specs.CompactText.{SpellsCompact, ReadsCompact, ReadsLongCompact, IsBeyondCompact, IsNoCompactText, IsCompact, after_compact_mark, compact_text_of};
 ghost use Rattle.fixed_decimal.specs.PlainParts.{IsCompactExponent, IsNotCompact};
 ghost use Rattle.fixed_decimal_signed.specs.SignedText.{signed_text_of};
 ghost use Rattle.std.specs.Cmp.Rules.{comparing};
@@ -61,7 +61,7 @@ fn is_compact_exponent(text: &[u8]) -> bool
     are_digits(text)
 }
 
-// What a compact text has before its mark, and the digits behind it.
+// What a compact text has before its mark, and the digits after it.
 fn split_compact(text: &[u8]) -> Option<(&[u8], &[u8])>
     ensures some { IfSome result (λ p. SpellsCompact text.now p.0.now p.1.now) }
     ensures none { IfNone result (IsNotCompact text.now) }
@@ -210,10 +210,10 @@ fn write_mark<S: Sink>(exponent: u8, sink: &mut S) -> Result<(), Error>
 fn write_exponent<S: Sink>(exponent: u8, sink: &mut S) -> Result<(), Error>
     requires { S.refused sink.old ≡ false }
     ensures ok { OnOk result
-        (S.takes sink.old (bytes (behind_compact_mark (map character (digits_of 10 exponent)))) sink.new) }
+        (S.takes sink.old (bytes (after_compact_mark (map character (digits_of 10 exponent)))) sink.new) }
     ensures refused { S.refused sink.new ≡ is_err result }
     ensures begun { OnErr result
-        (HasBegun S.takes S.lacks_room sink.old (bytes (behind_compact_mark (map character (digits_of 10 exponent))))
+        (HasBegun S.takes S.lacks_room sink.old (bytes (after_compact_mark (map character (digits_of 10 exponent))))
         sink.new) }
 {
     if exponent == 0 {
@@ -222,27 +222,27 @@ fn write_exponent<S: Sink>(exponent: u8, sink: &mut S) -> Result<(), Error>
     write_mark(exponent, sink)
 }
 
-// Writes a compact decimal, one part behind the other.
+// Writes a compact decimal, one part after the other.
 fn write_parts<S: Sink>(compact: &CompactDecimal, sink: &mut S) -> Result<(), Error>
     requires { S.refused sink.old ≡ false }
     ensures ok { OnOk result
         (S.takes sink.old
         (bytes (signed_text_of compact.now.significand)
-        ++ bytes (behind_compact_mark (map character (digits_of 10 compact.now.exponent)))) sink.new) }
+        ++ bytes (after_compact_mark (map character (digits_of 10 compact.now.exponent)))) sink.new) }
     ensures refused { S.refused sink.new ≡ is_err result }
     ensures begun { OnErr result
         (HasBegun S.takes S.lacks_room sink.old
         (bytes (signed_text_of compact.now.significand)
-        ++ bytes (behind_compact_mark (map character (digits_of 10 compact.now.exponent)))) sink.new) }
+        ++ bytes (after_compact_mark (map character (digits_of 10 compact.now.exponent)))) sink.new) }
 {
     compact.significand.write_to(sink)?;
     write_exponent(compact.exponent, sink)
 }
 
-// The number of bytes of an exponent behind its mark, none for 0.
+// The number of bytes of an exponent after its mark, none for 0.
 #[tactic(auto, using(crate::proofs::CompactWritingLemmas::no_exponent_length, crate::proofs::CompactWritingLemmas::one_digit_length, crate::proofs::CompactWritingLemmas::two_digits_length, crate::proofs::CompactWritingLemmas::three_digits_length))]
 fn exponent_length(exponent: u8) -> usize
-    ensures value { result ≡ length (behind_compact_mark (map character (digits_of 10 exponent))) }
+    ensures value { result ≡ length (after_compact_mark (map character (digits_of 10 exponent))) }
     ensures few { result ≤ 4 }
 {
     match exponent {

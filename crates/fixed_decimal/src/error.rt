@@ -5,7 +5,7 @@ ghost use Rattle.fixed_decimal.specs.RefusalNumbers.{limit_error_number};
 
 use thiserror::Error;
 
-/// A number does not fit the type that it was to become: it shows a digit behind the point, as `1.0` does,
+/// A number does not fit the type that it was to become: it shows a digit after the point, as `1.0` does,
 /// which becomes no `FixedInteger`.
 #[derive(Clone, Copy, Debug, Drop, PartialEq, Eq, Error)]
 #[error("Magnitude or number of digits exceeded")]

@@ -1,4 +1,4 @@
-//! Whole numbers: decimals that show no digit behind the point.
+//! Whole numbers: decimals that show no digit after the point.
 
 ghost use Rattle.std.specs.Prelude.{◌≡◌, ◌<◌, ◌≤◌, length, IfOk, IsErrOf, IsOk, OnErr};
 ghost use Rattle.fixed_decimal_signed.specs.DigitCount.{IsLong};
@@ -17,9 +17,9 @@ use std::fmt;
 use std::marker::Model;
 use writeable::{Error, LengthHint, Sink, Writeable, display};
 
-/// A whole number: a decimal that shows no digit behind the point.
+/// A whole number: a decimal that shows no digit after the point.
 ///
-/// `10` is one, and `1e1` is read as the same; `1.0` is none, though its value is whole.
+/// `10` is one, and `1e1` is read as the same; `1.0` is not one, though its value is whole.
 #[derive(Debug, Drop)]
 pub struct FixedInteger {
     decimal: Decimal,
@@ -57,7 +57,7 @@ impl FixedInteger {
     /// The whole number that a text spells: `1e1` is `10`.
     ///
     /// `Syntax` where the text spells no decimal. `Limit` where it spells one beyond the limits or one that shows a
-    /// digit behind the point (`1.0`, `10e-1`). `Memory`: out of memory, only where there are more than eight digits,
+    /// digit after the point (`1.0`, `10e-1`). `Memory`: out of memory, only where there are more than eight digits,
     /// from the first to the last one that is not zero.
     pub fn try_from_utf8(alloc: Global, code_units: &[u8]) -> Result<FixedInteger, ParseError>
         ensures syntax { IsErrOf result ParseError.Syntax → IsNoSignedText code_units.now }

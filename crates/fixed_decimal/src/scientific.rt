@@ -1,4 +1,4 @@
-//! Decimals with a whole number as their exponent, behind the mark `e`: `1.2e-06`.
+//! Decimals with a whole number as their exponent, after the mark `e`: `1.2e-06`.
 
 ghost use Rattle.std.specs.Prelude.{◌≡◌, ◌⊎◌, ◌++◌, codes, false, is_err, length, IfOk, IfSome, IfNone, IsErrOf, OnOk, OnErr};
 ghost use Rattle.writeable.specs.AnnotatedText.{bytes};
@@ -142,7 +142,7 @@ fn write_exponent<S: Sink>(exponent: &FixedInteger, sink: &mut S) -> Result<(), 
     exponent.write_to(sink)
 }
 
-// Writes a scientific decimal, one part behind the other.
+// Writes a scientific decimal, one part after the other.
 fn write_parts<S: Sink>(scientific: &ScientificDecimal, sink: &mut S) -> Result<(), Error>
     requires { S.refused sink.old ≡ false }
     ensures ok { OnOk result

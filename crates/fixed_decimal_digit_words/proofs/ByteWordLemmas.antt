@@ -9,7 +9,7 @@ use Rattle.fixed_decimal_digit_words.specs.Packed.{halves}
 use Rattle.fixed_decimal_digit_words.proofs.WordLemmas.{word_pushed, power_positive}
 use Rattle.fixed_decimal_digit_words.proofs.NumberWordLemmas.{word_joined}
 
--- one byte behind those of a word
+-- one byte after those of a word
 pub byte_pushed : (n w b : ℕ) → b < 256 → word_digits (w * 256 + b) (suc (suc n)) ≡ word_digits w n ++ (b / 16 ∷ b % 16 ∷ [])
 byte_pushed n w b h =
     let above : (w * 256 + b) / 16 / 16 ≡ w = omega arith in
@@ -61,18 +61,18 @@ four_in (a ∷ b ∷ []) w l h e = absurd (omega arith)
 four_in (a ∷ b ∷ c ∷ []) w l h e = absurd (omega arith)
 four_in (a ∷ b ∷ c ∷ d ∷ ds) w l h e = four_bytes a b c d w (h 0) (h 1) (h 2) (h 3) e
 
-zeros_behind : (bytes : List ℕ) → length bytes < 4 → take 8 (halves (bytes ++ replicate 8 0)) ++ replicate 8 0 ≡ take 16 (halves (bytes ++ replicate 8 0))
-zeros_behind [] l = refl
-zeros_behind (a ∷ []) l = refl
-zeros_behind (a ∷ b ∷ []) l = refl
-zeros_behind (a ∷ b ∷ c ∷ []) l = refl
-zeros_behind (a ∷ b ∷ c ∷ d ∷ ds) l = absurd (omega arith)
+zeros_after : (bytes : List ℕ) → length bytes < 4 → take 8 (halves (bytes ++ replicate 8 0)) ++ replicate 8 0 ≡ take 16 (halves (bytes ++ replicate 8 0))
+zeros_after [] l = refl
+zeros_after (a ∷ []) l = refl
+zeros_after (a ∷ b ∷ []) l = refl
+zeros_after (a ∷ b ∷ c ∷ []) l = refl
+zeros_after (a ∷ b ∷ c ∷ d ∷ ds) l = absurd (omega arith)
 
 -- eight bytes, where there are fewer than four, and where there are more
 pub eight_few : (bytes : List ℕ) (w : ℕ) → length bytes < 4 → word_digits w 8 ≡ take 8 (halves (bytes ++ replicate 8 0)) → word_digits (w * 4294967296) 16 ≡ take 16 (halves (bytes ++ replicate 8 0))
 eight_few bytes w l e =
     let power : w * 4294967296 ≡ w * 16 ^ 8 + 0 = omega arith in
-    ap (λ v. word_digits v 16) power ∙ word_joined 8 8 w 0 (lit≤ tt) ∙ ap (λ ds. ds ++ replicate 8 0) e ∙ zeros_behind bytes l
+    ap (λ v. word_digits v 16) power ∙ word_joined 8 8 w 0 (lit≤ tt) ∙ ap (λ ds. ds ++ replicate 8 0) e ∙ zeros_after bytes l
 
 pub eight_more : (bytes front rest : List ℕ) (v w : ℕ) → 4 ≤ length bytes → front ≡ take 4 bytes → rest ≡ drop 4 bytes → w < 4294967296
     → word_digits v 8 ≡ take 8 (halves (front ++ replicate 8 0)) → word_digits w 8 ≡ take 8 (halves (rest ++ replicate 8 0))

@@ -9,7 +9,7 @@ use Rattle.std.specs.Int.Digits.{number_from_digits, AllBelowBase}
 use Rattle.fixed_decimal_digit_words.specs.DigitWord.{word_digits, IsCutWord}
 use Rattle.fixed_decimal_digit_words.proofs.DigitsLemmas.{number_joined, number_reaches}
 use Rattle.fixed_decimal_digit_words.proofs.WordLemmas.{word_length, power_positive, powers_rise}
-use Rattle.fixed_decimal_digit_words.proofs.TenLemmas.{tens_next, tens_apart, zero_behind}
+use Rattle.fixed_decimal_digit_words.proofs.TenLemmas.{tens_next, tens_apart, zero_after}
 use Rattle.fixed_decimal_digit_words.proofs.NumberWordLemmas.{word_joined, spells_none}
 
 sixteen_two : (k : ℕ) → 16 ^ k ≡ 2 ^ (4 * k)
@@ -92,7 +92,7 @@ front_counted w h tens = ⊎_elim none some (eq-zero-or-pos w)
 last_split : (left count : ℕ) → 0 < count → word_digits left count ≡ word_digits (left / 16) (count - 1) ++ (left % 16 ∷ [])
 last_split left count p = let next : count ≡ suc (count - 1) = omega arith in ap (word_digits left) next
 
--- one zero behind the last digit
+-- one zero after the last digit
 pub zero_cut : (w left count below : ℕ) → IsCutWord w left count below → 0 < count → left % 16 ≡ 0 → IsCutWord w (left / 16) (count - 1) (below + 1)
 zero_cut w left count below c p z =
     let ds = word_digits (left / 16) (count - 1) in
@@ -105,7 +105,7 @@ zero_cut w left count below c p z =
       fits = let h = c.fits in omega (arith, power, h);
       tens = front_tens ds (0 ∷ []) (subst (λ xs. AllBelowBase 10 xs) digits c.tens);
       value = c.value ∙ ap (λ xs. number_from_digits 10 xs * 10 ^ below) digits ∙ ap (λ n. n * 10 ^ below) (number_push 10 ds 0)
-          ∙ zero_behind (number_from_digits 10 ds) (10 ^ below) (10 ^ (below + 1)) (tens_next below);
+          ∙ zero_after (number_from_digits 10 ds) (10 ^ below) (10 ^ (below + 1)) (tens_next below);
       first = λ q. subst (λ d. 0 < d) (ap (λ xs. get_or xs 0 0) digits ∙ front_first ds (0 ∷ []) (omega (arith, size))) (c.first p);
       few = let h = c.few in omega arith;
       reach = λ q. subst (λ n. 16 ^ (n - 1) ≤ w) (sym sum) (c.reach (omega arith));

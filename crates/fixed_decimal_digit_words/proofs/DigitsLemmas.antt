@@ -10,7 +10,7 @@ use Rattle.fixed_decimal_digit_words.proofs.TenLemmas.{tens_positive}
 pub spread : (n d t u : ℕ) → u ≡ t * 10 → (n * 10 + d) * t ≡ n * u + (0 * 10 + d) * t
 spread n d t u e = omega (arith, ap (λ x. n * x) e)
 
--- digits behind a number move it up by their count
+-- digits after a number move it up by their count
 pub number_from : (n : ℕ) (ds : List ℕ) → number_from_digits_after 10 n ds ≡ n * 10 ^ length ds + number_from_digits 10 ds
 number_from n [] = omega arith
 number_from n (d ∷ ds) =
@@ -58,7 +58,7 @@ below_at [] i h = omega arith
 below_at (d ∷ ds) zero h = h.0
 below_at (d ∷ ds) (suc i) h = below_at ds i h.1
 
--- a number cut behind its first n digits: the front is the quotient, the rest the remainder
+-- a number cut after its first n digits: the front is the quotient, the rest the remainder
 pub number_cut : (n : ℕ) (ds : List ℕ) → number_from_digits 10 ds ≡ number_from_digits 10 (take n ds) * 10 ^ (length ds - n) + number_from_digits 10 (drop n ds)
 number_cut n ds =
     ap (number_from_digits 10) (sym (take-append-drop n ds)) ∙ number_joined (take n ds) (drop n ds)

@@ -3,7 +3,7 @@ use Rattle.std.proofs.Common.{◌≡◌, ℕ, ◌+◌, ◌*◌, ◌/◌, ◌%◌
 use Rattle.std.proofs.lemmas.List.{append_assoc, append-nil, drop_all, take_all, take_at, drop_more, take_more_set, length-set}
 use Rattle.fixed_decimal_digit_words.specs.Packed.{halves}
 
--- two values behind those that are there
+-- two values after those that are there
 pub put_two : (xs behind : List ℕ) (i u v : ℕ) → 2 * i + 1 < length xs → take (2 * (i + 1)) (set (set xs (2 * i) u) (2 * i + 1) v) ++ behind ≡ take (2 * i) xs ++ u ∷ v ∷ behind
 put_two xs behind i u v w =
     let next : 2 * (i + 1) ≡ 2 * i + 1 + 1 = omega arith in
@@ -23,7 +23,7 @@ two_halves bytes block i u v l w e f =
     ∙ (λ k. take (2 * i) block ++ e k ∷ f k ∷ halves (drop (i + 1) bytes))
     ∙ ap (λ b. take (2 * i) block ++ halves b) (sym (drop_more bytes i 0 l))
 
--- the lower half of one byte more, and the upper one of the byte behind it
+-- the lower half of one byte more, and the upper one of the byte after it
 pub two_between : (bytes block : List ℕ) (i u v : ℕ) → i + 1 < length bytes → 2 * i + 1 < length block → u ≡ get_or bytes i 0 % 16 → v ≡ get_or bytes (i + 1) 0 / 16
     → take (2 * (i + 1)) (set (set block (2 * i) u) (2 * i + 1) v) ++ drop 1 (halves (drop (i + 1) bytes)) ≡ take (2 * i) block ++ drop 1 (halves (drop i bytes))
 two_between bytes block i u v l w e f =
@@ -35,7 +35,7 @@ two_between bytes block i u v l w e f =
     ∙ ap (λ b. take (2 * i) block ++ drop 1 (halves (here ∷ b))) (sym behind)
     ∙ ap (λ b. take (2 * i) block ++ drop 1 (halves b)) (sym (drop_more bytes i 0 (omega arith)))
 
--- a list is full, and nothing stands behind it
+-- a list is full, and nothing is after it
 pub filled : (xs behind whole : List ℕ) (n : ℕ) → length xs ≤ n → behind ≡ [] → take n xs ++ behind ≡ whole → xs ≡ whole
 filled xs behind whole n l none e =
     sym (append-nil xs) ∙ ap (λ t. t ++ []) (sym (take_all n xs l)) ∙ ap (λ t. take n xs ++ t) (sym none) ∙ e

@@ -18,7 +18,7 @@ upper_of a b u v e = let sum : a * v + b ≡ a * u * 16 + b = omega (arith, ap (
 last_of : (a b u v : ℕ) → v ≡ u * 16 → (a * v + b) % 16 ≡ b % 16
 last_of a b u v e = let sum : a * v + b ≡ a * u * 16 + b = omega (arith, ap (λ x. a * x) e) in ap (λ n. n % 16) sum ∙ omega arith
 
--- the digits of two words, one behind the other
+-- the digits of two words, one after the other
 pub word_joined : (m k a b : ℕ) → b < 16 ^ m → word_digits (a * 16 ^ m + b) (k + m) ≡ word_digits a k ++ word_digits b m
 word_joined zero k a b h =
     let none : a * 1 + b ≡ a = omega arith in let same : k + 0 ≡ k = omega arith in

@@ -15,9 +15,9 @@ tens_split i j k h = ap (λ n. 10 ^ n) (sym h) ∙ pow-add 10 i j
 pub tens_next : (k : ℕ) → 10 ^ (k + 1) ≡ 10 ^ k * 10
 tens_next k = let e : k + 1 ≡ suc k = omega arith in ap (λ n. 10 ^ n) e ∙ pow-suc 10 k
 
--- a zero behind a number, at a place, is the number at the next place
-pub zero_behind : (n t u : ℕ) → u ≡ t * 10 → (n * 10 + 0) * t ≡ n * u
-zero_behind n t u e = omega (arith, ap (λ x. n * x) e)
+-- a zero after a number, at a place, is the number at the next place
+pub zero_after : (n t u : ℕ) → u ≡ t * 10 → (n * 10 + 0) * t ≡ n * u
+zero_after n t u e = omega (arith, ap (λ x. n * x) e)
 
 -- a count below ten to a power has no digit at that place or above
 pub digit_above : (n k p : ℕ) → n < 10 ^ k → k ≤ p → n / 10 ^ p % 10 ≡ 0

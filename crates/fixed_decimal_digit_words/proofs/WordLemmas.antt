@@ -12,14 +12,14 @@ pub word_length : (n w : ℕ) → length (word_digits w n) ≡ n
 word_length zero w = refl
 word_length (suc n) w = omega (arith, length_push (word_digits (w / 16) n) (w % 16), word_length n (w / 16))
 
--- one digit behind those of a word
+-- one digit after those of a word
 pub word_pushed : (n w d : ℕ) → d < 16 → word_digits (w * 16 + d) (suc n) ≡ word_digits w n ++ (d ∷ [])
 word_pushed n w d h =
     let upper : (w * 16 + d) / 16 ≡ w = omega arith in
     let last : (w * 16 + d) % 16 ≡ d = omega arith in
     ap (λ u. word_digits u n ++ ((w * 16 + d) % 16 ∷ [])) upper ∙ ap (λ e. word_digits w n ++ (e ∷ [])) last
 
--- the digits of a text behind those of a word
+-- the digits of a text after those of a word
 pub word_after : (text : List ℕ) (n w : ℕ) → AreDigits text → word_digits (digits_value_after 16 w text) (n + length text) ≡ word_digits w n ++ map digit_value text
 word_after [] n w h = let none : n + 0 ≡ n = omega arith in ap (word_digits w) none ∙ sym (append-nil (word_digits w n))
 word_after (c ∷ cs) n w h =
@@ -35,7 +35,7 @@ pub power_positive : (n : ℕ) → 0 < 16 ^ n
 power_positive zero = omega arith
 power_positive (suc n) = let p = power_positive n in omega (arith, pow-suc 16 n)
 
--- a digit behind fewer than eight
+-- a digit after fewer than eight
 pub room_more : (w d k : ℕ) → w < 16 ^ k → d < 10 → w * 16 + d < 16 ^ (k + 1)
 room_more w d k h t = let next : k + 1 ≡ suc k = omega arith in omega (arith, ap (λ n. 16 ^ n) next ∙ pow-suc 16 k)
 

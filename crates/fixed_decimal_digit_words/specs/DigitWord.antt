@@ -20,7 +20,7 @@ pub record SpellsNumber (word count number : ℕ) : Type 0 where
   pub tens : AllBelowBase 10 (word_digits word count)
   pub value : number_from_digits 10 (word_digits word count) ≡ number
 
--- what is left of a word: its digits, the first of them not zero, their count, and the count of zeros behind them
+-- what is left of a word: its digits, the first of them not zero, their count, and the count of zeros after them
 pub record IsCutWord (word left count zeros : ℕ) : Type 0 where
   pub fits : left < 16 ^ count
   pub tens : AllBelowBase 10 (word_digits left count)

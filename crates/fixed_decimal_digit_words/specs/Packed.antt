@@ -24,7 +24,7 @@ pub record IsPacked (bytes : List ℕ) (count : ℕ) : Type 0 where
   pub all : length (digits_in bytes count) ≡ count
   pub packed_are : bytes ≡ packed (digits_in bytes count)
 
--- each half moved up by one, so that the first is gone: a 0 comes in behind the last
+-- each half moved up by one, so that the first is gone: a 0 comes in after the last
 abbrev pub shifted : List ℕ → List ℕ
 shifted [] = []
 shifted (b ∷ bs) = (b % 16 * 16 + slice_index bs 0 / 16) ∷ shifted bs

@@ -8,7 +8,7 @@ ghost use Rattle.fixed_decimal_digit_words.specs.Packed.{halves, packed};
 use crate::byte_words::{digits_of_word, first_eight};
 use crate::digit_text::digit_of;
 
-/// The bytes that hold the digits of a text, two to a byte, with zeros behind: 0x90, 0x57 and thirty zeros of `9057`.
+/// The bytes that hold the digits of a text, two to a byte, with zeros after: 0x90, 0x57 and thirty zeros of `9057`.
 ///
 /// The condition is that each character is a digit, and that they are an even count, at most sixty-four. It does not
 /// allocate.

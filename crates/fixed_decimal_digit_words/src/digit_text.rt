@@ -7,7 +7,7 @@ ghost use Rattle.fixed_decimal_digit_words.specs.DigitText.{AreDigits};
 // How many characters one step looks at, where there are as many: those of whole vectors.
 const BLOCK: usize = 64;
 
-// How many it looks at behind them.
+// How many it looks at after them.
 const WORD: usize = 8;
 
 /// The digit of a character: 7 of `7`. The condition is that the character is a digit. It does not allocate.
@@ -29,7 +29,7 @@ fn are_digits(text: &[u8]) -> bool
     all
 }
 
-// How many characters the first `from`, which are digits, and whole pieces of digits behind them make up, each of `size`.
+// How many characters the first `from`, which are digits, and whole pieces of digits after them make up, each of `size`.
 #[inline(always)]
 fn digits_in_pieces(text: &[u8], from: usize, size: usize) -> usize
     requires some { 0 < size }

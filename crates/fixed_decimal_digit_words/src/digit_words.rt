@@ -11,7 +11,7 @@ use crate::digit_text::digit_of;
 /// How many digits fit in a word.
 pub const WORD_DIGITS: usize = 16;
 
-/// A word with the digits that a text begins with behind its own, and how many these are: 0x125 and 2 of 0x1 and `25.`.
+/// A word with the digits that a text begins with after its own, and how many these are: 0x125 and 2 of 0x1 and `25.`.
 ///
 /// The condition is that all fit. It does not allocate.
 #[tactic(auto, using(std::proofs::lemmas::Int::Digits::digits_more, crate::proofs::WordLemmas::front_more))]
@@ -35,14 +35,14 @@ pub fn word_behind(word: u64, text: &[u8]) -> (u64, usize)
     (after, count)
 }
 
-/// A word without the zeros at both ends, how many digits it then has, and how many zeros were behind the last.
+/// A word without the zeros at both ends, how many digits it then has, and how many zeros were after the last.
 #[derive(Clone, Copy)]
 pub struct CutWord {
     /// The digits that are left.
     pub word: u64,
     /// How many these are.
     pub count: usize,
-    /// How many zeros were behind them.
+    /// How many zeros were after them.
     pub zeros: usize,
 }
 

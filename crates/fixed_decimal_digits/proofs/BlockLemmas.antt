@@ -1,4 +1,4 @@
--- Blocks of digits behind other digits.
+-- Blocks of digits after other digits.
 use Rattle.std.proofs.Common.{◌≡◌, ℕ, zero, suc, ◌+◌, ◌*◌, ◌%◌, ◌/◌, List, [], ◌∷◌, ◌++◌, length, length-append, map, refl, sym, ap, ◌∙◌, arith}
 use Rattle.std.proofs.lemmas.List.{append_assoc, length-map, map-append}
 use Rattle.std.specs.Char.{digit_value}
@@ -8,7 +8,7 @@ use Rattle.fixed_decimal_digit_words.specs.Packed.{packed, digits_in, IsPacked}
 use Rattle.fixed_decimal_digit_words.proofs.DigitsLemmas.{below_joined}
 use Rattle.fixed_decimal_digits.proofs.PackedLemmas.{kept_so}
 
--- digits behind an even count
+-- digits after an even count
 packed_joined : (k : ℕ) (ds es : List ℕ) → length ds ≡ 2 * k → packed (ds ++ es) ≡ packed ds ++ packed es
 packed_joined zero [] es e = refl
 packed_joined zero (x ∷ xs) es e = absurd (omega arith)
@@ -24,7 +24,7 @@ block_pushed bytes new es count n p tens even size e =
     (e ∙ ap (λ b. b ++ packed es) p.packed_are ∙ sym (packed_joined (count / 2) ds es (omega (arith, p.all))))
     (omega (arith, length-append ds es, p.all, size))
 
--- a text of two parts, one pushed behind the other
+-- a text of two parts, one pushed after the other
 pub parts_pushed : (ds front back text : List ℕ) → text ≡ front ++ back → (ds ++ map digit_value front) ++ map digit_value back ≡ ds ++ map digit_value text
 parts_pushed ds front back text e =
     append_assoc ds (map digit_value front) (map digit_value back)

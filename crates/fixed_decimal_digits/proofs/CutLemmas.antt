@@ -1,4 +1,4 @@
--- Digits behind a front that is cut away, and the zeros that they begin with.
+-- Digits after a front that is cut away, and the zeros that they begin with.
 use Rattle.std.proofs.Common.{◌≡◌, ℕ, suc, ◌+◌, ◌-◌, ◌*◌, ◌/◌, ◌%◌, ◌^◌, ◌<◌, ◌≤◌, List, [], ◌∷◌, length, length-drop, get_or, take, drop, drop-cons, add-one, sym, ap, ◌∙◌, subst, arith, ⊎_elim}
 use Rattle.std.proofs.Math.Nat.{zero-mul, div-add-mod', mod-lt, mod-eq_of_lt, mul-lt-mul_of_pos_right, add-mul-mod_self_right}
 use Rattle.std.proofs.lemmas.Nat.{mod-mul-add}

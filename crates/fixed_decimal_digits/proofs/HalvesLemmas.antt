@@ -44,7 +44,7 @@ digits_cut bytes front count m k s n i at fits enough e =
     ∙ ap (take n) (drop-drop s (2 * k) (halves bytes) ∙ ap (λ j. drop j (halves bytes)) (sym at))
     ∙ sym (within_front i n count (halves bytes) fits)
 
--- and so where others stand behind these bytes
+-- and so where others are after these bytes
 pub digits_padded : (bytes rest behind : List ℕ) (count k s n i : ℕ) → i ≡ 2 * k + s → i + n ≤ count → count ≤ 2 * length bytes → rest ≡ drop k bytes
     → take n (drop s (halves (rest ++ behind))) ≡ take n (drop i (digits_in bytes count))
 digits_padded bytes rest behind count k s n i at fits whole e =
@@ -62,7 +62,7 @@ packed_tens [] h = tt
 packed_tens (d ∷ []) h = let one : d < 10 = h.0 in (omega arith, (omega arith, tt))
 packed_tens (d ∷ e ∷ ds) h = let one : d < 10 = h.0 in let two : e < 10 = h.1.0 in (omega arith, (omega arith, packed_tens ds h.1.1))
 
--- from one of them on, with zeros behind
+-- from one of them on, with zeros after
 pub padded_tens : (bytes rest : List ℕ) (count k s : ℕ) → IsPacked bytes count → rest ≡ drop k bytes → AllBelowBase 10 (take 16 (drop s (halves (rest ++ replicate 9 0))))
 padded_tens bytes rest count k s p e =
     let all : AllBelowBase 10 (halves bytes) = subst (λ b. AllBelowBase 10 (halves b)) (sym p.packed_are) (packed_tens (digits_in bytes count) p.tens) in

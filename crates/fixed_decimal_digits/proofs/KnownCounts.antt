@@ -3,7 +3,7 @@ use Rattle.std.proofs.Common.{◌≡◌, [], ◌∷◌, refl}
 use Rattle.fixed_decimal_digits.specs.CountDigits.{digit, digits_down}
 use Rattle.fixed_decimal_digits.specs.DigitList.{count_of}
 
--- 1, 2 of which the first stands at place 3 is 1200, and has 2 at place 2
+-- 1, 2 of which the first is at place 3 is 1200, and has 2 at place 2
 a_count : count_of (1 ∷ 2 ∷ []) 3 ≡ 1200
 a_count = refl
 

@@ -1,4 +1,4 @@
--- A number of more than sixteen digits: its last sixteen behind the others.
+-- A number of more than sixteen digits: its last sixteen after the others.
 use Rattle.std.proofs.Common.{◌≡◌, ℕ, ◌+◌, ◌-◌, ◌*◌, ◌/◌, ◌%◌, ◌^◌, ◌<◌, ◌≤◌, List, [], ◌∷◌, ◌++◌, length, length-append, get_or, sym, ap, ◌∙◌, subst, arith, append_assoc, ⊎_elim}
 use Rattle.std.proofs.lemmas.Bool.{cases_lt}
 use Rattle.std.specs.Int.Digits.{number_from_digits, AllBelowBase}
@@ -8,7 +8,7 @@ use Rattle.fixed_decimal_digit_words.proofs.TenLemmas.{tens_apart}
 use Rattle.fixed_decimal_digit_words.proofs.WordLemmas.{word_length}
 use Rattle.fixed_decimal_digit_words.proofs.NumberWordLemmas.{word_joined}
 
--- the first digit of a word, and the fifteen behind it
+-- the first digit of a word, and the fifteen after it
 sixteen_split : (w : ℕ) → w < 2 ^ 64 → word_digits w 16 ≡ (w / 1152921504606846976) ∷ word_digits (w % 1152921504606846976) 15
 sixteen_split w h =
     let rest : w % 1152921504606846976 < 1152921504606846976 = omega arith in
@@ -26,8 +26,8 @@ rest_of_sixteen w h t = (subst (λ ds. AllBelowBase 10 ds) (sixteen_split w h) t
 pub pushed_sixteen : (ds : List ℕ) (w : ℕ) → w < 2 ^ 64 → (ds ++ (w / 1152921504606846976) ∷ []) ++ word_digits (w % 1152921504606846976) 15 ≡ ds ++ word_digits w 16
 pushed_sixteen ds w h = append_assoc ds ((w / 1152921504606846976) ∷ []) (word_digits (w % 1152921504606846976) 15) ∙ ap (λ es. ds ++ es) (sym (sixteen_split w h))
 
-pub even_behind : (ds : List ℕ) (d : ℕ) → length (ds ++ d ∷ []) ≡ length ds + 1
-even_behind ds d = length-append ds (d ∷ [])
+pub even_after : (ds : List ℕ) (d : ℕ) → length (ds ++ d ∷ []) ≡ length ds + 1
+even_after ds d = length-append ds (d ∷ [])
 
 -- the digits of a number that fits in a word
 pub number_of_first : (w k n : ℕ) → SpellsNumber w 16 n → IsCutWord w w k 0 → number_from_digits 10 (word_digits w k) ≡ n
@@ -54,17 +54,17 @@ none_of_zero w k c z = ⊎_elim
     (λ none. let same : k ≡ 0 = omega arith in ap (λ n. word_digits w n) same)
     (cases_lt 0 k)
 
--- sixteen digits behind others
-pub number_behind : (ds : List ℕ) (w low n : ℕ) → SpellsNumber w 16 low → number_from_digits 10 ds ≡ n / 10000000000000000 → low ≡ n % 10000000000000000 → number_from_digits 10 (ds ++ word_digits w 16) ≡ n
-number_behind ds w low n s e f =
+-- sixteen digits after others
+pub number_after : (ds : List ℕ) (w low n : ℕ) → SpellsNumber w 16 low → number_from_digits 10 ds ≡ n / 10000000000000000 → low ≡ n % 10000000000000000 → number_from_digits 10 (ds ++ word_digits w 16) ≡ n
+number_after ds w low n s e f =
     let long : 10 ^ length (word_digits w 16) ≡ 10000000000000000 = ap (λ k. 10 ^ k) (word_length 16 w) in
     number_joined ds (word_digits w 16)
     ∙ ap (λ t. number_from_digits 10 ds * t + number_from_digits 10 (word_digits w 16)) long
     ∙ omega (arith, s.value, e, f)
 
-pub tens_behind : (ds : List ℕ) (w low : ℕ) → SpellsNumber w 16 low → AllBelowBase 10 ds → AllBelowBase 10 (ds ++ word_digits w 16)
-tens_behind ds w low s t = below_joined ds (word_digits w 16) t s.tens
+pub tens_after : (ds : List ℕ) (w low : ℕ) → SpellsNumber w 16 low → AllBelowBase 10 ds → AllBelowBase 10 (ds ++ word_digits w 16)
+tens_after ds w low s t = below_joined ds (word_digits w 16) t s.tens
 
-pub first_behind : (ds es : List ℕ) → 0 < number_from_digits 10 ds → (0 < length ds → 0 < get_or ds 0 0) → 0 < get_or (ds ++ es) 0 0
-first_behind [] es p f = absurd (omega (arith, p))
-first_behind (d ∷ ds) es p f = f (omega arith)
+pub first_after : (ds es : List ℕ) → 0 < number_from_digits 10 ds → (0 < length ds → 0 < get_or ds 0 0) → 0 < get_or (ds ++ es) 0 0
+first_after [] es p f = absurd (omega (arith, p))
+first_after (d ∷ ds) es p f = f (omega arith)

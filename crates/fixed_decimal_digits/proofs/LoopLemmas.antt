@@ -4,7 +4,7 @@ use Rattle.std.specs.Int.Digits.{number_from_digits, AllBelowBase}
 use Rattle.std.proofs.lemmas.Int.Digits.{number_more, number_push}
 use Rattle.std.proofs.lemmas.Nat.{mod-mul-add}
 use Rattle.std.proofs.lemmas.List.{length-take-le}
-use Rattle.fixed_decimal_digit_words.proofs.TenLemmas.{tens_next, zero_behind}
+use Rattle.fixed_decimal_digit_words.proofs.TenLemmas.{tens_next, zero_after}
 use Rattle.fixed_decimal_digit_words.proofs.DigitsLemmas.{below_take, below_at, below_push}
 
 -- a front is the front without its last digit, and that digit
@@ -17,7 +17,7 @@ carried : (n : ℕ) → n * 10 + 9 + 1 ≡ (n + 1) * 10 + 0
 carried n = omega arith
 
 shifted : (a b t u v w : ℕ) → a ≡ b * 10 + 0 → u ≡ t * 10 → v ≡ a * t → v ≡ b * u
-shifted a b t u v w e f h = h ∙ ap (λ x. x * t) e ∙ zero_behind b t u f
+shifted a b t u v w e f h = h ∙ ap (λ x. x * t) e ∙ zero_after b t u f
 
 pub zeros_more : (value : ℕ) (ds : List ℕ) (n long : ℕ) → 0 < n → n ≤ length ds → n ≤ long → get_or ds (n - 1) 0 ≡ 0
     → value ≡ number_from_digits 10 (take n ds) * 10 ^ (long - n) → value ≡ number_from_digits 10 (take (n - 1) ds) * 10 ^ (long - (n - 1))

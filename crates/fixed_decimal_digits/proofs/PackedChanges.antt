@@ -177,7 +177,7 @@ run_is ds from most =
     ∙ taken_all most (drop (min from (length ds)) ds)
     ∙ ap (take most) (dropped_all from ds)
 
--- the first digit of a run, and those behind it
+-- the first digit of a run, and those after it
 pub run_next : (ds : List ℕ) (next left : ℕ) → 0 < left → next < length ds → take left (drop next ds) ≡ get_or ds next 0 ∷ take (left - 1) (drop (next + 1) ds)
 run_next ds next left l w =
     let n : left ≡ suc (left - 1) = omega arith in

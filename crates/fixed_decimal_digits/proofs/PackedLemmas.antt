@@ -53,7 +53,7 @@ lower_packed (d ∷ f ∷ ds) (suc zero) (suc k) h l e = absurd (omega arith)
 lower_packed (d ∷ f ∷ ds) (suc (suc i)) zero h l e = absurd (omega arith)
 lower_packed (d ∷ f ∷ ds) (suc (suc i)) (suc k) h l e = lower_packed ds i k h.1.1 (omega arith) (omega arith)
 
--- a digit, or two, behind an even count
+-- a digit, or two, after an even count
 pub pushed_upper : (k : ℕ) (ds : List ℕ) (d : ℕ) → length ds ≡ 2 * k → packed (ds ++ d ∷ []) ≡ packed ds ++ (d * 16) ∷ []
 pushed_upper zero [] d e = refl
 pushed_upper zero (x ∷ xs) d e = absurd (omega arith)
@@ -68,7 +68,7 @@ pushed_both (suc k) [] d f e = absurd (omega arith)
 pushed_both (suc k) (x ∷ []) d f e = absurd (omega arith)
 pushed_both (suc k) (x ∷ y ∷ ds) d f e = ap (λ r. (x * 16 + y) ∷ r) (pushed_both k ds d f (omega arith))
 
--- a digit behind an odd count goes into the last byte
+-- a digit after an odd count goes into the last byte
 pub pushed_lower : (k : ℕ) (ds : List ℕ) (d : ℕ) → length ds ≡ 2 * k + 1 → packed (ds ++ d ∷ []) ≡ set (packed ds) k (get_or (packed ds) k 0 + d)
 pushed_lower zero [] d e = absurd (omega arith)
 pushed_lower zero (x ∷ []) d e = refl
@@ -107,7 +107,7 @@ taken_odd (suc (suc n)) k (x ∷ []) h l e = absurd (omega arith)
 taken_odd (suc (suc n)) zero (x ∷ y ∷ ds) h l e = absurd (omega arith)
 taken_odd (suc (suc n)) (suc k) (x ∷ y ∷ ds) h l e = ap (λ r. (x * 16 + y) ∷ r) (taken_odd n k ds h.1.1 (omega arith) (omega arith))
 
--- a front of the digits, and the one behind it made more
+-- a front of the digits, and the one after it made more
 pub raised_upper : (m k up : ℕ) (ds : List ℕ) → AllBelowBase 10 ds → m < length ds → m ≡ 2 * k
     → packed (take m ds ++ (get_or ds m 0 + up) ∷ []) ≡ set (take (suc k) (packed ds)) k ((get_or (take (suc k) (packed ds)) k 0 / 16 + up) * 16)
 raised_upper m k up [] h l e = absurd (omega arith)
@@ -129,7 +129,7 @@ raised_lower (suc zero) (suc k) up (x ∷ y ∷ ds) l e = absurd (omega arith)
 raised_lower (suc (suc m)) zero up (x ∷ y ∷ ds) l e = absurd (omega arith)
 raised_lower (suc (suc m)) (suc k) up (x ∷ y ∷ ds) l e = ap (λ r. (x * 16 + y) ∷ r) (raised_lower m k up ds (omega arith) (omega arith))
 
--- the digits behind a front
+-- the digits after a front
 pub dropped_even : (k : ℕ) (ds : List ℕ) → 2 * k ≤ length ds → packed (drop (2 * k) ds) ≡ drop k (packed ds)
 dropped_even zero ds l = refl
 dropped_even (suc k) [] l = absurd (omega arith)

@@ -1,4 +1,4 @@
--- The two digits at a rounding's place: what stands above them, what below, and the multiple that they become.
+-- The two digits at a rounding's place: what is above them, what below, and the multiple that they become.
 use Rattle.std.proofs.Common.{◌≡◌, ◌≢◌, ℕ, zero, suc, ◌+◌, ◌-◌, ◌*◌, ◌/◌, ◌%◌, ◌^◌, ◌<◌, ◌≤◌, ◌⊎◌, Bool, true, false, cond, nat_eq, List, length, take, refl, sym, ap, ◌∙◌, subst, arith, inl, inr, ⊎_elim}
 use Rattle.std.proofs.Math.Nat.{mul-le-mul_right, div-add-mod', mod-lt, div-div-eq-div-mul, div-eq_of_lt, zero-mod, mul-mod_left, mul-div_cancel, mul-pos, mul-add-mod_self_right}
 use Rattle.std.proofs.lemmas.Bool.{cases_lt}
@@ -87,7 +87,7 @@ pair_exact mode n h t u k c e hundred z =
     let lower : (h * c + t / k) * (k * u) ≡ (h * 100 + (t - t % k)) * u = lower_shape h t k c (t % k) (t / k) u hundred split in
     exact mode (k * u) n (h * c + t / k, e ∙ exact_shape h t (t % k) u z ∙ sym lower)
 
--- where the two digits are not zero, digits stand at one of them or below
+-- where the two digits are not zero, digits are at one of them or below
 pub pair_reaches : (ds : List ℕ) (top place : ℕ) → length ds ≤ top + 1 → 0 < count_of ds top / 10 ^ place % 100 → top < place + length ds + 1
 pair_reaches ds top place l h =
     ⊎_elim (λ a. a) (λ a.
@@ -99,7 +99,7 @@ pair_reaches ds top place l h =
     ap (λ x. x / 10 ^ place % 100) whole ∙ ap (λ x. x % 100) (mul-div_cancel (number * 10 ^ (e - place - 2) * 100) (tens_positive place)) ∙ mul-mod_left (number * 10 ^ (e - place - 2)) 100 in
     absurd (omega arith)) (cases_lt top (place + length ds + 1))
 
--- where the lower of them is not zero, digits stand at it or below
+-- where the lower of them is not zero, digits are at it or below
 pub digit_reaches : (ds : List ℕ) (top place : ℕ) → length ds ≤ top + 1 → 0 < count_of ds top / 10 ^ place % 10 → top < place + length ds
 digit_reaches ds top place l h =
     ⊎_elim (λ a. a) (λ a. let none : count_of ds top / 10 ^ place % 10 ≡ 0 = digit_under (number_from_digits 10 ds) (top + 1 - length ds) place (omega arith) in absurd (omega arith)) (cases_lt top (place + length ds))

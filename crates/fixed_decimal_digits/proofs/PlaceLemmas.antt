@@ -26,45 +26,45 @@ far_less ds top place h far =
     below_less (count_of ds top) place (omega arith) (subst (λ d. d < 5) (sym none) (omega arith))
 
 -- the first digit below a place
-pub digit_behind : (ds : List ℕ) (top place kept : ℕ) → IsTrimmed ds top → kept ≡ top + 1 - place → place ≤ top + 1 → kept < length ds → digit (count_of ds top) (place - 1) ≡ get_or ds kept 0
-digit_behind ds top place kept h e l inside =
+pub digit_after : (ds : List ℕ) (top place kept : ℕ) → IsTrimmed ds top → kept ≡ top + 1 - place → place ≤ top + 1 → kept < length ds → digit (count_of ds top) (place - 1) ≡ get_or ds kept 0
+digit_after ds top place kept h e l inside =
     let room : length ds ≤ top + 1 = h.room in
     let at : top - (place - 1) ≡ kept = omega arith in
     digit_inside ds top (place - 1) h.tight.tens h.room (omega arith) (omega arith) ∙ ap (λ i. get_or ds i 0) at
 
-pub behind_less : (ds : List ℕ) (top place kept d : ℕ) → IsTrimmed ds top → kept ≡ top + 1 - place → place ≤ top + 1 → kept < length ds → d ≡ get_or ds kept 0 → d < 5
+pub after_less : (ds : List ℕ) (top place kept d : ℕ) → IsTrimmed ds top → kept ≡ top + 1 - place → place ≤ top + 1 → kept < length ds → d ≡ get_or ds kept 0 → d < 5
     → 2 * (count_of ds top % 10 ^ place) < 10 ^ place
-behind_less ds top place kept d h e l inside f small =
+after_less ds top place kept d h e l inside f small =
     let room : length ds ≤ top + 1 = h.room in
-    below_less (count_of ds top) place (omega arith) (subst (λ x. x < 5) (f ∙ sym (digit_behind ds top place kept h e l inside)) small)
+    below_less (count_of ds top) place (omega arith) (subst (λ x. x < 5) (f ∙ sym (digit_after ds top place kept h e l inside)) small)
 
-pub behind_greater : (ds : List ℕ) (top place kept d : ℕ) → IsTrimmed ds top → kept ≡ top + 1 - place → place ≤ top + 1 → kept < length ds → d ≡ get_or ds kept 0 → 5 < d
+pub after_greater : (ds : List ℕ) (top place kept d : ℕ) → IsTrimmed ds top → kept ≡ top + 1 - place → place ≤ top + 1 → kept < length ds → d ≡ get_or ds kept 0 → 5 < d
     → 10 ^ place < 2 * (count_of ds top % 10 ^ place)
-behind_greater ds top place kept d h e l inside f large =
+after_greater ds top place kept d h e l inside f large =
     let room : length ds ≤ top + 1 = h.room in
-    below_greater (count_of ds top) place (omega arith) (subst (λ x. 5 < x) (f ∙ sym (digit_behind ds top place kept h e l inside)) large)
+    below_greater (count_of ds top) place (omega arith) (subst (λ x. 5 < x) (f ∙ sym (digit_after ds top place kept h e l inside)) large)
 
-pub behind_middle : (ds : List ℕ) (top place kept d : ℕ) → IsTrimmed ds top → kept ≡ top + 1 - place → place ≤ top + 1 → kept < length ds → d ≡ get_or ds kept 0 → d ≡ 5
+pub after_middle : (ds : List ℕ) (top place kept d : ℕ) → IsTrimmed ds top → kept ≡ top + 1 - place → place ≤ top + 1 → kept < length ds → d ≡ get_or ds kept 0 → d ≡ 5
     → 2 * (count_of ds top % 10 ^ place) ≡ 10 ^ place + 2 * (count_of ds top % 10 ^ (place - 1))
-behind_middle ds top place kept d h e l inside f five =
+after_middle ds top place kept d h e l inside f five =
     let room : length ds ≤ top + 1 = h.room in
-    below_middle (count_of ds top) place (omega arith) (digit_behind ds top place kept h e l inside ∙ sym f ∙ five)
+    below_middle (count_of ds top) place (omega arith) (digit_after ds top place kept h e l inside ∙ sym f ∙ five)
 
-pub behind_more : (ds : List ℕ) (top place kept d : ℕ) → IsTrimmed ds top → kept ≡ top + 1 - place → place ≤ top + 1 → kept + 1 < length ds → d ≡ get_or ds kept 0 → d ≡ 5
+pub after_more : (ds : List ℕ) (top place kept d : ℕ) → IsTrimmed ds top → kept ≡ top + 1 - place → place ≤ top + 1 → kept + 1 < length ds → d ≡ get_or ds kept 0 → d ≡ 5
     → 10 ^ place < 2 * (count_of ds top % 10 ^ place)
-behind_more ds top place kept d h e l inside f five =
+after_more ds top place kept d h e l inside f five =
     let room : length ds ≤ top + 1 = h.room in
     let some = below_some ds top (place - 1) h (omega arith) (omega arith) in
-    omega (arith, behind_middle ds top place kept d h e l (omega arith) f five, some)
+    omega (arith, after_middle ds top place kept d h e l (omega arith) f five, some)
 
-pub behind_equal : (ds : List ℕ) (top place kept d : ℕ) → IsTrimmed ds top → kept ≡ top + 1 - place → place ≤ top + 1 → kept + 1 ≡ length ds → d ≡ get_or ds kept 0 → d ≡ 5
+pub after_equal : (ds : List ℕ) (top place kept d : ℕ) → IsTrimmed ds top → kept ≡ top + 1 - place → place ≤ top + 1 → kept + 1 ≡ length ds → d ≡ get_or ds kept 0 → d ≡ 5
     → 2 * (count_of ds top % 10 ^ place) ≡ 10 ^ place
-behind_equal ds top place kept d h e l inside f five =
+after_equal ds top place kept d h e l inside f five =
     let room : length ds ≤ top + 1 = h.room in
     let none = below_none ds top (place - 1) h (omega arith) in
-    omega (arith, behind_middle ds top place kept d h e l (omega arith) f five, none)
+    omega (arith, after_middle ds top place kept d h e l (omega arith) f five, none)
 
--- a part is left below the place where digits are behind those that reach down to it
+-- a part is left below the place where digits are after those that reach down to it
 pub part_left : (ds : List ℕ) (top place kept : ℕ) → IsTrimmed ds top → kept ≡ top + 1 - place → kept < length ds → 0 < count_of ds top % 10 ^ place
 part_left ds top place kept h e inside = let room : length ds ≤ top + 1 = h.room in below_some ds top place h (omega arith) (omega arith)
 

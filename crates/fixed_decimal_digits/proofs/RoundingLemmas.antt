@@ -15,7 +15,7 @@ upper_count q unit = omega arith
 above_side : (q unit other c : ℕ) → q < c → other ≡ c * unit → q * unit + unit ≤ other
 above_side q unit other c l e = let h : q + 1 ≤ c = omega arith in omega (arith, mul-le-mul_right {m = q + 1} {n = c} unit h)
 
--- a multiple stands at or below the lower one, or at or above the upper one
+-- a multiple is at or below the lower one, or at or above the upper one
 pub sides : (q unit other : ℕ) → IsMultiple unit other → (other ≤ q * unit) ⊎ (q * unit + unit ≤ other)
 sides q unit other m = ⊎_elim (λ l. inr (above_side q unit other m.0 l m.1)) (λ l. inl (omega (arith, mul-le-mul_right {m = m.0} {n = q} unit l, m.1))) (cases_lt q m.0)
 

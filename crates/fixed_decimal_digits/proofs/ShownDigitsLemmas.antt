@@ -51,7 +51,7 @@ taken zero xs = refl
 taken (suc n) [] = refl
 taken (suc n) (x ∷ xs) = ap (λ ys. x ∷ ys) (taken n xs)
 
--- all three, where the range ends below `past` and the first digit stands below `first`
+-- all three, where the range ends below `past` and the first digit is below `first`
 pub shown_down : (ds : List ℕ) (top base count past first before skipped places inside : ℕ)
     → AllBelowBase 10 ds → length ds ≤ top + 1 → past ≡ base + count → first ≡ top + 1
     → before ≡ min (past - first) count → skipped ≡ first - past → places ≡ count - before → inside ≡ length (take places (drop skipped ds))

@@ -23,7 +23,7 @@ word_even (suc k) w =
     ∙ ap (λ b. packed ds ++ (b ∷ [])) byte
     ∙ ap (λ bs. bs ++ (w % 256 ∷ [])) (word_even k (w / 16 / 16) ∙ ap (λ u. word_bytes u k) above)
 
--- behind an odd digit stands 0
+-- after an odd digit is 0
 pub word_odd : (k w : ℕ) → packed (word_digits w (2 * k + 1)) ≡ word_bytes (w * 16) (k + 1)
 word_odd k w =
     let next : 2 * k + 1 ≡ suc (2 * k) = omega arith in

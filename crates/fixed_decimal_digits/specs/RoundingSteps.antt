@@ -28,7 +28,7 @@ takes_upper_of HalfEven Less odd = false
 takes_upper_of HalfEven Equal odd = odd
 takes_upper_of HalfEven Greater odd = true
 
--- the new digits spell the old ones with two more behind them, without a zero before the first or behind the last;
+-- the new digits spell the old ones with two more after them, without a zero before the first or after the last;
 -- `below` places are left below the last
 pub record IsAppended (old : List ℕ) (pair : ℕ) (new : List ℕ) (below : ℕ) : Type 0 where
   pub tight : IsTight new

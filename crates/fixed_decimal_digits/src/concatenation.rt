@@ -1,11 +1,11 @@
-//! Digits behind other digits, with zeros between them.
+//! Digits after other digits, with zeros between them.
 
 ghost use Rattle.std.specs.Prelude.{◌≡◌, ◌+◌, ◌<◌, ◌≤◌, ◌++◌, length, replicate, OnOk, OnErr, IfSome};
 
 use crate::digits::Digits;
 use std::alloc::AllocError;
 
-/// Adds `count` zeros behind the digits: two behind 1 make 1, 0, 0. The condition is that there is room. It does not
+/// Adds `count` zeros after the digits: two after 1 make 1, 0, 0. The condition is that there is room. It does not
 /// allocate.
 #[tactic(auto, using(std::proofs::lemmas::Grind::replicate_next))]
 pub fn push_zeros(digits: &mut Digits, count: usize)
@@ -18,7 +18,7 @@ pub fn push_zeros(digits: &mut Digits, count: usize)
     }
 }
 
-// Adds the digits of another list behind the digits, one after another.
+// Adds the digits of another list after the digits, one after another.
 #[tactic(auto, using(std::proofs::lemmas::List::take_more))]
 fn push_each(digits: &mut Digits, other: &Digits)
     requires { length digits.old.items + length other.now.items ≤ digits.old.capacity }
@@ -30,7 +30,7 @@ fn push_each(digits: &mut Digits, other: &Digits)
     }
 }
 
-// Adds the digits of another list behind the digits: behind an even count its bytes at once.
+// Adds the digits of another list after the digits: after an even count its bytes at once.
 fn push_all(digits: &mut Digits, other: &Digits)
     requires { length digits.old.items + length other.now.items ≤ digits.old.capacity }
     ensures { digits.new.items ≡ digits.old.items ++ other.now.items }
@@ -42,11 +42,11 @@ fn push_all(digits: &mut Digits, other: &Digits)
     }
 }
 
-/// Adds `zeros` zeros and then the digits of another list: one zero and 3 behind 1, 2 make 1, 2, 0, 3.
+/// Adds `zeros` zeros and then the digits of another list: one zero and 3 after 1, 2 make 1, 2, 0, 3.
 ///
 /// The condition is that these are at most 65536. It allocates where all together are more than eight. `AllocError`:
 /// out of memory, only there; then nothing is added.
-pub fn push_behind(digits: &mut Digits, zeros: usize, other: &Digits) -> Result<(), AllocError>
+pub fn push_after(digits: &mut Digits, zeros: usize, other: &Digits) -> Result<(), AllocError>
     requires { zeros + length other.now.items ≤ 65536 }
     ensures ok { OnOk result (digits.new.items ≡ digits.old.items ++ (replicate zeros 0 ++ other.now.items)) }
     ensures err { OnErr result (digits.new ≡ digits.old) }

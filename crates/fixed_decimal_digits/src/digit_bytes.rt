@@ -43,7 +43,7 @@ pub fn assign_bytes(kept: &mut SmallVec<u8, INLINE>, word: u64, count: usize)
     }
 }
 
-// Adds bytes, for which there is room, behind those that are there.
+// Adds bytes, for which there is room, after those that are there.
 pub fn copy_bytes(kept: &mut SmallVec<u8, INLINE>, bytes: &[u8])
     requires { length kept.old.items + length bytes.now ≤ kept.old.capacity }
     ensures items { kept.new.items ≡ kept.old.items ++ bytes.now }
@@ -82,7 +82,7 @@ pub fn drop_bytes(kept: &mut SmallVec<u8, INLINE>, count: usize)
     kept.truncate(left);
 }
 
-// Moves each half up by one: the first is gone, and 0 comes in behind the last.
+// Moves each half up by one: the first is gone, and 0 comes in after the last.
 #[tactic(auto, using(crate::proofs::PackedLemmas::shifted_more))]
 fn shift_bytes(bytes: &mut [u8])
     ensures { bytes.new ≡ shifted bytes.old }

@@ -15,7 +15,7 @@ use std::alloc::AllocError;
 const FIRST_OF_SIXTEEN: u64 = 0x1000_0000_0000_0000;
 
 impl Digits {
-    /// Makes room for `more` more digits: with room for two more behind 9, 0, 5, pushing both does not allocate.
+    /// Makes room for `more` more digits: with room for two more after 9, 0, 5, pushing both does not allocate.
     ///
     /// The digits stay. It allocates where there is less room. `AllocError`: out of memory, only there; the list is
     /// then as before.
@@ -80,7 +80,7 @@ impl Digits {
         Ok(())
     }
 
-    // Adds the sixteen digits of a word, for which there is room, behind an even count.
+    // Adds the sixteen digits of a word, for which there is room, after an even count.
     fn push_whole(&mut self, word: u64)
         requires tens { AllBelowBase 10 (word_digits word 16) }
         requires room { length self.old.items + 16 ≤ self.old.capacity }
@@ -91,7 +91,7 @@ impl Digits {
         self.count += 16;
     }
 
-    // Adds the fifteen digits of a word, for which there is room, behind an even count.
+    // Adds the fifteen digits of a word, for which there is room, after an even count.
     fn push_fifteen(&mut self, word: u64)
         requires fits { word < 16 ^ 15 }
         requires tens { AllBelowBase 10 (word_digits word 15) }
@@ -103,8 +103,8 @@ impl Digits {
         self.count += 15;
     }
 
-    // Adds the sixteen digits of a word, for which there is room, behind those that are there.
-    #[tactic(auto, using(crate::proofs::LongNumberLemmas::first_of_sixteen, crate::proofs::LongNumberLemmas::rest_of_sixteen, crate::proofs::LongNumberLemmas::pushed_sixteen, crate::proofs::LongNumberLemmas::even_behind))]
+    // Adds the sixteen digits of a word, for which there is room, after those that are there.
+    #[tactic(auto, using(crate::proofs::LongNumberLemmas::first_of_sixteen, crate::proofs::LongNumberLemmas::rest_of_sixteen, crate::proofs::LongNumberLemmas::pushed_sixteen, crate::proofs::LongNumberLemmas::even_after))]
     pub(crate) fn push_sixteen(&mut self, word: u64)
         requires tens { AllBelowBase 10 (word_digits word 16) }
         requires room { length self.old.items + 16 ≤ self.old.capacity }
@@ -118,7 +118,7 @@ impl Digits {
         }
     }
 
-    // Adds a digit behind an even count: it begins a byte.
+    // Adds a digit after an even count: it begins a byte.
     fn push_upper(&mut self, digit: u8)
         requires ten { digit < 10 }
         requires room { length self.old.items < self.old.capacity }
@@ -130,7 +130,7 @@ impl Digits {
         self.count += 1;
     }
 
-    // Adds a digit behind an odd count: it goes into the last byte.
+    // Adds a digit after an odd count: it goes into the last byte.
     fn push_lower(&mut self, digit: u8)
         requires ten { digit < 10 }
         requires room { length self.old.items < self.old.capacity }
@@ -144,7 +144,7 @@ impl Digits {
         self.count += 1;
     }
 
-    /// Adds a digit behind the last: 7 behind 9, 0, 5 makes 9, 0, 5, 7. The condition is that there is room. It does
+    /// Adds a digit after the last: 7 after 9, 0, 5 makes 9, 0, 5, 7. The condition is that there is room. It does
     /// not allocate.
     pub fn push_reserved(&mut self, digit: u8)
         requires ten { digit < 10 }
@@ -159,7 +159,7 @@ impl Digits {
         }
     }
 
-    // Adds the digits of a text of an even count, at most a block, for which there is room, behind an even count.
+    // Adds the digits of a text of an even count, at most a block, for which there is room, after an even count.
     pub(crate) fn push_block(&mut self, text: &[u8])
         requires text_digits { AreDigits text.now }
         requires block { length text.now ≤ 64 }
@@ -175,7 +175,7 @@ impl Digits {
         self.count += text.len();
     }
 
-    // Adds the digits of another list, for which there is room, behind an even count: its bytes, as they are.
+    // Adds the digits of another list, for which there is room, after an even count: its bytes, as they are.
     pub(crate) fn push_list(&mut self, other: &Digits)
         requires room { length self.old.items + length other.now.items ≤ self.old.capacity }
         requires even { length self.old.items % 2 ≡ 0 }

@@ -8,7 +8,7 @@ use crate::digits::{BLOCK, Digits};
 use fixed_decimal_digit_words::digit_of;
 use std::alloc::AllocError;
 
-// Adds the digits of a text, at most a block, for which there is room, behind an even count.
+// Adds the digits of a text, at most a block, for which there is room, after an even count.
 #[tactic(auto, using(crate::proofs::BlockLemmas::digits_ahead, crate::proofs::BlockLemmas::digits_past, crate::proofs::BlockLemmas::parts_pushed, crate::proofs::BlockLemmas::pushed_length))]
 fn push_few(digits: &mut Digits, text: &[u8])
     requires text_digits { AreDigits text.now }
@@ -26,7 +26,7 @@ fn push_few(digits: &mut Digits, text: &[u8])
     }
 }
 
-// Adds the digits of a text, for which there is room, in blocks behind an even count.
+// Adds the digits of a text, for which there is room, in blocks after an even count.
 fn push_blocks(digits: &mut Digits, text: &[u8])
     requires text_digits { AreDigits text.now }
     requires room { length digits.old.items + length text.now ≤ digits.old.capacity }
@@ -43,8 +43,8 @@ fn push_blocks(digits: &mut Digits, text: &[u8])
     push_few(digits, rest);
 }
 
-// Adds the digits of a text, for which there is room, behind those that are there.
-#[tactic(auto, using(fixed_decimal_digit_words::proofs::DigitTextLemmas::digits_behind, crate::proofs::BlockLemmas::first_left))]
+// Adds the digits of a text, for which there is room, after those that are there.
+#[tactic(auto, using(fixed_decimal_digit_words::proofs::DigitTextLemmas::digits_after, crate::proofs::BlockLemmas::first_left))]
 fn push_text(digits: &mut Digits, text: &[u8])
     requires text_digits { AreDigits text.now }
     requires room { length digits.old.items + length text.now ≤ digits.old.capacity }
@@ -59,7 +59,7 @@ fn push_text(digits: &mut Digits, text: &[u8])
     }
 }
 
-/// Replaces the digits by those of two texts, one behind the other: 9, 0, 5 of `90` and `5`.
+/// Replaces the digits by those of two texts, one after the other: 9, 0, 5 of `90` and `5`.
 ///
 /// The condition is that each byte is a digit. The call reuses the memory of the digits, and allocates where that has
 /// no room for these. `AllocError`: out of memory, only there; the digits are then as before.

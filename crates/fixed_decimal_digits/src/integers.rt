@@ -29,7 +29,7 @@ fn assign_number(digits: &mut Digits, number: u64) -> Result<(), AllocError>
 /// Puts the digits of a number into an empty list: 9, 0, 5 of 905.
 ///
 /// It allocates where there are more than eight. `AllocError`: out of memory, only there.
-#[tactic(auto, using(crate::proofs::LongNumberLemmas::number_behind, crate::proofs::LongNumberLemmas::tens_behind, crate::proofs::LongNumberLemmas::first_behind))]
+#[tactic(auto, using(crate::proofs::LongNumberLemmas::number_after, crate::proofs::LongNumberLemmas::tens_after, crate::proofs::LongNumberLemmas::first_after))]
 pub fn push_number(digits: &mut Digits, number: u128) -> Result<(), AllocError>
     requires { digits.old.items ≡ [] }
     ensures value { OnOk result (number_from_digits 10 digits.new.items ≡ number) }

@@ -1,7 +1,7 @@
 //! The digits of a number as they are kept, two to a byte: the inner crate of `fixed_decimal_unsigned`.
 //!
 //! `Digits` holds them from the highest to the lowest one that is not zero. They are made of a text or of a whole
-//! number, put behind others, cut, rounded, and shown one by one or in blocks. Digits in words, in bytes and in texts
+//! number, put after others, cut, rounded, and shown one by one or in blocks. Digits in words, in bytes and in texts
 //! are those of `fixed_decimal_digit_words`; all else of a number is in the crates above.
 
 #![tactic(auto)]
@@ -26,7 +26,7 @@ mod shown_digits;
 mod turns;
 
 pub use comparing::is_same_count;
-pub use concatenation::{push_behind, push_zeros, zeros_between};
+pub use concatenation::{push_after, push_zeros, zeros_between};
 pub use cutting::cut_above;
 pub use digit_text::assign_texts;
 pub use digits::{BLOCK, Digits};

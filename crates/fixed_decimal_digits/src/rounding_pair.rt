@@ -70,7 +70,7 @@ fn step_up(mode: UnsignedRoundingMode, half: Ordering, is_odd: bool, step: u8) -
     }
 }
 
-// Whether a pair behind some digits begins with a zero that has no digit before it.
+// Whether a pair after some digits begins with a zero that has no digit before it.
 fn begins_with_zero(digits: &Digits, pair: u8) -> bool
     ensures none { IsTrue result → length digits.now.items ≡ 0 }
     ensures ten { IsTrue result → pair < 10 }
@@ -79,7 +79,7 @@ fn begins_with_zero(digits: &Digits, pair: u8) -> bool
     digits.is_empty() && pair < 10
 }
 
-// How many digits a pair adds behind others: none where it is zero or carries.
+// How many digits a pair adds after others: none where it is zero or carries.
 fn digits_added(pair: u8) -> usize
     ensures most { result ≤ 2 }
     ensures first { 0 < pair → pair < 100 → 1 ≤ result }
@@ -92,7 +92,7 @@ fn digits_added(pair: u8) -> usize
     if pair % 10 == 0 { 1 } else { 2 }
 }
 
-// Adds two digits, of which not both are zero, and no zero before the first digit or behind the last. It returns how
+// Adds two digits, of which not both are zero, and no zero before the first digit or after the last. It returns how
 // many places of the two are left below the last digit.
 fn push_pair(digits: &mut Digits, pair: u8) -> u32
     requires tens { AllBelowBase 10 digits.old.items }

@@ -15,8 +15,8 @@ use crate::turns::Turns;
 use std::cmp::Ordering;
 use std::sync::ledger::Ledger;
 
-// How the digits behind the first `kept`, which reach down to a place, compare with half of what the place counts.
-fn compare_behind(digits: &Digits, top: u32, place: u32, kept: usize) -> Ordering
+// How the digits after the first `kept`, which reach down to a place, compare with half of what the place counts.
+fn compare_after(digits: &Digits, top: u32, place: u32, kept: usize) -> Ordering
     requires trimmed { IsTrimmed digits.now.items top }
     requires place { place < 65536 }
     requires top { top < 65536 }
@@ -64,7 +64,7 @@ fn takes_next(
     ensures { IsRounded mode (10 ^ place) (count_of digits.now.items top)
         ((count_of digits.now.items top / 10 ^ place + cond result 1 0) * 10 ^ place) }
 {
-    let half = compare_behind(digits, top, place, kept);
+    let half = compare_after(digits, top, place, kept);
     let is_odd = is_odd_tie(digits, top, place, half);
     takes_upper(mode, half, is_odd)
 }

@@ -12,14 +12,14 @@ use std::iter::{ExactSizeIterator, FusedIterator};
 use std::marker::Model;
 
 /// The digits of a number at a range of magnitudes, from the highest to the lowest, each from 0 to 9: before the point
-/// of `012.30` they are 0, 1, 2, and behind it 3, 0.
+/// of `012.30` they are 0, 1, 2, and after it 3, 0.
 ///
 /// It borrows the number, and does not allocate.
 #[derive(Debug, Drop)]
 pub struct ShownDigits<'l> {
     zeros_before: usize,
     inside: DigitRun<'l>,
-    zeros_behind: usize,
+    zeros_after: usize,
 }
 
 impl<'l> Model for ShownDigits<'l> {
@@ -27,9 +27,9 @@ impl<'l> Model for ShownDigits<'l> {
 
     ghost Value = { List ℕ };
 
-    ghost view = { λ it. replicate it.zeros_before 0 ++ (it.inside ++ replicate it.zeros_behind 0) };
+    ghost view = { λ it. replicate it.zeros_before 0 ++ (it.inside ++ replicate it.zeros_after 0) };
 
-    ghost invariant = { λ it. (it.zeros_before ≤ 65536) × (it.zeros_behind ≤ 65536) };
+    ghost invariant = { λ it. (it.zeros_before ≤ 65536) × (it.zeros_after ≤ 65536) };
 }
 
 /// The digits of a count at `count` places from `base` up, where the first that is kept is at `top`: of 1, 2 at 32769,
@@ -45,11 +45,11 @@ pub fn digits_at(digits: &Digits, top: u16, base: u16, count: u16) -> ShownDigit
     let zeros_before = past.saturating_sub(first).min(count as usize);
     let places = count as usize - zeros_before;
     let inside = digits.run(first.saturating_sub(past), places);
-    let zeros_behind = places - inside.len();
+    let zeros_after = places - inside.len();
     ShownDigits {
         zeros_before,
         inside,
-        zeros_behind,
+        zeros_after,
     }
 }
 
@@ -57,7 +57,7 @@ impl<'l> ShownDigits<'l> {
     /// Puts the next digits into the front of `block`, sixteen or all that are left where these are fewer, and returns
     /// how many. What else is in `block` then means nothing.
     ///
-    /// Each is from 0 to 9, and so is each behind them, where those of `block` were. Of `012.30` the digits before the
+    /// Each is from 0 to 9, and so is each after them, where those of `block` were. Of `012.30` the digits before the
     /// point are 0, 1, 2: the first call returns 3, the next 0. One call for sixteen digits costs one step, not sixteen.
     /// It does not allocate.
     pub fn next_block(&mut self, block: &mut [u8; 16]) -> usize
@@ -66,13 +66,13 @@ impl<'l> ShownDigits<'l> {
         ensures tens { AllBelowBase 10 self.old → AllBelowBase 10 block.old → AllBelowBase 10 block.new }
         ensures rest { self.new ≡ drop result self.old }
     {
-        if self.zeros_before == 0 && (self.zeros_behind == 0 || self.inside.len() >= STEP) {
+        if self.zeros_before == 0 && (self.zeros_after == 0 || self.inside.len() >= STEP) {
             return self.inside.next_block(block);
         }
         self.next_few(block)
     }
 
-    // Does what `next_block` does, digit by digit, zeros before and behind with them.
+    // Does what `next_block` does, digit by digit, zeros before and after with them.
     fn next_few(&mut self, block: &mut [u8; 16]) -> usize
         ensures count { result ≡ min 16 (length self.old) }
         ensures taken { take result block.new ≡ take result self.old }
@@ -91,7 +91,7 @@ impl<'l> ShownDigits<'l> {
     }
 }
 
-/// The digits in their order; after the last one `None`, for good. Behind the point of `012.30` they are 3, 0,
+/// The digits in their order; after the last one `None`, for good. After the point of `012.30` they are 3, 0,
 /// `None`.
 impl<'l> Iterator for ShownDigits<'l> {
     type Item = u8;
@@ -108,8 +108,8 @@ impl<'l> Iterator for ShownDigits<'l> {
         if let Some(digit) = self.inside.next() {
             return Some(digit);
         }
-        if self.zeros_behind > 0 {
-            self.zeros_behind -= 1;
+        if self.zeros_after > 0 {
+            self.zeros_after -= 1;
             return Some(0);
         }
         None
@@ -127,7 +127,7 @@ impl<'l> Iterator for ShownDigits<'l> {
 
 impl<'l> ExactSizeIterator for ShownDigits<'l> {
     fn len(&self) -> usize {
-        self.zeros_before + self.inside.len() + self.zeros_behind
+        self.zeros_before + self.inside.len() + self.zeros_after
     }
 }
 

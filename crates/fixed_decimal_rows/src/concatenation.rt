@@ -7,7 +7,7 @@ use rows::{Stop, put_last_written};
 use std::fmt::Display;
 use writeable::Writeable;
 
-/// A number that another can be put behind.
+/// A number that another can be put after.
 pub trait Concatenate: Display + Drop + Sized + Writeable {
     /// `concatenate_end` of the type.
     fn put_end(&mut self, other: UnsignedDecimal) -> Result<(), ConcatenateError<UnsignedDecimal>>;

@@ -20,7 +20,7 @@ fn of_parts(alloc: Global, words: &str) -> Result<Decimal, Stop> {
     ))
 }
 
-// Rounds by a call that is passed only a position; false where it is none.
+// Rounds by a call that is passed only a position; false where it is not one.
 fn round_plain(number: &mut Decimal, step: Step<'_>) -> bool {
     let Ok(position) = number_of::<i16>(step.passed) else {
         return false;
@@ -79,7 +79,7 @@ fn at_position(number: Decimal, name: &str, position: i16) -> Result<Decimal, St
     }
 }
 
-// The number that a call leaves which is passed a position, a mode, and an increment behind it.
+// The number that a call leaves which is passed a position, a mode, and an increment after it.
 fn by_mode(number: Decimal, name: &str, it: Rounding) -> Result<Decimal, Stop> {
     match name {
         "rounded_with_mode" => Ok(number.rounded_with_mode(it.position, it.mode)),

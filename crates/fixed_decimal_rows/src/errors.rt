@@ -1,4 +1,4 @@
-//! The numbers and the words of errors, and the increment that stands where none is named.
+//! The numbers and the words of errors, and the increment that is where none is named.
 
 use fixed_decimal::{CallsError, ConcatenateError, LimitError, ParseError, RoundingIncrement};
 use rows::{Stop, put_debug};

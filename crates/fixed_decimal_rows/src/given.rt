@@ -34,7 +34,7 @@ fn given(alloc: Global, word: &str) -> Result<GivenDigits, Stop>
     }
 }
 
-/// The number of a word's digits, of which as many as the second word says stand behind the point.
+/// The number of a word's digits, of which as many as the second word says are after the point.
 pub fn number(alloc: Global, passed: &str) -> Result<UnsignedDecimal, Stop> {
     let (word, fraction) = split_word(passed);
     let fraction = number_of::<usize>(fraction)?;

@@ -40,7 +40,7 @@ pub fn adjust(number: &mut UnsignedDecimal, step: Step<'_>) -> bool {
     }
 }
 
-/// Rounds by a call that is passed only a position; false where it is none.
+/// Rounds by a call that is passed only a position; false where it is not one.
 pub fn round_plain(number: &mut UnsignedDecimal, step: Step<'_>) -> bool {
     let Ok(position) = number_of::<i16>(step.passed) else {
         return false;

@@ -16,7 +16,7 @@ enum Change<'t> {
     Expanded(u8),
     // the digits from a place up taken away
     Cut(u8),
-    // these digits put behind
+    // these digits put after
     Concatenated(&'t str),
 }
 
@@ -64,7 +64,7 @@ impl OneByte {
         Ok(())
     }
 
-    // Puts the digits of a text behind its own.
+    // Puts the digits of a text after its own.
     fn concatenate_end(&mut self, text: &str) -> Result<(), AllocError> {
         let count = self.digits.len();
         push_digits(&mut self.digits, text)?;
@@ -111,7 +111,7 @@ fn digit_of(state: u64) -> char {
     }
 }
 
-// A number with this many digits behind its first, 1, by a sequence that begins at a seed.
+// A number with this many digits after its first, 1, by a sequence that begins at a seed.
 fn made(alloc: Global, count: u8, seed: u64) -> Result<String, AllocError> {
     let mut text = String::from_str(alloc, "1")?;
     let mut state = seed;
@@ -168,7 +168,7 @@ fn is_same(alloc: Global, packed: &str, plain: &str, change: Change<'_>) -> Resu
     is_same
 }
 
-// A text with this many zeros behind it.
+// A text with this many zeros after it.
 fn with_zeros(alloc: Global, text: &str, count: usize) -> Result<String, AllocError> {
     let mut text = String::from_str(alloc, text)?;
     for _ in 0..count {
@@ -177,7 +177,7 @@ fn with_zeros(alloc: Global, text: &str, count: usize) -> Result<String, AllocEr
     Ok(text)
 }
 
-// Whether both are the same where the digits behind an index are put behind those before it.
+// Whether both are the same where the digits after an index are put after those before it.
 fn concatenates_alike(alloc: Global, text: &str, index: u8) -> Result<bool, Stop> {
     let Some((front, back)) = text.split_at_checked(index as usize) else {
         return Err(Stop::Unknown);
@@ -188,7 +188,7 @@ fn concatenates_alike(alloc: Global, text: &str, index: u8) -> Result<bool, Stop
     alike
 }
 
-// Whether both are the same after each of the changes, at each place of a number with this many digits behind its
+// Whether both are the same after each of the changes, at each place of a number with this many digits after its
 // first.
 fn is_alike(alloc: Global, text: &str, count: u8) -> Result<bool, Stop> {
     let mut alike = is_same(alloc, text, text, Change::Nothing)?;
@@ -200,7 +200,7 @@ fn is_alike(alloc: Global, text: &str, count: u8) -> Result<bool, Stop> {
     Ok(alike)
 }
 
-/// The answer of a row that names how many digits stand behind a first, and how many such numbers are tried: how many
+/// The answer of a row that names how many digits are after a first, and how many such numbers are tried: how many
 /// of them differ.
 pub fn answer(alloc: Global, fields: &[&str], out: &mut String) -> Result<(), Stop> {
     let [count, seeds] = fields else {

@@ -3,7 +3,7 @@
 use rows::{Stop, filled, number_of, split_word};
 use std::alloc::{AllocError, Global};
 
-/// A call of a row: its name, and behind a space what is passed to it.
+/// A call of a row: its name, and after a space what is passed to it.
 #[derive(Clone, Copy)]
 pub struct Step<'a> {
     pub name: &'a str,
@@ -18,7 +18,7 @@ impl<'a> Step<'a> {
     }
 }
 
-// Puts a text so often behind another.
+// Puts a text so often after another.
 fn push_times(text: &mut String, piece: &str, times: usize) -> Result<(), AllocError> {
     for _ in 0..times {
         text.push_str(piece)?;
@@ -37,7 +37,7 @@ fn repeated(alloc: Global, word: &str) -> Result<String, Stop> {
     Ok(filled(text, pushed)?)
 }
 
-// Puts the point, and the digits that a word spells, behind a text.
+// Puts the point, and the digits that a word spells, after a text.
 fn push_fraction(alloc: Global, text: &mut String, word: &str) -> Result<(), Stop> {
     let fraction = repeated(alloc, word)?;
     let pushed = write!(text, ".{}", fraction.as_str());
@@ -45,7 +45,7 @@ fn push_fraction(alloc: Global, text: &mut String, word: &str) -> Result<(), Sto
     Ok(pushed?)
 }
 
-/// The text of a number whose digits before and behind the point are spelled so: `9*3.0*2` is `999.00`.
+/// The text of a number whose digits before and after the point are spelled so: `9*3.0*2` is `999.00`.
 pub fn long_text(alloc: Global, word: &str) -> Result<String, Stop> {
     let Some((whole, fraction)) = word.split_once('.') else {
         return repeated(alloc, word);

@@ -45,7 +45,7 @@ fn at_position(
     }
 }
 
-// The number that a call leaves which is passed a position, a mode by size, and an increment behind it.
+// The number that a call leaves which is passed a position, a mode by size, and an increment after it.
 fn by_mode(
     number: UnsignedDecimal,
     name: &str,

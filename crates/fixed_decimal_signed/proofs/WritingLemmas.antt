@@ -2,7 +2,7 @@
 use Rattle.std.proofs.Common.{◌≡◌, ◌≤◌, inl, inr, ◌++◌, length, map, sym, ap, ◌∙◌, arith}
 use Rattle.writeable.specs.AnnotatedText.{bytes}
 use Rattle.fixed_decimal_unsigned.specs.Number.{Number, IsNumber, whole_digits, fraction_digits}
-use Rattle.fixed_decimal_unsigned.specs.NumberText.{character, behind_point, text_of as printed}
+use Rattle.fixed_decimal_unsigned.specs.NumberText.{character, after_point, text_of as printed}
 use Rattle.writeable.proofs.AnnotatedTextLemmas.{bytes_joined}
 use Rattle.fixed_decimal_unsigned.proofs.PrintedLemmas.{text_with_fraction, text_without_fraction}
 use Rattle.std.proofs.lemmas.Bool.{cases_lt}
@@ -11,10 +11,10 @@ use Rattle.fixed_decimal_signed.specs.declared.sign.Sign.{Sign}
 use Rattle.fixed_decimal_signed.specs.declared.sign.Sign.TheVariants.{None, Negative, Positive}
 use Rattle.fixed_decimal_signed.specs.SignedValue.{SignedValue}
 
-pub decimal_events : (v : SignedValue Number) → bytes (sign_text v.sign) ++ (bytes (map character (whole_digits v.absolute)) ++ bytes (behind_point (map character (fraction_digits v.absolute)))) ≡ bytes (signed_text_of v)
+pub decimal_events : (v : SignedValue Number) → bytes (sign_text v.sign) ++ (bytes (map character (whole_digits v.absolute)) ++ bytes (after_point (map character (fraction_digits v.absolute)))) ≡ bytes (signed_text_of v)
 decimal_events v =
     let whole = map character (whole_digits v.absolute) in
-    let part = behind_point (map character (fraction_digits v.absolute)) in
+    let part = after_point (map character (fraction_digits v.absolute)) in
     ap (λ es. bytes (sign_text v.sign) ++ es) (sym (bytes_joined whole part)) ∙ sym (bytes_joined (sign_text v.sign) (whole ++ part))
 
 -- how long a printed text is at most, and a sign

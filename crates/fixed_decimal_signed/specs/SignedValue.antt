@@ -4,7 +4,7 @@
 use Rattle.std.specs.Prelude.{◌≡◌}
 use Rattle.fixed_decimal_signed.specs.declared.sign.Sign.{Sign}
 
--- a sign, and the value behind it
+-- a sign, and the value after it
 pub record SignedValue (T : Type 0) : Type 0 where
   pub sign : Sign
   pub absolute : T

@@ -1,4 +1,4 @@
-//! Consuming calls that keep the sign: powers of ten, zeros at both ends, digits cut away, numbers put behind others.
+//! Consuming calls that keep the sign: powers of ten, zeros at both ends, digits cut away, numbers put after others.
 
 ghost use Rattle.std.specs.Prelude.{◌≡◌, ◌↔◌, IfOk, IfErr};
 ghost use Rattle.fixed_decimal_unsigned.specs.Concatenation.{Concatenates, Overlaps, MayWantMemory, handed_back};
@@ -13,7 +13,7 @@ use fixed_decimal_unsigned::{ConcatenateError, UnsignedDecimal};
 impl Signed<UnsignedDecimal> {
     /// The number times ten to the power `delta`, the digits shown with it: `-12` and 2 give `-1200`.
     ///
-    /// It is zero, shown `0` behind the sign, where an end of the range would pass magnitudes -32768 to 32767. It does
+    /// It is zero, shown `0` after the sign, where an end of the range would pass magnitudes -32768 to 32767. It does
     /// not allocate.
     pub fn multiplied_pow10(mut self, delta: i16) -> Decimal
         ensures { OnAbsolute (Shifts delta) self result }
@@ -30,7 +30,7 @@ impl Signed<UnsignedDecimal> {
         self
     }
 
-    /// The number without the zeros that it ends in behind the point: `-1.20` gives `-1.2`. It does not allocate.
+    /// The number without the zeros that it ends in after the point: `-1.20` gives `-1.2`. It does not allocate.
     pub fn trimmed_end(mut self) -> Decimal
         ensures { OnAbsolute TrimsEnd self result }
     {
@@ -38,7 +38,7 @@ impl Signed<UnsignedDecimal> {
         self
     }
 
-    /// The number without the zeros behind the point where there is no other digit behind it: `-1.00` gives `-1`, and
+    /// The number without the zeros after the point where there is no other digit after it: `-1.00` gives `-1`, and
     /// `-1.20` stays.
     ///
     /// It does not allocate.
@@ -59,7 +59,7 @@ impl Signed<UnsignedDecimal> {
         self
     }
 
-    /// The number with zeros behind it down to a position, or no more than it needs: `-12` and -2 give `-12.00`.
+    /// The number with zeros after it down to a position, or no more than it needs: `-12` and -2 give `-12.00`.
     ///
     /// A position above 0 changes nothing. It does not allocate.
     pub fn padded_end(mut self, position: i16) -> Decimal
@@ -77,7 +77,7 @@ impl Signed<UnsignedDecimal> {
         self
     }
 
-    /// The number with another one behind it, under the sign of this one: `-12` and `0.3` give `-12.3`.
+    /// The number with another one after it, under the sign of this one: `-12` and `0.3` give `-12.3`.
     ///
     /// `Overlap`, with both numbers, where neither is zero and the last digit of this number that is not zero is not
     /// above the first one of `other`. `Memory`, with both: out of memory. It allocates only where the sum has more

@@ -1,10 +1,10 @@
-//! The text of a decimal: its sign, and the absolute value behind it.
+//! The text of a decimal: its sign, and the absolute value after it.
 
 ghost use Rattle.std.specs.Prelude.{◌≡◌, ◌≤◌, ◌++◌, false, is_err, length, map, OnOk, OnErr};
 ghost use Rattle.writeable.specs.AnnotatedText.{bytes};
 ghost use Rattle.writeable.specs.Taking.{HasBegun};
 ghost use Rattle.fixed_decimal_unsigned.specs.Number.{whole_digits, fraction_digits};
-ghost use Rattle.fixed_decimal_unsigned.specs.NumberText.{character, behind_point};
+ghost use Rattle.fixed_decimal_unsigned.specs.NumberText.{character, after_point};
 ghost use Rattle.fixed_decimal_signed.specs.SignedText.{sign_text, signed_text_of};
 
 use crate::decimal::Decimal;
@@ -35,20 +35,20 @@ fn write_sign<S: Sink>(sign: Sign, sink: &mut S) -> Result<(), Error>
     sink.write_str(text_of_sign(sign))
 }
 
-// Writes a decimal, one part behind the other.
+// Writes a decimal, one part after the other.
 fn write_parts<S: Sink>(decimal: &Decimal, sink: &mut S) -> Result<(), Error>
     requires { S.refused sink.old ≡ false }
     ensures ok { OnOk result
         (S.takes sink.old
         (bytes (sign_text decimal.now.sign)
         ++ (bytes (map character (whole_digits decimal.now.absolute))
-        ++ bytes (behind_point (map character (fraction_digits decimal.now.absolute))))) sink.new) }
+        ++ bytes (after_point (map character (fraction_digits decimal.now.absolute))))) sink.new) }
     ensures refused { S.refused sink.new ≡ is_err result }
     ensures begun { OnErr result
         (HasBegun S.takes S.lacks_room sink.old
         (bytes (sign_text decimal.now.sign)
         ++ (bytes (map character (whole_digits decimal.now.absolute))
-        ++ bytes (behind_point (map character (fraction_digits decimal.now.absolute))))) sink.new) }
+        ++ bytes (after_point (map character (fraction_digits decimal.now.absolute))))) sink.new) }
 {
     write_sign(decimal.sign, sink)?;
     decimal.absolute.write_to(sink)

@@ -1,4 +1,4 @@
--- Digits behind other digits, with zeros between them.
+-- Digits after other digits, with zeros between them.
 use Rattle.std.proofs.Common.{◌≡◌, ℕ, zero, suc, ◌+◌, ◌-◌, ◌*◌, ◌%◌, ◌^◌, ◌<◌, ◌≤◌, ◌==◌, max, min, false, List, [], ◌∷◌, ◌++◌, length, length-append, get_or, replicate, true≢false, Result, Ok, Err, is_ok, refl, sym, ap, ◌∙◌, subst, arith}
 use Rattle.std.proofs.lemmas.Bool.Decides.{nat_tests}
 use Rattle.std.proofs.lemmas.List.{length-replicate}
@@ -28,15 +28,15 @@ zeros_before zero es = refl
 zeros_before (suc n) es =
     number_cons 0 (replicate n 0 ++ es) ∙ no_front (number_from_digits 10 (replicate n 0 ++ es)) (10 ^ length (replicate n 0 ++ es)) ∙ zeros_before n es
 
-behind_length : (zeros : ℕ) (es : List ℕ) → length (replicate zeros 0 ++ es) ≡ zeros + length es
-behind_length zeros es = length-append (replicate zeros 0) es ∙ ap (λ k. k + length es) (length-replicate zeros 0)
+after_length : (zeros : ℕ) (es : List ℕ) → length (replicate zeros 0 ++ es) ≡ zeros + length es
+after_length zeros es = length-append (replicate zeros 0) es ∙ ap (λ k. k + length es) (length-replicate zeros 0)
 
 pub joined_length : (ds es : List ℕ) (zeros : ℕ) → length (joined ds zeros es) ≡ length ds + (zeros + length es)
-joined_length ds es zeros = length-append ds (replicate zeros 0 ++ es) ∙ ap (λ k. length ds + k) (behind_length zeros es)
+joined_length ds es zeros = length-append ds (replicate zeros 0 ++ es) ∙ ap (λ k. length ds + k) (after_length zeros es)
 
 pub joined_number : (ds es : List ℕ) (zeros : ℕ) → number_from_digits 10 (joined ds zeros es) ≡ number_from_digits 10 ds * 10 ^ (zeros + length es) + number_from_digits 10 es
 joined_number ds es zeros =
-    number_joined ds (replicate zeros 0 ++ es) ∙ ap (λ k. number_from_digits 10 ds * 10 ^ k + number_from_digits 10 (replicate zeros 0 ++ es)) (behind_length zeros es)
+    number_joined ds (replicate zeros 0 ++ es) ∙ ap (λ k. number_from_digits 10 ds * 10 ^ k + number_from_digits 10 (replicate zeros 0 ++ es)) (after_length zeros es)
     ∙ ap (λ n. number_from_digits 10 ds * 10 ^ (zeros + length es) + n) (zeros_before zeros es)
 
 shared : (m n a k b : ℕ) → b ≡ a * k → (m * a + n) * k ≡ m * b + n * k
@@ -120,18 +120,18 @@ module _ (ds es : List ℕ) (top u low high lo hi : ℕ) (s : IsStored ds top lo
   some : 0 < length ds
   some = some_kept ds top (subst (λ v. 0 < v.count) (sym ea) pa)
 
-  some_behind : 0 < length es
-  some_behind = some_kept es u (subst (λ v. 0 < v.count) (sym eb) pb)
+  some_after : 0 < length es
+  some_after = some_kept es u (subst (λ v. 0 < v.count) (sym eb) pb)
 
   pub kept_overlap : top + 1 ≤ u + length ds → Overlaps a b
-  kept_overlap meet = ends_overlap ds es top u front behind some some_behind meet a b (ap (λ v. v.count) (sym ea)) (ap (λ v. v.count) (sym eb))
+  kept_overlap meet = ends_overlap ds es top u front behind some some_after meet a b (ap (λ v. v.count) (sym ea)) (ap (λ v. v.count) (sym eb))
 
   pub kept_apart : (gap : ℕ) → u + 1 + gap + length ds ≡ top + 1 → ¬ (Overlaps a b)
-  kept_apart gap at = ends_apart ds es top u gap front behind some some_behind at a b (ap (λ v. v.count) (sym ea)) (ap (λ v. v.count) (sym eb))
+  kept_apart gap at = ends_apart ds es top u gap front behind some some_after at a b (ap (λ v. v.count) (sym ea)) (ap (λ v. v.count) (sym eb))
 
   pub kept_stored : (new : List ℕ) (gap l h : ℕ) → new ≡ joined ds gap es → u + 1 + gap + length ds ≡ top + 1 → l ≡ min low lo → h ≡ max high hi → IsStored new top l h
   kept_stored new gap l h e at el eh =
-      let trimmed : IsTrimmed new top = subst (λ xs. IsTrimmed xs top) (sym e) (joined_trimmed ds es top u gap front behind some some_behind at) in
+      let trimmed : IsTrimmed new top = subst (λ xs. IsTrimmed xs top) (sym e) (joined_trimmed ds es top u gap front behind some some_after at) in
       let len : length new ≡ length ds + (gap + length es) = ap length e ∙ joined_length ds es gap in
       let r = s.room in let q = t.room in let under = s.below in let low_end = s.low_end in let ones = s.ones in
       record {
@@ -159,7 +159,7 @@ module _ (ds es : List ℕ) (top u low high lo hi : ℕ) (s : IsStored ds top lo
     front = pa;
     behind = pb;
     long = λ place holds.
-        let few = holds_length (joined ds gap es) top place 8 (joined_trimmed ds es top u gap front behind some some_behind at)
+        let few = holds_length (joined ds gap es) top place 8 (joined_trimmed ds es top u gap front behind some some_after at)
         (subst (λ n. HoldsDigits n place 8) (sym (sum_counts gap at)) holds) in
         let len = joined_length ds es gap in
         absurd (omega arith);

@@ -28,7 +28,7 @@ zero_in_front ds zeros count k few = record {
 scaled : (n t u : ℕ) → u ≡ t * 10 → n * u ≡ n * t * 10
 scaled n t u e = omega (arith, ap (λ x. n * x) e)
 
--- a zero behind the digits makes the number ten times as large
+-- a zero after the digits makes the number ten times as large
 pub zero_value : (n zeros : ℕ) → n * 10 ^ (zeros + 1) ≡ n * 10 ^ zeros * 10 + 0
 zero_value n zeros = scaled n (10 ^ zeros) (10 ^ (zeros + 1)) (tens_next zeros) ∙ omega arith
 
@@ -43,7 +43,7 @@ front_value (d ∷ ds) zeros e = absurd (omega arith)
 other_step : (n zeros d t u : ℕ) → u ≡ t * 10 → n * u + (0 * 10 + d) ≡ n * t * 10 + d
 other_step n zeros d t u e = omega (arith, ap (λ x. n * x) e)
 
--- another digit behind the zeros
+-- another digit after the zeros
 pub other_number : (ds new : List ℕ) (zeros d : ℕ) → new ≡ joined ds zeros (d ∷ []) → number_from_digits 10 new ≡ number_from_digits 10 ds * 10 ^ zeros * 10 + d
 other_number ds new zeros d e =
     ap (number_from_digits 10) e ∙ joined_number ds (d ∷ []) zeros

@@ -1,4 +1,4 @@
--- Rows of docs/numbers.md on ranges, shifts, concatenation and the digits that take memory, so that a wrong definition does not pass. Where a row needs no real size it is in small units: there the ones do not stand at place 32768.
+-- Rows of docs/numbers.md on ranges, shifts, concatenation and the digits that take memory, so that a wrong definition does not pass. Where a row needs no real size it is in small units: there the ones are not at place 32768.
 use Rattle.std.proofs.Common.{◌≡◌, ℕ, zero, suc, pos, negsuc, ◌+◌, ◌*◌, ◌%◌, ◌^◌, ◌<◌, ◌≤◌, inl, refl, subst, arith, lit≤, ⊎_elim, inr}
 use Rattle.std.proofs.lemmas.Bool.{cases_lt}
 use Rattle.fixed_decimal_unsigned.specs.Number.{Number, digit}
@@ -33,7 +33,7 @@ small_stays = inl (below_limit 5 1 (lit≤ tt) (lit≤ tt), refl)
 limit_is_zero : IsLimited count_limit 0
 limit_is_zero = inr (omega arith, refl)
 
--- the first digit that is not zero, where it stands above the ones
+-- the first digit that is not zero, where it is above the ones
 first_shown : (count p : ℕ) → 32768 ≤ p → 10 ^ p ≤ count → count < 10 ^ (p + 1) → IsHighest 32768 0 count p
 first_shown count p above reach holds = record {
   keeps = above;
@@ -53,8 +53,8 @@ zero_before = record { count = refl; low = refl; high = first_shown (12 * 10 ^ 3
 last_shown : (n : ℕ) → 0 < n % 10 → IsLowest 32768 (n * 10 ^ 32767) 32767
 last_shown n last = record { under = lit≤ tt; whole = mul-mod_left n (10 ^ 32767); highest = λ p _ whole. last_above n 32767 (n * 10 ^ 32767) p refl last whole }
 
-zero_behind : TrimsEnd (record { count = 12 * 10 ^ 32767; low = 32766; high = 32768 }) (record { count = 12 * 10 ^ 32767; low = 32767; high = 32768 })
-zero_behind = record { count = refl; low = last_shown 12 (lit≤ tt); high = refl }
+zero_after : TrimsEnd (record { count = 12 * 10 ^ 32767; low = 32766; high = 32768 }) (record { count = 12 * 10 ^ 32767; low = 32767; high = 32768 })
+zero_after = record { count = refl; low = last_shown 12 (lit≤ tt); high = refl }
 
 -- `12` padded up to magnitude 4 is `0012`, `12.3` down to -2 is `12.30`
 padded_before : PadsStart 32772 (record { count = 12 * 10 ^ 32768; low = 32768; high = 32769 }) (record { count = 12 * 10 ^ 32768; low = 32768; high = 32771 })
@@ -65,8 +65,8 @@ padded_before = record {
   same = λ under. absurd (omega arith);
 }
 
-padded_behind : PadsEnd 32766 (record { count = 123 * 10 ^ 32767; low = 32767; high = 32769 }) (record { count = 123 * 10 ^ 32767; low = 32766; high = 32769 })
-padded_behind = record {
+padded_after : PadsEnd 32766 (record { count = 123 * 10 ^ 32767; low = 32767; high = 32769 }) (record { count = 123 * 10 ^ 32767; low = 32766; high = 32769 })
+padded_after = record {
   count = refl;
   high = refl;
   low = λ _. record { under = lit≤ tt; whole = refl; highest = λ p h _. h };

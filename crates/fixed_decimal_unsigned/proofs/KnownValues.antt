@@ -2,7 +2,7 @@
 use Rattle.std.proofs.Common.{◌≡◌, ℕ, pos, negsuc, ◌*◌, ◌^◌, ◌≤◌, false, inl, List, [], ◌∷◌, ◌++◌, length, codes, refl, ap, arith, lit≤, length-append}
 use Rattle.std.proofs.lemmas.Int.{ints}
 use Rattle.fixed_decimal_unsigned.specs.Number.{Number, place, digit}
-use Rattle.fixed_decimal_unsigned.specs.NumberText.{Parts, Spells, Reads, IsBeyond, IsNoText, IsWithin, AreEndsIn, text_of, behind_point}
+use Rattle.fixed_decimal_unsigned.specs.NumberText.{Parts, Spells, Reads, IsBeyond, IsNoText, IsWithin, AreEndsIn, text_of, after_point}
 use Rattle.fixed_decimal_unsigned.specs.ReadNumber.{IsInLimits, ReadsAs}
 use Rattle.fixed_decimal_unsigned.specs.Shifts.{plain_zero}
 use Rattle.fixed_decimal_unsigned.specs.Equality.{are_equal}
@@ -129,13 +129,13 @@ empty_is_no_text : IsNoText []
 empty_is_no_text parts h =
     let some = h.some in
     let whole = ap length h.whole in
-    let behind : length (behind_point parts.fraction) ≡ length (behind_point parts.fraction) = refl in
-    let digits = length_behind parts.fraction in
-    absurd (omega (arith, whole, length-append parts.integer (behind_point parts.fraction ++ h.last), length-append (behind_point parts.fraction) h.last))
+    let behind : length (after_point parts.fraction) ≡ length (after_point parts.fraction) = refl in
+    let digits = length_after parts.fraction in
+    absurd (omega (arith, whole, length-append parts.integer (after_point parts.fraction ++ h.last), length-append (after_point parts.fraction) h.last))
   where
-    length_behind : (ds : List ℕ) → length ds ≤ length (behind_point ds)
-    length_behind [] = lit≤ tt
-    length_behind (d ∷ ds) = omega arith
+    length_after : (ds : List ℕ) → length ds ≤ length (after_point ds)
+    length_after [] = lit≤ tt
+    length_after (d ∷ ds) = omega arith
 
 -- `0.5` and `0.50` are one number with two texts
 not_one_text : are_equal (record { count = 50; low = 1; high = 2 }) (record { count = 50; low = 0; high = 2 }) ≡ false

@@ -59,7 +59,7 @@ pub ok_unless : {T E : Type 0} {P : Type 0} (r : Result T E) → OnErr r P → �
 ok_unless (Ok _) h n = refl
 ok_unless (Err _) h n = absurd (n h)
 
--- and of a text, where the first digit that is not zero stands first
+-- and of a text, where the first digit that is not zero is first
 text_reaches : (text : List ℕ) → 0 < length text → 0 < digit_value (get_or text 0 0) → 10 ^ (length text - 1) ≤ spelled text
 text_reaches [] some first = absurd (omega arith)
 text_reaches (c ∷ cs) some first =

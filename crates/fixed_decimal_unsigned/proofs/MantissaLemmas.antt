@@ -1,4 +1,4 @@
--- A mantissa: its two parts one behind the other, and its zeros at the end.
+-- A mantissa: its two parts one after the other, and its zeros at the end.
 use Rattle.std.proofs.Common.{◌≡◌, ℕ, zero, suc, ◌+◌, ◌-◌, ◌*◌, ◌%◌, ◌^◌, ◌<◌, ◌≤◌, ◌==◌, min, max, List, [], ◌∷◌, ◌++◌, length, refl, sym, ap, ◌∙◌, arith}
 use Rattle.std.proofs.Math.Nat.{pow-suc, zero-mul, add_assoc, mul_assoc, mul-pos, add-mul-mod_self_right}
 use Rattle.std.proofs.lemmas.List.{append-nil}
@@ -28,7 +28,7 @@ spelled_joined xs ys = sym (spelled_after xs ys 0) ∙ spelled_from (spelled xs)
 factor : (a u b t v : ℕ) → v ≡ u * t → a * v + b * t ≡ (a * u + b) * t
 factor a u b t v e = omega (arith, ap (λ x. a * x) e)
 
--- the zeros at the end of the fraction, where other digits stand before them
+-- the zeros at the end of the fraction, where other digits are before them
 pub mantissa_kept_both : (integer fraction kept : List ℕ) → length kept ≤ length fraction → spelled fraction ≡ spelled kept * 10 ^ (length fraction - length kept)
     → spelled (integer ++ fraction) ≡ spelled (integer ++ kept) * 10 ^ (length integer + length fraction - (length integer + length kept))
 mantissa_kept_both integer fraction kept l h =

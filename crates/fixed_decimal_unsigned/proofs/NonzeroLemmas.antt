@@ -45,7 +45,7 @@ last_place ds top h p =
       lowest = λ other some. ⊎_elim (λ under. let z = digit_under (number_from_digits 10 ds) (top + 1 - length ds) other under in absurd (omega arith)) (λ over. over) (cases_lt other (top + 1 - length ds));
     }
 
--- only magnitude 0 stands at the place of the ones
+-- only magnitude 0 is at the place of the ones
 pub ones_only : (r : ℤ) → place r ≡ 32768 → r ≡ pos 0
 ones_only (pos n) e = let z : n ≡ 0 = omega (arith, e) in ap pos z
 ones_only (negsuc n) e = absurd (omega (arith, e))

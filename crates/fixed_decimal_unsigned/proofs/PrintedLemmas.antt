@@ -6,7 +6,7 @@ use Rattle.std.proofs.lemmas.List.{append-nil, map-append}
 use Rattle.std.proofs.lemmas.Bool.Decides.{nat_tests}
 use Rattle.std.specs.Char.{digit_value}
 use Rattle.fixed_decimal_unsigned.specs.Number.{Number, IsNumber, digit, digits_down, whole_digits, fraction_digits}
-use Rattle.fixed_decimal_unsigned.specs.NumberText.{AreDigits, spelled, behind_point, character, small_mark, Parts, number_at, mantissa_of, up_of, down_of, AreEndsIn, Reads, text_of}
+use Rattle.fixed_decimal_unsigned.specs.NumberText.{AreDigits, spelled, after_point, character, small_mark, Parts, number_at, mantissa_of, up_of, down_of, AreEndsIn, Reads, text_of}
 use Rattle.fixed_decimal_digits.proofs.ShownDigitsLemmas.{down_split}
 use Rattle.fixed_decimal_digits.proofs.TenLemmas.{tens_positive, tens_split, remainder_more}
 use Rattle.fixed_decimal_unsigned.proofs.MantissaLemmas.{spelled_from, number_made, same_number}
@@ -92,7 +92,7 @@ reads_printed v h =
       parts = parts;
       spells = record {
         last = [];
-        whole = ap (λ t. parts.integer ++ t) (sym (append-nil (behind_point parts.fraction)));
+        whole = ap (λ t. parts.integer ++ t) (sym (append-nil (after_point parts.fraction)));
         integer_digits = printed_digits v.count 32768 above;
         fraction_digits = printed_digits v.count v.low below;
         some = let b = h.ones in omega arith;
@@ -103,11 +103,11 @@ reads_printed v h =
           ∙ sym (same_at (mantissa_of parts) (v.count / 10 ^ v.low) (length parts.integer) above (length parts.fraction) below (up_of parts) 0 (down_of parts) 0 mantissa la lb up down);
     }
 
-behind_length : (text : List ℕ) → 0 < length text → length (behind_point text) ≡ length text + 1
-behind_length [] p = absurd (omega arith)
-behind_length (c ∷ cs) p = omega arith
+after_length : (text : List ℕ) → 0 < length text → length (after_point text) ≡ length text + 1
+after_length [] p = absurd (omega arith)
+after_length (c ∷ cs) p = omega arith
 
-behind_none : (text : List ℕ) → length text ≡ 0 → length (behind_point text) ≡ 0
+behind_none : (text : List ℕ) → length text ≡ 0 → length (after_point text) ≡ 0
 behind_none [] e = refl
 behind_none (c ∷ cs) e = absurd (omega arith)
 
@@ -116,15 +116,15 @@ pub text_with_fraction : (v : Number) → 32768 ≤ v.high → v.low < 32768 →
 text_with_fraction v o l =
     let whole = printed_length v.count 32768 (v.high - 32767) in
     let part = printed_length v.count v.low (32768 - v.low) in
-    let behind = behind_length (map character (fraction_digits v)) (omega arith) in
-    omega (arith, length-append (map character (whole_digits v)) (behind_point (map character (fraction_digits v))))
+    let behind = after_length (map character (fraction_digits v)) (omega arith) in
+    omega (arith, length-append (map character (whole_digits v)) (after_point (map character (fraction_digits v))))
 
 pub text_without_fraction : (v : Number) → 32768 ≤ v.high → v.low ≡ 32768 → v.high - v.low + 1 ≡ length (text_of v)
 text_without_fraction v o l =
     let whole = printed_length v.count 32768 (v.high - 32767) in
     let part = printed_length v.count v.low (32768 - v.low) in
     let behind = behind_none (map character (fraction_digits v)) (omega arith) in
-    omega (arith, length-append (map character (whole_digits v)) (behind_point (map character (fraction_digits v))))
+    omega (arith, length-append (map character (whole_digits v)) (after_point (map character (fraction_digits v))))
 
 -- numbers with one printed text are one number
 pub texts_tell : (a b : Number) → IsNumber a → IsNumber b → text_of a ≡ text_of b → a ≡ b

@@ -1,4 +1,4 @@
--- Places and sizes: where the first and the last digit of a count stand.
+-- Places and sizes: where the first and the last digit of a count are.
 use Rattle.std.proofs.Common.{◌≡◌, ℕ, ◌+◌, ◌-◌, ◌*◌, ◌%◌, ◌^◌, ◌<◌, ◌≤◌, max, min, List, [], ◌∷◌, length, refl, sym, ap, ◌∙◌, subst, arith, inl, inr, ⊎_elim}
 use Rattle.std.proofs.Math.Nat.{zero-mul, eq-zero-or-pos, mul-mod_left, pow-le-pow_right, zero-mod}
 use Rattle.fixed_decimal_unsigned.specs.Number.{Number}

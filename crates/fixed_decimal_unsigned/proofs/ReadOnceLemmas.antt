@@ -2,7 +2,7 @@
 use Rattle.std.proofs.Common.{◌≡◌, ℕ, ◌+◌, ◌<◌, ◌==◌, ◌||◌, Bool, true, false, cond, List, [], ◌∷◌, ◌++◌, length, refl, sym, ap, ◌∙◌, subst, arith}
 use Rattle.std.specs.Char.{digit_value}
 use Rattle.fixed_decimal_unsigned.specs.Number.{Number}
-use Rattle.fixed_decimal_unsigned.specs.NumberText.{AreDigits, spelled, behind_mark, minus_if, minus, Parts, Spells, number_of, number_at, mantissa_of, up_of, down_of, Reads, AreEndsIn, IsBeyond}
+use Rattle.fixed_decimal_unsigned.specs.NumberText.{AreDigits, spelled, after_mark, minus_if, minus, Parts, Spells, number_of, number_at, mantissa_of, up_of, down_of, Reads, AreEndsIn, IsBeyond}
 use Rattle.fixed_decimal_unsigned.proofs.TextPartsLemmas.{cons_head, cons_tail, found_parts, exponent_no_digit, exponent_no_point}
 
 -- two exponents of one text have the same digits, and the same sign where there are digits
@@ -13,18 +13,18 @@ pub record AreSamePowers (first second : Bool) (one other : List ℕ) : Type 0 w
 minus_no_digit : (c : ℕ) (cs ds : List ℕ) → digit_value c < 10 → minus ∷ ds ≡ c ∷ cs → ⊥
 minus_no_digit c cs ds d e = let h : digit_value 45 < 10 = subst (λ n. digit_value n < 10) (sym (cons_head minus c ds cs e)) d in omega arith
 
-same_behind : (first second : Bool) (c : ℕ) (cs : List ℕ) (d : ℕ) (ds : List ℕ) → digit_value c < 10 → digit_value d < 10 → minus_if first ++ (c ∷ cs) ≡ minus_if second ++ (d ∷ ds) → AreSamePowers first second (c ∷ cs) (d ∷ ds)
-same_behind true true c cs d ds h k e = record { digits = cons_tail minus minus (c ∷ cs) (d ∷ ds) e; sign = λ _. refl }
-same_behind true false c cs d ds h k e = absurd (minus_no_digit d ds (c ∷ cs) k e)
-same_behind false true c cs d ds h k e = absurd (minus_no_digit c cs (d ∷ ds) h (sym e))
-same_behind false false c cs d ds h k e = record { digits = e; sign = λ _. refl }
+same_after : (first second : Bool) (c : ℕ) (cs : List ℕ) (d : ℕ) (ds : List ℕ) → digit_value c < 10 → digit_value d < 10 → minus_if first ++ (c ∷ cs) ≡ minus_if second ++ (d ∷ ds) → AreSamePowers first second (c ∷ cs) (d ∷ ds)
+same_after true true c cs d ds h k e = record { digits = cons_tail minus minus (c ∷ cs) (d ∷ ds) e; sign = λ _. refl }
+same_after true false c cs d ds h k e = absurd (minus_no_digit d ds (c ∷ cs) k e)
+same_after false true c cs d ds h k e = absurd (minus_no_digit c cs (d ∷ ds) h (sym e))
+same_after false false c cs d ds h k e = record { digits = e; sign = λ _. refl }
 
-same_power_by : (one other : List ℕ) (first second : Bool) (mark sign : ℕ) → AreDigits one → AreDigits other → behind_mark mark first one ≡ behind_mark sign second other → AreSamePowers first second one other
+same_power_by : (one other : List ℕ) (first second : Bool) (mark sign : ℕ) → AreDigits one → AreDigits other → after_mark mark first one ≡ after_mark sign second other → AreSamePowers first second one other
 same_power_by [] [] first second mark sign h k e = record { digits = refl; sign = λ p. absurd (omega arith) }
 same_power_by [] (d ∷ ds) first second mark sign h k e = absurd (cc)
 same_power_by (c ∷ cs) [] first second mark sign h k e = absurd (cc)
 same_power_by (c ∷ cs) (d ∷ ds) first second mark sign h k e =
-    same_behind first second c cs d ds h.0 k.0 (cons_tail mark sign (minus_if first ++ (c ∷ cs)) (minus_if second ++ (d ∷ ds)) e)
+    same_after first second c cs d ds h.0 k.0 (cons_tail mark sign (minus_if first ++ (c ∷ cs)) (minus_if second ++ (d ∷ ds)) e)
 
 nothing_moved : (b : Bool) → cond b 0 (0 + 0) ≡ 0
 nothing_moved true = refl

@@ -9,22 +9,22 @@ use Rattle.fixed_decimal_digits.proofs.CutWordLemmas.{cut_reaches}
 use Rattle.fixed_decimal_digits.proofs.NumberWordLemmas.{text_spells, spells_wide}
 use Rattle.fixed_decimal_digits.proofs.WordLemmas.{digits_joined, power_positive, powers_rise, value_below}
 use Rattle.fixed_decimal_unsigned.specs.Number.{Number}
-use Rattle.fixed_decimal_unsigned.specs.NumberText.{AreDigits, spelled, point, behind_point, Parts, Spells, AreEndsIn, IsWithin, number_at, number_of, mantissa_of, up_of, down_of, Reads}
+use Rattle.fixed_decimal_unsigned.specs.NumberText.{AreDigits, spelled, point, after_point, Parts, Spells, AreEndsIn, IsWithin, number_at, number_of, mantissa_of, up_of, down_of, Reads}
 use Rattle.fixed_decimal_unsigned.specs.DigitCount.{HoldsDigits}
 use Rattle.fixed_decimal_unsigned.specs.ShortText.{SpellsShort}
 use Rattle.fixed_decimal_unsigned.proofs.LongLemmas.{more_mantissa}
 
-plain_spelled : (text integer fraction : List ℕ) → text ≡ integer ++ behind_point fraction → AreDigits integer → AreDigits fraction → 0 < length integer + length fraction → Spells text (record { integer = integer; fraction = fraction; negative = false; exponent = [] })
+plain_spelled : (text integer fraction : List ℕ) → text ≡ integer ++ after_point fraction → AreDigits integer → AreDigits fraction → 0 < length integer + length fraction → Spells text (record { integer = integer; fraction = fraction; negative = false; exponent = [] })
 plain_spelled text integer fraction e h k some = record {
   last = [];
-  whole = e ∙ ap (λ t. integer ++ t) (sym (append-nil (behind_point fraction)));
+  whole = e ∙ ap (λ t. integer ++ t) (sym (append-nil (after_point fraction)));
   integer_digits = h;
   fraction_digits = k;
   some = some;
   power = record { mark = 101; is_mark = inl refl; digits = tt; whole = refl };
 }
 
-short_made : (text integer fraction : List ℕ) (word above below : ℕ) → text ≡ integer ++ behind_point fraction → AreDigits integer → AreDigits fraction → 0 < above + below → above + below ≤ 16
+short_made : (text integer fraction : List ℕ) (word above below : ℕ) → text ≡ integer ++ after_point fraction → AreDigits integer → AreDigits fraction → 0 < above + below → above + below ≤ 16
     → length integer ≡ above → length fraction ≡ below → word ≡ digits_value_after 16 0 (integer ++ fraction) → SpellsShort text word above below
 short_made text integer fraction word above below e h k some few a b w = record {
   parts = record { integer = integer; fraction = fraction; negative = false; exponent = [] };
@@ -43,11 +43,11 @@ short_made text integer fraction word above below e h k some few a b w = record 
 pub short_whole : (text : List ℕ) (word above : ℕ) → length text ≤ 16 → above ≡ length text → 0 < above → AreDigits (take above text) → word ≡ digits_value_after 16 0 (take above text) → SpellsShort text word above 0
 short_whole text word above few e some h w =
     let all : take above text ≡ text = take_all above text (omega arith) in
-    let none : text ≡ text ++ behind_point [] = sym (append-nil text) in
+    let none : text ≡ text ++ after_point [] = sym (append-nil text) in
     short_made text text [] word above 0 none (subst AreDigits all h) tt (omega arith) (omega arith) (sym e) refl
     (w ∙ ap (digits_value_after 16 0) (all ∙ none))
 
-point_before : (fraction : List ℕ) → 0 < length fraction → behind_point fraction ≡ point ∷ fraction
+point_before : (fraction : List ℕ) → 0 < length fraction → after_point fraction ≡ point ∷ fraction
 point_before [] p = absurd (omega arith)
 point_before (c ∷ cs) p = refl
 
@@ -55,10 +55,10 @@ folded_joined : (xs ys : List ℕ) (n : ℕ) → digits_value_after 16 (digits_v
 folded_joined [] ys n = refl
 folded_joined (x ∷ xs) ys n = folded_joined xs ys (n * 16 + digit_value x)
 
--- the digits behind the point fit in the word with those before it
-pub room_behind : (text fraction : List ℕ) (mark whole above : ℕ) → length text ≤ 16 → above ≤ length text → drop above text ≡ mark ∷ fraction → AreDigits (take above text)
+-- the digits after the point fit in the word with those before it
+pub room_after : (text fraction : List ℕ) (mark whole above : ℕ) → length text ≤ 16 → above ≤ length text → drop above text ≡ mark ∷ fraction → AreDigits (take above text)
     → whole ≡ digits_value_after 16 0 (take above text) → whole < 16 ^ (16 - length fraction)
-room_behind text fraction mark whole above few within e h v =
+room_after text fraction mark whole above few within e h v =
     let left : suc (length fraction) ≡ length text - above = sym (ap length e) ∙ length-drop above text in
     let below = value_below (take above text) 0 0 h (power_positive 0) in
     let rise = powers_rise (0 + length (take above text)) (16 - length fraction) (omega (arith, length-take-le above text within, left)) in
@@ -72,7 +72,7 @@ short_both text fraction mark whole word above below few within e m h v b some k
     let integer = take above text in
     let all : take below fraction ≡ fraction = take_all below fraction (omega arith) in
     let left : suc (length fraction) ≡ length text - above = sym (ap length e) ∙ length-drop above text in
-    let split : text ≡ integer ++ behind_point fraction =
+    let split : text ≡ integer ++ after_point fraction =
     sym (take-append-drop above text) ∙ ap (λ t. integer ++ t) (e ∙ ap (λ c. c ∷ fraction) m ∙ sym (point_before fraction (omega arith))) in
     short_made text integer fraction word above below split h (subst AreDigits all k) (omega arith) (omega arith) (length-take-le above text within) (sym b)
     (w ∙ ap (digits_value_after 16 whole) all ∙ ap (λ n. digits_value_after 16 n fraction) v ∙ folded_joined integer fraction 0)

@@ -6,9 +6,9 @@ use Rattle.std.proofs.lemmas.Bool.Decides.{nat_tests}
 use Rattle.std.specs.Char.{digit_value}
 use Rattle.std.specs.Str.Parse.{digits_value_after}
 use Rattle.fixed_decimal_unsigned.specs.NumberText.{AreDigits, spelled}
-use Rattle.fixed_decimal_digits.proofs.TenLemmas.{tens_next, zero_behind}
+use Rattle.fixed_decimal_digits.proofs.TenLemmas.{tens_next, zero_after}
 use Rattle.fixed_decimal_digits.proofs.WordLemmas.{digits_joined}
-pub use Rattle.fixed_decimal_digits.proofs.DigitTextLemmas.{digits_at, digits_behind}
+pub use Rattle.fixed_decimal_digits.proofs.DigitTextLemmas.{digits_at, digits_after}
 
 capped_step : (n d : ℕ) → min (min n 65536 * 10 + d) 65536 ≡ min (n * 10 + d) 65536
 capped_step n d = omega arith
@@ -34,7 +34,7 @@ digits_back (d ∷ ds) c h = digits_back ds c h.1
 pub value_front : (front : List ℕ) (c k n : ℕ) → c ≡ 48 → n ≡ spelled (front ++ (c ∷ [])) * 10 ^ k → n ≡ spelled front * 10 ^ (k + 1)
 value_front front c k n e h =
     h ∙ ap (λ x. x * 10 ^ k) (digits_value_push 10 front c ∙ ap (λ x. spelled front * 10 + digit_value x) e)
-    ∙ zero_behind (spelled front) (10 ^ k) (10 ^ (k + 1)) (tens_next k)
+    ∙ zero_after (spelled front) (10 ^ k) (10 ^ (k + 1)) (tens_next k)
 
 digit_positive : (c : ℕ) → digit_value c < 10 → (c ≡ 48 → ⊥) → 0 < digit_value c
 digit_positive c h ne = grind (arith, nat_tests)

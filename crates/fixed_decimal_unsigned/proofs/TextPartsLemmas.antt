@@ -3,7 +3,7 @@ use Rattle.std.proofs.Common.{◌≡◌, ℕ, ◌+◌, ◌<◌, ◌⊎◌, ◌==
 use Rattle.std.proofs.lemmas.List.{append-nil}
 use Rattle.std.proofs.lemmas.Bool.Decides.{nat_tests}
 use Rattle.std.specs.Char.{digit_value}
-use Rattle.fixed_decimal_unsigned.specs.NumberText.{AreDigits, behind_point, minus_if, minus, point, small_mark, capital_mark, Parts, SpellsExponent, Spells, IsNoText}
+use Rattle.fixed_decimal_unsigned.specs.NumberText.{AreDigits, after_point, minus_if, minus, point, small_mark, capital_mark, Parts, SpellsExponent, Spells, IsNoText}
 use Rattle.fixed_decimal_unsigned.specs.TextParts.{StartsNoDigit, StartsNoPoint, StartsNoMinus, IsNoFraction, IsNoExponent}
 
 pub cons_head : (c d : ℕ) (cs ds : List ℕ) → c ∷ cs ≡ d ∷ ds → c ≡ d
@@ -34,8 +34,8 @@ fronts (c ∷ cs) x (d ∷ ds) y da db nx ny e =
     let h = fronts cs x ds y da.1 db.1 nx ny (cons_tail c d (cs ++ x) (ds ++ y) e) in
     (cons_both c d cs ds (cons_head c d (cs ++ x) (ds ++ y) e) h.0, h.1)
 
--- a fraction is what stands behind a point that comes first
-pub fractions : (a x b y : List ℕ) → AreDigits a → AreDigits b → StartsNoDigit x → StartsNoDigit y → (a ≡ [] → StartsNoPoint x) → StartsNoPoint y → behind_point a ++ x ≡ behind_point b ++ y → (a ≡ b) × (x ≡ y)
+-- a fraction is what is after a point that comes first
+pub fractions : (a x b y : List ℕ) → AreDigits a → AreDigits b → StartsNoDigit x → StartsNoDigit y → (a ≡ [] → StartsNoPoint x) → StartsNoPoint y → after_point a ++ x ≡ after_point b ++ y → (a ≡ b) × (x ≡ y)
 fractions [] x [] y da db nx ny px py e = (refl, e)
 fractions [] [] (d ∷ ds) y da db nx ny px py e = absurd (cc)
 fractions [] (c ∷ cs) (d ∷ ds) y da db nx ny px py e = absurd (px refl (cons_head c point cs (d ∷ (ds ++ y)) e))
@@ -52,32 +52,32 @@ pub exponent_no_point : (text : List ℕ) (negative : Bool) (exponent : List ℕ
 exponent_no_point text negative [] h = subst StartsNoPoint (sym h.whole) tt
 exponent_no_point text negative (c ∷ cs) h = subst StartsNoPoint (sym h.whole) (mark_no_point h.mark h.is_mark)
 
-pub rest_no_digit : (fraction last : List ℕ) → StartsNoDigit last → StartsNoDigit (behind_point fraction ++ last)
+pub rest_no_digit : (fraction last : List ℕ) → StartsNoDigit last → StartsNoDigit (after_point fraction ++ last)
 rest_no_digit [] last h = h
 rest_no_digit (c ∷ cs) last h = λ lt. absurd (omega arith)
 
 -- the parts of a text are those that the steps of reading found
-pub found_parts : (text integer fraction last : List ℕ) → text ≡ integer ++ (behind_point fraction ++ last) → AreDigits integer → AreDigits fraction → StartsNoDigit last → (fraction ≡ [] → StartsNoPoint last)
+pub found_parts : (text integer fraction last : List ℕ) → text ≡ integer ++ (after_point fraction ++ last) → AreDigits integer → AreDigits fraction → StartsNoDigit last → (fraction ≡ [] → StartsNoPoint last)
     → (parts : Parts) (h : Spells text parts) → (integer ≡ parts.integer) × (fraction ≡ parts.fraction) × (last ≡ h.last)
 found_parts text integer fraction last e di df nd np parts h =
     let no_digit = exponent_no_digit h.last parts.negative parts.exponent h.power in
-    let front = fronts integer (behind_point fraction ++ last) parts.integer (behind_point parts.fraction ++ h.last) di h.integer_digits (rest_no_digit fraction last nd) (rest_no_digit parts.fraction h.last no_digit) (sym e ∙ h.whole) in
+    let front = fronts integer (after_point fraction ++ last) parts.integer (after_point parts.fraction ++ h.last) di h.integer_digits (rest_no_digit fraction last nd) (rest_no_digit parts.fraction h.last no_digit) (sym e ∙ h.whole) in
     let behind = fractions fraction last parts.fraction h.last df h.fraction_digits nd no_digit np (exponent_no_point h.last parts.negative parts.exponent h.power) front.1 in
     (front.0, behind.0, behind.1)
 
-no_point_fraction : (tail fraction last : List ℕ) → StartsNoDigit tail → AreDigits fraction → StartsNoPoint last → point ∷ tail ≡ behind_point fraction ++ last → ⊥
+no_point_fraction : (tail fraction last : List ℕ) → StartsNoDigit tail → AreDigits fraction → StartsNoPoint last → point ∷ tail ≡ after_point fraction ++ last → ⊥
 no_point_fraction tail [] [] nd df np e = cc
 no_point_fraction tail [] (c ∷ cs) nd df np e = np (sym (cons_head point c tail cs e))
 no_point_fraction [] (c ∷ cs) last nd df np e = let bad : [] ≡ c ∷ (cs ++ last) = cons_tail point point [] (c ∷ (cs ++ last)) e in cc
 no_point_fraction (t ∷ ts) (c ∷ cs) last nd df np e =
     nd (subst (λ n. digit_value n < 10) (sym (cons_head t c ts (cs ++ last) (cons_tail point point (t ∷ ts) (c ∷ (cs ++ last)) e))) df.0)
 
--- a point with no digit behind it is in no text
+-- a point with no digit after it is in no text
 pub no_fraction : (text integer rest : List ℕ) → text ≡ integer ++ rest → AreDigits integer → IsNoFraction rest → IsNoText text
 no_fraction text integer rest e di lacks parts h =
     let no_digit = exponent_no_digit h.last parts.negative parts.exponent h.power in
     let starts : StartsNoDigit rest = subst StartsNoDigit (sym lacks.whole) (λ lt. absurd (omega arith)) in
-    let front = fronts integer rest parts.integer (behind_point parts.fraction ++ h.last) di h.integer_digits starts (rest_no_digit parts.fraction h.last no_digit) (sym e ∙ h.whole) in
+    let front = fronts integer rest parts.integer (after_point parts.fraction ++ h.last) di h.integer_digits starts (rest_no_digit parts.fraction h.last no_digit) (sym e ∙ h.whole) in
     no_point_fraction lacks.tail parts.fraction h.last lacks.rest h.fraction_digits (exponent_no_point h.last parts.negative parts.exponent h.power) (sym lacks.whole ∙ front.1)
 
 signs_agree : (sign negative : Bool) (behind : List ℕ) (c : ℕ) (cs : List ℕ) → (sign ≡ false → StartsNoMinus behind) → digit_value c < 10 → minus_if sign ++ behind ≡ minus_if negative ++ (c ∷ cs) → behind ≡ c ∷ cs
@@ -108,13 +108,13 @@ pub no_exponent : (text : List ℕ) → length text ≡ 0 → SpellsExponent tex
 no_exponent text e = record { mark = small_mark; is_mark = inl refl; digits = tt; whole = empty_of text e }
 
 -- where the exponent is none
-pub no_power : (text integer fraction last : List ℕ) → text ≡ integer ++ (behind_point fraction ++ last) → AreDigits integer → AreDigits fraction → StartsNoDigit last → (fraction ≡ [] → StartsNoPoint last)
+pub no_power : (text integer fraction last : List ℕ) → text ≡ integer ++ (after_point fraction ++ last) → AreDigits integer → AreDigits fraction → StartsNoDigit last → (fraction ≡ [] → StartsNoPoint last)
     → IsNoExponent last → IsNoText text
 no_power text integer fraction last e di df nd np lacks parts h =
     let found = found_parts text integer fraction last e di df nd np parts h in
     lacks parts.negative parts.exponent (subst (λ t. SpellsExponent t parts.negative parts.exponent) (sym found.2) h.power)
 
-pub no_digits : (text integer fraction last : List ℕ) → text ≡ integer ++ (behind_point fraction ++ last) → AreDigits integer → AreDigits fraction → StartsNoDigit last → (fraction ≡ [] → StartsNoPoint last)
+pub no_digits : (text integer fraction last : List ℕ) → text ≡ integer ++ (after_point fraction ++ last) → AreDigits integer → AreDigits fraction → StartsNoDigit last → (fraction ≡ [] → StartsNoPoint last)
     → length integer ≡ 0 → length fraction ≡ 0 → IsNoText text
 no_digits text integer fraction last e di df nd np no_integer no_fractions parts h =
     let found = found_parts text integer fraction last e di df nd np parts h in
@@ -132,8 +132,8 @@ sign_no_point : (c : ℕ) → (c ≡ 43) ⊎ (c ≡ minus) → ¬ (c ≡ point)
 sign_no_point c (inl e) f = omega arith
 sign_no_point c (inr e) f = omega arith
 
-no_sign_in : (c : ℕ) (cs integer fraction last : List ℕ) → AreDigits integer → 0 < length integer + length fraction → c ∷ cs ≡ integer ++ (behind_point fraction ++ last) → (c ≡ 43) ⊎ (c ≡ minus) → ⊥
-no_sign_in c cs (i ∷ is) fraction last d some e s = sign_no_digit c s (subst (λ n. digit_value n < 10) (sym (cons_head c i cs (is ++ (behind_point fraction ++ last)) e)) d.0)
+no_sign_in : (c : ℕ) (cs integer fraction last : List ℕ) → AreDigits integer → 0 < length integer + length fraction → c ∷ cs ≡ integer ++ (after_point fraction ++ last) → (c ≡ 43) ⊎ (c ≡ minus) → ⊥
+no_sign_in c cs (i ∷ is) fraction last d some e s = sign_no_digit c s (subst (λ n. digit_value n < 10) (sym (cons_head c i cs (is ++ (after_point fraction ++ last)) e)) d.0)
 no_sign_in c cs [] (f ∷ fs) last d some e s = sign_no_point c s (cons_head c point cs (f ∷ (fs ++ last)) e)
 no_sign_in c cs [] [] last d some e s = absurd (omega arith)
 

@@ -10,7 +10,7 @@ use Rattle.std.proofs.lemmas.Str.{IsAscii-append}
 use Rattle.writeable.specs.AnnotatedText.{bytes, text_of as written}
 use Rattle.writeable.proofs.AnnotatedTextLemmas.{text_of_bytes, bytes_joined}
 use Rattle.fixed_decimal_unsigned.specs.Number.{Number, digit, digits_down, whole_digits, fraction_digits}
-use Rattle.fixed_decimal_unsigned.specs.NumberText.{character, behind_point, point, text_of as printed}
+use Rattle.fixed_decimal_unsigned.specs.NumberText.{character, after_point, point, text_of as printed}
 use Rattle.fixed_decimal_digits.proofs.ShownDigitsLemmas.{down_split}
 use Rattle.fixed_decimal_unsigned.proofs.PrintedLemmas.{digit_below_ten, printed_length}
 
@@ -79,15 +79,15 @@ pub zeros_below : (n : ℕ) → AllBelowBase 10 (replicate n 0)
 zeros_below zero = tt
 zeros_below (suc n) = (omega arith, zeros_below n)
 
-no_fraction : (count low left : ℕ) → left ≡ 0 → behind_point (map character (digits_down count low left)) ≡ []
+no_fraction : (count low left : ℕ) → left ≡ 0 → after_point (map character (digits_down count low left)) ≡ []
 no_fraction count low zero e = refl
 no_fraction count low (suc k) e = absurd (omega arith)
 
-some_fraction : (count low left : ℕ) → 0 < left → point ∷ map character (digits_down count low left) ≡ behind_point (map character (digits_down count low left))
+some_fraction : (count low left : ℕ) → 0 < left → point ∷ map character (digits_down count low left) ≡ after_point (map character (digits_down count low left))
 some_fraction count low zero l = absurd (omega arith)
 some_fraction count low (suc k) l = refl
 
--- a piece with the text of a number that shows no digit behind the point, and of one that does
+-- a piece with the text of a number that shows no digit after the point, and of one that does
 pub spelled_whole : (piece : List ℕ) (v : Number) → 32768 ≤ v.low → take (v.high - 32767) piece ≡ map character (whole_digits v) → take (v.high - 32767) piece ≡ printed v
 spelled_whole piece v l e =
     e ∙ sym (append-nil (map character (whole_digits v)))
@@ -109,46 +109,46 @@ characters_ascii count base (suc k) =
     let small : character (digit count (base + k)) < 128 = let ten = digit_below_ten count (base + k) in omega arith in
     IsAscii-cons (character (digit count (base + k))) (map character (digits_down count base k)) small (characters_ascii count base k)
 
-behind_ascii : (cs : List ℕ) → IsAscii cs → IsAscii (behind_point cs)
+behind_ascii : (cs : List ℕ) → IsAscii cs → IsAscii (after_point cs)
 behind_ascii [] h = h
 behind_ascii (c ∷ cs) h = IsAscii-cons point (c ∷ cs) (omega arith) h
 
 -- the characters of a number's text are ASCII
 pub text_ascii : (v : Number) → IsAscii (printed v)
 text_ascii v =
-    IsAscii-append (map character (whole_digits v)) (behind_point (map character (fraction_digits v))) (characters_ascii v.count 32768 (v.high - 32767))
+    IsAscii-append (map character (whole_digits v)) (after_point (map character (fraction_digits v))) (characters_ascii v.count 32768 (v.high - 32767))
     (behind_ascii (map character (fraction_digits v)) (characters_ascii v.count v.low (32768 - v.low)))
 
 -- the events of a text are those of its two parts
-pub text_events : (v : Number) → bytes (printed v) ≡ bytes (map character (whole_digits v)) ++ bytes (behind_point (map character (fraction_digits v)))
-text_events v = bytes_joined (map character (whole_digits v)) (behind_point (map character (fraction_digits v)))
+pub text_events : (v : Number) → bytes (printed v) ≡ bytes (map character (whole_digits v)) ++ bytes (after_point (map character (fraction_digits v)))
+text_events v = bytes_joined (map character (whole_digits v)) (after_point (map character (fraction_digits v)))
 
 pub none_left : (count base left : ℕ) → left ≤ 0 → bytes (map character (digits_down count base left)) ≡ []
 unfolding bytes
 none_left count base zero h = refl
 none_left count base (suc k) h = absurd (omega arith)
 
--- the point and the digits behind it
-pub point_first : (c : ℕ) (cs : List ℕ) → bytes (point ∷ []) ++ bytes (c ∷ cs) ≡ bytes (behind_point (c ∷ cs))
+-- the point and the digits after it
+pub point_first : (c : ℕ) (cs : List ℕ) → bytes (point ∷ []) ++ bytes (c ∷ cs) ≡ bytes (after_point (c ∷ cs))
 unfolding bytes
 point_first c cs = refl
 
-pub fraction_events : (count low left : ℕ) → 0 < left → bytes (point ∷ []) ++ bytes (map character (digits_down count low left)) ≡ bytes (behind_point (map character (digits_down count low left)))
+pub fraction_events : (count low left : ℕ) → 0 < left → bytes (point ∷ []) ++ bytes (map character (digits_down count low left)) ≡ bytes (after_point (map character (digits_down count low left)))
 fraction_events count low zero p = absurd (omega arith)
 fraction_events count low (suc k) p = point_first (character (digit count (low + k))) (map character (digits_down count low k))
 
-pub no_fraction_events : (count low left : ℕ) → left ≡ 0 → bytes (behind_point (map character (digits_down count low left))) ≡ []
+pub no_fraction_events : (count low left : ℕ) → left ≡ 0 → bytes (after_point (map character (digits_down count low left))) ≡ []
 unfolding bytes
 no_fraction_events count low zero p = refl
 no_fraction_events count low (suc k) p = absurd (omega arith)
 
 -- the events of a number are its printed text
-pub events_text : (v : Number) → written (bytes (map character (whole_digits v)) ++ bytes (behind_point (map character (fraction_digits v)))) ≡ printed v
+pub events_text : (v : Number) → written (bytes (map character (whole_digits v)) ++ bytes (after_point (map character (fraction_digits v)))) ≡ printed v
 events_text v =
-    let a = map character (whole_digits v) in let b = behind_point (map character (fraction_digits v)) in
+    let a = map character (whole_digits v) in let b = after_point (map character (fraction_digits v)) in
     ap written (sym (bytes_joined a b)) ∙ text_of_bytes (a ++ b)
 
-pub events_length : (v : Number) → length (written (bytes (map character (whole_digits v)) ++ bytes (behind_point (map character (fraction_digits v))))) ≡ length (printed v)
+pub events_length : (v : Number) → length (written (bytes (map character (whole_digits v)) ++ bytes (after_point (map character (fraction_digits v))))) ≡ length (printed v)
 events_length v = ap length (events_text v)
 
 -- a piece that is one block

@@ -1,4 +1,4 @@
--- A number with another one behind its last digit, and where the digits of two numbers overlap.
+-- A number with another one after its last digit, and where the digits of two numbers overlap.
 -- Defined in docs/numbers.md, "Concatenation".
 -- Cited by `concatenate_end` and `concatenated_end`.
 use Rattle.std.specs.Prelude.{◌≡◌, ℕ, ◌+◌, ◌<◌, ◌≤◌, min, max}

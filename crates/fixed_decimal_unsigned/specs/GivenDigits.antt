@@ -13,7 +13,7 @@ pub record DigitsGiven : Type 0 where
 abbrev pub with_digit : DigitsGiven → ℕ → DigitsGiven
 with_digit given digit = record { mantissa = given.mantissa * 10 + digit; count = given.count + 1 }
 
--- what is kept of them: the digits from the first to the last one that is not 0, and the zeros behind
+-- what is kept of them: the digits from the first to the last one that is not 0, and the zeros after
 pub record IsKept (digits : List ℕ) (zeros count : ℕ) : Type 0 where
   pub tight : IsTight digits
   pub none : length digits ≡ 0 → zeros ≡ 0

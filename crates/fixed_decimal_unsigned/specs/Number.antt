@@ -19,7 +19,7 @@ pub record Number : Type 0 where
 abbrev pub whole_digits : Number → List ℕ
 whole_digits v = digits_down v.count 32768 (v.high - 32767)
 
--- the digits shown behind the point
+-- the digits shown after the point
 abbrev pub fraction_digits : Number → List ℕ
 fraction_digits v = digits_down v.count v.low (32768 - v.low)
 

@@ -24,22 +24,22 @@ capital_mark = 69
 abbrev pub spelled : List ℕ → ℕ
 spelled text = digits_value 10 text
 
--- a point and the digits behind it; no digits, no point
-abbrev pub behind_point : List ℕ → List ℕ
-behind_point [] = []
-behind_point (c ∷ cs) = point ∷ (c ∷ cs)
+-- a point and the digits after it; no digits, no point
+abbrev pub after_point : List ℕ → List ℕ
+after_point [] = []
+after_point (c ∷ cs) = point ∷ (c ∷ cs)
 
 -- a minus, or nothing
 abbrev pub minus_if : Bool → List ℕ
 minus_if true = minus ∷ []
 minus_if false = []
 
--- an exponent behind its mark; no digits, no exponent
-abbrev pub behind_mark : ℕ → Bool → List ℕ → List ℕ
-behind_mark mark negative [] = []
-behind_mark mark negative (c ∷ cs) = mark ∷ (minus_if negative ++ (c ∷ cs))
+-- an exponent after its mark; no digits, no exponent
+abbrev pub after_mark : ℕ → Bool → List ℕ → List ℕ
+after_mark mark negative [] = []
+after_mark mark negative (c ∷ cs) = mark ∷ (minus_if negative ++ (c ∷ cs))
 
--- the parts of a text: the digits before and behind the point, and the exponent's sign and digits
+-- the parts of a text: the digits before and after the point, and the exponent's sign and digits
 pub record Parts : Type 0 where
   pub integer : List ℕ
   pub fraction : List ℕ
@@ -51,12 +51,12 @@ pub record SpellsExponent (text : List ℕ) (negative : Bool) (exponent : List �
   pub mark : ℕ
   pub is_mark : (mark ≡ small_mark) ⊎ (mark ≡ capital_mark)
   pub digits : AreDigits exponent
-  pub whole : text ≡ behind_mark mark negative exponent
+  pub whole : text ≡ after_mark mark negative exponent
 
 -- the text is made of these parts
 pub record Spells (text : List ℕ) (parts : Parts) : Type 0 where
   pub last : List ℕ
-  pub whole : text ≡ parts.integer ++ (behind_point parts.fraction ++ last)
+  pub whole : text ≡ parts.integer ++ (after_point parts.fraction ++ last)
   pub integer_digits : AreDigits parts.integer
   pub fraction_digits : AreDigits parts.fraction
   pub some : 0 < length parts.integer + length parts.fraction
@@ -127,4 +127,4 @@ IsNoText text = (parts : Parts) → ¬ (Spells text parts)
 
 -- the printed text: a digit a magnitude from the highest down, and a point before magnitude -1
 abbrev pub text_of : Number → List ℕ
-text_of v = map character (whole_digits v) ++ behind_point (map character (fraction_digits v))
+text_of v = map character (whole_digits v) ++ after_point (map character (fraction_digits v))

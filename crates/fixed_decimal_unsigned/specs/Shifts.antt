@@ -46,7 +46,7 @@ pub record TrimsEnd (old new : Number) : Type 0 where
   pub low : IsLowest 32768 old.count new.low
   pub high : new.high ≡ old.high
 
--- no digit is shown behind the point where all of them are zero, and else nothing changes
+-- no digit is shown after the point where all of them are zero, and else nothing changes
 pub record TrimsWhole (old new : Number) : Type 0 where
   pub whole : old.count % 10 ^ 32768 ≡ 0 → new ≡ record old { low = 32768 }
   pub fraction : ¬ (old.count % 10 ^ 32768 ≡ 0) → new ≡ old

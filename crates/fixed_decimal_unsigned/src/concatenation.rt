@@ -1,14 +1,14 @@
-//! Numbers put one behind the other: `12` and `0.3` give `12.3`.
+//! Numbers put one after the other: `12` and `0.3` give `12.3`.
 
 ghost use Rattle.std.specs.Prelude.{◌≡◌, ◌↔◌, OnOk, OnErr, IfOk, IfErr};
 ghost use Rattle.fixed_decimal_unsigned.specs.Concatenation.{Overlaps, Concatenates, MayWantMemory, handed_back};
 
 use crate::error::ConcatenateError;
 use crate::unsigned_decimal::UnsignedDecimal;
-use fixed_decimal_digits::{push_behind, zeros_between};
+use fixed_decimal_digits::{push_after, zeros_between};
 
 impl UnsignedDecimal {
-    /// Puts another number behind this one: `12` and `0.3` give `12.3`.
+    /// Puts another number after this one: `12` and `0.3` give `12.3`.
     ///
     /// The number becomes the sum, shown with every magnitude that one of the two shows. `Overlap`, with `other`, where
     /// neither is zero and the last digit of this number that is not zero is not above the first one of `other`: `12.3`
@@ -39,7 +39,7 @@ impl UnsignedDecimal {
         let Some(zeros) = zeros_between(&self.digits, self.top, other.top) else {
             return Err(ConcatenateError::Overlap(other));
         };
-        match push_behind(&mut self.digits, zeros, &other.digits) {
+        match push_after(&mut self.digits, zeros, &other.digits) {
             Ok(()) => {
                 self.low = self.low.min(other.low);
                 self.high = self.high.max(other.high);
@@ -49,7 +49,7 @@ impl UnsignedDecimal {
         }
     }
 
-    /// The number with another one behind it: `12` and `0.3` give `12.3`.
+    /// The number with another one after it: `12` and `0.3` give `12.3`.
     ///
     /// The errors are those of `concatenate_end`, each with both numbers. It allocates only where the sum has more than
     /// eight digits and neither number is zero.

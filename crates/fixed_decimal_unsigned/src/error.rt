@@ -1,4 +1,4 @@
-//! Why a text is not read as a number, and why a number is not put behind another.
+//! Why a text is not read as a number, and why a number is not put after another.
 
 ghost use Rattle.std.specs.Prelude.{◌≡◌};
 ghost use Rattle.fixed_decimal_unsigned.specs.declared.error.ParseError.TheVariants.{Memory};
@@ -42,15 +42,15 @@ impl From<AllocError> for ParseError {
     }
 }
 
-/// Why a number was not put behind another: `Overlap` of `0.3` behind `12.3`. The case holds what was passed: `T` is
+/// Why a number was not put after another: `Overlap` of `0.3` after `12.3`. The case holds what was passed: `T` is
 /// one number, or both.
 #[derive(Debug, Drop, PartialEq, Eq, Error)]
 pub enum ConcatenateError<T> {
     /// The last digit of the first number that is not zero is not above the first such digit of the second: `0.3`
-    /// behind `12.3`, or `12` behind `1`.
+    /// after `12.3`, or `12` after `1`.
     #[error("The digits of the two numbers overlap")]
     Overlap(T),
-    /// Out of memory: the nine digits of `6789` behind `123450000` allocate.
+    /// Out of memory: the nine digits of `6789` after `123450000` allocate.
     #[error("Memory for the digits was refused")]
     Memory(T),
 }

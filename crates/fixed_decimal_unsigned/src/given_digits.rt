@@ -60,7 +60,7 @@ impl GivenDigits {
         self.given += 1;
     }
 
-    // Adds a digit that is not 0, behind the zeros before it.
+    // Adds a digit that is not 0, after the zeros before it.
     fn push_other(&mut self, digit: u8) -> Result<(), AllocError>
         requires some { 0 < digit }
         requires ten { digit < 10 }
@@ -78,7 +78,7 @@ impl GivenDigits {
         Ok(())
     }
 
-    /// Adds a digit behind the others: 3 behind 1, 2 makes 123 of 12.
+    /// Adds a digit after the others: 3 after 1, 2 makes 123 of 12.
     ///
     /// The condition is that the digit is 0 to 9, and that fewer than 2^63 were given. It allocates where there are
     /// more than eight digits from the first to the last one that is not 0, and these have no room yet. `AllocError`:
@@ -97,7 +97,7 @@ impl GivenDigits {
         self.push_other(digit)
     }
 
-    /// The number of these digits, `fraction` of them behind the point: of 0, 1, 2, 5 and 2 it is `01.25`.
+    /// The number of these digits, `fraction` of them after the point: of 0, 1, 2, 5 and 2 it is `01.25`.
     ///
     /// The condition is that at least one digit was given, and that `fraction` is at most as many. `None` exactly where
     /// a digit would be past magnitudes -32768 to 32767. It does not allocate.

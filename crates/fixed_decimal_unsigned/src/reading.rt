@@ -53,7 +53,7 @@ fn without_end_zeros(text: &[u8]) -> &[u8]
 }
 
 // The text without the zeros that it begins with.
-#[tactic(auto, using(crate::proofs::SpelledLemmas::digits_behind, crate::proofs::SpelledLemmas::value_behind, crate::proofs::SpelledLemmas::front_positive))]
+#[tactic(auto, using(crate::proofs::SpelledLemmas::digits_after, crate::proofs::SpelledLemmas::value_behind, crate::proofs::SpelledLemmas::front_positive))]
 fn without_front_zeros(text: &[u8]) -> &[u8]
     requires { AreDigits text.now }
     ensures digits { AreDigits result.now }
@@ -146,7 +146,7 @@ fn without_leading_zeros<'a>(integer: &'a [u8], fraction: &'a [u8]) -> (&'a [u8]
     }
 }
 
-// Replaces the digits by those of two texts, one behind the other.
+// Replaces the digits by those of two texts, one after the other.
 fn gather(digits: &mut Digits, integer: &[u8], fraction: &[u8]) -> Result<(), AllocError>
     requires integer_digits { AreDigits integer.now }
     requires fraction_digits { AreDigits fraction.now }

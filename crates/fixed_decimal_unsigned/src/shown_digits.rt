@@ -15,7 +15,7 @@ impl UnsignedDecimal {
         digits_at(&self.digits, self.top, ONES, self.high - (ONES - 1))
     }
 
-    /// The digits shown behind the point, from the tenths down: of `012.30` they are 3, 0, and of `12` there are none.
+    /// The digits shown after the point, from the tenths down: of `012.30` they are 3, 0, and of `12` there are none.
     /// It does not allocate.
     pub fn fraction_digits(&self) -> ShownDigits<'_>
         ensures { result ≡ fraction_digits self.now }

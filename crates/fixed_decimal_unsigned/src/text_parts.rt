@@ -1,7 +1,7 @@
 //! A text taken apart: digits, a fraction, an exponent.
 
 ghost use Rattle.std.specs.Prelude.{◌≡◌, false, ◌++◌, [], IfSome, IfNone, IsTrue, ◌↔◌};
-ghost use Rattle.fixed_decimal_unsigned.specs.NumberText.{AreDigits, behind_point, SpellsExponent, Spells, IsNoText, minus_if};
+ghost use Rattle.fixed_decimal_unsigned.specs.NumberText.{AreDigits, after_point, SpellsExponent, Spells, IsNoText, minus_if};
 ghost use Rattle.fixed_decimal_unsigned.specs.TextParts.{StartsNoDigit, StartsNoPoint, IsNoFraction, IsNoExponent, StartsNoMinus, IsMark};
 ghost use Rattle.fixed_decimal_unsigned.specs.BorrowedParts.{parts_of};
 
@@ -33,11 +33,11 @@ fn split_digits(text: &[u8]) -> (&[u8], &[u8])
     (text, &[])
 }
 
-// The digits behind a point that the text begins with, none where it begins with no point, and the rest.
+// The digits after a point that the text begins with, none where it begins with no point, and the rest.
 fn split_fraction(text: &[u8]) -> Option<(&[u8], &[u8])>
     requires { StartsNoDigit text.now }
     ensures some { IfSome result
-        (λ r. (text.now ≡ behind_point r.0.now ++ r.1.now) × AreDigits r.0.now × StartsNoDigit r.1.now) }
+        (λ r. (text.now ≡ after_point r.0.now ++ r.1.now) × AreDigits r.0.now × StartsNoDigit r.1.now) }
     ensures point { IfSome result (λ r. r.0.now ≡ [] → StartsNoPoint r.1.now) }
     ensures none { IfNone result (IsNoFraction text.now) }
 {

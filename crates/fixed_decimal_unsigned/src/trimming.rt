@@ -24,7 +24,7 @@ impl UnsignedDecimal {
         self.high = self.top.max(ONES);
     }
 
-    /// Removes the zeros that the number ends in behind the point: `1.20` becomes `1.2`, and `120` stays. It does not
+    /// Removes the zeros that the number ends in after the point: `1.20` becomes `1.2`, and `120` stays. It does not
     /// allocate.
     pub fn trim_end(&mut self)
         ensures { TrimsEnd self.old self.new }
@@ -32,7 +32,7 @@ impl UnsignedDecimal {
         self.low = end_below(&self.digits, self.top, ONES);
     }
 
-    /// Removes the zeros behind the point where there is no other digit behind it: `1.00` becomes `1`, and `1.20`
+    /// Removes the zeros after the point where there is no other digit after it: `1.00` becomes `1`, and `1.20`
     /// stays. It does not allocate.
     pub fn trim_end_if_integer(&mut self)
         ensures { TrimsWhole self.old self.new }
@@ -54,7 +54,7 @@ impl UnsignedDecimal {
         }
     }
 
-    /// Shows zeros behind the number down to a position, or no more than it needs: `12` and -2 give `12.00`.
+    /// Shows zeros after the number down to a position, or no more than it needs: `12` and -2 give `12.00`.
     ///
     /// A position above 0 changes nothing. It does not allocate.
     pub fn pad_end(&mut self, position: i16)
@@ -74,7 +74,7 @@ impl UnsignedDecimal {
         self
     }
 
-    /// The number without the zeros that it ends in behind the point: `1.20` gives `1.2`. It does not allocate.
+    /// The number without the zeros that it ends in after the point: `1.20` gives `1.2`. It does not allocate.
     pub fn trimmed_end(mut self) -> UnsignedDecimal
         ensures { TrimsEnd self result }
     {
@@ -82,7 +82,7 @@ impl UnsignedDecimal {
         self
     }
 
-    /// The number without the zeros behind the point where there is no other digit behind it: `1.00` gives `1`, and
+    /// The number without the zeros after the point where there is no other digit after it: `1.00` gives `1`, and
     /// `1.20` stays.
     ///
     /// It does not allocate.
@@ -103,7 +103,7 @@ impl UnsignedDecimal {
         self
     }
 
-    /// The number with zeros behind it down to a position, or no more than it needs: `12` and -2 give `12.00`.
+    /// The number with zeros after it down to a position, or no more than it needs: `12` and -2 give `12.00`.
     ///
     /// A position above 0 changes nothing. It does not allocate.
     pub fn padded_end(mut self, position: i16) -> UnsignedDecimal

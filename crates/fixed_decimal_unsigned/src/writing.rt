@@ -6,7 +6,7 @@ ghost use Rattle.std.specs.Str.{IsAscii};
 ghost use Rattle.writeable.specs.AnnotatedText.{bytes};
 ghost use Rattle.writeable.specs.Taking.{HasBegun};
 ghost use Rattle.fixed_decimal_unsigned.specs.Number.{digits_down, whole_digits, fraction_digits};
-ghost use Rattle.fixed_decimal_unsigned.specs.NumberText.{character, behind_point, text_of};
+ghost use Rattle.fixed_decimal_unsigned.specs.NumberText.{character, after_point, text_of};
 
 use crate::unsigned_decimal::UnsignedDecimal;
 use fixed_decimal_digits::{BLOCK, ONES, digits_at};
@@ -47,7 +47,7 @@ fn put_characters(piece: &mut [u8; 64], at: usize, digits: &[u8; 16])
 }
 
 // Puts the characters of `size` digits into a piece, from an index on: the highest first, down to the one at `base`.
-// They are put sixteen by sixteen, so the bytes behind them mean nothing.
+// They are put sixteen by sixteen, so the bytes after them mean nothing.
 fn spell(number: &UnsignedDecimal, base: u16, size: u16, piece: &mut [u8; 64], from: u16)
     requires room { from + (size + 15) / 16 * 16 ≤ 64 }
     requires places { base + size ≤ 65536 }
@@ -122,7 +122,7 @@ fn piece_of(number: &UnsignedDecimal, base: u16, size: u16) -> [u8; 64]
     piece
 }
 
-// How many of the digits that are left are written next: one, where the ones behind it begin a byte.
+// How many of the digits that are left are written next: one, where the ones after it begin a byte.
 fn piece_size(number: &UnsignedDecimal, base: u16, left: u16) -> u16
     requires { 0 < left }
     ensures some { 0 < result }
@@ -183,7 +183,7 @@ fn write_digits<S: Sink>(
     Ok(())
 }
 
-// Writes a point, and `count` digits behind it.
+// Writes a point, and `count` digits after it.
 fn write_point<S: Sink>(
     number: &UnsignedDecimal,
     base: u16,
@@ -204,15 +204,15 @@ fn write_point<S: Sink>(
     write_digits(number, base, count, sink)
 }
 
-// Writes the point and the digits behind it, or nothing where none are shown.
+// Writes the point and the digits after it, or nothing where none are shown.
 #[tactic(auto, using(crate::proofs::WritingLemmas::fraction_events, crate::proofs::WritingLemmas::no_fraction_events))]
 fn write_fraction<S: Sink>(number: &UnsignedDecimal, sink: &mut S) -> Result<(), Error>
     requires fine { S.refused sink.old ≡ false }
     ensures ok { OnOk result
-        (S.takes sink.old (bytes (behind_point (map character (fraction_digits number.now)))) sink.new) }
+        (S.takes sink.old (bytes (after_point (map character (fraction_digits number.now)))) sink.new) }
     ensures refused { S.refused sink.new ≡ is_err result }
     ensures begun { OnErr result
-        (HasBegun S.takes S.lacks_room sink.old (bytes (behind_point (map character (fraction_digits number.now))))
+        (HasBegun S.takes S.lacks_room sink.old (bytes (after_point (map character (fraction_digits number.now))))
         sink.new) }
 {
     if number.low >= ONES {
@@ -263,10 +263,10 @@ impl Writeable for UnsignedDecimal {
     ghost use Rattle.writeable.specs.AnnotatedText.{bytes, text_of as written};
     ghost use Rattle.writeable.specs.LengthHint.{IsWithinHint};
     ghost use Rattle.fixed_decimal_unsigned.specs.Number.{whole_digits, fraction_digits};
-    ghost use Rattle.fixed_decimal_unsigned.specs.NumberText.{character, behind_point, text_of};
+    ghost use Rattle.fixed_decimal_unsigned.specs.NumberText.{character, after_point, text_of};
 
     ghost events = { λ v. bytes (map character (whole_digits v))
-        ++ bytes (behind_point (map character (fraction_digits v))) };
+        ++ bytes (after_point (map character (fraction_digits v))) };
 
     #[tactic(auto, using(crate::proofs::WritingLemmas::text_events))]
     fn write_to<S: Sink>(&self, sink: &mut S) -> Result<(), Error> {
@@ -283,7 +283,7 @@ impl Writeable for UnsignedDecimal {
             (length
             (written
             (bytes (map character (whole_digits self.now))
-            ++ bytes (behind_point (map character (fraction_digits self.now)))))) }
+            ++ bytes (after_point (map character (fraction_digits self.now)))))) }
         ensures low { result.low ≡ length (text_of self.now) }
         ensures high { result.high ≡ Some (length (text_of self.now)) }
     {

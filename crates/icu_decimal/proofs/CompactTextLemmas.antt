@@ -1,4 +1,4 @@
--- The text of a number in a pattern, and of the affixes round it.
+-- The text of a number in a pattern, and of the affixes around it.
 use Rattle.std.proofs.Common.{◌≡◌, ℕ, List, ◌++◌, Option, None, Some, is_none, option_map, true, refl, sym, ap, ◌∙◌}
 use Rattle.writeable.specs.AnnotatedText.{Event, bytes, text_of, without_parts}
 use Rattle.writeable.proofs.AnnotatedTextLemmas.{bytes_joined, text_of_bytes}
@@ -25,13 +25,13 @@ bytes_in (Some (around before after)) text =
 pub text_in_pattern : (p : Option PatternText) (n : PlainNumber) → optional_events p (without_parts (unsigned_events n)) ≡ bytes (text_in p (unsigned_text n.tables n.number))
 text_in_pattern p n = ap (λ text. optional_events p (bytes text)) (unsigned_is_text n) ∙ bytes_in p (unsigned_text n.tables n.number)
 
--- and the affixes stand round it
+-- and the affixes are around it
 pub compact_is_text : (t : CompactTables) (d : SignedValue Number) → text_of (compact_decimal_events (compact_formatted t d)) ≡ compact_decimal_text t d
 compact_is_text t d =
     let text : List ℕ = compact_text (compact_of t d.absolute) in
     text_with_sign (affixes_of t.plain.symbols.strings d.sign) (bytes text) text (text_of_bytes text)
 
--- a text before it and one behind it, and the affixes round all three
+-- a text before it and one after it, and the affixes around all three
 pub unit_is_text : (affixes : Option AffixTexts) (before behind : List ℕ) (es : List Event) (text : List ℕ) → text_of es ≡ text → text_of (prefix_events affixes ++ ((bytes before ++ (es ++ bytes behind)) ++ suffix_events affixes)) ≡ prefix_text affixes ++ ((before ++ (text ++ behind)) ++ suffix_text affixes)
 unit_is_text affixes before behind es text same =
     text_with_sign affixes (bytes before ++ (es ++ bytes behind)) (before ++ (text ++ behind)) (text_in_unit before behind es text same)

@@ -56,7 +56,7 @@ refused = written_at_place short (decimal NoSign one_point_two) 5 32768 (lit≤ 
 apart_refused : exact_formatted apart (decimal NoSign (whole 1 1)) 6 ≡ None
 apart_refused = written_at_place apart (decimal NoSign (whole 1 1)) 6 32768 (lit≤ tt) (lit≤ tt)
 
--- zero stands at the exponent
+-- zero is at the exponent
 zero_millions : written (exact_formatted short (decimal NoSign (whole 0 1)) 6) ≡ Some (record { text = codes "0M"; parts = part 0 1 (codes "integer") ∷ [] })
 unfolding bytes opening closing lib.Utf8.encode
 zero_millions = refl

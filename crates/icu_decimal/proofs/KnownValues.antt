@@ -36,7 +36,7 @@ millions : said (compact_of short (whole 3010349 7)) ≡ (codes "3M", 6)
 unfolding lowest_place lib.Utf8.encode
 millions = said_at short (whole 3010349 7) 32774 32768 (lit≤ tt) (lit≤ tt) (lit≤ tt) (lit≤ tt)
 
--- a zero behind the point goes
+-- a zero after the point goes
 without_tenths : said (compact_of short (whole 1950 4)) ≡ (codes "2K", 3)
 unfolding lowest_place lib.Utf8.encode
 without_tenths = said_at short (whole 1950 4) 32771 32768 (lit≤ tt) (lit≤ tt) (lit≤ tt) (lit≤ tt)

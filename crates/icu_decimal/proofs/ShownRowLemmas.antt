@@ -1,4 +1,4 @@
--- What is shown for a number whose first digit stands at a place that is given. Known values use it, since no digit is then looked for.
+-- What is shown for a number whose first digit is at a place that is given. Known values use it, since no digit is then looked for.
 use Rattle.std.proofs.Common.{◌≡◌, ℕ, suc, ◌+◌, ◌-◌, ◌*◌, ◌^◌, ◌==◌, ◌<◌, ◌≤◌, Bool, cond, max, List, Option, None, Some, option_map, ap, ◌∙◌}
 use Rattle.fixed_decimal.specs.Number.{Number}
 use Rattle.fixed_decimal.specs.SignedValue.{SignedValue}
@@ -12,7 +12,7 @@ use Rattle.icu_decimal.specs.CompactTables.{CompactTables}
 use Rattle.icu_decimal.specs.CompactText.{CompactNumber, compact_of, compact_text, lowest_place, pattern_of}
 use Rattle.icu_decimal.specs.ExactText.{exact_formatted, exact_text, written_text, written_under}
 
--- the value shown for a count whose first digit stands at the place k
+-- the value shown for a count whose first digit is at the place k
 abbrev pub value_at : List CompactEntry → ℕ → ℕ → ℕ
 value_at entries count k = let u = 10 ^ unit_place (exponent_place 32768 entries) k in even_count u count * u
 
@@ -23,7 +23,7 @@ abbrev pub choice_at : List CompactEntry → ℕ → ℕ → Choice
 choice_at entries count k =
     under (value_at entries count k) (cond (carried_at entries count k) (next_at 32768 entries k) (entry_at 32768 entries k))
 
--- the significand, where its own first digit stands at the place j
+-- the significand, where its own first digit is at the place j
 abbrev pub significand_at : List CompactEntry → Number → ℕ → ℕ → Number
 significand_at entries number k j =
     let c = choice_at entries number.count k in
@@ -41,7 +41,7 @@ compact_at t number k j =
       pattern = pattern_of t c.entry (operands_of significand 0);
     }
 
--- with the places at which the first digits stand, that is what is shown
+-- with the places at which the first digits are, that is what is shown
 pub shown_at : (t : CompactTables) (number : Number) (k j : ℕ) → 10 ^ k ≤ number.count → number.count < 10 ^ suc k
     → 10 ^ j ≤ (choice_at t.patterns.entries number.count k).count → (choice_at t.patterns.entries number.count k).count < 10 ^ suc j
     → compact_of t number ≡ compact_at t number k j

@@ -1,4 +1,4 @@
--- The affixes of a sign round what is written for a number without it are the text of the number with its sign; they stand round a unit too.
+-- The affixes of a sign around what is written for a number without it are the text of the number with its sign; they are around a unit too.
 -- Defined in docs/formatters.md, "Abstract formatters".
 -- Cited by `laws::sign_round_unsigned` and `laws::sign_round_unit`.
 use Rattle.std.specs.Prelude.{◌≡◌, ℕ, List, ◌++◌, Option}
@@ -21,7 +21,7 @@ WritesTogether {F} unsigned affixes whole = (f : F) (d : SignedValue Number) →
 abbrev pub WritesText : {F : Type 0} → (F → Number → List Event) → (F → Sign → Option AffixTexts) → (F → SignedValue Number → List ℕ) → Type 0
 WritesText {F} unsigned affixes text = (f : F) (d : SignedValue Number) → text_of (events_with_sign (unsigned f) (between (affixes f) d)) ≡ text f d
 
--- with a text before the number and one behind it, these affixes round all three, and these texts for the number
+-- with a text before the number and one after it, these affixes around all three, and these texts for the number
 abbrev pub WritesUnit : {F : Type 0} → (F → Number → List Event) → (F → Sign → Option AffixTexts) → (F → Number → List ℕ) → Type 0
 WritesUnit {F} unsigned affixes text = (f : F) (before : List ℕ) (d : SignedValue Number) (behind : List ℕ)
     → text_of (events_with_sign (λ number. bytes before ++ (unsigned f number ++ bytes behind)) (between (affixes f) d))

@@ -54,7 +54,7 @@ pattern_of t entry o = option_map (λ patterns. slot_of patterns t.rules o) (opt
 
 -- ---- the text
 
--- a number as compact text shows it: what stands in the pattern, the exponent that the pattern stands for, and the pattern, or none
+-- a number as compact text shows it: what is in the pattern, the exponent that the pattern stands for, and the pattern, or none
 pub record CompactNumber : Type 0 where
   pub plain : PlainNumber
   pub exponent : ℕ

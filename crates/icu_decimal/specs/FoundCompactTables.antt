@@ -14,11 +14,11 @@ use Rattle.icu_decimal.specs.FoundTables.{found_tables}
 use Rattle.icu_decimal_plain.specs.PlainText.{Tables}
 use Rattle.icu_decimal.specs.CompactTables.{CompactTables}
 
--- plural rules stand under locales alone
+-- plural rules are under locales alone
 abbrev pub rules_identifiers : (DataLocaleMeaning → List DataLocaleMeaning) → Preferences → List Identifier
 rules_identifiers chain p = identifiers_along None (chain (language_priority p.locale))
 
--- patterns stand where symbols do
+-- patterns are where symbols do
 abbrev pub patterns_identifiers : (DataLocaleMeaning → List DataLocaleMeaning) → Preferences → List Identifier
 patterns_identifiers chain p = symbols_identifiers chain p
 

@@ -13,7 +13,7 @@ use Rattle.icu_decimal_plain.specs.Affixes.{WithSign, affixes_of}
 use Rattle.icu_decimal_plain.specs.PlainText.{PlainNumber}
 use Rattle.icu_decimal.specs.CompactTables.{CompactTables}
 
--- those at an index where an entry stands
+-- those at an index where an entry is
 abbrev pub patterns_beside : CompactTable → ℕ → Option Patterns
 patterns_beside t i = option_and_then (λ _. slice_get t.patterns i) (slice_get t.entries i)
 

@@ -33,7 +33,7 @@ mod private {
 
 /// A plain or a compact formatter, as formatters of currencies, percents, units and messages take either of them.
 ///
-/// A number is written without its sign, and then the affixes of the sign round all that is made of it:
+/// A number is written without its sign, and then the affixes of the sign around all that is made of it:
 /// `format_unsigned` of 5 in English writes `5`, and `format_sign` of the text `5 %` and a minus sign writes `-5 %`.
 /// Around what `format_unsigned` returns they are the text of `format`. The trait is sealed: there is no other
 /// implementation. After ICU4X's `AbstractFormatter`.

@@ -1,3 +1,3 @@
-//! Patterns: texts round a value.
+//! Patterns: texts around a value.
 
 pub use icu_decimal_patterns::pattern::{Interpolated, Pattern};

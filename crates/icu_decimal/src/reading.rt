@@ -14,7 +14,7 @@ use std::alloc::Global;
 
 /// Whether texts can be read back under the formatter's symbols: in English they can.
 ///
-/// They can where the ten digits differ and stand in no affix and no separator, the decimal separator is neither empty
+/// They can where the ten digits differ and are in no affix and no separator, the decimal separator is neither empty
 /// nor the grouping separator, and the affixes of a minus sign, of a plus sign and of no sign differ as pairs. Then no
 /// two decimals have one text. It does not allocate.
 pub fn is_readable(formatter: &DecimalFormatter<'_>) -> bool

@@ -38,7 +38,7 @@ none_counted test (x ∷ xs) h =
     rw parts.0 (none_counted test xs parts.1)
 
 module _ {A : Type 0} (same : A → A → Bool) (exact : (a b : A) → Decides (same a b) (a ≡ b)) (next : A → Option A) where
-  -- what steps lead to stands in the chain
+  -- what steps lead to is in the chain
   pub after_within : (n : ℕ) (start : A) (xs : List A) (k : A) → Follows next start xs → after next n start ≡ Some k → list_any (λ y. same y k) (start ∷ xs) ≡ true
   after_within zero start xs k f e =
       let is : start ≡ k = cc in
@@ -47,7 +47,7 @@ module _ {A : Type 0} (same : A → A → Bool) (exact : (a b : A) → Decides (
   after_within (suc n) start (x ∷ xs) k f e =
       or_right (same start k) (list_any (λ y. same y k) (x ∷ xs)) (after_within n x xs k f.1 (rw f.0 at e))
 
-  -- behind a value that a chain holds stands the chain of the value, which is shorter
+  -- after a value that a chain holds is the chain of the value, which is shorter
   pub rest_of : (start : A) (xs : List A) (k : A) → Follows next start xs → list_any (λ y. same y k) xs ≡ true
       → (ys : List A) × (Follows next k ys × (suc (length ys) ≤ length xs))
   rest_of start [] k f h = absurd (true≢false (sym h))

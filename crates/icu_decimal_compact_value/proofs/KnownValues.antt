@@ -1,4 +1,4 @@
--- Rows of docs/compact-text.md, so that a wrong definition does not pass. The ones stand at place 2, so 123 is 1.23, where no other place is said.
+-- Rows of docs/compact-text.md, so that a wrong definition does not pass. The ones are at place 2, so 123 is 1.23, where no other place is said.
 use Rattle.std.proofs.Common.{◌≡◌, ℕ, List, [], ◌∷◌, map, Option, None, Some, refl, ap, arith, lit≤}
 use Rattle.fixed_decimal.specs.Rounding.{count_limit}
 use Rattle.icu_decimal_compact_value.specs.declared.entry.CompactEntry.{CompactEntry}

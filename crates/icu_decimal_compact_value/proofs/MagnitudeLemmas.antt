@@ -61,7 +61,7 @@ quotient_small n k h =
     let d = div-add-mod' n (10 ^ k) in
     ⊎_elim (λ l. l) (λ l. let m = mul-le-mul_right {m = 10} {n = n / 10 ^ k} (10 ^ k) l in absurd (omega arith)) (cases_lt (n / 10 ^ k) 10)
 
--- the first digit stands at the top
+-- the first digit is at the top
 pub top_digit : (n k : ℕ) → IsTop n k → 0 < digit n k
 top_digit n k t =
     let a = quotient_some n k t.reaches in

@@ -1,4 +1,4 @@
--- Rounding half to even has one result, that of the quotient; it stays between the powers of ten round the number.
+-- Rounding half to even has one result, that of the quotient; it stays between the powers of ten around the number.
 use Rattle.std.proofs.Common.{◌≡◌, ℕ, suc, ◌+◌, ◌-◌, ◌*◌, ◌/◌, ◌%◌, ◌^◌, ◌<◌, ◌≤◌, ◌⊎◌, Bool, true, false, cond, nat_lt, refl, sym, ap, ◌∙◌, arith, inl, inr, ⊎_elim}
 use Rattle.std.proofs.Math.Nat.{mul-le-mul_right, div-add-mod', mod-lt}
 use Rattle.std.proofs.lemmas.Bool.{cases_lt}
@@ -8,7 +8,7 @@ use Rattle.fixed_decimal.specs.Rounding.{IsMultiple, IsNearest, distance}
 use Rattle.fixed_decimal.proofs.RoundingLemmas.{sides, upper_count}
 use Rattle.icu_decimal_compact_value.specs.ShownValue.{even_count}
 
--- the three ways in which the rest stands to half a unit, with the count taken
+-- the three ways in which the rest is to half a unit, with the count taken
 pub data CountedBy (u q r count : ℕ) : Type 0 where
   under : 2 * r < u → count ≡ q → CountedBy u q r count
   over : u < 2 * r → count ≡ q + 1 → CountedBy u q r count
@@ -25,7 +25,7 @@ counted_at u q r = go (nat_lt (2 * r) u) (nat_lt u (2 * r)) refl refl
 pub counted : (u n : ℕ) → CountedBy u (n / u) (n % u) (even_count u n)
 counted u n = counted_at u (n / u) (n % u)
 
--- a value that is as near as the limits round a number stands between them
+-- a value that is as near as the limits around a number is between them
 pub between : (n v low high : ℕ) → low ≤ n → n ≤ high → distance n v ≤ distance n low → distance n v ≤ distance n high → (low ≤ v) × (v ≤ high)
 between n v low high a b c d = (omega arith, omega arith)
 
@@ -90,6 +90,6 @@ module _ (u n v : ℕ) (p : 0 < u) (h : IsNearest u n v (λ _. IsMultiple (2 * u
 pub power_multiple : (i j : ℕ) → i ≤ j → IsMultiple (10 ^ i) (10 ^ j)
 power_multiple i j l = let e : j ≡ (j - i) + i = omega arith in (10 ^ (j - i), ap (λ x. 10 ^ x) e ∙ pow-add 10 (j - i) i)
 
--- the powers round a number are multiples of a unit below it, so the nearest multiple stands between them
+-- the powers around a number are multiples of a unit below it, so the nearest multiple is between them
 pub stays_between : (i k n v : ℕ) (takes : ℕ → Type 0) → i ≤ k → 10 ^ k ≤ n → n < 10 ^ suc k → IsNearest (10 ^ i) n v takes → (10 ^ k ≤ v) × (v ≤ 10 ^ suc k)
 stays_between i k n v takes l a b h = between n v (10 ^ k) (10 ^ suc k) a (omega arith) (h.nearest (10 ^ k) (power_multiple i k l)) (h.nearest (10 ^ suc k) (power_multiple i (suc k) (omega arith)))

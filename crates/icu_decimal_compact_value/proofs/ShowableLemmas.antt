@@ -13,7 +13,7 @@ use Rattle.icu_decimal_compact_value.proofs.NearestLemmas.{even_nearest}
 use Rattle.icu_decimal_compact_value.proofs.NinesLemmas.{nines_of_power, power_of_nines}
 use Rattle.icu_decimal_compact_value.proofs.RoundingLemmas.{stays_between}
 
--- a shown value lies between the powers of ten round its number, and zero is shown as itself
+-- a shown value lies between the powers of ten around its number, and zero is shown as itself
 pub shown_between : (ones : ℕ) (e : ℕ → ℕ) (n : ℕ) → ((n ≡ 0) × (shown_value ones e n ≡ 0)) ⊎ ((10 ^ magnitude ones n ≤ shown_value ones e n) × (shown_value ones e n ≤ 10 ^ suc (magnitude ones n)))
 shown_between ones e n = ⊎_elim
     (λ z. let d = (even_nearest (10 ^ unit_place e (magnitude ones n)) n (tens_positive (unit_place e (magnitude ones n)))).nearest 0 (0, sym (zero-mul (10 ^ unit_place e (magnitude ones n)))) in inl (z, omega arith))

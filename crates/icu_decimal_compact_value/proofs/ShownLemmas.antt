@@ -9,7 +9,7 @@ use Rattle.icu_decimal_compact_value.proofs.MagnitudeLemmas.{IsTop, magnitude_to
 use Rattle.icu_decimal_compact_value.proofs.NearestLemmas.{even_nearest}
 use Rattle.icu_decimal_compact_value.proofs.RoundingLemmas.{even_is, power_multiple}
 
--- w is farther from n than one of the two powers of ten round n
+-- w is farther from n than one of the two powers of ten around n
 data IsFar (k n w : ℕ) : Type 0 where
   low : distance n (10 ^ k) < distance n w → IsFar k n w
   high : distance n (10 ^ suc k) < distance n w → IsFar k n w

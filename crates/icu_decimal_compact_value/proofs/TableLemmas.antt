@@ -8,7 +8,7 @@ use Rattle.std.proofs.lemmas.Option.{slice_get-get_or, slice_get_past}
 use Rattle.icu_decimal_compact_value.specs.declared.entry.CompactEntry.{CompactEntry}
 use Rattle.icu_decimal_compact_value.specs.Choice.{entry_at, entry_of}
 
--- what an entry and those behind it are asked for, the whole table is
+-- what an entry and those after it are asked for, the whole table is
 whole_some : (ones : ℕ) (entries : List CompactEntry) (place i : ℕ) (x : CompactEntry) → entry_at ones (drop i entries) place ≡ Some x → entry_at ones entries place ≡ Some x
 whole_some ones [] place zero x is = is
 whole_some ones [] place (suc i) x is = is
@@ -19,7 +19,7 @@ module _ (ones : ℕ) (entries : List CompactEntry) (place i : ℕ) (d : Compact
   unrolled : entry_at ones (drop i entries) place ≡ option_or (entry_at ones (drop (suc i) entries) place) (cond (nat_le (ones + (get_or entries i d).log10_type) place) (Some (get_or entries i d)) None)
   unrolled = ap (λ xs. entry_at ones xs place) (drop-cons entries i d l)
 
-  -- behind the index no entry is reached, and the one at it is
+  -- after the index no entry is reached, and the one at it is
   module _ (next : ℕ) (behind : next ≡ suc i) (none : entry_at ones (drop next entries) place ≡ None) where
     at : (b : Bool) → nat_le (ones + (get_or entries i d).log10_type) place ≡ b → entry_at ones (drop i entries) place ≡ cond b (Some (get_or entries i d)) None
     at b test =

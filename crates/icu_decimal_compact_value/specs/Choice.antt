@@ -22,7 +22,7 @@ abbrev pub exponent_of : Option CompactEntry → ℕ
 exponent_of None = 0
 exponent_of (Some x) = x.exponent
 
--- the place of the exponent that numbers whose first digit stands at place k are shown with
+-- the place of the exponent that numbers whose first digit is at place k are shown with
 abbrev pub exponent_place : ℕ → List CompactEntry → ℕ → ℕ
 exponent_place ones entries k = ones + exponent_of (entry_at ones entries k)
 
@@ -30,7 +30,7 @@ exponent_place ones entries k = ones + exponent_of (entry_at ones entries k)
 abbrev pub shown_under : ℕ → List CompactEntry → ℕ → ℕ
 shown_under ones entries n = shown_value ones (exponent_place ones entries) n
 
--- an entry is there, and its exponent stands at the place k
+-- an entry is there, and its exponent is at the place k
 abbrev pub has_exponent_at : ℕ → ℕ → Option CompactEntry → Bool
 has_exponent_at ones k None = false
 has_exponent_at ones k (Some x) = ones + x.exponent == k
@@ -43,7 +43,7 @@ is_carried_to ones entries k value = (value == 10 ^ suc k) && has_exponent_at on
 abbrev pub is_carried : ℕ → List CompactEntry → ℕ → Bool
 is_carried ones entries n = is_carried_to ones entries (magnitude ones n) (shown_under ones entries n)
 
--- what is shown: the count of a significand, its exponent, and the entry whose patterns stand round it
+-- what is shown: the count of a significand, its exponent, and the entry whose patterns are around it
 pub record Choice : Type 0 where
   pub count : ℕ
   pub exponent : ℕ

@@ -1,7 +1,7 @@
 -- The value that a compact text shows in place of a number: the nearest showable one.
 -- Defined in docs/compact-text.md, "The value shown".
 -- Cited by `can_show`, by `show` and by the functions of the module `laws`.
--- A number is a count of units, and place k is the power 10 ^ k; the ones stand at the place `ones`.
+-- A number is a count of units, and place k is the power 10 ^ k; the ones are at the place `ones`.
 use Rattle.std.specs.Prelude.{◌≡◌, ◌≢◌, ℕ, zero, suc, ◌+◌, ◌-◌, ◌*◌, ◌/◌, ◌%◌, ◌^◌, ◌≤◌, ◌==◌, true, false, cond, nat_lt, min}
 use Rattle.fixed_decimal.specs.Rounding.{IsMultiple, distance}
 
@@ -18,7 +18,7 @@ top n = top_within n n
 abbrev pub magnitude : ℕ → ℕ → ℕ
 magnitude ones n = cond (n == 0) ones (top n)
 
--- the lowest place shown of a value of magnitude place k, under the exponent place e k: that one, or the one behind the first digit
+-- the lowest place shown of a value of magnitude place k, under the exponent place e k: that one, or the one after the first digit
 abbrev pub unit_place : (ℕ → ℕ) → ℕ → ℕ
 unit_place e k = min (e k) (k - 1)
 

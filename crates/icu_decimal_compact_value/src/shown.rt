@@ -164,7 +164,7 @@ fn divide(rounded: &mut UnsignedDecimal, exponent: u8)
 /// and 6 with the exponents 3 and 6 it makes 1.6, with the exponent 3 and the first entry; of 999500 it makes 1, with
 /// the exponent 6 and the second entry; 843 stays, with no entry.
 ///
-/// The number is rounded half to even, at the magnitude of the exponent where its first digit stands above it, else to
+/// The number is rounded half to even, at the magnitude of the exponent where its first digit is above it, else to
 /// two digits. Zeros that end the fraction go, and zeros before the number stay. The condition is `can_show`. It does
 /// not allocate.
 pub fn show_in_place(number: &mut UnsignedDecimal, entries: &[CompactEntry]) -> ShownUnder

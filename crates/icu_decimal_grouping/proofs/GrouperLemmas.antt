@@ -180,7 +180,7 @@ ends_by true p q d m facts near =
     let is_cut : IsCut p q d ((d - p - 1) / q) = cut_whole p q d fact.1 fact.2 in
     later_ends p q (d - p - (d - p - 1) / q * q) ((d - p - 1) / q) m fact.0 fact.1 (omega (arith, is_cut.short, near))
 
--- A separator stands after the digit at a magnitude exactly where a group ends.
+-- A separator is after the digit at a magnitude exactly where a group ends.
 pub ends_is_separated : (t : GroupingStrategy) (s : GroupingSizes) (d m : ℕ) → m < d → ends_at (group_sizes t s d) m ≡ separates t s d m
 ends_is_separated t s d m near =
     ends_by (is_grouped t s d) s.primary (middle_size s) d m (λ grouped. let h = has_groups t s d grouped in (h.last, h.middle, h.enough)) near

@@ -20,7 +20,7 @@ sum_if (suc n) =
     let is = ap sum (some_size (suc n) (omega arith)) in
     omega (arith, one, is)
 
--- equal sizes, and others behind them
+-- equal sizes, and others after them
 pub equal_sum : (ms : List ℕ) (n k : ℕ) → sum (replicate k n ++ ms) ≡ k * n + sum ms
 equal_sum ms n zero = omega arith
 equal_sum ms n (suc k) =

@@ -54,7 +54,7 @@ impl GroupSizes {
         cut(digits, sizes.primary, size_before(sizes))
     }
 
-    /// The groups of `digits` digits, cut behind each chunk: those of 100 have 48, 48 and 4. It does not allocate.
+    /// The groups of `digits` digits, cut after each chunk: those of 100 have 48, 48 and 4. It does not allocate.
     pub fn chunks(digits: u16) -> Self
         ensures cut { result ≡ replicate (digits / 48) 48 ++ size_if (digits % 48) }
         ensures whole { sum result ≡ digits }
@@ -84,7 +84,7 @@ impl GroupSizes {
         self.first as usize + self.middles as usize * self.middle as usize + self.last as usize
     }
 
-    /// How many groups there are, where each has three digits: 2 behind the first of `1,234,567`. `None`: there may be
+    /// How many groups there are, where each has three digits: 2 after the first of `1,234,567`. `None`: there may be
     /// others. It does not allocate.
     pub fn threes(&self) -> Option<usize>
         ensures { IfSome result (λ groups. self.now ≡ replicate groups 3) }

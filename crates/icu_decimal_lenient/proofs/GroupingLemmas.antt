@@ -6,7 +6,7 @@ use Rattle.std.proofs.lemmas.Str.{encodes_same}
 use Rattle.std.specs.Int.Digits.{AllBelowBase}
 use Rattle.std.specs.Str.{chars}
 use Rattle.fixed_decimal.specs.Number.{Number, fraction_digits, whole_digits}
-use Rattle.fixed_decimal.specs.NumberText.{behind_point, character}
+use Rattle.fixed_decimal.specs.NumberText.{after_point, character}
 use Rattle.fixed_decimal.specs.SignedValue.{SignedValue}
 use Rattle.fixed_decimal.specs.TextLaws.{IsDecimal}
 use Rattle.fixed_decimal.specs.declared.Sign.TheVariants.{None as NoSign}
@@ -87,7 +87,7 @@ head_same x y xs ys e = cc
 tail_same : (x y : ℕ) (xs ys : List ℕ) → x ∷ xs ≡ y ∷ ys → xs ≡ ys
 tail_same x y xs ys e = cc
 
--- a separator does not stand where a digit does
+-- a separator is not where a digit does
 no_separator : (ds sep rest other : List ℕ) (y : ℕ) → no_digits ds sep ≡ true → is_none (digit_of ds y) ≡ false → sep ++ y ∷ rest ≡ y ∷ other → y ∷ rest ≡ y ∷ other
 no_separator ds [] rest other y clear digit same = same
 no_separator ds (c ∷ cs) rest other y clear digit same =
@@ -124,7 +124,7 @@ module _ (t : Tables) (one other : GroupingStrategy) (a b : SignedValue Number) 
       sym (whole_again (under one t) a (are_under t one are) readable first) ∙ ap (whole_in t.digits sep) same ∙ whole_again (under other t) b (are_under t other are) readable second in
       let fraction : map character (fraction_digits a.absolute) ≡ map character (fraction_digits b.absolute) =
       sym (fraction_again (under one t) a (are_under t one are) readable first) ∙ ap (fraction_in t.digits sep) same ∙ fraction_again (under other t) b (are_under t other are) readable second in
-      ap (λ (v : SignedValue Number). v.absolute) (signed_reads_once (map character (whole_digits a.absolute) ++ behind_point (map character (fraction_digits a.absolute))) (with_sign NoSign a.absolute) (with_sign NoSign b.absolute)
+      ap (λ (v : SignedValue Number). v.absolute) (signed_reads_once (map character (whole_digits a.absolute) ++ after_point (map character (fraction_digits a.absolute))) (with_sign NoSign a.absolute) (with_sign NoSign b.absolute)
       (number_again a.absolute (map character (whole_digits a.absolute)) (map character (fraction_digits a.absolute)) first refl refl)
       (number_again b.absolute (map character (whole_digits a.absolute)) (map character (fraction_digits a.absolute)) second whole fraction))
 

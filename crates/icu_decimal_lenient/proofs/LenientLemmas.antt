@@ -118,7 +118,7 @@ lenient_is_typed t text v are e = first (from_else v (plain_reading t text) (fol
     first (inl is) = inl (plain_found t text v are is)
     first (inr is) = second (from_else v (read_either (folded_symbols t) folded) (read_trimmed (folded_symbols t) folded) (from_cond (is_leniently_readable_by t) (read_folded (folded_symbols t) folded) v is))
 
--- ---- and what is not read is none
+-- ---- and what is not read is not one
 
 none_else : (one other : PlainReading) → or_else one other ≡ not_written → (one ≡ not_written) × (other ≡ not_written)
 none_else unreadable other e = absurd (unreadable_apart e)

@@ -127,7 +127,7 @@ impl FoldedSymbols {
     }
 
     /// As `read_lenient`, with the tables whose fold this is, under any grouping: in English ` 1234.5 ` is 1234.5, and
-    /// `1,23` is none.
+    /// `1,23` is not one.
     ///
     /// `Unreadable`: `is_readable` of `icu_decimal_reading` is false of the tables, or `is_leniently_readable` is and the
     /// text is not the formatter's own. `NotWritten`: it is a text of no decimal, folded or not. `Memory`: out of memory.

@@ -25,7 +25,7 @@ pub fn exact_is_lenient()
 {}
 
 /// What a text is read as: a decimal only where the text is one of that decimal, none only where it is one of none, and
-/// unreadable exactly where the symbols do not tell. In English ` 1234.5 ` is 1234.5, and `1,23` is none.
+/// unreadable exactly where the symbols do not tell. In English ` 1234.5 ` is 1234.5, and `1,23` is not one.
 pub fn lenient_reading_is_the_reading()
     ensures decimal { LenientIsTyped }
     ensures none { LenientMisses }

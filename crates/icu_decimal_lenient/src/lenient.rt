@@ -165,7 +165,7 @@ fn answer(alloc: Global, tables: &DecimalTables<'_>, text: &str) -> Result<Decim
     }
 }
 
-/// As `read` of `LenientTables`, for one text: in English ` 1234.5 ` is 1234.5, and `1,23` is none.
+/// As `read` of `LenientTables`, for one text: in English ` 1234.5 ` is 1234.5, and `1,23` is not one.
 ///
 /// The symbols are folded only where the text is not the formatter's own. `Unreadable`: `is_readable` of
 /// `icu_decimal_reading` is false, or `is_leniently_readable` is and the text is not the formatter's own.

@@ -1,4 +1,4 @@
--- A pattern writes at least what stands in it, and one without a placeholder its text; an empty text has no events.
+-- A pattern writes at least what is in it, and one without a placeholder its text; an empty text has no events.
 use Rattle.std.proofs.Common.{◌≡◌, ℕ, ◌+◌, ◌≤◌, List, [], ◌∷◌, ◌++◌, length, length-append, ap, ◌∙◌, arith}
 use Rattle.writeable.specs.AnnotatedText.{Event, bytes, text_of}
 use Rattle.writeable.specs.SinkLaws.{text_of_joined}

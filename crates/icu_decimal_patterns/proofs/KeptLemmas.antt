@@ -68,7 +68,7 @@ keeps_one base (x ∷ xs) ks (inr kept) = go (repeats base x.patterns) refl (kee
   go true e rest = absurd (kept.0 ((repeats_decides base x.patterns).0 e))
   go false e rest = kept.2 ∙ ap (λ more. x ∷ more) rest
 
--- ---- what is written behind the patterns that were kept
+-- ---- what is written after the patterns that were kept
 
 last_item : {A : Type 0} (ps : List A) (p : A) → slice_get (ps ++ p ∷ []) (length ps) ≡ Some p
 last_item [] p = refl
@@ -216,7 +216,7 @@ pub not_empty : {A : Type 0} (es : List A) (e : A) (rest : List A) → es ++ e �
 not_empty [] e rest same = cc
 not_empty (f ∷ es) e rest same = cc
 
--- a type that does not repeat what is behind it is kept
+-- a type that does not repeat what is after it is kept
 pub kept_some : (base b : Option Patterns) (given : List TypePatterns) (left more : List (ℕ × (ℕ × Patterns))) (e : ℕ × (ℕ × Patterns)) (es : List CompactEntry)
     → left ≡ e ∷ more → repeats b e.1.1 ≡ false
     → es ++ map entry_in (kept_of b (map of_type left)) ≡ map entry_in (kept_of base given)

@@ -72,7 +72,7 @@ one_letter = keeps_kept None (typed 3 3 (codes "K") ∷ typed 6 6 (codes "K") �
 zero_skipped : Keeps (Some (letter [])) (typed 0 0 [] ∷ typed 3 3 (codes "K") ∷ []) (typed 3 3 (codes "K") ∷ [])
 zero_skipped = keeps_kept (Some (letter [])) (typed 0 0 [] ∷ typed 3 3 (codes "K") ∷ [])
 
--- behind a type that is kept the patterns of smaller numbers are kept
+-- after a type that is kept the patterns of smaller numbers are kept
 
 zero_again : Keeps (Some (letter [])) (typed 3 3 (codes "K") ∷ typed 4 3 [] ∷ []) (typed 3 3 (codes "K") ∷ typed 4 3 [] ∷ [])
 zero_again = keeps_kept (Some (letter [])) (typed 3 3 (codes "K") ∷ typed 4 3 [] ∷ [])

@@ -64,22 +64,22 @@ some_known front here whole rest x split first none = not_empty front x rest (ap
 
 -- ---- a map of types that rise
 
--- those behind are greater
-least_behind : (least : ℕ) (before : List (ℕ × (ℕ × Patterns))) (x : TypePatterns) (rest : List TypePatterns) → rise_from least (map of_type before ++ x ∷ rest) ≡ true → least ≤ x.log10_type
-least_behind least [] x rest rise = leb-true least x.log10_type (and_parts (nat_le least x.log10_type) (rise_from (suc x.log10_type) rest) rise).0
-least_behind least (e ∷ before) x rest rise =
+-- those after are greater
+least_after : (least : ℕ) (before : List (ℕ × (ℕ × Patterns))) (x : TypePatterns) (rest : List TypePatterns) → rise_from least (map of_type before ++ x ∷ rest) ≡ true → least ≤ x.log10_type
+least_after least [] x rest rise = leb-true least x.log10_type (and_parts (nat_le least x.log10_type) (rise_from (suc x.log10_type) rest) rise).0
+least_after least (e ∷ before) x rest rise =
     let parts = and_parts (nat_le least e.0) (rise_from (suc e.0) (map of_type before ++ x ∷ rest)) rise in
     let here = leb-true least e.0 parts.0 in
-    let behind = least_behind (suc e.0) before x rest parts.1 in
+    let behind = least_after (suc e.0) before x rest parts.1 in
     omega (arith, here, behind)
 
--- a type behind the others is put at the end
+-- a type after the others is put at the end
 pub put_last : (least : ℕ) (before : List (ℕ × (ℕ × Patterns))) (e : ℕ × (ℕ × Patterns)) (rest : List TypePatterns) → rise_from least (map of_type before ++ of_type e ∷ rest) ≡ true
     → insert_entry nat_cmp before e.0 e.1 ≡ before ++ e ∷ []
 put_last least [] e rest rise = refl
 put_last least (first ∷ before) e rest rise =
     let parts = and_parts (nat_le least first.0) (rise_from (suc first.0) (map of_type before ++ of_type e ∷ rest)) rise in
-    let behind : suc first.0 ≤ e.0 = least_behind (suc first.0) before (of_type e) rest parts.1 in
+    let behind : suc first.0 ≤ e.0 = least_after (suc first.0) before (of_type e) rest parts.1 in
     let above : nat_cmp e.0 first.0 ≡ Greater = grind (arith, nat_tests, behind) in
     rw above (ap (λ more. first ∷ more) (put_last (suc first.0) before e rest parts.1))
 

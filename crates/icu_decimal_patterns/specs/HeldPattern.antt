@@ -10,7 +10,7 @@ abbrev pub pattern_of : Texts → PatternText
 pattern_of (Literal text) = literal (string_bytes text)
 pattern_of (Around before after) = around (string_bytes before) (string_bytes after)
 
--- how long the text of a pattern is at least, where what stands in it has so many bytes
+-- how long the text of a pattern is at least, where what is in it has so many bytes
 abbrev pub least_length : PatternText → ℕ → ℕ
 least_length (literal text) inner = length text
 least_length (around before after) inner = inner

@@ -28,7 +28,7 @@ NeverFalls least [] = Unit {0}
 NeverFalls least (x ∷ xs) = (least ≤ x.exponent) × NeverFalls x.exponent xs
 
 -- what is kept where `base` is written before the first type: a type with the same patterns adds nothing, and any other is kept,
--- and is the base of those behind it, without its slot `1`
+-- and is the base of those after it, without its slot `1`
 abbrev pub Keeps : Option Patterns → List TypePatterns → List TypePatterns → Type 0
 Keeps base [] kept = kept ≡ []
 Keeps base (x ∷ xs) kept =

@@ -29,7 +29,7 @@ abbrev pub TypesRise : ℕ → List TypePatterns → Type 0
 TypesRise least [] = Unit {0}
 TypesRise least (x ∷ xs) = (least ≤ x.log10_type) × TypesRise (suc x.log10_type) xs
 
--- what is written behind these patterns, where the first base is given
+-- what is written after these patterns, where the first base is given
 abbrev pub last_base : Option Patterns → Option Patterns → Option Patterns
 last_base base None = base
 last_base base (Some patterns) = Some (without_one patterns)

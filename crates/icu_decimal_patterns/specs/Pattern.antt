@@ -1,4 +1,4 @@
--- What a pattern writes: two texts round one placeholder, or one text without any.
+-- What a pattern writes: two texts around one placeholder, or one text without any.
 -- After the patterns with a single placeholder of ICU4X; docs/compact-text.md, "Patterns".
 -- Cited by the calls of `Pattern` and `Interpolated`.
 use Rattle.std.specs.Prelude.{◌≡◌, ℕ, List, [], ◌++◌, Option, None, Some}
@@ -19,7 +19,7 @@ abbrev pub pattern_events : PatternText → List Event → List Event
 pattern_events (literal text) inner = bytes text
 pattern_events (around before after) inner = bytes before ++ (inner ++ bytes after)
 
--- a value, and the pattern that it stands in; without a pattern it stands alone
+-- a value, and the pattern that it is in; without a pattern it stands alone
 pub record InPattern (T : Type 0) : Type 0 where
   pub pattern : Option PatternText
   pub value : T

@@ -22,7 +22,7 @@ has_count count d = option_map_or (λ ds. length (listed ds) == count) (as_array
 
 -- ---- a pattern
 
--- one text is a pattern without a placeholder, and two texts stand round one
+-- one text is a pattern without a placeholder, and two texts are around one
 abbrev pub texts_in : List Data → Option PatternText
 texts_in [] = None
 texts_in (text ∷ []) = option_map literal (as_str text)
@@ -56,7 +56,7 @@ abbrev pub pattern_named : List ℕ → List Data → Option PatternText
 pattern_named name [] = None
 pattern_named name (d ∷ ds) = cond (is_named name d) (slot_pattern d) (pattern_named name ds)
 
--- a name stands twice
+-- a name is twice
 abbrev pub repeats_name : List Data → Bool
 repeats_name [] = false
 repeats_name (d ∷ ds) = option_map_or (λ name. list_any (is_named name) ds) (slot_name d) false || repeats_name ds

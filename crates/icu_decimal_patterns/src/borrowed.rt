@@ -18,7 +18,7 @@ pub(crate) enum BorrowedTexts<'a> {
     Around(&'a str, &'a str),
 }
 
-// A pattern of texts that stand elsewhere, as in a JSON value.
+// A pattern of texts that are elsewhere, as in a JSON value.
 #[derive(Drop)]
 pub(crate) struct BorrowedPattern<'a> {
     pub(crate) texts: BorrowedTexts<'a>,
@@ -34,7 +34,7 @@ impl<'a> Model for BorrowedPattern<'a> {
 }
 
 impl<'a> BorrowedPattern<'a> {
-    // The pattern with these texts round its placeholder.
+    // The pattern with these texts around its placeholder.
     pub(crate) fn around(before: &'a str, after: &'a str) -> Self
         ensures { result ≡ around before.now after.now }
     {

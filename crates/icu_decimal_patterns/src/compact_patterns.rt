@@ -51,7 +51,7 @@ fn base_at(zero_magnitude: Option<&PluralElements<Pattern>>) -> Base<'_>
     }
 }
 
-// What is written behind the patterns kept so far.
+// What is written after the patterns kept so far.
 fn base_after<'a>(zero: Base<'a>, kept: &'a [PluralElements<Pattern>]) -> Base<'a>
     ensures { base_of result ≡ base_after (base_of zero.entry) kept.now }
 {

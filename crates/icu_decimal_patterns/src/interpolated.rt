@@ -54,7 +54,7 @@ impl<'l, T> Interpolated<'l, T> {
     }
 }
 
-/// The text before the placeholder, the value with its parts, the text behind it: `1.2K`. A pattern without a
+/// The text before the placeholder, the value with its parts, the text after it: `1.2K`. A pattern without a
 /// placeholder is written by itself, and so is a value without a pattern.
 impl<'l, T: Writeable> Writeable for Interpolated<'l, T> {
     ghost use Rattle.std.specs.Prelude.{length};

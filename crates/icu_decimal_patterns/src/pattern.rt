@@ -1,4 +1,4 @@
-//! Patterns: the texts before and behind one placeholder.
+//! Patterns: the texts before and after one placeholder.
 
 ghost use Rattle.std.specs.Prelude.{◌≡◌, [], ◌++◌, IfOk, IsOk, Some, string_bytes, false, is_err, OnOk, OnErr};
 ghost use Rattle.std.specs.Cmp.{partial_equiv_from_equiv};
@@ -21,9 +21,9 @@ enum Texts {
     Around(String, String),
 }
 
-/// Two texts round one placeholder, or one text without any: `{0}K`, or `thousand`.
+/// Two texts around one placeholder, or one text without any: `{0}K`, or `thousand`.
 ///
-/// Any text may be empty. The pattern without a placeholder and the one with nothing behind it are different.
+/// Any text may be empty. The pattern without a placeholder and the one with nothing after it are different.
 /// After the patterns with a single placeholder of ICU4X.
 #[derive(Debug, Drop)]
 pub struct Pattern {
@@ -52,7 +52,7 @@ fn text_copied(text: &String) -> Result<String, AllocError>
 }
 
 impl Pattern {
-    /// The pattern with `before` before its placeholder and `after` behind it: the empty text and `K` make of `1.2` the
+    /// The pattern with `before` before its placeholder and `after` after it: the empty text and `K` make of `1.2` the
     /// text `1.2K`. It does not allocate.
     pub fn around(before: String, after: String) -> Self
         ensures { result ≡ around (string_bytes before) (string_bytes after) }
@@ -187,7 +187,7 @@ pub(crate) fn write_in<T: Writeable, S: Sink>(
     }
 }
 
-// How many bytes a pattern writes at least, where what stands in it has so many.
+// How many bytes a pattern writes at least, where what is in it has so many.
 pub(crate) fn least_length(pattern: &Pattern, inner: usize) -> usize
     ensures { result ≡ least_length pattern.now inner }
 {

@@ -44,7 +44,7 @@ blocks_done ds chunk at count past enough held =
     let within : count ≤ min at (length ds) = omega (arith, past, enough) in
     sym (take-take count (min at (length ds)) chunk within) ∙ ap (take count) held ∙ take-take count (min at (length ds)) ds within
 
--- a first part of them, and what stands behind it
+-- a first part of them, and what is after it
 pub part_shown : (ds chunk : List ℕ) (first count : ℕ) → first ≤ count → take count chunk ≡ take count ds → take first chunk ≡ take first ds
 part_shown ds chunk first count within held =
     sym (take-take first count chunk within) ∙ ap (take first) held ∙ take-take first count ds within

@@ -1,4 +1,4 @@
--- The intervals of events one behind the other, and of a part around events.
+-- The intervals of events one after the other, and of a part around events.
 use Rattle.std.proofs.Common.{◌≡◌, ℕ, suc, ◌+◌, true, false, cond, List, [], ◌∷◌, ◌++◌, length, Some, sym, ap, ◌∙◌, arith, eqb}
 use Rattle.std.proofs.lemmas.List.{append-nil}
 use Rattle.writeable.specs.AnnotatedText.{Event, Interval, bytes, closed, closing, end_of, intervals_from, listed, opening, text_of}

@@ -1,4 +1,4 @@
--- Where the parts of a number stand: the table of docs/formatters.md, "Formatted numbers".
+-- Where the parts of a number are: the table of docs/formatters.md, "Formatted numbers".
 use Rattle.std.proofs.Common.{◌≡◌, ℕ, ◌*◌, ◌^◌, [], ◌∷◌, refl}
 use Rattle.std.specs.List.{range_with_len}
 use Rattle.std.specs.Prelude.{codes}

@@ -42,7 +42,7 @@ plus_sign : five_with Positive ≡ record { text = codes "+5"; parts = record { 
 unfolding bytes opening closing
 plus_sign = refl
 
--- The text of a number, by its digits before and behind the point.
+-- The text of a number, by its digits before and after the point.
 
 abbrev pub latin_digits : List ℕ
 latin_digits = codes "0123456789"

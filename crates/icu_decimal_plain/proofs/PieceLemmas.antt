@@ -1,4 +1,4 @@
--- Pieces put one behind the other, and digits written by chunks.
+-- Pieces put one after the other, and digits written by chunks.
 use Rattle.std.proofs.Common.{◌≡◌, ℕ, zero, suc, ◌+◌, ◌<◌, ◌≤◌, List, [], ◌∷◌, ◌++◌, IsAscii, IsUtf8, drop, get_or, length, map, refl, set, encode_utf8, slice_index, slice_index_or, ◌⊎◌, inl, inr, sym, take, ap, ◌∙◌, subst, sum, append_assoc, arith}
 use Rattle.std.proofs.lemmas.List.{drop_all, drop_more, get_or-set_other, get_or-set_same, drop-drop, drop-take, length-take-le, map-append, take-append-le, take-take}
 use Rattle.std.proofs.lemmas.List.Sums.{sum_by-append, sum_by-cons}
@@ -16,7 +16,7 @@ use Rattle.icu_decimal_plain.specs.Pieces.{Holds}
 use Rattle.icu_decimal_plain.specs.LaterGroups.{groups_ahead}
 use Rattle.icu_decimal_plain.specs.PlainText.{chained, digit_text}
 
--- elements set one behind the other, and so many of them taken
+-- elements set one after the other, and so many of them taken
 sets_taken : (xs vs : List ℕ) (i n : ℕ) → i + length vs ≤ length xs → n ≤ length vs → take (i + n) (sets xs i vs) ≡ take i xs ++ take n vs
 sets_taken xs vs i n within few =
     let size : length (take i xs) ≡ i = length-take-le i xs (omega (arith, within)) in
@@ -45,7 +45,7 @@ four_read (a ∷ b ∷ c ∷ []) is = absurd (omega (arith, is))
 four_read (a ∷ b ∷ c ∷ d ∷ []) is = refl
 four_read (a ∷ b ∷ c ∷ d ∷ e ∷ rest) is = absurd (omega (arith, is))
 
--- a piece behind so many elements
+-- a piece after so many elements
 pub piece_set : (xs bytes : List ℕ) (i n : ℕ) → i + 4 ≤ length xs → length bytes ≡ 4 → n ≤ 4
     → take (i + n) (set (set (set (set xs i (get_or bytes 0 0)) (i + 1) (get_or bytes 1 0)) (i + 2) (get_or bytes 2 0)) (i + 3) (get_or bytes 3 0)) ≡ take i xs ++ take n bytes
 piece_set xs bytes i n within long few =
@@ -89,7 +89,7 @@ table_next pieces table last piece within held next d below =
     (λ is. subst (λ (n : ℕ). Holds (slice_index_or (set pieces last piece) n nothing) (digit_text table n)) (sym is)
     (subst (λ (p : Piece). Holds p (digit_text table last)) (sym (get_or-set_same pieces last piece nothing within)) next))
 
--- the text of digits, one more and those behind it
+-- the text of digits, one more and those after it
 pub text_next : (table ds : List ℕ) (i : ℕ) → i < length ds
     → chained (map (digit_text table) (drop i ds)) ≡ digit_text table (slice_index ds i) ++ chained (map (digit_text table) (drop (i + 1) ds))
 text_next table ds i within = ap (λ list. chained (map (digit_text table) list)) (drop_more ds i 0 within)
@@ -133,7 +133,7 @@ utf8_groups separator table (n ∷ ns) ds fine each tens =
 
 -- Bytes that are written.
 
--- a group that is written, and those behind it
+-- a group that is written, and those after it
 pub next_bytes : (separator table ns others ds after : List ℕ) (n : ℕ) → ns ≡ n ∷ others → after ≡ drop n ds
     → bytes (groups_ahead separator (digit_text table) ns ds) ≡ (bytes separator ++ bytes (chained (map (digit_text table) (take n ds)))) ++ bytes (groups_ahead separator (digit_text table) others after)
 next_bytes separator table ns others ds after n next is =
@@ -151,7 +151,7 @@ next_past ns others ds after n next is =
 pub no_bytes_ahead : (separator table ns ds : List ℕ) → ns ≡ [] → bytes (groups_ahead separator (digit_text table) ns ds) ≡ []
 no_bytes_ahead separator table ns ds none = ap (λ sizes. bytes (groups_ahead separator (digit_text table) sizes ds)) none ∙ no_bytes
 
--- a chunk that is written, and what is behind it
+-- a chunk that is written, and what is after it
 pub chunk_bytes : (separator table ns taken others ds after chunk text : List ℕ) → ns ≡ taken ++ others → sum taken ≡ 48
     → chunk ≡ take 48 ds → after ≡ drop 48 ds → text ≡ groups_ahead separator (digit_text table) taken chunk
     → bytes (groups_ahead separator (digit_text table) ns ds) ≡ bytes text ++ bytes (groups_ahead separator (digit_text table) others after)
@@ -171,7 +171,7 @@ chunk_past ns taken others ds after cut whole rest =
     let both : 48 + sum others ≡ sum (taken ++ others) = omega (arith, whole, count) in
     ap (drop (sum others)) rest ∙ drop-drop (sum others) 48 ds ∙ ap (λ m. drop m ds) both ∙ ap (λ sizes. drop (sum sizes) ds) (sym cut)
 
--- digits one list behind the other
+-- digits one list after the other
 digits_joined : (table front back : List ℕ) → chained (map (digit_text table) (front ++ back)) ≡ chained (map (digit_text table) front) ++ chained (map (digit_text table) back)
 digits_joined table front back =
     ap chained (map-append (digit_text table) front back) ∙ flat_map-append (λ list. list) (map (digit_text table) front) (map (digit_text table) back)

@@ -29,15 +29,15 @@ abbrev pub group_part : Tables → List Event
 group_part t = as_part (decimal_part (codes "group")) t.symbols.strings.grouping_separator
 
 module _ {A : Type 0} (separator : List A) (digit : ℕ → List A) where
-  -- the groups behind the first, each with the separator before it
-  groups_behind : (ns ds : List ℕ) → chained (flat_map (λ group. (separator ∷ []) ++ group) (cut_by ns (map digit ds))) ≡ groups_ahead separator digit ns ds
-  groups_behind [] ds = refl
-  groups_behind (n ∷ ns) ds =
+  -- the groups after the first, each with the separator before it
+  groups_after : (ns ds : List ℕ) → chained (flat_map (λ group. (separator ∷ []) ++ group) (cut_by ns (map digit ds))) ≡ groups_ahead separator digit ns ds
+  groups_after [] ds = refl
+  groups_after (n ∷ ns) ds =
       let behind : List (List A) → List (List A) = λ digits. flat_map (λ group. (separator ∷ []) ++ group) (cut_by ns digits) in
       ap (λ all. separator ++ all) (flat_map-append (λ list. list) (take n (map digit ds)) (behind (drop n (map digit ds))))
       ∙ ap (λ group. separator ++ (chained group ++ chained (behind (drop n (map digit ds))))) (take-map digit n ds)
       ∙ ap (λ digits. separator ++ (chained (map digit (take n ds)) ++ chained (behind digits))) (drop-map digit n ds)
-      ∙ ap (λ all. separator ++ (chained (map digit (take n ds)) ++ all)) (groups_behind ns (drop n ds))
+      ∙ ap (λ all. separator ++ (chained (map digit (take n ds)) ++ all)) (groups_after ns (drop n ds))
       ∙ sym (append_assoc separator (chained (map digit (take n ds))) (groups_ahead separator digit ns (drop n ds)))
 
   -- groups of these sizes
@@ -51,7 +51,7 @@ module _ {A : Type 0} (separator : List A) (digit : ℕ → List A) where
       flat_map-append (λ list. list) (take n (map digit ds)) (behind (drop n (map digit ds)))
       ∙ ap (λ group. chained group ++ chained (behind (drop n (map digit ds)))) (take-map digit n ds)
       ∙ ap (λ digits. chained (map digit (take n ds)) ++ chained (behind digits)) (drop-map digit n ds)
-      ∙ ap (λ all. chained (map digit (take n ds)) ++ all) (groups_behind ns (drop n ds))
+      ∙ ap (λ all. chained (map digit (take n ds)) ++ all) (groups_after ns (drop n ds))
 
   first_by : (sizes ds : List ℕ) (first : Option ℕ) (others : List ℕ) → MatchOption first ((sizes ≡ []) × (others ≡ [])) (λ n. sizes ≡ n ∷ others) → groups_cut sizes ds ≡ chained (map digit (take (unwrap_or first 0) ds)) ++ groups_ahead separator digit others (drop (unwrap_or first 0) ds)
   unfolding groups_cut
@@ -59,7 +59,7 @@ module _ {A : Type 0} (separator : List A) (digit : ℕ → List A) where
       ap (λ ns. groups_cut ns ds) none.0 ∙ ap (λ ns. groups_ahead separator digit ns ds) (sym none.1)
   first_by sizes ds (Some n) others next = ap (λ ns. groups_cut ns ds) next ∙ first_group n others ds
 
-  -- the integer digits are the first group and those behind it, as the writer has them
+  -- the integer digits are the first group and those after it, as the writer has them
   pub grouped_digits : (t : Tables) (v : Number) (digits size : ℕ) (sizes others ds after : List ℕ) (first : Option ℕ) → v.high - 32767 ≡ digits → sizes ≡ group_sizes t.strategy t.symbols.grouping_sizes digits → MatchOption first ((sizes ≡ []) × (others ≡ [])) (λ n. sizes ≡ n ∷ others) → size ≡ unwrap_or first 0 → ds ≡ whole_digits v → after ≡ drop size ds → grouped t separator (map digit (whole_digits v)) ≡ chained (map digit (take size ds)) ++ groups_ahead separator digit others after
   unfolding groups_cut
   grouped_digits t v digits size sizes others ds after first same cut next sized shown left =
@@ -142,7 +142,7 @@ pub none_dropped : (ds : List ℕ) (left : ℕ) → left ≤ 0 → ds ≡ drop l
 none_dropped ds zero none = refl
 none_dropped ds (suc k) none = absurd (omega (arith, none))
 
--- of the groups behind the first the next one, and the others
+-- of the groups after the first the next one, and the others
 pub next_group : (separator table ns others ds after : List ℕ) (n : ℕ) → ns ≡ n ∷ others → after ≡ drop n ds → later_events separator table ns ds ≡ (as_part (decimal_part (codes "group")) separator ++ chained (map (digit_events table) (take n ds))) ++ later_events separator table others after
 next_group separator table ns others ds after n next is =
     ap (λ sizes. later_events separator table sizes ds) next
@@ -163,7 +163,7 @@ some_by : (t : Tables) (count low k : ℕ) → 0 < k → fraction_events t (digi
 some_by t count low zero some = absurd (omega (arith, some))
 some_by t count low (suc k) some = refl
 
--- where fraction digits are shown, the decimal separator stands before them
+-- where fraction digits are shown, the decimal separator is before them
 pub fraction_some : (t : Tables) (v : Number) → 0 < 32768 - v.low → fraction_events t (fraction_digits v) ≡ as_part (decimal_part (codes "decimal")) t.symbols.strings.decimal_separator ++ (opening (decimal_part (codes "fraction")) ++ (chained (map (digit_events t.digits) (fraction_digits v)) ++ closing))
 fraction_some t v some = some_by t v.count v.low (32768 - v.low) some
 

@@ -47,7 +47,7 @@ threes_ahead nought groups n bytes table ns ds row tens long one all =
     ∙ ap (λ separator. groups_ahead separator (row_text nought) ns ds) (one_taken bytes n long one)
     ∙ row_ahead nought (take n bytes) table ns ds row tens
 
--- Digits put one behind the other.
+-- Digits put one after the other.
 
 -- one more
 pub row_next : (nought len at : ℕ) (waiting digits : List ℕ) → at < length digits → len + at < length waiting
@@ -63,7 +63,7 @@ row_next nought len at waiting digits more within =
 pub row_none : (nought at : ℕ) (digits : List ℕ) → length digits ≤ at → chained (map (row_text nought) (drop at digits)) ≡ []
 row_none nought at digits past = ap (λ ds. chained (map (row_text nought) ds)) (drop_all at digits past)
 
--- Groups put one behind the other.
+-- Groups put one after the other.
 
 three_read : (ds : List ℕ) (i : ℕ) → i + 3 ≤ length ds → drop i ds ≡ slice_index ds i ∷ slice_index ds (i + 1) ∷ slice_index ds (i + 2) ∷ drop (i + 3) ds
 three_read ds i within =

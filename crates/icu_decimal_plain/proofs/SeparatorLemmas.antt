@@ -1,4 +1,4 @@
--- Where the separators of groups of digits stand.
+-- Where the separators of groups of digits are.
 use Rattle.std.proofs.Common.{◌≡◌, ℕ, zero, suc, ◌+◌, ◌-◌, ◌<◌, List, [], ◌∷◌, ◌++◌, length, map, take, drop, refl, sym, ap, ◌∙◌, append_assoc, arith}
 use Rattle.std.proofs.lemmas.List.{append-nil, drop-map, length-append, length-drop, length-map, take-append-drop, take-map}
 use Rattle.std.proofs.lemmas.List.Concat.{flat_map-append}
@@ -27,70 +27,70 @@ abbrev behind : List ℕ → List (List (List ℕ)) → List Event
 behind separator [] = []
 behind separator (g ∷ gs) = group_part separator ++ (bytes (chained g) ++ behind separator gs)
 
-abbrev behind_text : List ℕ → List (List (List ℕ)) → List ℕ
-behind_text separator gs = chained (flat_map (λ g. (separator ∷ []) ++ g) gs)
+abbrev after_text : List ℕ → List (List (List ℕ)) → List ℕ
+after_text separator gs = chained (flat_map (λ g. (separator ∷ []) ++ g) gs)
 
 digits_joined : (g : List (List ℕ)) → chained (map bytes g) ≡ bytes (chained g)
 digits_joined [] = sym no_bytes
 digits_joined (d ∷ ds) = ap (λ es. bytes d ++ es) (digits_joined ds) ∙ sym (bytes_joined d (chained ds))
 
-behind_events : (separator : List ℕ) (gs : List (List (List ℕ))) → chained (flat_map (λ g. (group_part separator ∷ []) ++ g) (map (map bytes) gs)) ≡ behind separator gs
-behind_events separator [] = refl
-behind_events separator (g ∷ gs) =
+after_events : (separator : List ℕ) (gs : List (List (List ℕ))) → chained (flat_map (λ g. (group_part separator ∷ []) ++ g) (map (map bytes) gs)) ≡ behind separator gs
+after_events separator [] = refl
+after_events separator (g ∷ gs) =
     let others : List (List Event) = flat_map (λ group. (group_part separator ∷ []) ++ group) (map (map bytes) gs) in
     ap (λ es. group_part separator ++ es) (flat_map-append (λ list. list) (map bytes g) others
     ∙ ap (λ es. es ++ chained others) (digits_joined g)
-    ∙ ap (λ es. bytes (chained g) ++ es) (behind_events separator gs))
+    ∙ ap (λ es. bytes (chained g) ++ es) (after_events separator gs))
 
-behind_balanced : (separator : List ℕ) (gs : List (List (List ℕ))) → IsBalanced (behind separator gs)
-behind_balanced separator [] = balanced_none
-behind_balanced separator (g ∷ gs) =
+after_balanced : (separator : List ℕ) (gs : List (List (List ℕ))) → IsBalanced (behind separator gs)
+after_balanced separator [] = balanced_none
+after_balanced separator (g ∷ gs) =
     balanced_append (group_part separator) (bytes (chained g) ++ behind separator gs) (text_part_balanced (decimal_part (codes "group")) separator)
-    (balanced_append (bytes (chained g)) (behind separator gs) (balanced_text (chained g)) (behind_balanced separator gs))
+    (balanced_append (bytes (chained g)) (behind separator gs) (balanced_text (chained g)) (after_balanced separator gs))
 
 -- the separators, one after another
-abbrev behind_parts : ℕ → List ℕ → List (List (List ℕ)) → List Interval
-behind_parts n separator [] = []
-behind_parts n separator (g ∷ gs) =
-    part_at n separator (decimal_part (codes "group")) ++ behind_parts (n + length separator + length (chained g)) separator gs
+abbrev after_parts : ℕ → List ℕ → List (List (List ℕ)) → List Interval
+after_parts n separator [] = []
+after_parts n separator (g ∷ gs) =
+    part_at n separator (decimal_part (codes "group")) ++ after_parts (n + length separator + length (chained g)) separator gs
 
-behind_from : (n : ℕ) (separator : List ℕ) (gs : List (List (List ℕ))) → intervals_from n (behind separator gs) ≡ behind_parts n separator gs
-behind_from n separator [] = refl
-behind_from n separator (g ∷ gs) =
+after_from : (n : ℕ) (separator : List ℕ) (gs : List (List (List ℕ))) → intervals_from n (behind separator gs) ≡ after_parts n separator gs
+after_from n separator [] = refl
+after_from n separator (g ∷ gs) =
     let part : PartName = decimal_part (codes "group") in
     let m : ℕ = n + length separator in
     both_from n (group_part separator) (bytes (chained g) ++ behind separator gs) separator (text_part_balanced part separator) (text_of_part part separator)
     ∙ ap (λ first. first ++ intervals_from m (bytes (chained g) ++ behind separator gs)) (text_part_from n part separator)
     ∙ ap (λ others. part_at n separator part ++ others) (both_from m (bytes (chained g)) (behind separator gs) (chained g) (balanced_text (chained g)) (text_of_bytes (chained g))
     ∙ ap (λ none. none ++ intervals_from (m + length (chained g)) (behind separator gs)) (intervals_bytes_alone m (chained g))
-    ∙ behind_from (m + length (chained g)) separator gs)
+    ∙ after_from (m + length (chained g)) separator gs)
 
--- the text of groups, and of more behind them
-groups_behind_text : (separator : List ℕ) (g : List (List ℕ)) (gs more : List (List (List ℕ))) → groups_text separator (g ∷ (gs ++ more)) ≡ groups_text separator (g ∷ gs) ++ behind_text separator more
-groups_behind_text separator g gs more =
+-- the text of groups, and of more after them
+groups_after_text : (separator : List ℕ) (g : List (List ℕ)) (gs more : List (List (List ℕ))) → groups_text separator (g ∷ (gs ++ more)) ≡ groups_text separator (g ∷ gs) ++ after_text separator more
+groups_after_text separator g gs more =
     let with_separator : List (List ℕ) → List (List ℕ) = λ group. (separator ∷ []) ++ group in
     let whole : List (List (List ℕ)) → List (List ℕ) = λ list. flat_map with_separator list in
     ap (λ lists. chained (g ++ lists)) (flat_map-append with_separator gs more)
     ∙ ap chained (sym (append_assoc g (whole gs) (whole more)))
     ∙ flat_map-append (λ list. list) (g ++ whole gs) (whole more)
 
--- the separators behind the first groups, counted from there on
-behind_counted : (n : ℕ) (separator : List ℕ) (g : List (List ℕ)) (gs more : List (List (List ℕ))) → behind_parts (n + length (groups_text separator (g ∷ gs))) separator more ≡ flat_map (separator_at n separator (g ∷ (gs ++ more))) (range_with_len (length (g ∷ gs)) (length more))
-behind_counted n separator g gs [] = refl
-behind_counted n separator g gs (h ∷ hs) =
+-- the separators after the first groups, counted from there on
+after_counted : (n : ℕ) (separator : List ℕ) (g : List (List ℕ)) (gs more : List (List (List ℕ))) → after_parts (n + length (groups_text separator (g ∷ gs))) separator more ≡ flat_map (separator_at n separator (g ∷ (gs ++ more))) (range_with_len (length (g ∷ gs)) (length more))
+after_counted n separator g gs [] = refl
+after_counted n separator g gs (h ∷ hs) =
     let part : PartName = decimal_part (codes "group") in
     let first : ℕ = length (g ∷ gs) in
     let all : List (List (List ℕ)) = g ∷ (gs ++ h ∷ hs) in
     let seam : take first all ≡ g ∷ gs = take-append_seam (g ∷ gs) (h ∷ hs) in
     let others : (gs ++ h ∷ []) ++ hs ≡ gs ++ h ∷ hs = append_assoc gs (h ∷ []) hs in
     let text : length (groups_text separator (g ∷ (gs ++ h ∷ []))) ≡ length (groups_text separator (g ∷ gs)) + (length separator + length (chained h)) =
-    ap length (groups_behind_text separator g gs (h ∷ [])) ∙ length-append (groups_text separator (g ∷ gs)) (behind_text separator (h ∷ []))
+    ap length (groups_after_text separator g gs (h ∷ [])) ∙ length-append (groups_text separator (g ∷ gs)) (after_text separator (h ∷ []))
     ∙ ap (λ k. length (groups_text separator (g ∷ gs)) + k) (ap (λ list. length (separator ++ chained list)) (append-nil h) ∙ length-append separator (chained h)) in
     let place : n + length (groups_text separator (g ∷ gs)) + length separator + length (chained h) ≡ n + length (groups_text separator (g ∷ (gs ++ h ∷ []))) = omega (arith, text) in
     let count : length (g ∷ (gs ++ h ∷ [])) ≡ first + 1 = ap suc (length-append gs (h ∷ [])) ∙ omega arith in
-    ap (λ front. part_at (n + length (groups_text separator front)) separator part ++ behind_parts (n + length (groups_text separator (g ∷ gs)) + length separator + length (chained h)) separator hs) (sym seam)
-    ∙ ap (λ list. separator_at n separator all first ++ list) (ap (λ m. behind_parts m separator hs) place
-    ∙ behind_counted n separator g (gs ++ h ∷ []) hs
+    ap (λ front. part_at (n + length (groups_text separator front)) separator part ++ after_parts (n + length (groups_text separator (g ∷ gs)) + length separator + length (chained h)) separator hs) (sym seam)
+    ∙ ap (λ list. separator_at n separator all first ++ list) (ap (λ m. after_parts m separator hs) place
+    ∙ after_counted n separator g (gs ++ h ∷ []) hs
     ∙ ap (λ m. flat_map (separator_at n separator (g ∷ ((gs ++ h ∷ []) ++ hs))) (range_with_len m (length hs))) count
     ∙ ap (λ list. flat_map (separator_at n separator (g ∷ list)) (range_with_len (first + 1) (length hs))) others)
 
@@ -105,11 +105,11 @@ groups_joined separator (g ∷ gs) =
     let others : List (List Event) = flat_map (λ group. (group_part separator ∷ []) ++ group) (map (map bytes) gs) in
     flat_map-append (λ list. list) (map bytes g) others
     ∙ ap (λ es. es ++ chained others) (digits_joined g)
-    ∙ ap (λ es. bytes (chained g) ++ es) (behind_events separator gs)
+    ∙ ap (λ es. bytes (chained g) ++ es) (after_events separator gs)
 
 pub groups_balanced : (separator : List ℕ) (gs : List (List (List ℕ))) → IsBalanced (groups_events separator gs)
 groups_balanced separator [] = balanced_none
-groups_balanced separator (g ∷ gs) = balanced_append (bytes (chained g)) (behind separator gs) (balanced_text (chained g)) (behind_balanced separator gs)
+groups_balanced separator (g ∷ gs) = balanced_append (bytes (chained g)) (behind separator gs) (balanced_text (chained g)) (after_balanced separator gs)
 
 less_one : (k : ℕ) → suc k - 1 ≡ k
 less_one k = omega arith
@@ -120,9 +120,9 @@ groups_from n separator (g ∷ gs) =
     let m : ℕ = n + length (chained g) in
     both_from n (bytes (chained g)) (behind separator gs) (chained g) (balanced_text (chained g)) (text_of_bytes (chained g))
     ∙ ap (λ none. none ++ intervals_from m (behind separator gs)) (intervals_bytes_alone n (chained g))
-    ∙ behind_from m separator gs
-    ∙ ap (λ list. behind_parts (n + length (chained list)) separator gs) (sym (append-nil g))
-    ∙ behind_counted n separator g [] gs
+    ∙ after_from m separator gs
+    ∙ ap (λ list. after_parts (n + length (chained list)) separator gs) (sym (append-nil g))
+    ∙ after_counted n separator g [] gs
     ∙ ap (λ count. flat_map (separator_at n separator (g ∷ gs)) (range_with_len 1 count)) (sym (less_one (length gs)))
 
 -- groups of texts, and of their events
@@ -149,9 +149,9 @@ whole_is t ds =
 
 -- Between groups.
 
-behind_is : (separator : List ℕ) (gs : List (List (List ℕ))) → 0 < length gs → behind_text separator gs ≡ separator ++ groups_text separator gs
-behind_is separator [] some = absurd (omega (arith, some))
-behind_is separator (g ∷ gs) some = refl
+after_is : (separator : List ℕ) (gs : List (List (List ℕ))) → 0 < length gs → after_text separator gs ≡ separator ++ groups_text separator gs
+after_is separator [] some = absurd (omega (arith, some))
+after_is separator (g ∷ gs) some = refl
 
 pub separators_between : SeparatorsStandBetween
 separators_between separator [] k some more = absurd (omega (arith, more))
@@ -160,5 +160,5 @@ separators_between separator (g ∷ gs) (suc k) some more =
     let whole : take k gs ++ drop k gs ≡ gs = take-append-drop k gs in
     let left : length (drop k gs) ≡ length gs - k = length-drop k gs in
     ap (λ list. groups_text separator (g ∷ list)) (sym whole)
-    ∙ groups_behind_text separator g (take k gs) (drop k gs)
-    ∙ ap (λ rest. groups_text separator (g ∷ take k gs) ++ rest) (behind_is separator (drop k gs) (omega (arith, left, more)))
+    ∙ groups_after_text separator g (take k gs) (drop k gs)
+    ∙ ap (λ rest. groups_text separator (g ∷ take k gs) ++ rest) (after_is separator (drop k gs) (omega (arith, left, more)))

@@ -43,16 +43,16 @@ front_put nought at count text after bytes digits few within is put =
 
 -- Groups put as words.
 
--- bytes one behind the other
+-- bytes one after the other
 bytes_alone : (bytes : List ℕ) → chained (map byte_text bytes) ≡ bytes
 bytes_alone [] = refl
 bytes_alone (byte ∷ bytes) = ap (λ rest. byte ∷ rest) (bytes_alone bytes)
 
--- of a row's bytes those behind its first digits
-row_behind : (nought n : ℕ) (ds : List ℕ) → drop n (chained (map (row_text nought) ds)) ≡ chained (map (row_text nought) (drop n ds))
-row_behind nought zero ds = refl
-row_behind nought (suc n) [] = refl
-row_behind nought (suc n) (d ∷ ds) = row_behind nought n ds
+-- of a row's bytes those after its first digits
+row_after : (nought n : ℕ) (ds : List ℕ) → drop n (chained (map (row_text nought) ds)) ≡ chained (map (row_text nought) (drop n ds))
+row_after nought zero ds = refl
+row_after nought (suc n) [] = refl
+row_after nought (suc n) (d ∷ ds) = row_after nought n ds
 
 -- groups of a row's bytes
 bytes_ahead : (nought : ℕ) (separator ns ds : List ℕ) → groups_ahead separator byte_text ns (chained (map (row_text nought) ds)) ≡ groups_ahead separator (row_text nought) ns ds
@@ -61,7 +61,7 @@ bytes_ahead nought separator (n ∷ ns) ds =
     let row : List ℕ = chained (map (row_text nought) ds) in
     let group : List ℕ = separator ++ chained (map (row_text nought) (take n ds)) in
     ap (λ digits. (separator ++ digits) ++ groups_ahead separator byte_text ns (drop n row)) (bytes_alone (take n row) ∙ row_front nought n ds)
-    ∙ ap (λ rest. group ++ groups_ahead separator byte_text ns rest) (row_behind nought n ds)
+    ∙ ap (λ rest. group ++ groups_ahead separator byte_text ns rest) (row_after nought n ds)
     ∙ ap (λ others. group ++ others) (bytes_ahead nought separator ns (drop n ds))
 
 -- groups are of the first digits, so many as they have together
@@ -75,13 +75,13 @@ ahead_front digit separator (n ∷ ns) ds k within =
     ∙ ap (λ rest. group ++ groups_ahead separator digit ns rest) (ap (λ m. drop n (take m ds)) (sym split) ∙ drop-take n (k - n) ds)
     ∙ ap (λ others. group ++ others) (ahead_front digit separator ns (drop n ds) (k - n) (omega (arith, all, within)))
 
--- groups of the bytes of sixteen digits in a row, with others behind them
+-- groups of the bytes of sixteen digits in a row, with others after them
 pub words_row : (nought first count : ℕ) (separator table bytes ds ns : List ℕ) → IsRow nought table → AllBelowBase 10 ds → first + sum ns ≡ count → count ≤ 16 → take 16 bytes ≡ chained (map (row_text nought) ds)
     → groups_ahead separator byte_text ns (drop first bytes) ≡ groups_ahead separator (digit_text table) ns (take (count - first) (drop first ds))
 words_row nought first count separator table bytes ds ns row tens whole within is =
     let split : first + (16 - first) ≡ 16 = omega (arith, whole, within) in
     sym (ahead_front byte_text separator ns (drop first bytes) (16 - first) (omega (arith, whole, within)))
-    ∙ ap (groups_ahead separator byte_text ns) (sym (drop-take first (16 - first) bytes) ∙ ap (λ m. drop first (take m bytes)) split ∙ ap (drop first) is ∙ row_behind nought first ds)
+    ∙ ap (groups_ahead separator byte_text ns) (sym (drop-take first (16 - first) bytes) ∙ ap (λ m. drop first (take m bytes)) split ∙ ap (drop first) is ∙ row_after nought first ds)
     ∙ bytes_ahead nought separator ns (drop first ds)
     ∙ row_ahead nought separator table ns (drop first ds) row (below_drop first ds tens)
     ∙ sym (ahead_front (digit_text table) separator ns (drop first ds) (count - first) (omega (arith, whole)))
@@ -128,7 +128,7 @@ part_long ds first count within few =
     let left = length-drop first ds in
     length-take-le (count - first) (drop first ds) (omega (arith, left, within, few))
 
--- the integer digits: the first group, and those behind it
+-- the integer digits: the first group, and those after it
 pub whole_put : (first count : ℕ) (separator table ds block others front text : List ℕ)
     → take first block ≡ take first ds → take (count - first) (drop first block) ≡ drop first ds
     → front ≡ chained (map (digit_text table) (take first block))
@@ -139,7 +139,7 @@ whole_put first count separator table ds block others front text part rest begun
     ∙ ap (λ digits. front ++ groups_ahead separator (digit_text table) others digits) rest
     ∙ ap (λ group. group ++ groups_ahead separator (digit_text table) others (drop first ds)) (begun ∙ ap (λ digits. chained (map (digit_text table) digits)) part)
 
--- the separator and the fraction digits behind what is there
+-- the separator and the fraction digits after what is there
 pub fraction_put : (count : ℕ) (table ds block separator before point text : List ℕ) → take count block ≡ take count ds
     → point ≡ before ++ separator → text ≡ point ++ chained (map (digit_text table) (take count block))
     → text ≡ before ++ (separator ++ chained (map (digit_text table) (take count ds)))

@@ -1,4 +1,4 @@
--- The places of a number's parts in its text: each with the byte at which it begins and the byte behind its last one.
+-- The places of a number's parts in its text: each with the byte at which it begins and the byte after its last one.
 -- Defined in docs/formatters.md, "Formatted numbers"; their order in docs/annotated-text.md; ICU4X's names.
 -- Cited by the law of the parts.
 use Rattle.std.specs.Prelude.{ℕ, ◌+◌, ◌-◌, List, [], ◌∷◌, ◌++◌, length, map, flat_map, take, codes, Option, None, Some}
@@ -11,7 +11,7 @@ use Rattle.icu_decimal_plain.specs.Affixes.{AffixTexts, affixes_of, decimal_part
 use Rattle.icu_decimal_grouping.specs.Grouper.{groups, joined}
 use Rattle.icu_decimal_plain.specs.PlainText.{Tables, chained, decimal_text, digit_text, prefix_text, suffix_text, unsigned_text, whole_text}
 
--- a text that begins at byte n, as a part; an empty one is none
+-- a text that begins at byte n, as a part; an empty one is not one
 abbrev pub part_at : ℕ → List ℕ → PartName → List Interval
 part_at n [] part = []
 part_at n (b ∷ text) part = record { start = n; end = n + length (b ∷ text); part = part } ∷ []
@@ -42,7 +42,7 @@ integer_parts n t ds =
 
 -- ---- the fraction
 
--- `decimal` from byte n on, and `fraction` behind it; without fraction digits none
+-- `decimal` from byte n on, and `fraction` after it; without fraction digits none
 abbrev pub fraction_parts : ℕ → Tables → List ℕ → List Interval
 fraction_parts n t [] = []
 fraction_parts n t (d ∷ ds) =
@@ -65,7 +65,7 @@ abbrev pub suffix_parts : ℕ → Option AffixTexts → List Interval
 suffix_parts n None = []
 suffix_parts n (Some affixes) = part_at n affixes.suffix affixes.part
 
--- with its sign: the prefix from byte 0 on, the number behind it, and behind that the suffix
+-- with its sign: the prefix from byte 0 on, the number after it, and after that the suffix
 abbrev pub decimal_parts : Tables → SignedValue Number → List Interval
 decimal_parts t d =
     let affixes = affixes_of t.symbols.strings d.sign in
@@ -73,12 +73,12 @@ decimal_parts t d =
     prefix_parts affixes
     ++ (unsigned_parts begin t d.absolute ++ suffix_parts (begin + length (unsigned_text t d.absolute)) affixes)
 
--- ---- a number with a text before it and one behind it
+-- ---- a number with a text before it and one after it
 
 abbrev pub unit_text : Tables → List ℕ → Number → List ℕ → List ℕ
 unit_text t before v behind = before ++ (unsigned_text t v ++ behind)
 
--- with its sign: the parts of the number begin behind the prefix and the text before it, and the suffix follows all
+-- with its sign: the parts of the number begin after the prefix and the text before it, and the suffix follows all
 -- else
 abbrev pub unit_parts : Tables → List ℕ → SignedValue Number → List ℕ → List Interval
 unit_parts t before d behind =

@@ -15,7 +15,7 @@ UnsignedHasParts = (p : PlainNumber) → annotated (unsigned_events p) ≡ unsig
 abbrev pub DecimalHasParts : Type 0
 DecimalHasParts = (t : Tables) (d : SignedValue Number) → annotated (decimal_events (formatted t d)) ≡ decimal_annotated t d
 
--- with a text before the number and one behind it, and the affixes of its sign round all three
+-- with a text before the number and one after it, and the affixes of its sign around all three
 abbrev pub UnitHasParts : Type 0
 UnitHasParts = (t : Tables) (before : List ℕ) (d : SignedValue Number) (behind : List ℕ)
     → annotated (events_with_sign (λ number. bytes before ++ (unsigned_events number ++ bytes behind)) (formatted t d)) ≡ unit_annotated t before d behind

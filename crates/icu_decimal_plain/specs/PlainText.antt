@@ -21,7 +21,7 @@ pub record PlainNumber : Type 0 where
   pub number : Number
   pub tables : Tables
 
--- lists one behind the other
+-- lists one after the other
 abbrev pub chained : {A : Type 0} → List (List A) → List A
 chained lists = flat_map (λ list. list) lists
 
@@ -39,7 +39,7 @@ digit_text table d = encode_utf8 (slice_index table d)
 abbrev pub whole_text : Tables → List ℕ → List ℕ
 whole_text t ds = grouped t t.symbols.strings.grouping_separator (map (digit_text t.digits) ds)
 
--- the fraction digits behind the decimal separator; without fraction digits no separator either
+-- the fraction digits after the decimal separator; without fraction digits no separator either
 abbrev pub fraction_text : Tables → List ℕ → List ℕ
 fraction_text t [] = []
 fraction_text t (d ∷ ds) = t.symbols.strings.decimal_separator ++ chained (map (digit_text t.digits) (d ∷ ds))

@@ -40,7 +40,7 @@ fn put_next(digits: &mut ShownDigits<'_>, chunk: &mut [u8; CHUNK], at: usize) ->
     count
 }
 
-// Takes the next `count` digits, as a part of a chunk; the bytes behind them mean nothing. Digits are taken sixteen by
+// Takes the next `count` digits, as a part of a chunk; the bytes after them mean nothing. Digits are taken sixteen by
 // sixteen, so more may be gone than these, where they are neither all digits nor whole blocks.
 pub(crate) fn few_digits(digits: &mut ShownDigits<'_>, count: usize) -> [u8; CHUNK]
     requires few { count ≤ 48 }

@@ -12,9 +12,9 @@ pub fn text_law()
 
 /// A law: the intervals that are listed for a number are those of its parts, with a sign and without, and no others: of
 /// `-1,234.5` in English `minusSign` from byte 0 to 1, `integer` from 1 to 6, in it `group` from 2 to 3, `decimal` from
-/// 6 to 7 and `fraction` from 7 to 8. With a text before the number and one behind it, and the affixes of the sign
-/// round all three, they begin behind the first text: of `-€1,234.5` `integer` is from 4 to 9. A separator comes after
-/// the groups before it and before those behind it.
+/// 6 to 7 and `fraction` from 7 to 8. With a text before the number and one after it, and the affixes of the sign
+/// around all three, they begin after the first text: of `-€1,234.5` `integer` is from 4 to 9. A separator comes after
+/// the groups before it and before those after it.
 pub fn parts_law()
     ensures unsigned { UnsignedHasParts }
     ensures decimal { DecimalHasParts }

@@ -28,7 +28,7 @@ pub(crate) fn row_of(table: &[char; 10]) -> Option<u8>
     Some(nought as u8)
 }
 
-// Puts digits behind the first `len` bytes, and returns how many bytes there are then.
+// Puts digits after the first `len` bytes, and returns how many bytes there are then.
 #[tactic(auto, using(crate::proofs::PieceLemmas::ten_at, crate::proofs::RowLemmas::row_next, crate::proofs::RowLemmas::row_none))]
 pub(crate) fn put_row<const N: usize>(
     waiting: &mut [u8; N],
@@ -50,7 +50,7 @@ pub(crate) fn put_row<const N: usize>(
     len + digits.len()
 }
 
-// Puts groups of three digits, each with the separator before it, behind the first `len` bytes, and returns how many
+// Puts groups of three digits, each with the separator before it, after the first `len` bytes, and returns how many
 // bytes there are then.
 #[inline(always)]
 #[tactic(auto, using(crate::proofs::PieceLemmas::ten_at, crate::proofs::RowLemmas::threes_next, crate::proofs::RowLemmas::threes_none))]

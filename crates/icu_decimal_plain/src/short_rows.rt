@@ -25,7 +25,7 @@ const BLOCK: u16 = 16;
 // the fraction.
 pub(crate) const SHORT: usize = 192;
 
-// The digits that are left, sixteen at most, and others behind them, which mean nothing.
+// The digits that are left, sixteen at most, and others after them, which mean nothing.
 #[inline(always)]
 fn block_of(digits: &mut ShownDigits<'_>) -> [u8; 16]
     requires few { length digits.old ≤ 16 }
@@ -50,7 +50,7 @@ fn row_bytes(digits: &[u8; 16], nought: u8) -> [u8; 16]
     bytes
 }
 
-// Puts sixteen digits, of which `count` count, behind the first `len` bytes, and returns how many bytes count then.
+// Puts sixteen digits, of which `count` count, after the first `len` bytes, and returns how many bytes count then.
 #[inline(always)]
 fn put_front(
     text: &mut [u8; SHORT],
@@ -74,7 +74,7 @@ fn put_front(
     put_digit_pieces(text, len, &digits[..count], table)
 }
 
-// Sixteen digits as bytes, and four more behind them.
+// Sixteen digits as bytes, and four more after them.
 #[inline(always)]
 fn row_words(digits: &[u8; 16], nought: u8) -> [u8; 20]
     requires small { nought + 9 < 128 }
@@ -86,7 +86,7 @@ fn row_words(digits: &[u8; 16], nought: u8) -> [u8; 20]
     bytes
 }
 
-// Puts groups of one to four bytes, each with the separator before it, behind the first `len` bytes, and returns how many
+// Puts groups of one to four bytes, each with the separator before it, after the first `len` bytes, and returns how many
 // bytes there are then. `None`: a group has more.
 #[inline(never)]
 fn put_words(
@@ -123,10 +123,10 @@ fn put_words(
     Some(len)
 }
 
-// Puts the digits behind the first group, each group with the separator before it, behind the first `len` bytes, and
+// Puts the digits after the first group, each group with the separator before it, after the first `len` bytes, and
 // returns how many bytes there are then. `None`: a group has more digits than are put at once.
 #[inline(always)]
-fn put_behind(
+fn put_after(
     text: &mut [u8; SHORT],
     len: usize,
     separator: Piece,
@@ -161,7 +161,7 @@ fn put_behind(
     put_words(text, len, separator, &words, first, sizes)
 }
 
-// Puts the integer digits in their groups to the front, and returns how many bytes they have. `None`: a group behind the
+// Puts the integer digits in their groups to the front, and returns how many bytes they have. `None`: a group after the
 // first has more digits than are put at once.
 #[inline(always)]
 fn put_whole(
@@ -185,7 +185,7 @@ fn put_whole(
     let mut digits = number.whole_digits();
     let block = block_of(&mut digits);
     let len = put_front(text, 0, &block, first, table);
-    let end = put_behind(
+    let end = put_after(
         text,
         len,
         separator,
@@ -198,7 +198,7 @@ fn put_whole(
     Some(end)
 }
 
-// Puts the decimal separator and the fraction digits, where there are any, behind the first `len` bytes, and returns
+// Puts the decimal separator and the fraction digits, where there are any, after the first `len` bytes, and returns
 // how many bytes there are then.
 #[inline(always)]
 fn put_fraction(
@@ -228,7 +228,7 @@ fn put_fraction(
 }
 
 // Puts the text of a number to the front, and returns how many bytes it has. `None`: it has more digits than are put at
-// once, or a group behind the first has, or a separator has more than four bytes.
+// once, or a group after the first has, or a separator has more than four bytes.
 #[inline(always)]
 pub(crate) fn put_short(
     text: &mut [u8; SHORT],

@@ -73,7 +73,7 @@ pub(crate) fn pieces_of(table: &[char; 10]) -> [Piece; 10]
     pieces
 }
 
-// Puts a piece behind the first `len` bytes, and returns how many bytes there are then.
+// Puts a piece after the first `len` bytes, and returns how many bytes there are then.
 pub(crate) fn put_piece<const N: usize>(waiting: &mut [u8; N], len: usize, piece: Piece) -> usize
     requires room { len + 4 ≤ N }
     requires long { length piece.bytes ≡ 4 }
@@ -89,7 +89,7 @@ pub(crate) fn put_piece<const N: usize>(waiting: &mut [u8; N], len: usize, piece
     len + piece.len as usize
 }
 
-// Puts digits as pieces behind the first `len` bytes, and returns how many bytes there are then.
+// Puts digits as pieces after the first `len` bytes, and returns how many bytes there are then.
 pub(crate) fn put_digit_pieces<const N: usize>(
     waiting: &mut [u8; N],
     len: usize,
@@ -111,7 +111,7 @@ pub(crate) fn put_digit_pieces<const N: usize>(
     len
 }
 
-// Puts digits that are single bytes in a row behind the first `len` bytes, and returns how many bytes there are then: two
+// Puts digits that are single bytes in a row after the first `len` bytes, and returns how many bytes there are then: two
 // or three of them as a word.
 fn put_few_row<const N: usize>(
     waiting: &mut [u8; N],
@@ -146,7 +146,7 @@ fn put_few_row<const N: usize>(
     }
 }
 
-// Puts digits behind the first `len` bytes, and returns how many bytes there are then.
+// Puts digits after the first `len` bytes, and returns how many bytes there are then.
 pub(crate) fn put_digits<const N: usize>(
     waiting: &mut [u8; N],
     len: usize,
@@ -165,7 +165,7 @@ pub(crate) fn put_digits<const N: usize>(
     put_digit_pieces(waiting, len, digits, table)
 }
 
-// Puts groups of any sizes, each with the separator before it, behind the first `len` bytes, and returns how many bytes
+// Puts groups of any sizes, each with the separator before it, after the first `len` bytes, and returns how many bytes
 // there are then.
 #[inline(never)]
 pub(crate) fn put_any_groups<const N: usize>(
@@ -197,7 +197,7 @@ pub(crate) fn put_any_groups<const N: usize>(
     len
 }
 
-// Puts groups, each with the separator before it, behind the first `len` bytes, and returns how many bytes there are
+// Puts groups, each with the separator before it, after the first `len` bytes, and returns how many bytes there are
 // then.
 pub(crate) fn put_groups<const N: usize>(
     waiting: &mut [u8; N],

@@ -85,7 +85,7 @@ pub(crate) fn write_digits<S: Sink>(
     Ok(())
 }
 
-// Writes the grouping separator, and the group behind it.
+// Writes the grouping separator, and the group after it.
 fn write_group<S: Sink>(
     separator: &str,
     digits: &mut ShownDigits<'_>,
@@ -110,7 +110,7 @@ fn write_group<S: Sink>(
     write_digits(digits, count, table, sink)
 }
 
-// Writes the groups behind the first.
+// Writes the groups after the first.
 fn write_groups<S: Sink>(
     separator: &str,
     digits: &mut ShownDigits<'_>,

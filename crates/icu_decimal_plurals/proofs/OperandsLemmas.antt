@@ -8,7 +8,7 @@ use Rattle.fixed_decimal.specs.Number.{digit}
 use Rattle.fixed_decimal.proofs.TenLemmas.{tens_next, tens_positive}
 use Rattle.icu_decimal_plurals.specs.Operands.{Operands, operands_with, part_of, trimmed}
 
--- one digit more behind
+-- one digit more after
 part_more : (n a j : ℕ) → part_of n a (j + 1) ≡ part_of n (a + 1) j * 10 + digit n a
 part_more n a j =
     ap (λ m. n / 10 ^ a % m) (tens_next j) ∙ mod-mul (n / 10 ^ a) {m = 10 ^ j} {c = 10} (tens_positive j) (omega arith)

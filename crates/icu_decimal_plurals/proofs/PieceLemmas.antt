@@ -1,4 +1,4 @@
--- The first piece of a text, and what stands behind it.
+-- The first piece of a text, and what is after it.
 use Rattle.std.proofs.Common.{refl, ◌≡◌, ℕ, zero, suc, ◌+◌, ◌<◌, Bool, true, false, cond, List, [], ◌∷◌, length, get_or, take, drop, ap, ◌∙◌, arith}
 use Rattle.std.specs.List.{onto_first}
 use Rattle.icu_decimal_plurals.specs.Tokens.{is_joined, joins_next, pieces}

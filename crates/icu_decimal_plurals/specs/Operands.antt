@@ -15,7 +15,7 @@ pub record Operands : Type 0 where
   pub t : ℕ
   -- how many these are
   pub w : ℕ
-  -- the exponent of ten that stands beside the number
+  -- the exponent of ten that is beside the number
   pub c : ℕ
 
 -- so many digits of a count, from a place on, as a number

@@ -25,7 +25,7 @@ dot = 46
 abbrev pub equals_sign : ℕ
 equals_sign = 61
 
--- two characters, the one right behind the other, belong to one piece
+-- two characters, the one right after the other, belong to one piece
 abbrev pub is_joined : ℕ → ℕ → Bool
 is_joined c d =
     (is_ascii_lowercase c && is_ascii_lowercase d)

@@ -7,14 +7,14 @@ ghost use Rattle.icu_decimal_plurals.specs.ConditionGrammar.{separates};
 use crate::separator::Separator;
 use crate::token::Token;
 
-// Where the first separator stands.
+// Where the first separator is.
 fn position_of(tokens: &[Token], separator: Separator) -> Option<usize>
     ensures { result ≡ position (separates separator) tokens.now }
 {
     tokens.iter().position(|token| separator.is(*token))
 }
 
-/// The tokens before the first separator, and those behind it where there is one.
+/// The tokens before the first separator, and those after it where there is one.
 #[tactic(auto, using(crate::proofs::CutLemmas::split_at, crate::proofs::CutLemmas::split_nowhere))]
 pub fn cut(tokens: &[Token], separator: Separator) -> (&[Token], Option<&[Token]>)
     ensures parts { MatchOption result.1

@@ -51,7 +51,7 @@ fn digit_over(number: &UnsignedDecimal, place: u16) -> u8
     number.digit_at(magnitude_of(place))
 }
 
-// How many digits stand from a place up to the highest one shown.
+// How many digits are from a place up to the highest one shown.
 fn digits_from(number: &UnsignedDecimal, place: u16) -> u32
     requires { place ≤ 32768 }
     ensures { number.now.count < 10 ^ (place + result) }

@@ -4,7 +4,7 @@ ghost use Rattle.std.specs.Prelude.{◌≡◌, ◌∷◌, ◌<◌, ◌≤◌, le
 ghost use Rattle.icu_decimal_plurals.specs.Tokens.{is_joined, is_blank, pieces};
 ghost use Rattle.icu_decimal_plurals.specs.PieceSteps.{piece_len};
 
-// Whether two characters, the one right behind the other, belong to one piece.
+// Whether two characters, the one right after the other, belong to one piece.
 fn is_joined(first: u8, second: u8) -> bool
     ensures { result ≡ is_joined first second }
 {
@@ -30,7 +30,7 @@ fn piece_len(text: &[u8]) -> usize
     last + 1
 }
 
-/// The first piece of a text, and the text behind it: `i` and ` = 1` of `i = 1`. The condition is that the text is not
+/// The first piece of a text, and the text after it: `i` and ` = 1` of `i = 1`. The condition is that the text is not
 /// empty.
 #[tactic(auto, using(crate::proofs::PieceLemmas::first_of))]
 pub fn first_piece(text: &[u8]) -> (&[u8], &[u8])

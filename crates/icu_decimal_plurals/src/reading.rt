@@ -21,7 +21,7 @@ fn position_of_samples(text: &[u8]) -> Option<usize>
     text.iter().position(|character| *character == b'@')
 }
 
-// What stands before the samples.
+// What is before the samples.
 fn before_samples(text: &[u8]) -> &[u8]
     ensures { result.now ≡ before_samples text.now }
 {

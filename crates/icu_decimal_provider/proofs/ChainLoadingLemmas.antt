@@ -20,7 +20,7 @@ or_next_assoc (Err Memory) b c = refl
 or_next_assoc (Err Custom) b c = refl
 
 module _ {T : Type 0} (load : Identifier → Result T DataError) where
-  -- in two lists, one behind the other
+  -- in two lists, one after the other
   found_in_two : (xs ys : List Identifier) → found_or load DataError.IdentifierNotFound (xs ++ ys) ≡ or_next (found_or load DataError.IdentifierNotFound xs) (found_or load DataError.IdentifierNotFound ys)
   found_in_two [] ys = refl
   found_in_two (x ∷ xs) ys = ap (or_next (load x)) (found_in_two xs ys) ∙ or_next_assoc (load x) (found_or load DataError.IdentifierNotFound xs) (found_or load DataError.IdentifierNotFound ys)
@@ -33,7 +33,7 @@ module _ {T : Type 0} (load : Identifier → Result T DataError) where
   -- ---- a pass
 
   module _ (attributes : Text) (next : DataLocaleMeaning → Option DataLocaleMeaning) where
-    -- nothing stands at this place: on to the next
+    -- nothing is at this place: on to the next
     pub stepped : (n m : ℕ) (place behind : DataLocaleMeaning) → n ≡ suc m → load (of_both attributes place) ≡ Err DataError.IdentifierNotFound → next place ≡ Some behind
         → first_found load (under_each attributes (chain next n place)) ≡ first_found load (under_each attributes (chain next m behind))
     stepped n m place behind is e f = rw (is, e, f) refl

@@ -5,7 +5,7 @@ use Rattle.std.specs.Prelude.{List, [], ◌∷◌, Option, None, Some, Result, O
 use Rattle.icu_locale_core.specs.Collections.{first_there}
 use Rattle.icu_decimal_symbols.specs.declared.error.DataError.{DataError}
 
--- what is answered where the first says this: what the rest says, if nothing stands there, and else this
+-- what is answered where the first says this: what the rest says, if nothing is there, and else this
 abbrev pub or_next : {T : Type 0} → Result T DataError → Result T DataError → Result T DataError
 or_next (Ok table) next = Ok table
 or_next (Err DataError.IdentifierNotFound) next = next

@@ -1,4 +1,4 @@
--- What a table stands under, and the identifiers that preferences ask for, in their order.
+-- What a table is under, and the identifiers that preferences ask for, in their order.
 -- Defined in docs/formatters.md, "Identifiers" and "Choosing tables".
 -- Cited by `DataIdentifier`, `DataProvider` and all that asks a provider.
 use Rattle.std.specs.Prelude.{List, [], ◌∷◌, ◌++◌, map, Option, None, Some, option_map, option_to_list}

@@ -1,4 +1,4 @@
--- Digits gathered: how many they are, how large their number is, and what number they are before and behind a point.
+-- Digits gathered: how many they are, how large their number is, and what number they are before and after a point.
 use Rattle.std.proofs.Common.{◌≡◌, ℕ, ◌+◌, ◌-◌, ◌*◌, ◌^◌, ◌<◌, ◌≤◌, ◌⊎◌, true, false, List, [], ◌∷◌, ◌++◌, length, inl, inr, refl, sym, ap, subst, ◌∙◌, arith}
 use Rattle.std.proofs.Math.Nat.{mod-one, pow-le-pow_right}
 use Rattle.std.proofs.lemmas.Bool.{cases_lt, false_from_ne_true}
@@ -49,7 +49,7 @@ pub count_with : (given : DigitsGiven) (cs : List ℕ) → (with_characters give
 count_with given [] = omega arith
 count_with given (c ∷ cs) = let more = count_with (with_digit given (digit_value c)) cs in omega (arith, more)
 
--- a count so far is within the one behind
+-- a count so far is within the one after
 pub count_grows : (given after : DigitsGiven) (cs : List ℕ) (n : ℕ) → after ≡ with_characters given cs → n ≡ given.count → n ≤ after.count
 count_grows given after cs n to_end is = omega (arith, is, ap (λ (g : DigitsGiven). g.count) to_end, count_with given cs)
 

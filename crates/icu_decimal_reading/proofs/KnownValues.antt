@@ -76,7 +76,7 @@ dots_whole = refl
 dots_fraction : fraction_in latin (codes "..") (codes "1.234..5") ≡ codes "5"
 dots_fraction = refl
 
--- a separator without digits behind it begins no fraction
+-- a separator without digits after it begins no fraction
 no_fraction : whole_in latin (codes ".") (codes "5.") ≡ codes "5"
 no_fraction = refl
 

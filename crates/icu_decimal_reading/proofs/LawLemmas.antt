@@ -6,7 +6,7 @@ use Rattle.std.proofs.lemmas.Str.{chars_from_encodes, encodes_same}
 use Rattle.std.specs.Cmp.Lexicographic.{bytes_decides}
 use Rattle.std.specs.Str.{IsUtf8, bytes_eq, chars}
 use Rattle.fixed_decimal.specs.Number.{IsNumber, Number, fraction_digits, whole_digits}
-use Rattle.fixed_decimal.specs.NumberText.{AreDigits, behind_point, character}
+use Rattle.fixed_decimal.specs.NumberText.{AreDigits, after_point, character}
 use Rattle.fixed_decimal.specs.SignedText.{ReadsSigned}
 use Rattle.fixed_decimal.specs.SignedValue.{SignedValue}
 use Rattle.fixed_decimal.specs.TextLaws.{IsDecimal}
@@ -62,7 +62,7 @@ signs_tell t a b readable = by a b (tests_of t readable).signs
     by Positive Negative signs p s = absurd (both_apart signs (sym p) (sym s))
     by Positive Positive signs p s = refl
 
--- what stands before the first digit
+-- what is before the first digit
 pub front_of : List ℕ → List ℕ → List ℕ
 front_of ds [] = []
 front_of ds (c ∷ cs) = cond (is_none (digit_of ds c)) (c ∷ front_of ds cs) []
@@ -78,7 +78,7 @@ front_is ds (c ∷ cs) rest x clear digit =
     let parts = and_parts (is_none (digit_of ds c)) (no_digits ds cs) clear in
     ap (λ b. cond b (c ∷ front_of ds (cs ++ x ∷ rest)) []) parts.0 ∙ ap (λ t. c ∷ t) (front_is ds cs rest x parts.1 digit)
 
--- what stands before the first digit of a decimal's text is its prefix
+-- what is before the first digit of a decimal's text is its prefix
 pub front_again : (t : Tables) (v : SignedValue Number) → AreTables t → is_readable_by t ≡ true → IsNumber v.absolute → front_of t.digits (plain_chars t v) ≡ chars (prefix_for t v.sign)
 front_again t v are readable is =
     let start = digit_first t v.absolute are readable is in
@@ -90,7 +90,7 @@ same_absolute t a b are readable one other same =
     let sep : List ℕ = chars t.symbols.strings.decimal_separator in
     let whole : map character (whole_digits a.absolute) ≡ map character (whole_digits b.absolute) = sym (whole_again t a are readable one) ∙ ap (whole_in t.digits sep) same ∙ whole_again t b are readable other in
     let fraction : map character (fraction_digits a.absolute) ≡ map character (fraction_digits b.absolute) = sym (fraction_again t a are readable one) ∙ ap (fraction_in t.digits sep) same ∙ fraction_again t b are readable other in
-    ap (λ (v : SignedValue Number). v.absolute) (signed_reads_once (map character (whole_digits a.absolute) ++ behind_point (map character (fraction_digits a.absolute))) (with_sign NoSign a.absolute) (with_sign NoSign b.absolute)
+    ap (λ (v : SignedValue Number). v.absolute) (signed_reads_once (map character (whole_digits a.absolute) ++ after_point (map character (fraction_digits a.absolute))) (with_sign NoSign a.absolute) (with_sign NoSign b.absolute)
     (number_again a.absolute (map character (whole_digits a.absolute)) (map character (fraction_digits a.absolute)) one refl refl)
     (number_again b.absolute (map character (whole_digits a.absolute)) (map character (fraction_digits a.absolute)) other whole fraction))
 
@@ -164,7 +164,7 @@ plain_again t text v are readable utf8 plain =
     let some : 0 < length (whole_of t text) = let digits = whole_some v.absolute plain.decimal in omega (arith, digits, ap length whole, length-map (whole_digits v.absolute) character) in
     let first : AreDigits (whole_of t text) = whole_digits_are t.digits sep (chars text) are.ten in
     let second : AreDigits (fraction_of t text) = fraction_digits_are t.digits sep (chars text) are.ten in
-    let reads : ReadsSigned (whole_of t text ++ behind_point (fraction_of t text)) (with_sign NoSign v.absolute) = number_again v.absolute (whole_of t text) (fraction_of t text) plain.decimal whole fraction in
+    let reads : ReadsSigned (whole_of t text ++ after_point (fraction_of t text)) (with_sign NoSign v.absolute) = number_again v.absolute (whole_of t text) (fraction_of t text) plain.decimal whole fraction in
     let number : v.absolute ≡ number_with (whole_of t text) (fraction_of t text) = ap (λ (d : SignedValue Number). d.absolute) (number_read (whole_of t text) (fraction_of t text) (with_sign NoSign v.absolute) first second some reads) in
     reading_signed t text readable (within_read (whole_of t text) (fraction_of t text) (with_sign NoSign v.absolute) first second some reads)
     ∙ ap (signed_reading t text) (sym number) ∙ signed_again t text v.sign v.absolute are readable plain
@@ -219,7 +219,7 @@ found_by t text n v false true c first second third e = found_with t text Negati
 found_by t text n v false false true first second third e = found_with t text Positive n v third (sym (third_sign t text n (sym first) (sym second) (sym third)) ∙ e)
 found_by t text n v false false false first second third e = absurd (no_decimal not_written v refl (sym (no_sign_fits t text n (sym first) (sym second) (sym third)) ∙ e))
 
--- what stands behind an answer that is a decimal
+-- what is after an answer that is a decimal
 pub record IsAnswer (t : Tables) (text : List ℕ) (v : SignedValue Number) : Type 0 where
   pub readable : is_readable_by t ≡ true
   pub within : is_within (whole_of t text) (fraction_of t text) ≡ true

@@ -1,4 +1,4 @@
--- The number that digits before and behind a point are, and the text of `0` to `9` that spells it.
+-- The number that digits before and after a point are, and the text of `0` to `9` that spells it.
 use Rattle.std.proofs.Common.{◌≡◌, ℕ, ◌+◌, ◌-◌, ◌*◌, ◌^◌, ◌<◌, ◌≤◌, ◌==◌, ◌||◌, nat_le, nat_lt, min, max, Bool, true, false, cond, ◌&&◌, List, [], ◌∷◌, ◌++◌, length, map, Option, None, Some, refl, sym, ap, ◌∙◌, subst, inl, arith}
 use Rattle.std.specs.List.{cons_option, filter_map}
 use Rattle.std.specs.Char.{digit_value}
@@ -8,7 +8,7 @@ use Rattle.std.proofs.lemmas.List.{append-nil, length-map}
 use Rattle.std.proofs.lemmas.Nat.{pow-add}
 use Rattle.std.proofs.Math.Nat.{mul-lt-mul_of_pos_right, mul-mod_left}
 use Rattle.fixed_decimal.specs.Number.{Number, IsNumber, fraction_digits, whole_digits}
-use Rattle.fixed_decimal.specs.NumberText.{AreDigits, AreEndsIn, Parts, Spells, behind_point, character, down_of, mantissa_of, number_at, small_mark, spelled, up_of}
+use Rattle.fixed_decimal.specs.NumberText.{AreDigits, AreEndsIn, Parts, Spells, after_point, character, down_of, mantissa_of, number_at, small_mark, spelled, up_of}
 use Rattle.fixed_decimal.specs.SignedText.{IsBeyondSigned, ReadsSigned}
 use Rattle.fixed_decimal.specs.SignedValue.{SignedValue}
 use Rattle.fixed_decimal.specs.declared.Sign.TheVariants.{None as NoSign}
@@ -72,10 +72,10 @@ digits_counted ds sep (c ∷ cs) =
 abbrev parts_with : List ℕ → List ℕ → Parts
 parts_with whole fraction = record { integer = whole; fraction = fraction; negative = false; exponent = [] }
 
-spells_parts : (whole fraction : List ℕ) → AreDigits whole → AreDigits fraction → 0 < length whole → Spells (whole ++ behind_point fraction) (parts_with whole fraction)
+spells_parts : (whole fraction : List ℕ) → AreDigits whole → AreDigits fraction → 0 < length whole → Spells (whole ++ after_point fraction) (parts_with whole fraction)
 spells_parts whole fraction are more some = record {
   last = [];
-  whole = ap (λ cs. whole ++ cs) (sym (append-nil (behind_point fraction)));
+  whole = ap (λ cs. whole ++ cs) (sym (append-nil (after_point fraction)));
   integer_digits = are;
   fraction_digits = more;
   some = omega (arith, some);
@@ -131,12 +131,12 @@ number_by m a b up down u d some below =
     same_numbers (m * 10 ^ (32768 - b)) (m * 10 ^ (32768 + up - (b + down))) _ _ _ _ (ap (λ k. m * 10 ^ k) place) low high
 
 -- digits and a point spell the number
-pub reads_number : (whole fraction : List ℕ) → AreDigits whole → AreDigits fraction → is_within whole fraction ≡ true → ReadsSigned (whole ++ behind_point fraction) (with_sign NoSign (number_with whole fraction))
+pub reads_number : (whole fraction : List ℕ) → AreDigits whole → AreDigits fraction → is_within whole fraction ≡ true → ReadsSigned (whole ++ after_point fraction) (with_sign NoSign (number_with whole fraction))
 reads_number whole fraction are more within =
     let short = short_from whole fraction within in
     let parts : Parts = parts_with whole fraction in
     record {
-      rest = whole ++ behind_point fraction;
+      rest = whole ++ after_point fraction;
       whole = refl;
       reads = record {
         parts = parts;
@@ -146,12 +146,12 @@ reads_number whole fraction are more within =
       };
     }
 
-beyond_by : (whole fraction : List ℕ) → AreDigits whole → AreDigits fraction → 0 < length whole → is_within whole fraction ≡ false → IsBeyondSigned (whole ++ behind_point fraction)
+beyond_by : (whole fraction : List ℕ) → AreDigits whole → AreDigits fraction → 0 < length whole → is_within whole fraction ≡ false → IsBeyondSigned (whole ++ after_point fraction)
 beyond_by whole fraction are more some past =
     let parts : Parts = parts_with whole fraction in
     record {
       sign = NoSign;
-      rest = whole ++ behind_point fraction;
+      rest = whole ++ after_point fraction;
       whole = refl;
       beyond = record {
         parts = parts;
@@ -166,18 +166,18 @@ beyond_by whole fraction are more some past =
     }
 
 -- what is read of them is that number
-pub within_read : (whole fraction : List ℕ) (v : SignedValue Number) → AreDigits whole → AreDigits fraction → 0 < length whole → ReadsSigned (whole ++ behind_point fraction) v → is_within whole fraction ≡ true
+pub within_read : (whole fraction : List ℕ) (v : SignedValue Number) → AreDigits whole → AreDigits fraction → 0 < length whole → ReadsSigned (whole ++ after_point fraction) v → is_within whole fraction ≡ true
 within_read whole fraction v are more some reads =
-    true_from_ne_false (is_within whole fraction) (λ past. signed_not_beyond (whole ++ behind_point fraction) v reads (beyond_by whole fraction are more some past))
+    true_from_ne_false (is_within whole fraction) (λ past. signed_not_beyond (whole ++ after_point fraction) v reads (beyond_by whole fraction are more some past))
 
-pub number_read : (whole fraction : List ℕ) (v : SignedValue Number) → AreDigits whole → AreDigits fraction → 0 < length whole → ReadsSigned (whole ++ behind_point fraction) v → v ≡ with_sign NoSign (number_with whole fraction)
+pub number_read : (whole fraction : List ℕ) (v : SignedValue Number) → AreDigits whole → AreDigits fraction → 0 < length whole → ReadsSigned (whole ++ after_point fraction) v → v ≡ with_sign NoSign (number_with whole fraction)
 number_read whole fraction v are more some reads =
-    signed_reads_once (whole ++ behind_point fraction) v (with_sign NoSign (number_with whole fraction)) reads
+    signed_reads_once (whole ++ after_point fraction) v (with_sign NoSign (number_with whole fraction)) reads
     (reads_number whole fraction are more (within_read whole fraction v are more some reads))
 
 -- ---- what the number is
 
--- a count of n digits whose last stands at a place
+-- a count of n digits whose last is at a place
 count_below : (m n k j : ℕ) → m < 10 ^ n → n + k ≡ j → m * 10 ^ k < 10 ^ j
 count_below m n k j less same =
     let split : 10 ^ j ≡ 10 ^ n * 10 ^ k = ap (λ x. 10 ^ x) (sym same) ∙ pow-add 10 n k in
@@ -198,7 +198,7 @@ is_number whole fraction are more within =
     }
 
 -- a number's own digits are its digits
-pub number_again : (n : Number) (whole fraction : List ℕ) → IsNumber n → whole ≡ map character (whole_digits n) → fraction ≡ map character (fraction_digits n) → ReadsSigned (whole ++ behind_point fraction) (with_sign NoSign n)
+pub number_again : (n : Number) (whole fraction : List ℕ) → IsNumber n → whole ≡ map character (whole_digits n) → fraction ≡ map character (fraction_digits n) → ReadsSigned (whole ++ after_point fraction) (with_sign NoSign n)
 number_again n whole fraction is before behind =
-    subst (λ cs. ReadsSigned (cs ++ behind_point fraction) (with_sign NoSign n)) (sym before)
-    (subst (λ cs. ReadsSigned (map character (whole_digits n) ++ behind_point cs) (with_sign NoSign n)) (sym behind) (signed_printed (with_sign NoSign n) is))
+    subst (λ cs. ReadsSigned (cs ++ after_point fraction) (with_sign NoSign n)) (sym before)
+    (subst (λ cs. ReadsSigned (map character (whole_digits n) ++ after_point cs) (with_sign NoSign n)) (sym behind) (signed_printed (with_sign NoSign n) is))

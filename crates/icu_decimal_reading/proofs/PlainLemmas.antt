@@ -1,4 +1,4 @@
--- The plain text of a decimal as characters: its digits, and nothing that is a digit between, before and behind them.
+-- The plain text of a decimal as characters: its digits, and nothing that is a digit between, before and after them.
 use Rattle.std.proofs.Common.{◌≡◌, ℕ, zero, suc, ◌+◌, ◌-◌, ◌<◌, Bool, true, false, cond, not, ◌&&◌, List, [], ◌∷◌, ◌++◌, length, map, slice_index, is_none, refl, sym, ap, subst, ◌∙◌, arith}
 use Rattle.std.proofs.lemmas.Bool.{and_parts, both_ways, ne_eqb, not-true, or_from}
 use Rattle.std.proofs.lemmas.List.Sums.{sum_by-cons}
@@ -44,7 +44,7 @@ tests_of t readable =
     let third = and_parts (do_separators_differ s) (do_signs_differ s) second.1 in
     record { differ = first.0; clear = second.0; separators = third.0; signs = third.1 }
 
--- no digit stands in a symbol
+-- no digit is in a symbol
 pub record AreClear (ds : List ℕ) (s : SymbolStrings) : Type 0 where
   pub minus_prefix : has_no_digit ds s.minus_sign_prefix ≡ true
   pub minus_suffix : has_no_digit ds s.minus_sign_suffix ≡ true

@@ -40,7 +40,7 @@ module _ (t : Tables) (text : List ℕ) (n : Number) where
 -- ---- the reading by its steps
 
 module _ (t : Tables) (text : List ℕ) where
-  -- the digits before and behind the point
+  -- the digits before and after the point
   abbrev pub whole_of : List ℕ
   whole_of = whole_in t.digits (chars t.symbols.strings.decimal_separator) (chars text)
 
@@ -58,6 +58,6 @@ module _ (t : Tables) (text : List ℕ) where
   reading_signed holds within =
       ap (λ b. cond b (written_reading t text) unreadable) holds ∙ ap (λ b. cond b (signed_reading t text (number_with whole_of fraction_of)) not_written) within
 
--- no digit stands twice in readable tables
+-- no digit is twice in readable tables
 pub digits_differ : (t : Tables) → is_readable_by t ≡ true → all_differ t.digits ≡ true
 digits_differ t readable = (and_parts (all_differ t.digits) _ readable).0

@@ -1,4 +1,4 @@
--- The digits of a number's text, whatever stands between them: each of them once, and the point where the decimal separator stands.
+-- The digits of a number's text, whatever is between them: each of them once, and the point where the decimal separator is.
 use Rattle.std.proofs.Common.{◌≡◌, ℕ, zero, suc, ◌<◌, ◌≤◌, Bool, true, false, cond, ◌&&◌, ◌==◌, nat_lt, List, [], ◌∷◌, ◌++◌, length, map, slice_index, Option, None, Some, is_some, is_none, refl, sym, ap, ◌∙◌, append_assoc, arith}
 use Rattle.std.specs.List.{list_all, cons_option, filter_map, position_or_len}
 use Rattle.std.specs.Int.Digits.{AllBelowBase}
@@ -62,7 +62,7 @@ digit_at ds i differ near =
     let place : position_or_len test ds ≡ i = position_or_len_is test ds i 0 (omega (arith, near)) (λ k less. apart ds k i differ less near) (λ _. eq-eqb (slice_index ds i) (slice_index ds i) refl) in
     at_by (nat_lt (position_or_len test ds) (length ds)) (position_or_len test ds) i place (lt-ltb (position_or_len test ds) (length ds) (omega (arith, place, near)))
 
--- and is the place of what stands there
+-- and is the place of what is there
 pub digit_here : (ds : List ℕ) (i c : ℕ) → all_differ ds ≡ true → i < length ds → slice_index ds i ≡ c → Some i ≡ digit_of ds c
 digit_here ds i c differ near is = sym (ap (digit_of ds) (sym is) ∙ digit_at ds i differ near)
 
@@ -90,7 +90,7 @@ digit_below ds c d is =
     let place = position_or_len (λ e. e == c) ds in
     within_by (nat_lt place (length ds)) place (length ds) d (λ b. ltb-true place (length ds) b) is
 
--- ---- what stands between digits
+-- ---- what is between digits
 
 pub skip_whole : (ds sep p rest : List ℕ) → no_digits ds p ≡ true → whole_in ds sep (p ++ rest) ≡ whole_in ds sep rest
 skip_whole ds sep [] rest clear = refl
@@ -210,7 +210,7 @@ whole_read ds sep group rest ends v (w ∷ ws) marks last tens none =
     ∙ ap (λ cs. character v ∷ cs) (skip_whole ds sep gap inner (gap_clear ds sep group (ends (length (spelled_by ds (w ∷ ws)))) marks))
     ∙ ap (λ cs. character v ∷ cs) (whole_read ds sep group rest ends w ws marks last tens.1 none)
 
--- the fraction behind groups
+-- the fraction after groups
 pub fraction_read : (ds sep group rest : List ℕ) (ends : ℕ → Bool) (v : ℕ) (vs : List ℕ) → AreMarks ds sep group → ends 0 ≡ false → AllBelowBase 10 (v ∷ vs)
     → fraction_in ds sep (marked ends group (spelled_by ds (v ∷ vs)) ++ rest) ≡ fraction_then (Some 0) (begins_fraction ds sep rest) (digits_of_text ds rest) (fraction_in ds sep rest)
 fraction_read ds sep group rest ends v [] marks last tens =
@@ -248,14 +248,14 @@ fraction_chars ds sep (v ∷ vs) = sep ++ spelled_by ds (v ∷ vs)
 abbrev pub number_chars : (ℕ → Bool) → List ℕ → List ℕ → List ℕ → List ℕ → List ℕ → List ℕ
 number_chars ends ds sep group whole fraction = marked ends group (spelled_by ds whole) ++ fraction_chars ds sep fraction
 
-begins_behind : (ds sep group suffix : List ℕ) (v : ℕ) (vs : List ℕ) → AreMarks ds sep group → AllBelowBase 10 (v ∷ vs) → begins_fraction ds sep ((sep ++ spelled_by ds (v ∷ vs)) ++ suffix) ≡ true
-begins_behind ds sep group suffix v vs marks tens =
+begins_after : (ds sep group suffix : List ℕ) (v : ℕ) (vs : List ℕ) → AreMarks ds sep group → AllBelowBase 10 (v ∷ vs) → begins_fraction ds sep ((sep ++ spelled_by ds (v ∷ vs)) ++ suffix) ≡ true
+begins_after ds sep group suffix v vs marks tens =
     ap (begins_fraction ds sep) (append_assoc sep (spelled_by ds (v ∷ vs)) suffix)
     ∙ begins_same ds sep (spelled_by ds vs ++ suffix) (slice_index ds v) (ap is_some (found ds sep group v marks tens.0))
 
 none_behind : (ds sep group suffix vs : List ℕ) → AreMarks ds sep group → AllBelowBase 10 vs → no_digits ds suffix ≡ true → begins_fraction ds sep (fraction_chars ds sep vs ++ suffix) ≡ false → whole_in ds sep (fraction_chars ds sep vs ++ suffix) ≡ []
 none_behind ds sep group suffix [] marks tens clear begins = none_whole ds sep suffix clear
-none_behind ds sep group suffix (v ∷ vs) marks tens clear begins = absurd (false≢true (sym begins ∙ begins_behind ds sep group suffix v vs marks tens))
+none_behind ds sep group suffix (v ∷ vs) marks tens clear begins = absurd (false≢true (sym begins ∙ begins_after ds sep group suffix v vs marks tens))
 
 -- the digits before the point of a number's text
 pub whole_of_text : (ds sep group prefix suffix : List ℕ) (ends : ℕ → Bool) (v : ℕ) (vs fraction : List ℕ) → AreMarks ds sep group → ends 0 ≡ false → AllBelowBase 10 (v ∷ vs) → AllBelowBase 10 fraction
@@ -265,24 +265,24 @@ whole_of_text ds sep group prefix suffix ends v vs fraction marks last tens part
     ∙ ap (whole_in ds sep) (append_assoc (marked ends group (spelled_by ds (v ∷ vs))) (fraction_chars ds sep fraction) suffix)
     ∙ whole_read ds sep group (fraction_chars ds sep fraction ++ suffix) ends v vs marks last tens (none_behind ds sep group suffix fraction marks parts back)
 
-behind_text : (ds sep group suffix fraction : List ℕ) → AreMarks ds sep group → AllBelowBase 10 fraction → no_digits ds suffix ≡ true
+after_text : (ds sep group suffix fraction : List ℕ) → AreMarks ds sep group → AllBelowBase 10 fraction → no_digits ds suffix ≡ true
     → fraction_then (Some 0) (begins_fraction ds sep (fraction_chars ds sep fraction ++ suffix)) (digits_of_text ds (fraction_chars ds sep fraction ++ suffix)) (fraction_in ds sep (fraction_chars ds sep fraction ++ suffix)) ≡ map character fraction
-behind_text ds sep group suffix [] marks tens clear =
+after_text ds sep group suffix [] marks tens clear =
     ap (λ b. fraction_then (Some 0) b (digits_of_text ds suffix) (fraction_in ds sep suffix)) (begins_none ds sep suffix clear) ∙ none_fraction ds sep suffix clear
-behind_text ds sep group suffix (v ∷ vs) marks tens clear =
+after_text ds sep group suffix (v ∷ vs) marks tens clear =
     let text : List ℕ = (sep ++ spelled_by ds (v ∷ vs)) ++ suffix in
-    ap (λ b. fraction_then (Some 0) b (digits_of_text ds text) (fraction_in ds sep text)) (begins_behind ds sep group suffix v vs marks tens)
+    ap (λ b. fraction_then (Some 0) b (digits_of_text ds text) (fraction_in ds sep text)) (begins_after ds sep group suffix v vs marks tens)
     ∙ ap (digits_of_text ds) (append_assoc sep (spelled_by ds (v ∷ vs)) suffix)
     ∙ skip_digits ds sep (spelled_by ds (v ∷ vs) ++ suffix) marks.point
     ∙ digits_read ds sep group suffix (v ∷ vs) marks tens
     ∙ ap (λ cs. map character (v ∷ vs) ++ cs) (none_digits ds suffix clear)
     ∙ append-nil (map character (v ∷ vs))
 
--- and those behind it
+-- and those after it
 pub fraction_of_text : (ds sep group prefix suffix : List ℕ) (ends : ℕ → Bool) (v : ℕ) (vs fraction : List ℕ) → AreMarks ds sep group → ends 0 ≡ false → AllBelowBase 10 (v ∷ vs) → AllBelowBase 10 fraction
     → no_digits ds prefix ≡ true → no_digits ds suffix ≡ true → fraction_in ds sep (prefix ++ (number_chars ends ds sep group (v ∷ vs) fraction ++ suffix)) ≡ map character fraction
 fraction_of_text ds sep group prefix suffix ends v vs fraction marks last tens parts front back =
     skip_fraction ds sep prefix (number_chars ends ds sep group (v ∷ vs) fraction ++ suffix) front
     ∙ ap (fraction_in ds sep) (append_assoc (marked ends group (spelled_by ds (v ∷ vs))) (fraction_chars ds sep fraction) suffix)
     ∙ fraction_read ds sep group (fraction_chars ds sep fraction ++ suffix) ends v vs marks last tens
-    ∙ behind_text ds sep group suffix fraction marks parts back
+    ∙ after_text ds sep group suffix fraction marks parts back

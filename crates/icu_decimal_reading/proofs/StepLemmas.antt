@@ -98,7 +98,7 @@ text_other ds cs rest c given whole is none before =
 pub text_end : (ds cs : List ℕ) (given whole : DigitsGiven) → cs ≡ [] → with_characters given (digits_of_text ds cs) ≡ whole → given ≡ whole
 text_end ds cs given whole is before = sym (ap (λ t. with_characters given (digits_of_text ds t)) is) ∙ before
 
--- where a digit behind eight is left, there are more than eight
+-- where a digit after eight is left, there are more than eight
 pub text_many : (ds cs rest text : List ℕ) (c d : ℕ) (given first : DigitsGiven) → cs ≡ c ∷ rest → Some d ≡ digit_of ds c → with_characters given (digits_of_text ds cs) ≡ with_characters first (digits_of_text ds text) → 8 ≤ given.count → 8 < first.count + length (digits_of_text ds text)
 text_many ds cs rest text c d given first is found before many =
     let size : length (digits_of_text ds cs) ≡ suc (length (digits_of_text ds rest)) = ap length (text_first ds cs rest c d is found) in

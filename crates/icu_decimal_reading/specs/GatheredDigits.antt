@@ -5,7 +5,7 @@ use Rattle.std.specs.Prelude.{◌≡◌, ℕ, ◌^◌, ◌<◌, List, [], ◌∷
 use Rattle.std.specs.Char.{digit_value}
 use Rattle.fixed_decimal.specs.GivenDigits.{DigitsGiven, with_digit}
 
--- more of them behind those that are gathered, each a character from `0` to `9`
+-- more of them after those that are gathered, each a character from `0` to `9`
 abbrev pub with_characters : DigitsGiven → List ℕ → DigitsGiven
 with_characters given [] = given
 with_characters given (c ∷ cs) = with_characters (with_digit given (digit_value c)) cs

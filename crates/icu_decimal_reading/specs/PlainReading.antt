@@ -12,7 +12,7 @@ use Rattle.icu_decimal_plain.specs.PlainText.{Tables, decimal_text}
 use Rattle.icu_decimal_reading.specs.Readable.{digit_of, is_readable_by}
 pub use Rattle.icu_decimal_reading.specs.DecimalOfText.{HasManyDigits, HasNoNumber, IsAnswered, IsPlainText, PlainReading, decimal, not_written, unreadable}
 
--- the separator stands at the front of these characters, and a digit behind it
+-- the separator is at the front of these characters, and a digit after it
 abbrev pub begins_fraction : List ℕ → List ℕ → List ℕ → Bool
 begins_fraction digits [] [] = false
 begins_fraction digits [] (c ∷ cs) = is_some (digit_of digits c)
@@ -33,7 +33,7 @@ abbrev pub whole_in : List ℕ → List ℕ → List ℕ → List ℕ
 whole_in digits separator [] = []
 whole_in digits separator (c ∷ cs) = whole_then (digit_of digits c) (begins_fraction digits separator cs) (whole_in digits separator cs)
 
--- those behind it, or none
+-- those after it, or none
 abbrev pub fraction_then : Option ℕ → Bool → List ℕ → List ℕ → List ℕ
 fraction_then None follows all rest = rest
 fraction_then (Some d) true all rest = all
@@ -48,7 +48,7 @@ fraction_in digits separator (c ∷ cs) =
 abbrev pub is_within : List ℕ → List ℕ → Bool
 is_within whole fraction = nat_lt 0 (length whole) && (nat_le (length whole) 32768 && nat_le (length fraction) 32768)
 
--- the number of these digits before and behind the point
+-- the number of these digits before and after the point
 abbrev pub number_with : List ℕ → List ℕ → Number
 number_with whole fraction = record {
   count = spelled (whole ++ fraction) * 10 ^ (32768 - length fraction);
@@ -70,7 +70,7 @@ signed_reading t text n =
     (cond (is_text_of t text (with_sign Negative n)) (decimal (with_sign Negative n))
     (cond (is_text_of t text (with_sign Positive n)) (decimal (with_sign Positive n)) not_written))
 
--- the reading by the digits before and behind the point
+-- the reading by the digits before and after the point
 abbrev pub reading_with : Tables → List ℕ → List ℕ → List ℕ → PlainReading
 reading_with t text whole fraction = cond (is_within whole fraction) (signed_reading t text (number_with whole fraction)) not_written
 

@@ -11,16 +11,16 @@ use Rattle.icu_decimal_plain.specs.PlainText.{Tables}
 abbrev pub digit_of : List ℕ → ℕ → Option ℕ
 digit_of digits c = position (λ d. d == c) digits
 
--- no digit stands twice in a table
+-- no digit is twice in a table
 abbrev pub all_differ : List ℕ → Bool
 all_differ [] = true
 all_differ (d ∷ ds) = is_none (digit_of ds d) && all_differ ds
 
--- no digit of a table stands in a text
+-- no digit of a table is in a text
 abbrev pub has_no_digit : List ℕ → List ℕ → Bool
 has_no_digit digits text = list_all (λ c. is_none (digit_of digits c)) (chars text)
 
--- no digit stands in the affixes and in the separators
+-- no digit is in the affixes and in the separators
 abbrev pub are_clear : List ℕ → SymbolStrings → Bool
 are_clear digits s =
     has_no_digit digits s.minus_sign_prefix

@@ -13,7 +13,7 @@ fn place_of(table: &[char], character: char) -> Option<usize>
     table.iter().position(|digit| *digit == character)
 }
 
-/// Which digit a character is, in a table where no digit stands twice: `7` is 7 in that of ASCII, and `x` none.
+/// Which digit a character is, in a table where no digit is twice: `7` is 7 in that of ASCII, and `x` none.
 ///
 /// In most tables the characters follow one another, so that the distance from the first one is the digit. Does not
 /// allocate.
@@ -33,7 +33,7 @@ pub fn digit_in(table: &[char; 10], character: char) -> Option<u8>
     }
 }
 
-/// Whether a character is a digit, in a table where no digit stands twice: `7` is one in that of ASCII, and `x` is not.
+/// Whether a character is a digit, in a table where no digit is twice: `7` is one in that of ASCII, and `x` is not.
 ///
 /// Does not allocate.
 pub fn is_digit(table: &[char; 10], character: char) -> bool
@@ -43,7 +43,7 @@ pub fn is_digit(table: &[char; 10], character: char) -> bool
     digit_in(table, character).is_some()
 }
 
-// Whether no digit stands twice.
+// Whether no digit is twice.
 pub(crate) fn do_all_differ(table: &[char]) -> bool
     ensures { result ≡ all_differ table.now }
 {
@@ -71,7 +71,7 @@ pub fn split_character(text: &str) -> Option<(char, &str)>
     Some((first, characters.as_str()))
 }
 
-/// Whether no digit of a table stands in a text: none of ASCII stands in `-.`, and one in `-5`.
+/// Whether no digit of a table is in a text: none of ASCII is in `-.`, and one in `-5`.
 ///
 /// Does not allocate.
 #[tactic(auto, using(crate::proofs::StepLemmas::clear_not, crate::proofs::StepLemmas::clear_more, crate::proofs::StepLemmas::clear_end))]
@@ -88,7 +88,7 @@ pub fn has_none(table: &[char; 10], text: &str) -> bool
     true
 }
 
-// How many digits stand in a text.
+// How many digits are in a text.
 #[tactic(auto, using(crate::proofs::StepLemmas::count_digit, crate::proofs::StepLemmas::count_other, crate::proofs::StepLemmas::count_end))]
 pub(crate) fn count_in(table: &[char; 10], text: &str) -> usize
     requires { all_differ table.now ≡ true }
@@ -106,7 +106,7 @@ pub(crate) fn count_in(table: &[char; 10], text: &str) -> usize
     count
 }
 
-/// Whether a separator stands at the front of a text, and a digit directly behind it: `.` before `.5`, and not before
+/// Whether a separator is at the front of a text, and a digit directly after it: `.` before `.5`, and not before
 /// `.-5`. The table has no digit twice.
 ///
 /// Does not allocate.

@@ -43,7 +43,7 @@ impl Gathered {
         self.count
     }
 
-    // Adds a digit behind the others.
+    // Adds a digit after the others.
     #[tactic(auto, using(crate::proofs::GatheredLemmas::more_gathered))]
     pub(crate) fn push(&mut self, digit: u8) -> Result<(), AllocError>
         requires ten { digit < 10 }

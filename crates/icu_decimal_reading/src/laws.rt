@@ -14,7 +14,7 @@ pub fn texts_have_one_decimal()
 {}
 
 /// The function `plain_reading` says what a text is: the decimal that is written so, or that there is none, or that the
-/// symbols are not readable. In English `-1,234.50` is -1234.50, and `98,7654` is none.
+/// symbols are not readable. In English `-1,234.50` is -1234.50, and `98,7654` is not one.
 pub fn plain_reading_is_the_reading()
     ensures { HasOneReading }
 {}

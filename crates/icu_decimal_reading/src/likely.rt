@@ -16,7 +16,7 @@ fn has_affix(text: &str, affix: &str) -> bool {
     !affix.is_empty() && text.as_bytes().starts_with(affix.as_bytes())
 }
 
-// The sign whose prefix stands in front.
+// The sign whose prefix is in front.
 fn likely_sign(symbols: &DecimalSymbols, text: &str) -> Sign {
     if has_affix(text, symbols.minus_sign_prefix()) {
         return Sign::Negative;
@@ -27,7 +27,7 @@ fn likely_sign(symbols: &DecimalSymbols, text: &str) -> Sign {
     Sign::None
 }
 
-// What stands between the affixes of a sign.
+// What is between the affixes of a sign.
 fn between<'t>(symbols: &DecimalSymbols, sign: Sign, text: &'t str) -> Option<&'t [u8]> {
     let (prefix, suffix) = match sign {
         Sign::Negative => (symbols.minus_sign_prefix(), symbols.minus_sign_suffix()),
@@ -90,7 +90,7 @@ fn separators_in(tables: &DecimalTables<'_>) -> Option<Separators> {
 }
 
 // Makes a number the one that a text most likely is, and returns whether there is one. The digits are those of the
-// table, and what begins as the decimal separator is the point; the sign is that whose prefix stands in front.
+// table, and what begins as the decimal separator is the point; the sign is that whose prefix is in front.
 #[tactic(auto, using(crate::proofs::ReadingLemmas::digits_differ))]
 pub(crate) fn assign_likely(
     alloc: Global,

@@ -8,10 +8,10 @@ use std::alloc::{AllocError, Global};
 // How many bytes are gathered at once.
 const BLOCK: usize = 64;
 
-// A text of more than a block is gathered only where more digits stand in the first, for which memory may be allocated.
+// A text of more than a block is gathered only where more digits are in the first, for which memory may be allocated.
 const FEW: usize = 8;
 
-// How many bytes a text has at most: 32,768 digits in groups of three, a point, and as many digits behind it.
+// How many bytes a text has at most: 32,768 digits in groups of three, a point, and as many digits after it.
 const LONGEST: usize = 76459;
 
 // The separators of a text.
@@ -21,14 +21,14 @@ pub(crate) struct Separators {
     pub point: u8,
 }
 
-// Whether the last three bytes stand behind a separator, and something before it.
+// Whether the last three bytes are after a separator, and something before it.
 fn is_grouped(whole: &[u8], group: u8) -> bool
     ensures { IsTrue result → 5 ≤ length whole.now }
 {
     whole.len() > 4 && whole[whole.len() - 4] == group
 }
 
-// How many bytes stand before the point.
+// How many bytes are before the point.
 fn whole_len(text: &[u8], separators: Separators) -> usize
     ensures { result ≤ length text.now }
 {
@@ -76,7 +76,7 @@ fn put_whole(whole: &[u8], group: u8, block: &mut [u8; BLOCK]) -> usize
     put_threes(&whole[first..], first, block)
 }
 
-// Puts a point, and the digits behind it, into a block, from a place on, and returns where they end.
+// Puts a point, and the digits after it, into a block, from a place on, and returns where they end.
 fn put_fraction(behind: &[u8], from: usize, block: &mut [u8; BLOCK]) -> usize
     requires { from + length behind.now ≤ 64 }
     ensures { result ≤ from + length behind.now }
@@ -151,7 +151,7 @@ fn gathered(
     Ok(gathered)
 }
 
-// Makes a number that of a text of more than one block, of which `len` bytes stand before the point. The digits of the
+// Makes a number that of a text of more than one block, of which `len` bytes are before the point. The digits of the
 // first block are counted, so that a text of few digits allocates nothing.
 #[inline(never)]
 fn assign_long(alloc: Global, number: &mut Decimal, text: &[u8], len: usize, group: u8) -> bool
@@ -169,7 +169,7 @@ fn assign_long(alloc: Global, number: &mut Decimal, text: &[u8], len: usize, gro
 }
 
 // Makes a number the one that a text without a sign most likely is, and returns whether there is one. A text that
-// spells its number as it stands is not gathered.
+// spells its number as it is is not gathered.
 #[inline(always)]
 pub(crate) fn assign_bytes(
     alloc: Global,

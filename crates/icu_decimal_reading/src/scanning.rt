@@ -79,7 +79,7 @@ fn gather_whole<'t>(
     Ok(left)
 }
 
-// The number whose digits stand in a text, without a sign.
+// The number whose digits are in a text, without a sign.
 #[tactic(auto, using(crate::proofs::GatheredLemmas::number_within, crate::proofs::GatheredLemmas::number_past, crate::proofs::GatheredLemmas::none_gathered, crate::proofs::GatheredLemmas::many_whole))]
 pub(crate) fn number_in(
     alloc: Global,

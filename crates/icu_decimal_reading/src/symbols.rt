@@ -19,7 +19,7 @@ fn is_same_text(one: &str, other: &str) -> bool
     one == other
 }
 
-// Whether no digit stands in the affixes and in the separators.
+// Whether no digit is in the affixes and in the separators.
 fn are_texts_clear(table: &[char; 10], symbols: &DecimalSymbols) -> bool
     ensures { result ≡ are_clear table.now symbols.now.strings }
 {
@@ -102,7 +102,7 @@ pub fn are_tables(tables: &DecimalTables<'_>)
 
 /// Whether texts can be read back under the symbols of these tables: in English they can.
 ///
-/// They can where the ten digits differ and stand in no affix and no separator, the decimal separator is neither empty
+/// They can where the ten digits differ and are in no affix and no separator, the decimal separator is neither empty
 /// nor the grouping separator, and the affixes of a minus sign, of a plus sign and of no sign differ as pairs. Then no
 /// two decimals have one text. Does not allocate.
 pub fn is_readable(tables: &DecimalTables<'_>) -> bool

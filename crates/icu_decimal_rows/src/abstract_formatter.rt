@@ -12,15 +12,15 @@ use rows::{Stop, put_text, put_written};
 use std::alloc::Global;
 use writeable::TextSink;
 
-// What was written, and a text behind it.
-fn with_behind(alloc: Global, is_written: bool, text: &str, behind: &str) -> Result<String, Stop> {
+// What was written, and a text after it.
+fn with_after(alloc: Global, is_written: bool, text: &str, behind: &str) -> Result<String, Stop> {
     if !is_written {
         return Err(Stop::Memory);
     }
     Ok(format!(in alloc; "{text}{behind}")?)
 }
 
-// The text of a number without its sign, and a text behind it.
+// The text of a number without its sign, and a text after it.
 fn with_unit<F: AbstractFormatter>(
     alloc: Global,
     formatter: &F,
@@ -31,7 +31,7 @@ fn with_unit<F: AbstractFormatter>(
 {
     let mut sink = TextSink::new(alloc);
     let is_written = formatter.write_unsigned(number, &mut sink).is_ok();
-    let text = with_behind(alloc, is_written, sink.text(), unit);
+    let text = with_after(alloc, is_written, sink.text(), unit);
     drop(sink);
     text
 }
@@ -50,7 +50,7 @@ fn put_with_sign<F: AbstractFormatter>(
     if is_written { put } else { Err(Stop::Memory) }
 }
 
-// Writes the number without its sign, a text behind it, and the affixes of the sign round both.
+// Writes the number without its sign, a text after it, and the affixes of the sign around both.
 fn put_whole<F: AbstractFormatter>(
     formatter: &F,
     number: &Decimal,
@@ -112,7 +112,7 @@ fn element<F: AbstractFormatter>(
     put
 }
 
-// Writes the number with a unit round it, between the affixes of its sign.
+// Writes the number with a unit around it, between the affixes of its sign.
 fn put_formatted<F: AbstractFormatter>(
     formatter: &F,
     call: &str,

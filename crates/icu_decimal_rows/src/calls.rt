@@ -58,7 +58,7 @@ fn answer_by(name: &str, passed: &[&str], out: &mut String) -> Result<(), Stop> 
     }
 }
 
-// The answer of a call of a formatter: behind its name stand what the formatter is made of and what the call is passed.
+// The answer of a call of a formatter: after its name are what the formatter is made of and what the call is passed.
 fn answer_by_formatter<'r>(
     name: &'r str,
     fields: &'r [&'r str],
@@ -124,7 +124,7 @@ fn answer_by_signs<'r>(name: &'r str, fields: &'r [&'r str], out: &mut String) -
     formatters::answer(call, out)
 }
 
-// The answer of a call of a formatter with separators, sizes and digits of its row, which stand before its name, and
+// The answer of a call of a formatter with separators, sizes and digits of its row, which are before its name, and
 // with `-` and `+`.
 fn answer_under_marks(fields: &[&str], out: &mut String) -> Result<(), Stop> {
     let [

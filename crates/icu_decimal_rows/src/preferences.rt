@@ -10,13 +10,13 @@ use icu_locale_core::{LanguageIdentifier, Locale};
 use rows::{Stop, put, put_debug, put_text, refused_debug};
 use std::alloc::Global;
 
-// Writes a locale, and the numbering system behind a blank.
+// Writes a locale, and the numbering system after a blank.
 fn put_identifier(out: &mut String, id: DataIdentifier) -> Result<(), Stop> {
     write!(out, "{} {}", id.locale, id.attributes)?;
     Ok(())
 }
 
-// Writes the locale that is preferred, and the numbering system behind a blank, where one is preferred.
+// Writes the locale that is preferred, and the numbering system after a blank, where one is preferred.
 fn put_preferred(out: &mut String, preferences: &DecimalFormatterPreferences) -> Result<(), Stop> {
     let locale = preferences
         .locale_preferences

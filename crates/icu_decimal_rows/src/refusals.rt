@@ -4,7 +4,7 @@ use fixed_decimal::ParseError;
 use icu_decimal::error::DataError;
 use rows::{Stop, refused};
 
-/// The number that was read; a text that is none is not understood.
+/// The number that was read; a text that is not one is not understood.
 pub fn parsed<T>(read: Result<T, ParseError>) -> Result<T, Stop> {
     match read {
         Ok(number) => Ok(number),
@@ -13,7 +13,7 @@ pub fn parsed<T>(read: Result<T, ParseError>) -> Result<T, Stop> {
     }
 }
 
-/// The tag that was read; a text that is none is not understood.
+/// The tag that was read; a text that is not one is not understood.
 pub fn read<T>(tag: Result<T, icu_locale_core::ParseError>) -> Result<T, Stop> {
     match tag {
         Ok(tag) => Ok(tag),

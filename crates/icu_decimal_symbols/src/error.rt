@@ -5,12 +5,12 @@ ghost use Rattle.icu_decimal_symbols.specs.DataErrors.{number_of};
 
 use thiserror::Error;
 
-/// Why a provider gives no table, or why a table is none: `IdentifierNotFound` of `xx` with the sample book.
+/// Why a provider gives no table, or why a table is not one: `IdentifierNotFound` of `xx` with the sample book.
 ///
 /// After ICU4X's `DataError`, whose kinds these are as far as a formatter meets them.
 #[derive(Clone, Copy, Debug, Drop, PartialEq, Eq, Error)]
 pub enum DataError {
-    /// No table stands under the identifier: with the sample book, symbols of `xx`.
+    /// No table is under the identifier: with the sample book, symbols of `xx`.
     #[error("identifier not found")]
     IdentifierNotFound,
     /// No identifier was asked for: the result of `load_with_fallback` for an empty list.

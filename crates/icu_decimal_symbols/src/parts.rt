@@ -6,13 +6,13 @@
 
 use writeable::Part;
 
-/// What stands before or after a number with a plus sign: `+` of `+5`.
+/// What is before or after a number with a plus sign: `+` of `+5`.
 pub const PLUS_SIGN: Part = Part {
     category: "decimal",
     value: "plusSign",
 };
 
-/// What stands before or after a number with a minus sign: `-` of `-5`.
+/// What is before or after a number with a minus sign: `-` of `-5`.
 pub const MINUS_SIGN: Part = Part {
     category: "decimal",
     value: "minusSign",

@@ -16,17 +16,17 @@ use tinystr::TinyAsciiStr;
 /// and the numbering system `latn`. Source: UTS 35, part 3 (numbers), number symbols; the type is ICU4X's.
 #[derive(Debug, Drop)]
 pub struct DecimalSymbolStrsBuilder {
-    /// What stands before a number with a minus sign: `-` in English.
+    /// What is before a number with a minus sign: `-` in English.
     pub minus_sign_prefix: String,
-    /// What stands after a number with a minus sign: nothing in English.
+    /// What is after a number with a minus sign: nothing in English.
     pub minus_sign_suffix: String,
-    /// What stands before a number with a plus sign: `+` in English.
+    /// What is before a number with a plus sign: `+` in English.
     pub plus_sign_prefix: String,
-    /// What stands after a number with a plus sign: nothing in English.
+    /// What is after a number with a plus sign: nothing in English.
     pub plus_sign_suffix: String,
-    /// What stands between the integer digits and the fraction digits: `.` in English.
+    /// What is between the integer digits and the fraction digits: `.` in English.
     pub decimal_separator: String,
-    /// What stands between two groups of integer digits: `,` in English.
+    /// What is between two groups of integer digits: `,` in English.
     pub grouping_separator: String,
     /// The numbering system of the digits, as `latn`.
     pub numsys: TinyAsciiStr<8>,
@@ -164,7 +164,7 @@ impl Model for DecimalSymbolsStrs {
 }
 
 impl DecimalSymbolsStrs {
-    /// What stands before a number with a minus sign: `-`. It does not allocate.
+    /// What is before a number with a minus sign: `-`. It does not allocate.
     pub fn minus_sign_prefix(&self) -> &str
         ensures { result.now ≡ self.now.minus_sign_prefix }
     {
@@ -172,7 +172,7 @@ impl DecimalSymbolsStrs {
         texts.minus_sign_prefix.as_str()
     }
 
-    /// What stands after a number with a minus sign: nothing in English. It does not allocate.
+    /// What is after a number with a minus sign: nothing in English. It does not allocate.
     pub fn minus_sign_suffix(&self) -> &str
         ensures { result.now ≡ self.now.minus_sign_suffix }
     {
@@ -180,7 +180,7 @@ impl DecimalSymbolsStrs {
         texts.minus_sign_suffix.as_str()
     }
 
-    /// What stands before a number with a plus sign: `+`. It does not allocate.
+    /// What is before a number with a plus sign: `+`. It does not allocate.
     pub fn plus_sign_prefix(&self) -> &str
         ensures { result.now ≡ self.now.plus_sign_prefix }
     {
@@ -188,7 +188,7 @@ impl DecimalSymbolsStrs {
         texts.plus_sign_prefix.as_str()
     }
 
-    /// What stands after a number with a plus sign: nothing in English. It does not allocate.
+    /// What is after a number with a plus sign: nothing in English. It does not allocate.
     pub fn plus_sign_suffix(&self) -> &str
         ensures { result.now ≡ self.now.plus_sign_suffix }
     {
@@ -196,7 +196,7 @@ impl DecimalSymbolsStrs {
         texts.plus_sign_suffix.as_str()
     }
 
-    /// What stands between the integer digits and the fraction digits: `.` in English. It does not allocate.
+    /// What is between the integer digits and the fraction digits: `.` in English. It does not allocate.
     pub fn decimal_separator(&self) -> &str
         ensures { result.now ≡ self.now.decimal_separator }
     {
@@ -204,7 +204,7 @@ impl DecimalSymbolsStrs {
         texts.decimal_separator.as_str()
     }
 
-    /// What stands between two groups of integer digits: `,` in English. It does not allocate.
+    /// What is between two groups of integer digits: `,` in English. It does not allocate.
     pub fn grouping_separator(&self) -> &str
         ensures { result.now ≡ self.now.grouping_separator }
     {

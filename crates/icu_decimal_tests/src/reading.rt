@@ -38,7 +38,7 @@ fn digits_of(digits: Digits) -> [char; 10] {
     }
 }
 
-// What stands before and after a number with a minus sign, before and after one with a plus sign, the decimal separator
+// What is before and after a number with a minus sign, before and after one with a plus sign, the decimal separator
 // and the grouping separator, with `|` between.
 const ENGLISH: &str = "-||+||.|,";
 
@@ -263,7 +263,7 @@ const OTHER_TEXTS: [(&str, Digits, GroupingStrategy, &str, &str); 23] = [
     (ENGLISH, Digits::Thai, AUTO, "๑,2๓๔", NOT_SO),
     (ENGLISH, Digits::Latin, AUTO, "1,2๓4", NOT_SO),
     (ENGLISH, Digits::Letters, AUTO, "-b,cde.f", "-1234.5"),
-    // affixes on both sides, behind, and with one beginning
+    // affixes on both sides, after, and with one beginning
     (BRACKETS, Digits::Latin, AUTO, "(5)", "-5"),
     (BRACKETS, Digits::Latin, AUTO, "(5", NOT_SO),
     (BRACKETS, Digits::Latin, AUTO, "5)", NOT_SO),
@@ -343,7 +343,7 @@ fn unreadable_symbols(rt: HostRuntime) -> Result<(), Fail> {
     Ok(())
 }
 
-// A text with `count` ones behind it.
+// A text with `count` ones after it.
 fn with_ones(alloc: Global, front: &str, count: u32) -> Result<String, AllocError> {
     let mut text = String::from_str(alloc, front)?;
     for _ in 0..count {
@@ -352,7 +352,7 @@ fn with_ones(alloc: Global, front: &str, count: u32) -> Result<String, AllocErro
     Ok(text)
 }
 
-// A row: whether a text with this many ones behind it is read, as it stands.
+// A row: whether a text with this many ones after it is read, as it is.
 fn expect_long_read(
     rt: &impl Abort,
     alloc: Global,

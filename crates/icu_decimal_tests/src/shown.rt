@@ -37,7 +37,7 @@ fn digits_of(digits: Digits) -> [char; 10] {
     }
 }
 
-// The text, and behind it the parts as `start-end value`, each behind a blank.
+// The text, and after it the parts as `start-end value`, each after a blank.
 fn listing(alloc: Global, sink: &PartsSink) -> Result<String, Fail> {
     let mut text = String::from_str(alloc, sink.text())?;
     for (start, end, part) in sink.parts() {

@@ -9,7 +9,7 @@ use Rattle.icu_decimal.specs.Identifiers.{Identifier, identifiers_along, of_both
 use Rattle.icu_decimal.specs.declared.error.DataError.{DataError}
 use Rattle.icu_decimal.specs.declared.error.DataError.TheVariants.{IdentifierNotFound, InvalidRequest, Decreasing, TooManyZeros, AboveType, Memory, Custom}
 
--- ---- one answer, and another where nothing stands there
+-- ---- one answer, and another where nothing is there
 
 module _ {T : Type 0} where
   pub kept_found : (answer next : Result T DataError) (table : T) → Ok table ≡ answer → Ok table ≡ or_next answer next
@@ -44,16 +44,16 @@ both_under attributes [] ys = refl
 both_under attributes (x ∷ xs) ys = ap (λ ids. of_both attributes x ∷ ids) (both_under attributes xs ys)
 
 module _ {T : Type 0} (load : Identifier → Result T DataError) where
-  -- in two lists, one behind the other
+  -- in two lists, one after the other
   found_in_two : (xs ys : List Identifier) → found_or load IdentifierNotFound (xs ++ ys) ≡ or_next (found_or load IdentifierNotFound xs) (found_or load IdentifierNotFound ys)
   found_in_two [] ys = refl
   found_in_two (x ∷ xs) ys = ap (or_next (load x)) (found_in_two xs ys) ∙ or_next_assoc (load x) (found_or load IdentifierNotFound xs) (found_or load IdentifierNotFound ys)
 
-  -- other locales behind these
-  pub found_behind : (attributes : Text) (place : DataLocaleMeaning) (places rest : List DataLocaleMeaning)
+  -- other locales after these
+  pub found_after : (attributes : Text) (place : DataLocaleMeaning) (places rest : List DataLocaleMeaning)
       → first_found load (under_each attributes ((place ∷ places) ++ rest))
       ≡ or_next (first_found load (under_each attributes (place ∷ places))) (found_or load IdentifierNotFound (under_each attributes rest))
-  found_behind attributes place places rest =
+  found_after attributes place places rest =
       ap (found_or load IdentifierNotFound) (both_under attributes (place ∷ places) rest)
       ∙ found_in_two (under_each attributes (place ∷ places)) (under_each attributes rest)
 
@@ -66,7 +66,7 @@ module _ {T : Type 0} (load : Identifier → Result T DataError) where
       (sym none) (rw some (found_in_two (under_each system (place ∷ places)) (under_each [] (place ∷ places))))
 
   module _ (attributes : Text) (next : DataLocaleMeaning → Option DataLocaleMeaning) where
-    -- nothing stands at this place: on to the next
+    -- nothing is at this place: on to the next
     pub stepped : (n m : ℕ) (place behind : DataLocaleMeaning) → n ≡ suc m → load (of_both attributes place) ≡ Err IdentifierNotFound → next place ≡ Some behind
         → first_found load (under_each attributes (chain next n place)) ≡ first_found load (under_each attributes (chain next m behind))
     stepped n m place behind is e f = rw (is, e, f) refl

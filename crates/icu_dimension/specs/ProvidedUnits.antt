@@ -1,4 +1,4 @@
--- The tables of units: a percent sign with its pattern, patterns of amounts, symbols of currencies, and what stands in where a
+-- The tables of units: a percent sign with its pattern, patterns of amounts, symbols of currencies, and what takes its place where a
 -- currency has no symbol or no digits.
 -- UTS 35, part 3 (numbers), number patterns, currencies and supplemental currency data; docs/units.md, "Tables".
 -- Cited by the types of `provider`, and by what formatters find.

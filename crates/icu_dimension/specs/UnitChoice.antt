@@ -22,7 +22,7 @@ use Rattle.icu_dimension.specs.declared.options.CurrencyWidth.TheVariants.{Short
 abbrev pub unknown_last : ℕ → List DataLocaleMeaning
 unknown_last limit = cond (limit == 0) [] (unknown_data ∷ [])
 
--- the chain of a locale, and behind it `und`
+-- the chain of a locale, and after it `und`
 abbrev pub unit_chain : (DataLocaleMeaning → Option DataLocaleMeaning) → ℕ → DataLocaleMeaning → List DataLocaleMeaning
 unit_chain next limit locale = chain next limit locale ++ unknown_last limit
 
@@ -43,7 +43,7 @@ abbrev pub amounts_found : CurrencyStyle → (Identifier → Result AmountTexts 
 amounts_found style currencies accounts locales system code =
     or_next (first_found currencies (under_each code locales)) (usual_amounts style currencies accounts locales system)
 
--- what is answered, or this where nothing stands there
+-- what is answered, or this where nothing is there
 abbrev pub or_usual : {T : Type 0} → Result T DataError → T → Result T DataError
 or_usual answer usual = or_next answer (Ok usual)
 

@@ -6,7 +6,7 @@ use Rattle.icu_dimension_affixes.specs.declared.error.UnitPatternError.{UnitPatt
 use Rattle.icu_dimension_affixes.specs.declared.error.UnitPatternError.TheVariants.{Memory, NoPlace, PlaceTwice}
 use Rattle.icu_dimension_affixes.specs.UnitPlaces.{placeholder, places}
 
--- a text round the place has it once more
+-- a text around the place has it once more
 pub places_around : (xs ys : List ℕ) → places (xs ++ (placeholder ++ ys)) ≡ places xs + (1 + places ys)
 places_around [] ys = omega arith
 places_around (x ∷ []) ys = omega arith

@@ -47,7 +47,7 @@ clear_joined digits xs ys utf8 first second =
     ∙ list_all-append (λ c. is_none (digit_of digits c)) (chars xs) (chars ys)
     ∙ and_from (has_no_digit digits xs) (has_no_digit digits ys) first second
 
--- ---- two pairs of affixes as those of a minus and of a plus, behind the decimal separator so that neither is empty
+-- ---- two pairs of affixes as those of a minus and of a plus, after the decimal separator so that neither is empty
 
 abbrev separator_of : Tables → List ℕ
 separator_of t = t.symbols.strings.decimal_separator

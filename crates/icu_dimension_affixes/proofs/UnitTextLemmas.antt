@@ -79,7 +79,7 @@ number_is_shorter n =
     let same : length (text_of (unsigned_events n.number)) ≡ length number = ap length (unsigned_is_text n.number) in
     omega (arith, whole, both, same)
 
--- affixes of the symbols round affixes are affixes
+-- affixes of the symbols around affixes are affixes
 regroup : (prefix before text after suffix : List ℕ) → prefix ++ ((before ++ (text ++ after)) ++ suffix) ≡ (prefix ++ before) ++ (text ++ (after ++ suffix))
 regroup prefix before text after suffix = simp append_assoc
 

@@ -1,4 +1,4 @@
--- The pattern of a unit: texts round the number and the unit, and such texts for the signs, where it has these.
+-- The pattern of a unit: texts around the number and the unit, and such texts for the signs, where it has these.
 -- UTS 35, part 3 (numbers), number patterns: positive and negative subpatterns, prefix and suffix; docs/units.md, "Patterns".
 -- Cited by the calls of `UnitAffixes`, `UnitPattern` and `UnitPatterns`.
 use Rattle.std.specs.Prelude.{ℕ, Bool, cond, List, ◌++◌, Option, None, Some}

@@ -1,6 +1,6 @@
 //! Numbers with a unit as a locale writes them: percents and amounts of money.
 //!
-//! A pattern has the texts round the number and the unit, and may have others for a minus and for a plus: in Swiss
+//! A pattern has the texts around the number and the unit, and may have others for a minus and for a plus: in Swiss
 //! German -5 francs are `CHF-5`. The rules are in docs/units.md.
 //!
 //! ```rust

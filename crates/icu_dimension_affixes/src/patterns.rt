@@ -10,7 +10,7 @@ use std::marker::Model;
 
 /// The pattern of a unit: the affixes of a number without a sign, and those that a minus or a plus sign has of its own.
 ///
-/// Where a sign has none of its own, its symbols come round the ones without a sign: `-€5`. In Swiss German `¤-` and
+/// Where a sign has none of its own, its symbols come around the ones without a sign: `-€5`. In Swiss German `¤-` and
 /// the empty text are a minus sign's own: `CHF-5`.
 #[derive(Debug, Drop)]
 pub struct UnitPattern {

@@ -138,7 +138,7 @@ read_named folded name text =
     (or_else (beside_within folded name Negative (between (minus_pair folded) text))
     (beside_within folded name Positive (between (plus_pair folded) text)))
 
--- the affixes of a sign, else the unit beside the number, else its code, else the affixes of a sign round what is filled
+-- the affixes of a sign, else the unit beside the number, else its code, else the affixes of a sign around what is filled
 abbrev pub read_unit_folded : Symbols → FoldedUnit → List ℕ → PlainReading
 read_unit_folded folded u text =
     or_else (read_own folded u.pairs text)

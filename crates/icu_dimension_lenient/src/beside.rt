@@ -173,7 +173,7 @@ fn read_outside(
     }
 }
 
-// A number with a name beside it, and its sign next to it or round both.
+// A number with a name beside it, and its sign next to it or around both.
 #[tactic(auto, using(icu_decimal_lenient::proofs::LenientStepLemmas::answered_first, icu_decimal_lenient::proofs::LenientStepLemmas::answered_second))]
 pub(crate) fn read_by_name(
     alloc: Global,

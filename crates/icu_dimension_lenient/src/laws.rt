@@ -2,7 +2,7 @@
 
 ghost use Rattle.icu_dimension_lenient.specs.LenientUnitLaws.{ExactUnitIsLenient, HasOneLenientUnitReading, UnitMayBeLeftOff, WrittenUnitReadsLeniently};
 
-/// A law: a text has one lenient reading. In English with `€` that of ` € 5 ` is 5, and that of `€1,23` is none.
+/// A law: a text has one lenient reading. In English with `€` that of ` € 5 ` is 5, and that of `€1,23` is not one.
 pub fn texts_have_one_lenient_reading()
     ensures { HasOneLenientUnitReading }
 {}

@@ -22,7 +22,7 @@ use icu_dimension_affixes::{Unit, UnitPattern, UnitReader, UnitTables};
 use std::alloc::Global;
 use std::marker::Model;
 
-// The affixes of a sign round what is filled.
+// The affixes of a sign around what is filled.
 fn read_filled(
     alloc: Global,
     kept: &LenientTables<'_>,

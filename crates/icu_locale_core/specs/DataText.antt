@@ -1,4 +1,4 @@
--- The text of a data locale, and as it is written: its pieces, and its subdivision behind `u` and `sd`.
+-- The text of a data locale, and as it is written: its pieces, and its subdivision after `u` and `sd`.
 -- UTS 35, section 3.2.1, "Canonical Unicode Locale Identifiers"; docs/tags.md, "Data locales".
 -- Cited by all that writes, compares or measures the text of a data locale.
 use Rattle.std.specs.Prelude.{ℕ, List, [], ◌++◌, ◌+◌, Option, None, Some, flat_map, length, codes, option_to_list}
@@ -14,14 +14,14 @@ data_text d = normal_text (data_meaning d)
 
 -- ---- a part at a time
 
--- a piece behind what comes before it
+-- a piece after what comes before it
 abbrev pub piece_tail : Option Text → Text
 piece_tail piece = flat_map hyphened (option_to_list piece)
 
 abbrev pub keyword_head : Text
 keyword_head = codes "-u-sd-"
 
--- the subdivision behind what comes before it
+-- the subdivision after what comes before it
 abbrev pub subdivision_tail : Option Subdivision → Text
 subdivision_tail None = []
 subdivision_tail (Some s) = keyword_head ++ subdivision_text s

@@ -1,4 +1,4 @@
-//! The extensions of a tag: behind the language part, each a singleton and its pieces.
+//! The extensions of a tag: after the language part, each a singleton and its pieces.
 //!
 //! `en-a-foo-t-de-u-nu-thai-x-bar` has the extensions `a`, `t` and `u`, and the private subtag `bar`. [`Extensions`]
 //! has those of a locale, and [`ExtensionType`] names one of them.
@@ -21,7 +21,7 @@ pub mod transform {
     pub use icu_locale_core_subtags::transform::Key;
 }
 
-/// The private subtags, those behind `x`, as in `x-foo-1`.
+/// The private subtags, those after `x`, as in `x-foo-1`.
 pub mod private {
     pub use icu_locale_core_subtag_lists::Private;
     pub use icu_locale_core_subtags::private::Subtag;

@@ -67,7 +67,7 @@ fn are_data_extensions(extensions: &Extensions, subdivision: Option<SubdivisionI
         && extensions.other.is_empty()
 }
 
-// The data locale that the tag is, or why it is none.
+// The data locale that the tag is, or why it is not one.
 fn data_locale_of(locale: &Locale) -> Result<DataLocale, ParseError>
     ensures is { IfOk result (λ _. IsDataTag locale.now) }
     ensures value { IfOk result (λ d. language_priority (locale_preferences_of locale.now) ≡ d) }

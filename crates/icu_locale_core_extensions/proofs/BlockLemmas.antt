@@ -19,7 +19,7 @@ use Rattle.icu_locale_core_extensions.specs.ExtensionsValue.{is_empty_unicode, i
 
 -- ---- any extension
 
--- its pieces, where there are some behind the singleton
+-- its pieces, where there are some after the singleton
 pub shown : (s : Text) (ps : List Text) (v : Part) → has_none ps ≡ false → own_pieces s ps v ≡ s ∷ ps
 shown s [] v some = cc
 shown s (p ∷ ps) v some = append-nil (s ∷ p ∷ ps)

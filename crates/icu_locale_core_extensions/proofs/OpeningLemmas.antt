@@ -1,4 +1,4 @@
--- What is read behind a singleton is what the whole text is read as.
+-- What is read after a singleton is what the whole text is read as.
 use Rattle.std.proofs.Common.{◌≡◌, List, ◌∷◌, sym, ◌∙◌, subst, inl, inr}
 use Rattle.icu_locale_core_grammar.specs.Subtags.{Text, spells}
 use Rattle.icu_locale_core_grammar.specs.PartReaders.{IsExtension, ReadsOther}
@@ -20,8 +20,8 @@ module _ {M : Type 0} (singleton : Text) (Means : List Text → M → Type 0) wh
   pub opened : (ps : List Text) (m : M) → Reads ps m → (body : List Text) × Opens singleton ps body
   opened ps m r = (r.body, record { first = r.singleton; parts = sym r.parts; is = r.is; filled = r.filled })
 
-  pub meant_behind : (ps body : List Text) (m : M) → Opens singleton ps body → Reads ps m → Means body m
-  meant_behind ps body m o r = subst (λ l. Means l m) (same_tail _ _ _ _ (r.parts ∙ o.parts)) r.meant
+  pub meant_after : (ps body : List Text) (m : M) → Opens singleton ps body → Reads ps m → Means body m
+  meant_after ps body m o r = subst (λ l. Means l m) (same_tail _ _ _ _ (r.parts ∙ o.parts)) r.meant
 
 -- ---- extensions that have no rule of their own
 

@@ -20,7 +20,7 @@ use Rattle.icu_locale_core_extensions.specs.ExtensionsText.{extensions_pieces}
 use Rattle.icu_locale_core_extensions.specs.ExtensionsValue.{ExtensionsValue}
 use Rattle.icu_locale_core_extensions.proofs.BlockLemmas.{nothing_placed, private_block}
 
--- ---- pieces behind pieces
+-- ---- pieces after pieces
 
 placed_joined : (b : Bool) (ps qs : List Text) → placed b (ps ++ qs) ≡ placed b ps ++ placed (b && has_none ps) qs
 placed_joined true [] qs = refl

@@ -29,19 +29,19 @@ body_keeps (InUnicode s) = keeps_last s
 body_keeps (InTransform s) = keeps_last s
 body_keeps (InOther own) = true
 
--- the pieces behind a singleton, read as a head and entries from a head that is not begun
+-- the pieces after a singleton, read as a head and entries from a head that is not begun
 abbrev pub headed_may_grow : {H : Type 0} → (H → Text → Option H) → (H → Text → Bool) → (Text → Bool) → Bool → H → List Text → Bool
 headed_may_grow step grows is_key needs begun ps = language.grows_along (headed_after step ends_anywhere is_key needs) (grows_at grows is_key) keeps_last (Some (InHead begun)) ps
 
--- the pieces behind `u`
+-- the pieces after `u`
 abbrev pub unicode_may_grow : List Text → Bool
 unicode_may_grow ps = language.grows_along unicode_after unicode_grows_at keeps_last (Some (InHead [])) ps
 
--- the pieces behind `t`
+-- the pieces after `t`
 abbrev pub transform_may_grow : List Text → Bool
 transform_may_grow ps = language.grows_along transform_after transform_grows_at keeps_last (Some (InHead None)) ps
 
--- the first piece is the singleton, and reading those behind it may allocate
-abbrev pub grows_behind : (Text → Bool) → (List Text → Bool) → List Text → Bool
-grows_behind opens may_grow [] = false
-grows_behind opens may_grow (p ∷ ps) = opens p && may_grow ps
+-- the first piece is the singleton, and reading those after it may allocate
+abbrev pub grows_after : (Text → Bool) → (List Text → Bool) → List Text → Bool
+grows_after opens may_grow [] = false
+grows_after opens may_grow (p ∷ ps) = opens p && may_grow ps

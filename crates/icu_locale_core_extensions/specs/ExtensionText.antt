@@ -11,11 +11,11 @@ use Rattle.icu_locale_core_grammar.specs.Pieces.{hyphened, joined_text}
 use Rattle.icu_locale_core_grammar.specs.TagStages.{has_none}
 use Rattle.icu_locale_core_extensions.specs.ExtensionsValue.{ExtensionsValue}
 
--- the pieces of an extension, with its singleton; none where the singleton has none behind it
+-- the pieces of an extension, with its singleton; none where the singleton has none after it
 abbrev pub own_pieces : Text → List Text → Part → List Text
 own_pieces s ps v = block_pieces (one_block s ps v)
 
--- only a singleton and the pieces behind it
+-- only a singleton and the pieces after it
 abbrev pub block_text : Text → List Text → Part → Text
 block_text s ps v = joined_text (own_pieces s ps v)
 
@@ -29,12 +29,12 @@ transform_alone t = joined_text (block_pieces (transform_block t))
 abbrev pub other_alone : Entry → Text
 other_alone o = joined_text (block_pieces (other_block o))
 
--- these pieces, where they begin the text, or else each behind a hyphen
+-- these pieces, where they begin the text, or else each after a hyphen
 abbrev pub placed : Bool → List Text → Text
 placed true ps = joined_text ps
 placed false ps = flat_map hyphened ps
 
--- all pieces behind the language part, in the order of a tag
+-- all pieces after the language part, in the order of a tag
 abbrev pub extension_pieces : ExtensionMeanings → List Text → List Text
 extension_pieces e own = block_pieces (blocks_of e) ++ private_pieces own
 

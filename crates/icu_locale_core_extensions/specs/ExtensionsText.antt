@@ -1,4 +1,4 @@
--- The text of extensions by themselves: what a tag has of them behind its language part, without the hyphen before it.
+-- The text of extensions by themselves: what a tag has of them after its language part, without the hyphen before it.
 -- UTS 35, section 3.2.1, "Canonical Unicode Locale Identifiers"; docs/tags.md, "Normal text".
 -- Cited by all that writes or measures the text of extensions.
 use Rattle.std.specs.Prelude.{List}

@@ -1,4 +1,4 @@
--- A text read as a singleton and the pieces behind it, which are taken one step after another, to an end.
+-- A text read as a singleton and the pieces after it, which are taken one step after another, to an end.
 -- Defined in docs/tags.md, "Stages" and "Parts read alone".
 -- Cited by the reader of a head and entries, for `u` and for `t`.
 use Rattle.std.specs.Prelude.{◌≡◌, Bool, List, Option, Some}

@@ -1,4 +1,4 @@
-//! Printing one extension: its singleton, and the pieces behind it.
+//! Printing one extension: its singleton, and the pieces after it.
 
 ghost use Rattle.std.specs.Prelude.{◌≡◌, ◌++◌, ◌<◌, ◌^◌, ◌&&◌, false, [], ◌∷◌, is_err, length, flat_map, IfOk, OnOk, OnErr, Some};
 ghost use Rattle.writeable.specs.AnnotatedText.{bytes, text_of};
@@ -10,7 +10,7 @@ ghost use Rattle.icu_locale_core_extensions.specs.ExtensionText.{block_text, own
 
 use writeable::{CountSink, Error, LengthHint, Sink};
 
-// An extension that prints its singleton and the pieces behind it, and nothing where there is no piece.
+// An extension that prints its singleton and the pieces after it, and nothing where there is no piece.
 pub(crate) trait Block {
     ghost use Rattle.std.specs.Prelude.{◌≡◌, false, List, is_err, flat_map, OnOk, OnErr};
     ghost use Rattle.writeable.specs.AnnotatedText.{bytes};
@@ -23,7 +23,7 @@ pub(crate) trait Block {
     // the singleton
     ghost first: { Self → Text };
 
-    // the pieces behind it
+    // the pieces after it
     ghost behind: { Self → List Text };
 
     // what they mean
@@ -61,7 +61,7 @@ fn write_filled<B: Block, S: Sink>(block: &B, sink: &mut S) -> Result<(), Error>
 }
 
 // Writes a hyphen, the singleton and the pieces.
-fn write_behind<B: Block, S: Sink>(block: &B, sink: &mut S) -> Result<(), Error>
+fn write_after<B: Block, S: Sink>(block: &B, sink: &mut S) -> Result<(), Error>
     requires { S.refused sink.old ≡ false }
     ensures ok { OnOk result
         (S.takes sink.old
@@ -91,7 +91,7 @@ fn write_shown<B: Block, S: Sink>(block: &B, begins: bool, sink: &mut S) -> Resu
     if begins {
         write_filled(block, sink)
     } else {
-        write_behind(block, sink)
+        write_after(block, sink)
     }
 }
 

@@ -1,4 +1,4 @@
-//! The pieces behind a singleton, read one at a time.
+//! The pieces after a singleton, read one at a time.
 
 ghost use Rattle.std.specs.Prelude.{◌≡◌, false, option_map, IfOk, IfSome, IsOk};
 ghost use Rattle.icu_locale_core_grammar.specs.Subtags.{lower};
@@ -18,14 +18,14 @@ use icu_locale_core_subtag_lists::GrowingSet;
 use icu_locale_core_subtags::{Step, is_letter, transform, unicode};
 use std::alloc::{AllocError, Global};
 
-/// How far the pieces behind a singleton are read.
+/// How far the pieces after a singleton are read.
 #[derive(Drop)]
 pub enum BodyStage {
-    /// Behind `u`.
+    /// After `u`.
     InUnicode(HeadedStage<GrowingSet<unicode::AttributeRule>, unicode::KeyRule>),
-    /// Behind `t`.
+    /// After `t`.
     InTransform(HeadedStage<Option<LanguageStage>, transform::KeyRule>),
-    /// Behind any other singleton but `x`.
+    /// After any other singleton but `x`.
     InOther(Other),
 }
 
@@ -40,7 +40,7 @@ pub enum Part {
     Other(Other),
 }
 
-/// The stage behind a singleton, before the first piece; `None` where the piece is no singleton, or is `x`. It does not
+/// The stage after a singleton, before the first piece; `None` where the piece is no singleton, or is `x`. It does not
 /// allocate.
 pub fn opened_body(alloc: Global, singleton: &[u8]) -> Option<BodyStage>
     ensures stage { option_map body_view result ≡ opens singleton.now }

@@ -6,7 +6,7 @@ ghost use Rattle.icu_locale_core_grammar.specs.declared.error.ParseError.{ParseE
 ghost use Rattle.icu_locale_core_grammar.specs.Subtags.{spells};
 ghost use Rattle.icu_locale_core_grammar.specs.Pieces.{pieces};
 ghost use Rattle.icu_locale_core_subtag_lists.specs.Reading.{IsRefused};
-ghost use Rattle.icu_locale_core_extensions.specs.Allocation.{headed_may_grow, grows_behind};
+ghost use Rattle.icu_locale_core_extensions.specs.Allocation.{headed_may_grow, grows_after};
 ghost use Rattle.icu_locale_core_extensions.specs.HeadedReading.{ReadsHeaded};
 
 use crate::opening::body_behind;
@@ -17,7 +17,7 @@ use icu_locale_core_keywords_fields::{
 use icu_locale_core_subtags::Step;
 use std::alloc::Global;
 
-// The head and the entries behind this singleton in lower case, where the text is an extension of them; `begun` is the
+// The head and the entries after this singleton in lower case, where the text is an extension of them; `begun` is the
 // head before its first piece. The errors are those of `Unicode::try_from_str`.
 pub(crate) fn read_headed<R: HeadReader, K: EntryKind>(
     alloc: Global,
@@ -32,7 +32,7 @@ where
         (record { head = read.0; entries = read.1 })) }
     ensures fault { IfErr result
         (IsRefused (ReadsHeaded (letter ∷ []) R.step K.accepts K.needs begun (pieces code_units.now))) }
-    ensures room { grows_behind (spells (letter ∷ [])) (headed_may_grow R.step R.grows K.accepts K.needs begun)
+    ensures room { grows_after (spells (letter ∷ [])) (headed_may_grow R.step R.grows K.accepts K.needs begun)
         (pieces code_units.now) ≡ false → ¬ (IsErrOf result ParseError.Memory) }
 {
     let Some(body) = body_behind(code_units, letter) else {

@@ -1,4 +1,4 @@
-//! The singleton of an extension, and the pieces behind it.
+//! The singleton of an extension, and the pieces after it.
 
 ghost use Rattle.std.specs.Prelude.{◌≡◌, ◌∷◌, [], ℕ, List, MatchOption};
 ghost use Rattle.icu_locale_core_grammar.specs.Pieces.{pieces};
@@ -7,7 +7,7 @@ ghost use Rattle.icu_locale_core_extensions.specs.Opening.{Opens, OpensOther};
 use crate::singleton::OtherSingleton;
 use icu_locale_core_subtags::{SubtagIterator, is_letter};
 
-// The pieces behind the singleton, where the text begins with it and has any.
+// The pieces after the singleton, where the text begins with it and has any.
 pub(crate) fn body_behind<'a>(code_units: &'a [u8], letter: u8) -> Option<SubtagIterator<'a>>
     ensures { MatchOption result ((body : List (List ℕ)) → Opens (letter ∷ []) (pieces code_units.now) body → ⊥)
         (λ body. Opens (letter ∷ []) (pieces code_units.now) body) }
@@ -21,7 +21,7 @@ pub(crate) fn body_behind<'a>(code_units: &'a [u8], letter: u8) -> Option<Subtag
     Some(body)
 }
 
-// The singleton that has no rule of its own and the pieces behind it, where the text begins with one and has any.
+// The singleton that has no rule of its own and the pieces after it, where the text begins with one and has any.
 pub(crate) fn other_behind<'a>(code_units: &'a [u8]) -> Option<(OtherSingleton, SubtagIterator<'a>)>
     ensures { MatchOption result
         ((singleton : List ℕ) (body : List (List ℕ)) → OpensOther (pieces code_units.now) singleton body → ⊥)

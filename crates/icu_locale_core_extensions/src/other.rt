@@ -12,7 +12,7 @@ ghost use Rattle.icu_locale_core_grammar.specs.PartReaders.{ReadsOther};
 ghost use Rattle.icu_locale_core_grammar.specs.TagStages.{other_after as pieces_after};
 ghost use Rattle.icu_locale_core_grammar.specs.Meaning.{MeansOther};
 ghost use Rattle.icu_locale_core_keywords_fields.specs.Steps.{IsStep};
-ghost use Rattle.icu_locale_core_subtag_lists.specs.Reading.{IsRefused, begins, begins_behind};
+ghost use Rattle.icu_locale_core_subtag_lists.specs.Reading.{IsRefused, begins, begins_after};
 ghost use Rattle.icu_locale_core_extensions.specs.Others.{IsPlaceOf, IsThere, KeepsSingleton};
 ghost use Rattle.icu_locale_core_extensions.specs.RetainedByType.{other_type};
 
@@ -154,11 +154,11 @@ impl Other {
     ///
     /// `InvalidExtension`: the text is no such extension, as `a`, `a-b`, and one of `u`, `t` or `x`. `Memory`: out of
     /// memory. It does not allocate where the first piece is no such singleton, or no subtag of an extension is right
-    /// behind it. Source: RFC 5646 (BCP 47), section 2.2.6.
+    /// after it. Source: RFC 5646 (BCP 47), section 2.2.6.
     pub fn try_from_str(alloc: Global, s: &str) -> Result<Self, ParseError>
         ensures value { IfOk result (ReadsOther s.now) }
         ensures fault { IfErr result (IsRefused (ReadsOther s.now)) }
-        ensures room { begins_behind is_other is_other_piece (pieces s.now) ≡ false
+        ensures room { begins_after is_other is_other_piece (pieces s.now) ≡ false
             → ¬ (IsErrOf result ParseError.Memory) }
     {
         Self::try_from_utf8(alloc, s.as_bytes())
@@ -169,7 +169,7 @@ impl Other {
     pub fn try_from_utf8(alloc: Global, code_units: &[u8]) -> Result<Self, ParseError>
         ensures value { IfOk result (ReadsOther code_units.now) }
         ensures fault { IfErr result (IsRefused (ReadsOther code_units.now)) }
-        ensures room { begins_behind is_other is_other_piece (pieces code_units.now) ≡ false
+        ensures room { begins_after is_other is_other_piece (pieces code_units.now) ≡ false
             → ¬ (IsErrOf result ParseError.Memory) }
     {
         match other_behind(code_units) {

@@ -9,7 +9,7 @@ ghost use Rattle.icu_locale_core_grammar.specs.Meaning.{no_transform};
 ghost use Rattle.icu_locale_core_grammar.specs.PartReaders.{ReadsTransform};
 ghost use Rattle.icu_locale_core_subtag_lists.specs.Reading.{IsRefused};
 ghost use Rattle.icu_locale_core_extensions.specs.ExtensionsValue.{is_empty_transform};
-ghost use Rattle.icu_locale_core_extensions.specs.Allocation.{transform_may_grow, grows_behind};
+ghost use Rattle.icu_locale_core_extensions.specs.Allocation.{transform_may_grow, grows_after};
 
 use crate::head::{LanguageHead, settled_language};
 use crate::headed_reading::read_headed;
@@ -96,7 +96,7 @@ impl Transform {
     pub fn try_from_str(alloc: Global, s: &str) -> Result<Self, ParseError>
         ensures value { IfOk result (ReadsTransform s.now) }
         ensures fault { IfErr result (IsRefused (ReadsTransform s.now)) }
-        ensures room { grows_behind is_transform transform_may_grow (pieces s.now) ≡ false
+        ensures room { grows_after is_transform transform_may_grow (pieces s.now) ≡ false
             → ¬ (IsErrOf result ParseError.Memory) }
     {
         Self::try_from_utf8(alloc, s.as_bytes())
@@ -107,7 +107,7 @@ impl Transform {
     pub fn try_from_utf8(alloc: Global, code_units: &[u8]) -> Result<Self, ParseError>
         ensures value { IfOk result (ReadsTransform code_units.now) }
         ensures fault { IfErr result (IsRefused (ReadsTransform code_units.now)) }
-        ensures room { grows_behind is_transform transform_may_grow (pieces code_units.now) ≡ false
+        ensures room { grows_after is_transform transform_may_grow (pieces code_units.now) ≡ false
             → ¬ (IsErrOf result ParseError.Memory) }
     {
         match read_headed::<LanguageHead, KeyRule>(alloc, code_units, b't', None) {

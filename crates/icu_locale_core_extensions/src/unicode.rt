@@ -12,7 +12,7 @@ ghost use Rattle.icu_locale_core_grammar.specs.PartReaders.{ReadsUnicode};
 ghost use Rattle.icu_locale_core_subtag_lists.specs.Reading.{IsRefused};
 ghost use Rattle.icu_locale_core_subtag_lists.specs.SubtagSets.{has_all_of};
 ghost use Rattle.icu_locale_core_extensions.specs.ExtensionsValue.{is_empty_unicode};
-ghost use Rattle.icu_locale_core_extensions.specs.Allocation.{unicode_may_grow, grows_behind};
+ghost use Rattle.icu_locale_core_extensions.specs.Allocation.{unicode_may_grow, grows_after};
 
 use crate::head::AttributesHead;
 use crate::headed_reading::read_headed;
@@ -114,7 +114,7 @@ impl Unicode {
     pub fn try_from_str(alloc: Global, s: &str) -> Result<Self, ParseError>
         ensures value { IfOk result (ReadsUnicode s.now) }
         ensures fault { IfErr result (IsRefused (ReadsUnicode s.now)) }
-        ensures room { grows_behind is_unicode unicode_may_grow (pieces s.now) ≡ false
+        ensures room { grows_after is_unicode unicode_may_grow (pieces s.now) ≡ false
             → ¬ (IsErrOf result ParseError.Memory) }
     {
         Self::try_from_utf8(alloc, s.as_bytes())
@@ -125,7 +125,7 @@ impl Unicode {
     pub fn try_from_utf8(alloc: Global, code_units: &[u8]) -> Result<Self, ParseError>
         ensures value { IfOk result (ReadsUnicode code_units.now) }
         ensures fault { IfErr result (IsRefused (ReadsUnicode code_units.now)) }
-        ensures room { grows_behind is_unicode unicode_may_grow (pieces code_units.now) ≡ false
+        ensures room { grows_after is_unicode unicode_may_grow (pieces code_units.now) ≡ false
             → ¬ (IsErrOf result ParseError.Memory) }
     {
         let attributes = GrowingSet::new(alloc);

@@ -114,7 +114,7 @@ other_back s e ps (unicode u) a = absurd (unicode_no_other s a.0 e)
 other_back s e ps (transform t) a = absurd (transform_no_other s a.0 e)
 other_back s e ps (other own) a = (own, a.1, refl)
 
--- behind a singleton the pieces of its extension are read right
+-- after a singleton the pieces of its extension are read right
 pub body_reader : (s : Text) (b : BodyStage) → opens s ≡ Some b → IsReader body_after b body_ends (MeansPart s)
 body_reader s b e = by_opening (opening s b e)
   where

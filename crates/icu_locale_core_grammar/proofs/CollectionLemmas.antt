@@ -29,7 +29,7 @@ pub none_same : (t : Text) (us : List Text) → AllByRecursion (λ u. same_text 
 none_same t [] each = refl
 none_same t (u ∷ us) each = or_from (same_text t u) (contains_text t us) each.0 (none_same t us each.1)
 
--- a text with others behind it is none of those before it
+-- a text with others after it is none of those before it
 pub apart_new : (before : List Text) (t : Text) (behind : List Text) → AreApart (before ++ t ∷ behind) → contains_text t before ≡ false
 unfolding IsDistinct
 apart_new [] t behind apart = refl

@@ -46,7 +46,7 @@ module _ {S H : Type 0} (step : S → Text → Option S) (start : S) (ends : S �
 
   -- ---- what is found is meant
 
-  -- a head, entries, and a key with the pieces behind it
+  -- a head, entries, and a key with the pieces after it
   record InEntries (taken : List Text) (h : H) (es : List Entry) (e : Entry) (full : Bool) : Type 0 where
     head : List Text
     entries : List Entry

@@ -11,7 +11,7 @@ use Rattle.icu_locale_core_grammar.proofs.Runs.{run_joined, run_begun, first_ste
 use Rattle.icu_locale_core_grammar.proofs.SubtagLemmas.{single_no_value}
 use Rattle.icu_locale_core_grammar.proofs.HeadedFound.{with_value_meant, headed_found}
 
--- whether an entry may end behind these pieces
+-- whether an entry may end after these pieces
 abbrev full_after : Bool → List Text → Bool
 full_after full [] = full
 full_after full (v ∷ vs) = true
@@ -81,7 +81,7 @@ module _ {S H : Type 0} (step : S → Text → Option S) (start : S) (ends : S �
   entry_runs h es e sound =
       values_run h es e.0 [] e.1 (not needs) sound.values ∙ ap (λ b. Some (InEntry h es (entry_meaning e) b)) (full_enough needs e.1 ∙ sound.enough)
 
-  -- behind an entry that may end, more entries, and what they leave
+  -- after an entry that may end, more entries, and what they leave
   record LeftBy (h : H) (first : List Entry) (ps : List Text) (es : List Entry) (e : Entry) : Type 0 where
     before : List Entry
     last : Entry

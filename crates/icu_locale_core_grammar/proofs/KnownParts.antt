@@ -181,12 +181,12 @@ pub digits_in_front_by_region : region_first_answer (codes "es-u-rg-419abc") ≡
 unfolding whole_after headed_after body_after with_piece
 digits_in_front_by_region = refl
 
--- the first of equal keys stands even where it does not read, language first
+-- the first of equal keys counts even where it does not read, language first
 pub first_key_does_not_read_by_language : language_first_answer (codes "en-u-rg-rg-gbeng") ≡ Ok (codes "en")
 unfolding whole_after headed_after body_after with_piece
 first_key_does_not_read_by_language = refl
 
--- the first of equal keys stands even where it does not read, region first
+-- the first of equal keys counts even where it does not read, region first
 pub first_key_does_not_read_by_region : region_first_answer (codes "en-u-rg-rg-gbeng") ≡ Ok (codes "en")
 unfolding whole_after headed_after body_after with_piece
 first_key_does_not_read_by_region = refl
@@ -211,12 +211,12 @@ pub digits_and_letters_do_not_read_by_region : region_first_answer (codes "en-u-
 unfolding whole_after headed_after body_after with_piece
 digits_and_letters_do_not_read_by_region = refl
 
--- of two subdivisions the first stands, language first
+-- of two subdivisions the first counts, language first
 pub first_subdivision_by_language : language_first_answer (codes "en-u-sd-ustx-sd-gbeng") ≡ Ok (codes "en-u-sd-ustx")
 unfolding whole_after headed_after body_after with_piece
 first_subdivision_by_language = refl
 
--- of two subdivisions the first stands, region first
+-- of two subdivisions the first counts, region first
 pub first_subdivision_by_region : region_first_answer (codes "en-u-sd-ustx-sd-gbeng") ≡ Ok (codes "en-u-sd-ustx")
 unfolding whole_after headed_after body_after with_piece
 first_subdivision_by_region = refl

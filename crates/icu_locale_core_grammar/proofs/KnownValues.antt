@@ -17,7 +17,7 @@ pub blocks_in_order : answer_to (codes "en-b-foo-a-bar-x-B-a") ≡ Ok (codes "en
 unfolding whole_after headed_after body_after with_piece
 blocks_in_order = refl
 
--- of two equal keys the first stands
+-- of two equal keys the first counts
 pub first_of_equal_keys : answer_to (codes "en-u-ca-buddhist-ca-coptic") ≡ Ok (codes "en-u-ca-buddhist")
 unfolding whole_after headed_after body_after with_piece
 first_of_equal_keys = refl
@@ -32,17 +32,17 @@ pub inner_lower : answer_to (codes "en-t-DE-Latn-m0-true") ≡ Ok (codes "en-t-d
 unfolding whole_after headed_after body_after with_piece
 inner_lower = refl
 
--- a digit is a singleton too, and stands before the letters
+-- a digit is a singleton too, and is before the letters
 pub digit_singletons : answer_to (codes "und-a-foo-1-bar") ≡ Ok (codes "und-1-bar-a-foo")
 unfolding whole_after headed_after body_after with_piece
 digit_singletons = refl
 
--- `t` and `u` stand before the first other singleton above `t`
+-- `t` and `u` are before the first other singleton above `t`
 pub extensions_around_transform : answer_to (codes "en-z-foo-u-nu-t-it-s-bar") ≡ Ok (codes "en-s-bar-t-it-u-nu-z-foo")
 unfolding whole_after headed_after body_after with_piece
 extensions_around_transform = refl
 
--- the first of equal keys stands even where its value is empty
+-- the first of equal keys counts even where its value is empty
 pub key_stands_where_empty : answer_to (codes "en-u-nu-nu-thai") ≡ Ok (codes "en-u-nu")
 unfolding whole_after headed_after body_after with_piece
 key_stands_where_empty = refl
@@ -57,7 +57,7 @@ pub true_is_an_attribute : answer_to (codes "en-u-true-foo-TRUE") ≡ Ok (codes 
 unfolding whole_after headed_after body_after with_piece
 true_is_an_attribute = refl
 
--- attributes stand in order, before keywords by key
+-- attributes are in order, before keywords by key
 pub attributes_before_keys : answer_to (codes "en-u-foo-bar-nu-latn-ca-hebrew") ≡ Ok (codes "en-u-bar-foo-ca-hebrew-nu-latn")
 unfolding whole_after headed_after body_after with_piece
 attributes_before_keys = refl
@@ -67,7 +67,7 @@ pub key_with_digit : answer_to (codes "en-u-1a-foo") ≡ Ok (codes "en-u-1a-foo"
 unfolding whole_after headed_after body_after with_piece
 key_with_digit = refl
 
--- fields stand by key, and the first of equal keys stands
+-- fields stand by key, and the first of equal keys counts
 pub fields_in_order : answer_to (codes "en-t-m0-foo-k0-bar-M0-other") ≡ Ok (codes "en-t-k0-bar-m0-foo")
 unfolding whole_after headed_after body_after with_piece
 fields_in_order = refl
@@ -82,7 +82,7 @@ pub inner_without_field : answer_to (codes "und-t-de-1996-1994") ≡ Ok (codes "
 unfolding whole_after headed_after body_after with_piece
 inner_without_field = refl
 
--- a private part may stand right behind the language
+-- a private part may be right after the language
 pub private_alone : answer_to (codes "en-X-A-12345678") ≡ Ok (codes "en-x-a-12345678")
 unfolding whole_after headed_after body_after with_piece
 private_alone = refl
@@ -92,10 +92,10 @@ pub region_of_digits : answer_to (codes "es-419-1ABC") ≡ Ok (codes "es-419-1ab
 unfolding whole_after headed_after body_after with_piece
 region_of_digits = refl
 
--- a piece of two letters behind a singleton is no region
-pub no_region_behind_it : answer_to (codes "en-a-us") ≡ Ok (codes "en-a-us")
+-- a piece of two letters after a singleton is no region
+pub no_region_after_it : answer_to (codes "en-a-us") ≡ Ok (codes "en-a-us")
 unfolding whole_after headed_after body_after with_piece
-no_region_behind_it = refl
+no_region_after_it = refl
 
 -- a language may have three letters
 pub three_letters : answer_to (codes "UND") ≡ Ok (codes "und")
@@ -107,7 +107,7 @@ pub whole_tag : answer_to (codes "en-Latn-US-u-nu-thai") ≡ Ok (codes "en-Latn-
 unfolding whole_after headed_after body_after with_piece
 whole_tag = refl
 
--- within `x` a letter may stand twice
+-- within `x` a letter may be twice
 pub private_twice : answer_to (codes "en-x-a-a") ≡ Ok (codes "en-x-a-a")
 unfolding whole_after headed_after body_after with_piece
 private_twice = refl
@@ -144,12 +144,12 @@ pub empty_piece : answer_to (codes "en-") ≡ Err InvalidSubtag
 unfolding whole_after headed_after body_after with_piece
 empty_piece = refl
 
--- a variant stands twice
+-- a variant is twice
 pub repeated_variant : answer_to (codes "de-1996-1996") ≡ Err InvalidSubtag
 unfolding whole_after headed_after body_after with_piece
 repeated_variant = refl
 
--- a variant stands twice, but for its case
+-- a variant is twice, but for its case
 pub repeated_variant_case : answer_to (codes "de-fonipa-FONIPA") ≡ Err InvalidSubtag
 unfolding whole_after headed_after body_after with_piece
 repeated_variant_case = refl
@@ -159,20 +159,20 @@ pub too_long : answer_to (codes "en-toolongpiece") ≡ Err InvalidSubtag
 unfolding whole_after headed_after body_after with_piece
 too_long = refl
 
--- a script behind a region
-pub script_behind_region : answer_to (codes "en-us-latn") ≡ Err InvalidSubtag
+-- a script after a region
+pub script_after_region : answer_to (codes "en-us-latn") ≡ Err InvalidSubtag
 unfolding whole_after headed_after body_after with_piece
-script_behind_region = refl
+script_after_region = refl
 
 -- a second region
 pub second_region : answer_to (codes "en-us-gb") ≡ Err InvalidSubtag
 unfolding whole_after headed_after body_after with_piece
 second_region = refl
 
--- a region behind a variant
-pub region_behind_variant : answer_to (codes "en-1996-us") ≡ Err InvalidSubtag
+-- a region after a variant
+pub region_after_variant : answer_to (codes "en-1996-us") ≡ Err InvalidSubtag
 unfolding whole_after headed_after body_after with_piece
-region_behind_variant = refl
+region_after_variant = refl
 
 -- a character that is no letter and no digit
 pub underscore : answer_to (codes "en_us") ≡ Err InvalidLanguage
@@ -180,9 +180,9 @@ unfolding whole_after headed_after body_after with_piece
 underscore = refl
 
 -- an extension is empty at the end
-pub ends_behind_u : answer_to (codes "en-u") ≡ Err InvalidExtension
+pub ends_after_u : answer_to (codes "en-u") ≡ Err InvalidExtension
 unfolding whole_after headed_after body_after with_piece
-ends_behind_u = refl
+ends_after_u = refl
 
 -- an empty extension, though the piece repeats its singleton
 pub empty_then_repeated : answer_to (codes "en-u-u") ≡ Err InvalidExtension
@@ -205,9 +205,9 @@ unfolding whole_after headed_after body_after with_piece
 empty_piece_within = refl
 
 -- a field without a value at the end
-pub ends_behind_field : answer_to (codes "und-t-h0") ≡ Err InvalidExtension
+pub ends_after_field : answer_to (codes "und-t-h0") ≡ Err InvalidExtension
 unfolding whole_after headed_after body_after with_piece
-ends_behind_field = refl
+ends_after_field = refl
 
 -- a field without a value, though the piece repeats a singleton
 pub field_then_repeated : answer_to (codes "und-a-foo-t-h0-a-bar") ≡ Err InvalidExtension
@@ -225,11 +225,11 @@ unfolding whole_after headed_after body_after with_piece
 too_long_within = refl
 
 -- no private piece
-pub ends_behind_x : answer_to (codes "en-x") ≡ Err InvalidExtension
+pub ends_after_x : answer_to (codes "en-x") ≡ Err InvalidExtension
 unfolding whole_after headed_after body_after with_piece
-ends_behind_x = refl
+ends_after_x = refl
 
--- a variant stands twice within `t`
+-- a variant is twice within `t`
 pub repeated_variant_within : answer_to (codes "und-t-de-1996-1996") ≡ Err InvalidExtension
 unfolding whole_after headed_after body_after with_piece
 repeated_variant_within = refl
@@ -244,32 +244,32 @@ pub key_of_digit_within : answer_to (codes "en-u-a1-foo") ≡ Err InvalidExtensi
 unfolding whole_after headed_after body_after with_piece
 key_of_digit_within = refl
 
--- a singleton stands twice
+-- a singleton is twice
 pub repeated_singleton : answer_to (codes "en-a-foo-a-bar") ≡ Err DuplicatedExtension
 unfolding whole_after headed_after body_after with_piece
 repeated_singleton = refl
 
--- a singleton stands twice, but for its case
+-- a singleton is twice, but for its case
 pub repeated_singleton_case : answer_to (codes "en-a-foo-u-nu-A-bar") ≡ Err DuplicatedExtension
 unfolding whole_after headed_after body_after with_piece
 repeated_singleton_case = refl
 
--- `u` stands twice
+-- `u` is twice
 pub repeated_unicode : answer_to (codes "en-u-nu-u-ca") ≡ Err DuplicatedExtension
 unfolding whole_after headed_after body_after with_piece
 repeated_unicode = refl
 
--- `t` stands twice
+-- `t` is twice
 pub repeated_transform : answer_to (codes "en-t-de-t-fr") ≡ Err DuplicatedExtension
 unfolding whole_after headed_after body_after with_piece
 repeated_transform = refl
 
--- a digit stands twice as a singleton
+-- a digit is twice as a singleton
 pub repeated_digit : answer_to (codes "en-1-foo-1-bar") ≡ Err DuplicatedExtension
 unfolding whole_after headed_after body_after with_piece
 repeated_digit = refl
 
 -- the first fault counts: the second `a` comes later
-pub repeated_behind_fault : answer_to (codes "en-a-foo-toolongpiece-a-bar") ≡ Err InvalidExtension
+pub repeated_after_fault : answer_to (codes "en-a-foo-toolongpiece-a-bar") ≡ Err InvalidExtension
 unfolding whole_after headed_after body_after with_piece
-repeated_behind_fault = refl
+repeated_after_fault = refl

@@ -126,7 +126,7 @@ language_adds taken (Some id) p t means q =
     let f = mapped_some Some (with_piece id p) t q in
     subst (MeansInner (taken ++ p ∷ [])) f.2 (with_piece_adds taken id p f.0 means f.1)
 
--- what was read stands
+-- what was read stays
 pub language_stands : (ps : List Text) (s : Option LanguageId) → run language_after (Some None) ps ≡ Some s → MeansInner ps s
 language_stands ps s e = run_keeps language_after MeansInner language_adds ps [] None s refl e
 

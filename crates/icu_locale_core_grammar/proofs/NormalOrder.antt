@@ -33,12 +33,12 @@ rises_without [] y ys rises = rises.1
 rises_without (x ∷ xs) y ys rises =
     (each-append (above x) xs ys (each_front (above x) xs (y ∷ ys) rises.0) (each_rest (above x) xs (y ∷ ys) rises.0).1, rises_without xs y ys rises.1)
 
--- a list behind texts that are below its first
-rises_behind : (xs : List Text) (y : Text) (ys : List Text) → Rises xs → AllByRecursion (below y) xs → Rises (y ∷ ys) → Rises (xs ++ y ∷ ys)
+-- a list after texts that are below its first
+rises_after : (xs : List Text) (y : Text) (ys : List Text) → Rises xs → AllByRecursion (below y) xs → Rises (y ∷ ys) → Rises (xs ++ y ∷ ys)
 unfolding IsStrictlySortedBy
-rises_behind [] y ys rises each behind = behind
-rises_behind (x ∷ xs) y ys rises each behind =
-    (each-append (above x) xs (y ∷ ys) rises.0 (each.0, each_weaker (above y) (above x) (λ z f. cmp_through x y z each.0 f) ys behind.0), rises_behind xs y ys rises.1 each.1 behind)
+rises_after [] y ys rises each behind = behind
+rises_after (x ∷ xs) y ys rises each behind =
+    (each-append (above x) xs (y ∷ ys) rises.0 (each.0, each_weaker (above y) (above x) (λ z f. cmp_through x y z each.0 f) ys behind.0), rises_after xs y ys rises.1 each.1 behind)
 
 rises_front : (xs ys : List Text) → Rises (xs ++ ys) → Rises xs
 unfolding IsStrictlySortedBy
@@ -62,7 +62,7 @@ rises_tail : (x : Text) (xs : List Text) → Rises (x ∷ xs) → Rises xs
 unfolding IsStrictlySortedBy
 rises_tail x xs rises = rises.1
 
--- ---- the other singletons before and behind `t` and `u`
+-- ---- the other singletons before and after `t` and `u`
 
 -- another singleton that is not above `t` is below it
 other_below : (o : Entry) → IsNormalOther o → is_lt (text_cmp transform_text o.0) ≡ false → below transform_text o.0
@@ -136,7 +136,7 @@ blocks_rise e n =
     let behind : Rises (unicode_text ∷ keys_of rest) = rises_begun unicode_text (keys_of rest) p.behind (rises_rest (keys_of front) (keys_of rest) rises) in
     let middle : Rises (transform_text ∷ unicode_text ∷ keys_of rest) =
     rises_begun transform_text (unicode_text ∷ keys_of rest) (refl, each_weaker (above unicode_text) (above transform_text) (λ s f. cmp_through transform_text unicode_text s refl f) (keys_of rest) p.behind) behind in
-    let all : Rises (keys_of front ++ transform_text ∷ unicode_text ∷ keys_of rest) = rises_behind (keys_of front) transform_text (unicode_text ∷ keys_of rest) (rises_front (keys_of front) (keys_of rest) rises) p.before middle in
+    let all : Rises (keys_of front ++ transform_text ∷ unicode_text ∷ keys_of rest) = rises_after (keys_of front) transform_text (unicode_text ∷ keys_of rest) (rises_front (keys_of front) (keys_of rest) rises) p.before middle in
     let less : Rises ((keys_of front ++ transform_text ∷ []) ++ (map block_key (unicode_block e.unicode) ++ keys_of rest)) =
     rises_with_block unicode_text (unicode_pieces e.unicode) (unicode e.unicode) (keys_of front ++ transform_text ∷ []) (keys_of rest)
     (subst Rises (sym (append_assoc (keys_of front) (transform_text ∷ []) (unicode_text ∷ keys_of rest))) all) in

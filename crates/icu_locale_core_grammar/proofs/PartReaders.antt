@@ -55,7 +55,7 @@ keywords_reader = entries_reader is_key false key_no_value
 pub fields_reader : IsReader (entries_after is_field_key true) (InHead tt) entries_end MeansFields
 fields_reader = entries_reader is_field_key true field_key_no_value
 
--- ---- keywords are what may stand behind `u` without an attribute, fields what may stand behind `t` without a language
+-- ---- keywords are what may be after `u` without an attribute, fields what may be after `t` without a language
 
 no_attributes : (ps set : List Text) → MeansAttributes ps set → set ≡ [] → ps ≡ []
 no_attributes [] set a e = refl
@@ -64,14 +64,14 @@ no_attributes (p ∷ ps) set a e =
     let g : set_of (map lower (p ∷ ps)) ≡ [] = a.meant ∙ e in
     let h : has_none (set_of (map lower (p ∷ ps))) ≡ true = ap has_none g in cc
 
-pub keywords_behind : (ps : List Text) (es : List Entry) → MeansKeywords ps es → MeansUnicode ps (record { head = []; entries = es })
-keywords_behind ps es a = record { head = []; entries = a.entries; parts = a.parts; meant = record { each = tt; meant = refl }; each = a.each; keyed = a.keyed }
+pub keywords_after : (ps : List Text) (es : List Entry) → MeansKeywords ps es → MeansUnicode ps (record { head = []; entries = es })
+keywords_after ps es a = record { head = []; entries = a.entries; parts = a.parts; meant = record { each = tt; meant = refl }; each = a.each; keyed = a.keyed }
 
 pub keywords_alone : (ps : List Text) (es : List Entry) → MeansUnicode ps (record { head = []; entries = es }) → MeansKeywords ps es
 keywords_alone ps es a = record { entries = a.entries; parts = ap (λ l. l ++ flat_map spelled_entry a.entries) (sym (no_attributes a.head [] a.meant refl)) ∙ a.parts; each = a.each; keyed = a.keyed }
 
-pub fields_behind : (ps : List Text) (es : List Entry) → MeansFields ps es → MeansTransform ps (record { head = None; entries = es })
-fields_behind ps es a = record { head = []; entries = a.entries; parts = a.parts; meant = refl; each = a.each; keyed = a.keyed }
+pub fields_after : (ps : List Text) (es : List Entry) → MeansFields ps es → MeansTransform ps (record { head = None; entries = es })
+fields_after ps es a = record { head = []; entries = a.entries; parts = a.parts; meant = refl; each = a.each; keyed = a.keyed }
 
 pub fields_alone : (ps : List Text) (es : List Entry) → MeansTransform ps (record { head = None; entries = es }) → MeansFields ps es
 fields_alone ps es a = record { entries = a.entries; parts = ap (λ l. l ++ flat_map spelled_entry a.entries) (sym a.meant) ∙ a.parts; each = a.each; keyed = a.keyed }

@@ -10,7 +10,7 @@ module _ {S : Type 0} (step : S → Text → Option S) where
   run-append (Some s) [] qs = refl
   run-append (Some s) (p ∷ ps) qs = run-append (step s p) ps qs
 
-  -- steps that are known, one behind the other
+  -- steps that are known, one after the other
   pub run_joined : (s t : S) (r : Option S) (ps qs : List Text) → run step (Some s) ps ≡ Some t → run step (Some t) qs ≡ r → run step (Some s) (ps ++ qs) ≡ r
   run_joined s t r ps qs first second = run-append (Some s) ps qs ∙ ap (λ o. run step o qs) first ∙ second
 

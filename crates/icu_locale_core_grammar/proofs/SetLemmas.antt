@@ -149,9 +149,9 @@ one_head x y xs ys Less e a b same = absurd (not_below x y xs ys b same e)
 one_head x y xs ys Equal e a b same = cmp_equal x y e
 one_head x y xs ys Greater e a b same = absurd (not_below y x ys xs a (λ q. sym (same q)) (cmp_below x y e))
 
-same_behind : (x : Text) (xs ys : List Text) → AllByRecursion (λ v. text_cmp x v ≡ Less) xs → AllByRecursion (λ v. text_cmp x v ≡ Less) ys
+same_after : (x : Text) (xs ys : List Text) → AllByRecursion (λ v. text_cmp x v ≡ Less) xs → AllByRecursion (λ v. text_cmp x v ≡ Less) ys
     → ((q : Text) → contains_text q (x ∷ xs) ≡ contains_text q (x ∷ ys)) → (q : Text) → contains_text q xs ≡ contains_text q ys
-same_behind x xs ys a b same q = by (same_text q x) refl (same q)
+same_after x xs ys a b same q = by (same_text q x) refl (same q)
   where
     by : (c : Bool) → same_text q x ≡ c → (c || contains_text q xs) ≡ (c || contains_text q ys) → contains_text q xs ≡ contains_text q ys
     by true is e =
@@ -167,5 +167,5 @@ rising_same [] (y ∷ ys) a b same = absurd (false≢true (same y ∙ contains_f
 rising_same (x ∷ xs) [] a b same = absurd (false≢true (sym (same x) ∙ contains_first x xs))
 rising_same (x ∷ xs) (y ∷ ys) a b same =
     let head : x ≡ y = one_head x y xs ys (text_cmp x y) refl a.0 b.0 same in
-    let behind = same_behind x xs ys a.0 (subst (λ t. AllByRecursion (λ v. text_cmp t v ≡ Less) ys) (sym head) b.0) (λ q. same q ∙ ap (λ t. contains_text q (t ∷ ys)) (sym head)) in
+    let behind = same_after x xs ys a.0 (subst (λ t. AllByRecursion (λ v. text_cmp t v ≡ Less) ys) (sym head) b.0) (λ q. same q ∙ ap (λ t. contains_text q (t ∷ ys)) (sym head)) in
     λ i. head i ∷ rising_same xs ys a.1 b.1 behind i

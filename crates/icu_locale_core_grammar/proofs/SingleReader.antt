@@ -15,7 +15,7 @@ use Rattle.icu_locale_core_grammar.specs.LanguagePart.{LanguageId, MeansLanguage
 use Rattle.icu_locale_core_grammar.specs.FaultyPiece.{first_piece, IsAccepted}
 use Rattle.icu_locale_core_grammar.specs.Stepping.{run, CanEnd, IsReader}
 use Rattle.icu_locale_core_grammar.specs.TagStages.{only_language, fits_script, fits_region, fits_variant, with_script, with_region, with_variant, with_piece, language_after}
-use Rattle.icu_locale_core_grammar.specs.SingleVariant.{SingleMeaning, piece_meaning, MeansKeyword, MeansSingle, begins_extension, single_name, HasSingleFault, SingleStage, InLanguage, BehindUnicode, BehindKey, BehindValue, has_short, kept_short, after_language, single_after, single_of, single_ends, single_fault}
+use Rattle.icu_locale_core_grammar.specs.SingleVariant.{SingleMeaning, piece_meaning, MeansKeyword, MeansSingle, begins_extension, single_name, HasSingleFault, SingleStage, InLanguage, AfterUnicode, AfterKey, AfterValue, has_short, kept_short, after_language, single_after, single_of, single_ends, single_fault}
 use Rattle.icu_locale_core_grammar.specs.TagPreferences.{least_of}
 use Rattle.icu_locale_core_grammar.proofs.ListLemmas.{mapped_some}
 use Rattle.icu_locale_core_grammar.proofs.SingletonLemmas.{unicode_single}
@@ -97,9 +97,9 @@ record Behind (taken : List Text) (id : LanguageId) (tail : List Text) : Type 0 
 
 abbrev Stands : List Text → SingleStage → Type 0
 Stands taken (InLanguage l) = MeansInner taken l × IsShort l
-Stands taken (BehindUnicode id) = (u : Text) × Behind taken id (u ∷ []) × (is_unicode u ≡ true)
-Stands taken (BehindKey id k) = (u : Text) × (q : Text) × Behind taken id (u ∷ q ∷ []) × (is_unicode u ≡ true) × (is_key q ≡ true) × (lower q ≡ k)
-Stands taken (BehindValue id k v) = (u : Text) × (q : Text) × (w : Text) × Behind taken id (u ∷ q ∷ w ∷ []) × (is_unicode u ≡ true) × (is_key q ≡ true) × (lower q ≡ k) × (is_value w ≡ true) × (piece_meaning w ≡ v)
+Stands taken (AfterUnicode id) = (u : Text) × Behind taken id (u ∷ []) × (is_unicode u ≡ true)
+Stands taken (AfterKey id k) = (u : Text) × (q : Text) × Behind taken id (u ∷ q ∷ []) × (is_unicode u ≡ true) × (is_key q ≡ true) × (lower q ≡ k)
+Stands taken (AfterValue id k v) = (u : Text) × (q : Text) × (w : Text) × Behind taken id (u ∷ q ∷ w ∷ []) × (is_unicode u ≡ true) × (is_key q ≡ true) × (lower q ≡ k) × (is_value w ≡ true) × (piece_meaning w ≡ v)
 
 further : (taken : List Text) (id : LanguageId) (tail : List Text) (p : Text) → Behind taken id tail → Behind (taken ++ p ∷ []) id (tail ++ p ∷ [])
 further taken id tail p b = record { front = b.front; parts = sym (append_assoc b.front tail (p ∷ [])) ∙ ap (λ l. l ++ p ∷ []) b.parts; meant = b.meant; short = b.short }
@@ -117,29 +117,29 @@ language_adds_one taken l p t (Some m) s e q = kept_adds (taken ++ p ∷ []) m t
 language_adds_one taken None p t None s e q = cc
 language_adds_one taken (Some id) p t None s e q = by_test (is_unicode p) refl q
   where
-    by_test : (b : Bool) → is_unicode p ≡ b → (if b then Some (BehindUnicode id) else None) ≡ Some t → Stands (taken ++ p ∷ []) t
-    by_test true f q = let same : BehindUnicode id ≡ t = cc in subst (Stands (taken ++ p ∷ [])) same (p, record { front = taken; parts = refl; meant = s.0; short = s.1 }, f)
+    by_test : (b : Bool) → is_unicode p ≡ b → (if b then Some (AfterUnicode id) else None) ≡ Some t → Stands (taken ++ p ∷ []) t
+    by_test true f q = let same : AfterUnicode id ≡ t = cc in subst (Stands (taken ++ p ∷ [])) same (p, record { front = taken; parts = refl; meant = s.0; short = s.1 }, f)
     by_test false f q = cc
 
 adds : (taken : List Text) (s : SingleStage) (p : Text) (t : SingleStage) → Stands taken s → single_after s p ≡ Some t → Stands (taken ++ p ∷ []) t
 unfolding single_after
 adds taken (InLanguage l) p t s q = language_adds_one taken l p t (language_after l p) s refl q
-adds taken (BehindUnicode id) p t s q = by_test (is_key p) refl q
+adds taken (AfterUnicode id) p t s q = by_test (is_key p) refl q
   where
-    by_test : (b : Bool) → is_key p ≡ b → (if b then Some (BehindKey id (lower p)) else None) ≡ Some t → Stands (taken ++ p ∷ []) t
-    by_test true f q = let same : BehindKey id (lower p) ≡ t = cc in subst (Stands (taken ++ p ∷ [])) same (s.0, p, further taken id (s.0 ∷ []) p s.1, s.2, f, refl)
+    by_test : (b : Bool) → is_key p ≡ b → (if b then Some (AfterKey id (lower p)) else None) ≡ Some t → Stands (taken ++ p ∷ []) t
+    by_test true f q = let same : AfterKey id (lower p) ≡ t = cc in subst (Stands (taken ++ p ∷ [])) same (s.0, p, further taken id (s.0 ∷ []) p s.1, s.2, f, refl)
     by_test false f q = cc
-adds taken (BehindKey id k) p t s q = by_test (is_value p) refl q
+adds taken (AfterKey id k) p t s q = by_test (is_value p) refl q
   where
-    by_test : (b : Bool) → is_value p ≡ b → (if b then Some (BehindValue id k (piece_meaning p)) else None) ≡ Some t → Stands (taken ++ p ∷ []) t
-    by_test true f q = let same : BehindValue id k (piece_meaning p) ≡ t = cc in subst (Stands (taken ++ p ∷ [])) same (s.0, s.1, p, further taken id (s.0 ∷ s.1 ∷ []) p s.2, s.3, s.4, s.5, f, refl)
+    by_test : (b : Bool) → is_value p ≡ b → (if b then Some (AfterValue id k (piece_meaning p)) else None) ≡ Some t → Stands (taken ++ p ∷ []) t
+    by_test true f q = let same : AfterValue id k (piece_meaning p) ≡ t = cc in subst (Stands (taken ++ p ∷ [])) same (s.0, s.1, p, further taken id (s.0 ∷ s.1 ∷ []) p s.2, s.3, s.4, s.5, f, refl)
     by_test false f q = cc
-adds taken (BehindValue id k v) p t s q = cc
+adds taken (AfterValue id k v) p t s q = cc
 
 stands : (ps : List Text) (s : SingleStage) → run single_after (Some (InLanguage None)) ps ≡ Some s → Stands ps s
 stands ps s e = run_keeps single_after Stands adds ps [] (InLanguage None) s (refl, tt) e
 
--- the language part, as it stands in a meaning
+-- the language part, as it is in a meaning
 as_single : (front : List Text) (id : LanguageId) → MeansLanguage front id → has_short id.variants ≡ true → MeansLanguage front (record { language = id.language; script = id.script; region = id.region; variants = option_to_list (least_of id.variants) })
 as_single front id a short = subst (λ vs. MeansLanguage front (record { language = id.language; script = id.script; region = id.region; variants = vs })) (sym (short_same id.variants short)) a
 
@@ -148,11 +148,11 @@ ends_well taken (InLanguage None) m s e = cc
 ends_well taken (InLanguage (Some id)) m s e =
     let same : single_of id None ≡ m = cc in
     subst (MeansSingle taken) same (record { front = taken; last = []; parts = append-nil taken; language = as_single taken id s.0 s.1; keyword = refl })
-ends_well taken (BehindUnicode id) m s e = cc
-ends_well taken (BehindKey id k) m s e =
+ends_well taken (AfterUnicode id) m s e = cc
+ends_well taken (AfterKey id k) m s e =
     let same : single_of id (Some (k, None)) ≡ m = cc in
     subst (MeansSingle taken) same (record { front = s.2.front; last = s.0 ∷ s.1 ∷ []; parts = s.2.parts; language = as_single s.2.front id s.2.meant s.2.short; keyword = (s.3, s.4, ap (λ q. Some (q, None)) (sym s.5)) })
-ends_well taken (BehindValue id k v) m s e =
+ends_well taken (AfterValue id k v) m s e =
     let same : single_of id (Some (k, v)) ≡ m = cc in
     let both : Some (k, v) ≡ Some (lower s.1, piece_meaning s.2) = λ i. Some (sym s.6 i, sym s.8 i) in
     subst (MeansSingle taken) same (record { front = s.3.front; last = s.0 ∷ s.1 ∷ s.2 ∷ []; parts = s.3.parts; language = as_single s.3.front id s.3.meant s.3.short; keyword = (s.4, s.5, s.7, both) })
@@ -172,17 +172,17 @@ language_part (p ∷ ps) l m e short =
     run_begun single_after (InLanguage l) (InLanguage (Some g.0)) _ p ps (language_step l p g.0 (f.1 ∙ ap Some g.1) here)
     (language_part ps (Some g.0) m (subst (λ x. run language_after (Some x) ps ≡ Some m) g.1 f.2) short)
 
-unicode_step : (id : LanguageId) (u : Text) → is_unicode u ≡ true → single_after (InLanguage (Some id)) u ≡ Some (BehindUnicode id)
+unicode_step : (id : LanguageId) (u : Text) → is_unicode u ≡ true → single_after (InLanguage (Some id)) u ≡ Some (AfterUnicode id)
 unfolding single_after
-unicode_step id u e = ap (λ o. after_language (Some id) o u) (language_closed (Some id) u (unicode_single u e)) ∙ ap (λ b. if b then Some (BehindUnicode id) else None) e
+unicode_step id u e = ap (λ o. after_language (Some id) o u) (language_closed (Some id) u (unicode_single u e)) ∙ ap (λ b. if b then Some (AfterUnicode id) else None) e
 
-key_step : (id : LanguageId) (q : Text) → is_key q ≡ true → single_after (BehindUnicode id) q ≡ Some (BehindKey id (lower q))
+key_step : (id : LanguageId) (q : Text) → is_key q ≡ true → single_after (AfterUnicode id) q ≡ Some (AfterKey id (lower q))
 unfolding single_after
-key_step id q e = ap (λ b. if b then Some (BehindKey id (lower q)) else None) e
+key_step id q e = ap (λ b. if b then Some (AfterKey id (lower q)) else None) e
 
-value_step : (id : LanguageId) (k w : Text) → is_value w ≡ true → single_after (BehindKey id k) w ≡ Some (BehindValue id k (piece_meaning w))
+value_step : (id : LanguageId) (k w : Text) → is_value w ≡ true → single_after (AfterKey id k) w ≡ Some (AfterValue id k (piece_meaning w))
 unfolding single_after
-value_step id k w e = ap (λ b. if b then Some (BehindValue id k (piece_meaning w)) else None) e
+value_step id k w e = ap (λ b. if b then Some (AfterValue id k (piece_meaning w)) else None) e
 
 abbrev Ends : SingleStage → List Text → SingleMeaning → Type 0
 Ends s ps m = (t : SingleStage) × (run single_after (Some s) ps ≡ Some t) × (single_ends t ≡ Some m)
@@ -197,15 +197,15 @@ keyword_runs : (last : List Text) (m : SingleMeaning) → MeansKeyword last m.ke
 keyword_runs [] m a = (InLanguage (Some (id_of m)), refl, ended m None a)
 keyword_runs (u ∷ []) m a = absurd a
 keyword_runs (u ∷ k ∷ []) m a = (
-  BehindKey (id_of m) (lower k),
-  run_begun single_after (InLanguage (Some (id_of m))) (BehindUnicode (id_of m)) _ u (k ∷ []) (unicode_step (id_of m) u a.0) (run_begun single_after (BehindUnicode (id_of m)) (BehindKey (id_of m) (lower k)) _ k [] (key_step (id_of m) k a.1) refl),
+  AfterKey (id_of m) (lower k),
+  run_begun single_after (InLanguage (Some (id_of m))) (AfterUnicode (id_of m)) _ u (k ∷ []) (unicode_step (id_of m) u a.0) (run_begun single_after (AfterUnicode (id_of m)) (AfterKey (id_of m) (lower k)) _ k [] (key_step (id_of m) k a.1) refl),
   ended m (Some (lower k, None)) a.2,
 )
 keyword_runs (u ∷ k ∷ v ∷ []) m a = (
-  BehindValue (id_of m) (lower k) (piece_meaning v),
-  run_begun single_after (InLanguage (Some (id_of m))) (BehindUnicode (id_of m)) _ u (k ∷ v ∷ []) (unicode_step (id_of m) u a.0)
-      (run_begun single_after (BehindUnicode (id_of m)) (BehindKey (id_of m) (lower k)) _ k (v ∷ []) (key_step (id_of m) k a.1)
-      (run_begun single_after (BehindKey (id_of m) (lower k)) (BehindValue (id_of m) (lower k) (piece_meaning v)) _ v [] (value_step (id_of m) (lower k) v a.2) refl)),
+  AfterValue (id_of m) (lower k) (piece_meaning v),
+  run_begun single_after (InLanguage (Some (id_of m))) (AfterUnicode (id_of m)) _ u (k ∷ v ∷ []) (unicode_step (id_of m) u a.0)
+      (run_begun single_after (AfterUnicode (id_of m)) (AfterKey (id_of m) (lower k)) _ k (v ∷ []) (key_step (id_of m) k a.1)
+      (run_begun single_after (AfterKey (id_of m) (lower k)) (AfterValue (id_of m) (lower k) (piece_meaning v)) _ v [] (value_step (id_of m) (lower k) v a.2) refl)),
   ended m (Some (lower k, piece_meaning v)) a.3,
 )
 keyword_runs (u ∷ k ∷ v ∷ w ∷ rest) m a = absurd a
@@ -219,9 +219,9 @@ only ps m a =
 goes_on : CanEnd single_after single_ends
 goes_on (InLanguage None) = (codes "und" ∷ [], InLanguage (Some (only_language (codes "und"))), single_of (only_language (codes "und")) None, run_begun single_after (InLanguage None) (InLanguage (Some (only_language (codes "und")))) _ (codes "und") [] (language_step None (codes "und") (only_language (codes "und")) refl refl) refl, refl)
 goes_on (InLanguage (Some id)) = ([], InLanguage (Some id), single_of id None, refl, refl)
-goes_on (BehindUnicode id) = (codes "nu" ∷ [], BehindKey id (codes "nu"), single_of id (Some (codes "nu", None)), run_begun single_after (BehindUnicode id) (BehindKey id (codes "nu")) _ (codes "nu") [] (key_step id (codes "nu") refl) refl, refl)
-goes_on (BehindKey id k) = ([], BehindKey id k, single_of id (Some (k, None)), refl, refl)
-goes_on (BehindValue id k v) = ([], BehindValue id k v, single_of id (Some (k, v)), refl, refl)
+goes_on (AfterUnicode id) = (codes "nu" ∷ [], AfterKey id (codes "nu"), single_of id (Some (codes "nu", None)), run_begun single_after (AfterUnicode id) (AfterKey id (codes "nu")) _ (codes "nu") [] (key_step id (codes "nu") refl) refl, refl)
+goes_on (AfterKey id k) = ([], AfterKey id k, single_of id (Some (k, None)), refl, refl)
+goes_on (AfterValue id k v) = ([], AfterValue id k v, single_of id (Some (k, v)), refl, refl)
 
 pub single_reader : IsReader single_after (InLanguage None) single_ends MeansSingle
 single_reader = record { found = λ ps s m e f. ends_well ps s m (stands ps s e) f; only = only; goes_on = goes_on }
@@ -236,8 +236,8 @@ language_plain (p ∷ ps) l m e =
     let never : is_single p ≡ true → ⊥ = λ g. let h : Some f.0 ≡ None = sym f.1 ∙ language_closed l p g in cc in
     or_from (is_single p) (list_any is_single ps) (false_from_ne_true (is_single p) never) (language_plain ps f.0 m f.2)
 
-behind_single : (taken : List Text) (id : LanguageId) (u : Text) (rest : List Text) → Behind taken id (u ∷ rest) → is_unicode u ≡ true → list_any is_single taken ≡ true
-behind_single taken id u rest b e =
+after_single : (taken : List Text) (id : LanguageId) (u : Text) (rest : List Text) → Behind taken id (u ∷ rest) → is_unicode u ≡ true → list_any is_single taken ≡ true
+after_single taken id u rest b e =
     subst (λ l. list_any is_single l ≡ true) b.parts
     (list_any-append is_single b.front (u ∷ rest) ∙ or_right (list_any is_single b.front) (list_any is_single (u ∷ rest)) (or_left (is_single u) (list_any is_single rest) (unicode_single u e)))
 
@@ -255,9 +255,9 @@ single_named taken s place e = by_stage s (stands taken s e)
     by_stage : (s : SingleStage) → Stands taken s → single_name taken place ≡ single_fault s place
     by_stage (InLanguage None) s = ap (λ l. single_name l place) s.0
     by_stage (InLanguage (Some id)) s = name_outside taken id place s.0
-    by_stage (BehindUnicode id) s = name_within taken place (behind_single taken id s.0 [] s.1 s.2)
-    by_stage (BehindKey id k) s = name_within taken place (behind_single taken id s.0 (s.1 ∷ []) s.2 s.3)
-    by_stage (BehindValue id k v) s = name_within taken place (behind_single taken id s.0 (s.1 ∷ s.2 ∷ []) s.3 s.4)
+    by_stage (AfterUnicode id) s = name_within taken place (after_single taken id s.0 [] s.1 s.2)
+    by_stage (AfterKey id k) s = name_within taken place (after_single taken id s.0 (s.1 ∷ []) s.2 s.3)
+    by_stage (AfterValue id k v) s = name_within taken place (after_single taken id s.0 (s.1 ∷ s.2 ∷ []) s.3 s.4)
 
 pub single_answered : (ps : List Text) → IsAccepted MeansSingle ps ⊎ ((e : ParseError) × HasSingleFault ps e)
 single_answered ps = by_answer (answered single_reader ps)

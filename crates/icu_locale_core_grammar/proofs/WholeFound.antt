@@ -99,7 +99,7 @@ module _ {L I E B V : Type 0} (step_front : L → Text → Option L) (start : L)
   close_front : (taken : List Text) (l : L) (i : I) (p : Text) → run step_front (Some start) taken ≡ Some l → front_ends l ≡ Some i → InBlocks (taken ++ p ∷ []) i [] none (p ∷ [])
   close_front taken l i p e f = record { front = taken; blocks = []; parts = refl; meant = sound.front.found taken l i e f; each = tt; keys = refl; apart = apart_none; together = refl }
 
-  -- the block that is read, closed, with a tail behind it
+  -- the block that is read, closed, with a tail after it
   close_block : (taken : List Text) (i : I) (seen : List Text) (e : E) (k : Text) (b : B) (v : V) → InBody taken i seen e k b → body_ends b ≡ Some v
       → InBlocks taken i (seen ++ k ∷ []) (put k v e) []
   close_block taken i seen e k b v s f =

@@ -25,12 +25,12 @@ IsOwnPart is_x is_piece (x ∷ ps) subtags = (is_x x ≡ true) × (ps ≢ []) ×
 -- what the parts of a whole are, and what they mean
 pub record PartRules (I V E : Type 0) : Type 1 where
   pub means_front : List Text → I → Type 0
-  -- of the pieces behind this singleton
+  -- of the pieces after this singleton
   pub means_body : Text → List Text → V → Type 0
   -- the values of the blocks with one more, by its key; and where there is no block
   pub put : Text → V → E → E
   pub none : E
-  -- the first piece of the private part, and each piece behind it
+  -- the first piece of the private part, and each piece after it
   pub begins_private : Text → Bool
   pub is_private_piece : Text → Bool
 

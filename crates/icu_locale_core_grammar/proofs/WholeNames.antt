@@ -21,10 +21,10 @@ use Rattle.icu_locale_core_grammar.proofs.WholeParts.{AreParts}
 use Rattle.icu_locale_core_grammar.proofs.WholeFound.{InBlocks, InBody, Stands, stands, ends_well}
 use Rattle.icu_locale_core_grammar.proofs.WholeReader.{whole_reader}
 
--- ---- what stands among the pieces
+-- ---- what is among the pieces
 
-any_behind : (front middle tail : List Text) (test : Text → Bool) → list_any test tail ≡ true → list_any test (front ++ (middle ++ tail)) ≡ true
-any_behind front middle tail test e =
+any_after : (front middle tail : List Text) (test : Text → Bool) → list_any test tail ≡ true → list_any test (front ++ (middle ++ tail)) ≡ true
+any_after front middle tail test e =
     list_any-append test front (middle ++ tail)
     ∙ or_right (list_any test front) (list_any test (middle ++ tail)) (list_any-append test middle tail ∙ or_right (list_any test middle) (list_any test tail) e)
 
@@ -33,7 +33,7 @@ within_middle t front middle tail e =
     ap (contains_text t) (map-append lower front (middle ++ tail)) ∙ contains-append t (map lower front) (map lower (middle ++ tail))
     ∙ or_right (contains_text t (map lower front)) (contains_text t (map lower (middle ++ tail))) (ap (contains_text t) (map-append lower middle tail) ∙ contains-append t (map lower middle) (map lower tail) ∙ e)
 
--- a key of a block stands among the pieces, but for its case
+-- a key of a block is among the pieces, but for its case
 key_within : {V : Type 0} (t : Text) (bs : List (Block V)) → contains_text t (map block_key bs) ≡ true → contains_text t (map lower (flat_map spelled_block bs)) ≡ true
 key_within t [] e = e
 key_within t (b ∷ bs) e = by_case (or_cases (same_text t (block_key b)) (contains_text t (map block_key bs)) e) (key_within t bs)
@@ -97,7 +97,7 @@ module _ {L I E B V : Type 0} (step_front : L → Text → Option L) (start : L)
 
   tail_single : (taken : List Text) (i : I) (seen : List Text) (e : E) (s : Text) (ps : List Text) → Blocks taken i seen e (s ∷ ps) → is_single s ≡ true → list_any is_single taken ≡ true
   tail_single taken i seen e s ps b f =
-      subst (λ l. list_any is_single l ≡ true) b.parts (any_behind b.front (flat_map spelled_block b.blocks) (s ∷ ps) is_single (or_left (is_single s) (list_any is_single ps) f))
+      subst (λ l. list_any is_single l ≡ true) b.parts (any_after b.front (flat_map spelled_block b.blocks) (s ∷ ps) is_single (or_left (is_single s) (list_any is_single ps) f))
 
   -- ---- names
 
@@ -116,7 +116,7 @@ module _ {L I E B V : Type 0} (step_front : L → Text → Option L) (start : L)
   at_no_duplicate taken i seen e k b None r d = d
   at_no_duplicate taken i seen e k b (Some p) r d = not_accepted_at taken i seen e k b r d.0
 
-  -- behind a body that may end, a singleton that has not come goes on
+  -- after a body that may end, a singleton that has not come goes on
   goes_on_with : (i : I) (seen : List Text) (e : E) (k : Text) (b : B) (v : V) (p : Text) (x : Bool) → body_ends b ≡ Some v → is_singleton p ≡ true → contains_text (lower p) (seen ++ k ∷ []) ≡ false → is_x p ≡ x
       → after (InBlock i seen e k b) p ≡ None → ⊥
   unfolding whole_after

@@ -23,7 +23,7 @@ pub record MeansDataLocale (ps : List Text) (d : DataLocaleMeaning) : Type 0 whe
   pub is : IsDataTag tag
   pub same : language_priority (locale_preferences_of tag) ≡ d
 
--- a tag that is none: too many variants, or else an extension that a data locale does not hold
+-- a tag that is not one: too many variants, or else an extension that a data locale does not hold
 abbrev pub IsRefusedTag : TagMeaning → ParseError → Type 0
 IsRefusedTag m InvalidSubtag = HasOneVariant m → ⊥
 IsRefusedTag m InvalidExtension = HasOneVariant m × (IsDataTag m → ⊥)

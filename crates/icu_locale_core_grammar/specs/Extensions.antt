@@ -1,4 +1,4 @@
--- How extensions are put together: a head, then keys with values; a singleton and the pieces behind it.
+-- How extensions are put together: a head, then keys with values; a singleton and the pieces after it.
 -- UTS 35, sections 3.2, 3.6 and 3.7, and RFC 5646 (BCP 47), section 2.2.6; docs/tags.md, "Extensions".
 -- Cited by the grammar of whole tags, and by every reader of an extension or of a part of one.
 use Rattle.std.specs.Prelude.{◌≡◌, Bool, true, not, List, [], ◌∷◌, ◌++◌, map, filter, flat_map}
@@ -29,7 +29,7 @@ pub record IsEntry (is_key : Text → Bool) (needs : Bool) (e : Entry) : Type 0 
   pub values : Each is_value e.1
   pub enough : has_enough needs e.1 ≡ true
 
--- the meaning of a head and of the entries behind it
+-- the meaning of a head and of the entries after it
 pub record Headed (H : Type 0) : Type 0 where
   pub head : H
   pub entries : List Entry
@@ -45,7 +45,7 @@ pub record MeansHeaded {H : Type 0} (MeansHead : List Text → H → Type 0) (is
 
 -- ---- blocks
 
--- a singleton, the pieces behind it, and what they mean
+-- a singleton, the pieces after it, and what they mean
 pub record Block (V : Type 0) : Type 0 where
   pub singleton : Text
   pub body : List Text

@@ -13,10 +13,10 @@ abbrev pub first_piece : List Text → Option Text
 first_piece [] = None
 first_piece (p ∷ ps) = Some p
 
--- the name of a fault behind these pieces, by whether they have begun an extension
-abbrev pub name_behind : List Text → Bool → ParseError
-name_behind [] begun = InvalidLanguage
-name_behind (p ∷ ps) begun = if begun then InvalidExtension else InvalidSubtag
+-- the name of a fault after these pieces, by whether they have begun an extension
+abbrev pub name_after : List Text → Bool → ParseError
+name_after [] begun = InvalidLanguage
+name_after (p ∷ ps) begun = if begun then InvalidExtension else InvalidSubtag
 
 -- over any grammar, a relation between lists of pieces and their meanings
 module _ {M : Type 0} (Means : List Text → M → Type 0) where
@@ -44,11 +44,11 @@ module _ {M : Type 0} (Means : List Text → M → Type 0) where
   IsDuplicate front None = ⊥
   IsDuplicate front (Some p) = IsAccepted front × (is_singleton p ≡ true) × (contains_text (lower p) (map lower front) ≡ true)
 
-  -- the name of the fault: of a singleton that is there already, and of any other by what stands before it
+  -- the name of the fault: of a singleton that is there already, and of any other by what is before it
   abbrev pub IsNamed : ParseError → List Text → Option Text → Type 0
   IsNamed e front place =
       (IsDuplicate front place × (e ≡ DuplicatedExtension))
-      ⊎ ((IsDuplicate front place → ⊥) × (e ≡ name_behind front (list_any is_single front)))
+      ⊎ ((IsDuplicate front place → ⊥) × (e ≡ name_after front (list_any is_single front)))
 
   -- the list has no meaning, and its fault is e
   pub record HasFault (ps : List Text) (e : ParseError) : Type 0 where

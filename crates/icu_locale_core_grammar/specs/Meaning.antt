@@ -28,11 +28,11 @@ keyword_needs_value = false
 abbrev pub field_needs_value : Bool
 field_needs_value = true
 
--- the pieces behind `u`
+-- the pieces after `u`
 abbrev pub MeansUnicode : List Text → UnicodeMeaning → Type 0
 MeansUnicode ps u = MeansHeaded MeansAttributes is_key keyword_needs_value ps u
 
--- the pieces behind `t`
+-- the pieces after `t`
 abbrev pub MeansTransform : List Text → TransformMeaning → Type 0
 MeansTransform ps t = MeansHeaded MeansInner is_field_key field_needs_value ps t
 
@@ -47,7 +47,7 @@ pub data Part : Type 0 where
   transform : TransformMeaning → Part
   other : List Text → Part
 
--- the pieces behind this singleton mean the part
+-- the pieces after this singleton mean the part
 abbrev pub MeansPart : Text → List Text → Part → Type 0
 MeansPart s ps (unicode u) = (is_unicode s ≡ true) × MeansUnicode ps u
 MeansPart s ps (transform t) = (is_transform s ≡ true) × MeansTransform ps t

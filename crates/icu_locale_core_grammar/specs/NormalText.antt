@@ -31,7 +31,7 @@ shown_entry needs e = (e.0, (if has_enough needs e.1 then e.1 else true_text ∷
 abbrev pub entry_pieces : Bool → List Entry → List Text
 entry_pieces needs es = flat_map spelled_entry (map (shown_entry needs) es)
 
--- the pieces behind `u`, and behind `t`
+-- the pieces after `u`, and after `t`
 abbrev pub unicode_pieces : UnicodeMeaning → List Text
 unicode_pieces u = u.head ++ entry_pieces keyword_needs_value u.entries
 

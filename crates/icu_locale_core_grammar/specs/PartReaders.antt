@@ -12,7 +12,7 @@ use Rattle.icu_locale_core_grammar.specs.Stepping.{HeadedStage, headed_after, he
 
 -- ---- extensions, with their singleton
 
--- a singleton, and at least one piece behind it
+-- a singleton, and at least one piece after it
 pub record IsExtension {M : Type 0} (opening : Text → Bool) (Means : List Text → M → Type 0) (ps : List Text) (m : M) : Type 0 where
   pub singleton : Text
   pub body : List Text

@@ -16,7 +16,7 @@ is_hyphen b = b == hyphen
 abbrev pub pieces : Text → List Text
 pieces text = slice_split is_hyphen text
 
--- a piece behind another
+-- a piece after another
 abbrev pub hyphened : Text → Text
 hyphened p = hyphen ∷ p
 

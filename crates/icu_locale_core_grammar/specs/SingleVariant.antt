@@ -9,7 +9,7 @@ use Rattle.icu_locale_core_grammar.specs.Subtags.{Text, is_single, is_singleton,
 use Rattle.icu_locale_core_grammar.specs.LanguagePart.{LanguageId, MeansLanguage}
 use Rattle.icu_locale_core_grammar.specs.Collections.{Entry}
 use Rattle.icu_locale_core_grammar.specs.Meaning.{TagMeaning, no_transform}
-use Rattle.icu_locale_core_grammar.specs.FaultyPiece.{first_piece, name_behind, StopsAt}
+use Rattle.icu_locale_core_grammar.specs.FaultyPiece.{first_piece, name_after, StopsAt}
 use Rattle.icu_locale_core_grammar.specs.TagPreferences.{least_of}
 use Rattle.icu_locale_core_grammar.specs.TagStages.{language_after}
 
@@ -26,7 +26,7 @@ pub record SingleMeaning : Type 0 where
 abbrev pub piece_meaning : Text → Option Text
 piece_meaning v = if is_true v then None else Some (lower v)
 
--- nothing, or `u` with one key and at most one piece behind it
+-- nothing, or `u` with one key and at most one piece after it
 abbrev pub MeansKeyword : List Text → Option (Text × Option Text) → Type 0
 MeansKeyword [] keyword = keyword ≡ None
 MeansKeyword (u ∷ []) keyword = ⊥
@@ -62,7 +62,7 @@ begins_extension (Some p) = is_singleton p
 
 -- the name of the fault: within `u`, or at the singleton of another extension, it is one of the extension
 abbrev pub single_name : List Text → Option Text → ParseError
-single_name front place = name_behind front (list_any is_single front || begins_extension place)
+single_name front place = name_after front (list_any is_single front || begins_extension place)
 
 -- the list has no such meaning, and its fault is e
 pub record HasSingleFault (ps : List Text) (e : ParseError) : Type 0 where
@@ -75,9 +75,9 @@ pub record HasSingleFault (ps : List Text) (e : ParseError) : Type 0 where
 
 pub data SingleStage : Type 0 where
   InLanguage : Option LanguageId → SingleStage
-  BehindUnicode : LanguageId → SingleStage
-  BehindKey : LanguageId → Text → SingleStage
-  BehindValue : LanguageId → Text → Option Text → SingleStage
+  AfterUnicode : LanguageId → SingleStage
+  AfterKey : LanguageId → Text → SingleStage
+  AfterValue : LanguageId → Text → Option Text → SingleStage
 
 -- no second variant
 abbrev pub has_short : List Text → Bool
@@ -91,14 +91,14 @@ kept_short (Some id) = if has_short id.variants then Some (InLanguage (Some id))
 
 abbrev pub after_language : Option LanguageId → Option (Option LanguageId) → Text → Option SingleStage
 after_language l (Some id) p = kept_short id
-after_language (Some id) None p = if is_unicode p then Some (BehindUnicode id) else None
+after_language (Some id) None p = if is_unicode p then Some (AfterUnicode id) else None
 after_language None None p = None
 
 unfoldable pub single_after : SingleStage → Text → Option SingleStage
 single_after (InLanguage l) p = after_language l (language_after l p) p
-single_after (BehindUnicode id) p = if is_key p then Some (BehindKey id (lower p)) else None
-single_after (BehindKey id k) p = if is_value p then Some (BehindValue id k (piece_meaning p)) else None
-single_after (BehindValue id k v) p = None
+single_after (AfterUnicode id) p = if is_key p then Some (AfterKey id (lower p)) else None
+single_after (AfterKey id k) p = if is_value p then Some (AfterValue id k (piece_meaning p)) else None
+single_after (AfterValue id k v) p = None
 
 abbrev pub single_of : LanguageId → Option (Text × Option Text) → SingleMeaning
 single_of id keyword = record { language = id.language; script = id.script; region = id.region; variant = least_of id.variants; keyword = keyword }
@@ -106,13 +106,13 @@ single_of id keyword = record { language = id.language; script = id.script; regi
 abbrev pub single_ends : SingleStage → Option SingleMeaning
 single_ends (InLanguage None) = None
 single_ends (InLanguage (Some id)) = Some (single_of id None)
-single_ends (BehindUnicode id) = None
-single_ends (BehindKey id k) = Some (single_of id (Some (k, None)))
-single_ends (BehindValue id k v) = Some (single_of id (Some (k, v)))
+single_ends (AfterUnicode id) = None
+single_ends (AfterKey id k) = Some (single_of id (Some (k, None)))
+single_ends (AfterValue id k v) = Some (single_of id (Some (k, v)))
 
 abbrev pub single_fault : SingleStage → Option Text → ParseError
 single_fault (InLanguage None) place = InvalidLanguage
 single_fault (InLanguage (Some id)) place = if begins_extension place then InvalidExtension else InvalidSubtag
-single_fault (BehindUnicode id) place = InvalidExtension
-single_fault (BehindKey id k) place = InvalidExtension
-single_fault (BehindValue id k v) place = InvalidExtension
+single_fault (AfterUnicode id) place = InvalidExtension
+single_fault (AfterKey id k) place = InvalidExtension
+single_fault (AfterValue id k v) place = InvalidExtension

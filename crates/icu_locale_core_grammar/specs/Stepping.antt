@@ -57,7 +57,7 @@ headed_ends ends (InEntry h es e full) = if full then Some (record { head = h; e
 
 -- ---- a front, blocks, a private part
 
--- `AtBlock`: a singleton has come; the list is of the earlier ones, in lower case. `InBlock`: at least one piece behind
+-- `AtBlock`: a singleton has come; the list is of the earlier ones, in lower case. `InBlock`: at least one piece after
 -- it
 pub data WholeStage (L I E B : Type 0) : Type 0 where
   InFront : L → WholeStage L I E B
@@ -72,7 +72,7 @@ module _ {L I E B V : Type 0} (step_front : L → Text → Option L) (front_ends
   opened i seen e k None = None
   opened i seen e k (Some b) = Some (AtBlock i seen e k b)
 
-  -- what comes behind a part that may end
+  -- what comes after a part that may end
   abbrev pub next_part : I → List Text → E → Text → Option (WholeStage L I E B)
   next_part i seen e p =
       if is_x p then Some (InPrivate i e [])

@@ -19,7 +19,7 @@ abbrev pub has_none : List Text → Bool
 has_none [] = true
 has_none (t ∷ ts) = false
 
--- a script comes right behind the language, a region before any variant, and a variant that is not there yet anywhere
+-- a script comes right after the language, a region before any variant, and a variant that is not there yet anywhere
 abbrev pub fits_script : LanguageId → Text → Bool
 fits_script id p = (is_none id.script && (is_none id.region && has_none id.variants)) && is_script p
 
@@ -109,7 +109,7 @@ body_ends (InUnicode s) = option_map Part.unicode (unicode_ends s)
 body_ends (InTransform s) = option_map Part.transform (transform_ends s)
 body_ends (InOther own) = option_map Part.other (other_ends own)
 
--- the stage behind a singleton, for all but `x`
+-- the stage after a singleton, for all but `x`
 abbrev pub opens : Text → Option BodyStage
 opens p =
     if is_unicode p then Some (InUnicode (InHead []))
@@ -124,7 +124,7 @@ TagStage = WholeStage (Option LanguageId) LanguageId ExtensionMeanings BodyStage
 abbrev pub tag_start : TagStage
 tag_start = InFront None
 
--- what comes behind a part that may end: `x`, or a singleton that has not come yet
+-- what comes after a part that may end: `x`, or a singleton that has not come yet
 abbrev pub opened_at : LanguageId → List Text → ExtensionMeanings → Text → Option BodyStage → Option TagStage
 opened_at = opened language_after language_ends body_after body_ends opens put_part no_extensions is_private is_private_piece
 

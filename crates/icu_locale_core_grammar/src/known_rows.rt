@@ -46,12 +46,12 @@ pub fn printed_rows()
     ensures field_without_inner { IsPrinted (codes "und-t-h0-hybrid") (codes "und-t-h0-hybrid") }
     // `t` may have only a language part
     ensures inner_without_field { IsPrinted (codes "und-t-de-1996-1994") (codes "und-t-de-1994-1996") }
-    // a private part may come right behind the language
+    // a private part may come right after the language
     ensures private_alone { IsPrinted (codes "en-X-A-12345678") (codes "en-x-a-12345678") }
     // a region may be three digits, and a variant may begin with one
     ensures region_of_digits { IsPrinted (codes "es-419-1ABC") (codes "es-419-1abc") }
-    // a piece of two letters behind a singleton is no region
-    ensures no_region_behind_it { IsPrinted (codes "en-a-us") (codes "en-a-us") }
+    // a piece of two letters after a singleton is no region
+    ensures no_region_after_it { IsPrinted (codes "en-a-us") (codes "en-a-us") }
     // a language may have three letters
     ensures three_letters { IsPrinted (codes "UND") (codes "und") }
 
@@ -82,16 +82,16 @@ pub fn refused_rows()
     ensures repeated_variant_case { IsRefused (codes "de-fonipa-FONIPA") InvalidSubtag }
     // nine characters and more are no subtag
     ensures too_long { IsRefused (codes "en-toolongpiece") InvalidSubtag }
-    // a script behind a region
-    ensures script_behind_region { IsRefused (codes "en-us-latn") InvalidSubtag }
+    // a script after a region
+    ensures script_after_region { IsRefused (codes "en-us-latn") InvalidSubtag }
     // a second region
     ensures second_region { IsRefused (codes "en-us-gb") InvalidSubtag }
-    // a region behind a variant
-    ensures region_behind_variant { IsRefused (codes "en-1996-us") InvalidSubtag }
+    // a region after a variant
+    ensures region_after_variant { IsRefused (codes "en-1996-us") InvalidSubtag }
     // a character that is no letter and no digit
     ensures underscore { IsRefused (codes "en_us") InvalidLanguage }
     // an extension is empty at the end
-    ensures ends_behind_u { IsRefused (codes "en-u") InvalidExtension }
+    ensures ends_after_u { IsRefused (codes "en-u") InvalidExtension }
     // an empty extension, though the piece repeats its singleton
     ensures empty_then_repeated { IsRefused (codes "en-u-u") InvalidExtension }
     // an empty extension, and then another
@@ -101,7 +101,7 @@ pub fn refused_rows()
     // an empty piece within an extension
     ensures empty_piece_within { IsRefused (codes "en-u-nu-") InvalidExtension }
     // a field without a value at the end
-    ensures ends_behind_field { IsRefused (codes "und-t-h0") InvalidExtension }
+    ensures ends_after_field { IsRefused (codes "und-t-h0") InvalidExtension }
     // a field without a value, though the piece repeats a singleton
     ensures field_then_repeated { IsRefused (codes "und-a-foo-t-h0-a-bar") InvalidExtension }
     // a field without a value, and then another
@@ -109,7 +109,7 @@ pub fn refused_rows()
     // a piece that is too long within an extension
     ensures too_long_within { IsRefused (codes "en-a-toolongpiece") InvalidExtension }
     // no private subtag
-    ensures ends_behind_x { IsRefused (codes "en-x") InvalidExtension }
+    ensures ends_after_x { IsRefused (codes "en-x") InvalidExtension }
     // a variant occurs twice within `t`
     ensures repeated_variant_within { IsRefused (codes "und-t-de-1996-1996") InvalidExtension }
     // a second region within `t`
@@ -127,7 +127,7 @@ pub fn refused_rows()
     // a digit occurs twice as a singleton
     ensures repeated_digit { IsRefused (codes "en-1-foo-1-bar") DuplicatedExtension }
     // the first fault counts: the second `a` comes later
-    ensures repeated_behind_fault { IsRefused (codes "en-a-foo-toolongpiece-a-bar") InvalidExtension }
+    ensures repeated_after_fault { IsRefused (codes "en-a-foo-toolongpiece-a-bar") InvalidExtension }
 {}
 
 /// Texts that are language identifiers, and their texts.

@@ -23,7 +23,7 @@ pub fn tags_are_read()
 {}
 
 /// A stage that was reached and does not go on, with the next piece or at the end, names the fault by where that is:
-/// behind `en`, `u` the end is `InvalidExtension`.
+/// after `en`, `u` the end is `InvalidExtension`.
 pub fn stages_name_faults()
     ensures { StagesNameFaults }
 {}

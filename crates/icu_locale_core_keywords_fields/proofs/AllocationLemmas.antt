@@ -15,14 +15,14 @@ module _ (test : Text → Bool) (needs : Bool) (no_value : (t : Text) → test t
   abbrev after : EntriesStage → Text → Option EntriesStage
   after = entries_after test needs
 
-  -- the stage behind a first key
+  -- the stage after a first key
   abbrev opened : Text → EntriesStage
   opened key = InEntry tt [] (lower key, []) (not needs)
 
   abbrev KeepsNone : List Text → Type 0
   KeepsNone ps = begins_entry test needs ps ≡ false
 
-  -- ---- along the pieces behind a first key
+  -- ---- along the pieces after a first key
 
   first_is_key : (p : Text) (s : EntriesStage) → after (InHead tt) p ≡ Some s → (test p ≡ true) × (s ≡ opened p)
   unfolding headed_after

@@ -22,7 +22,7 @@ module _ (es : List Entry) (i : ℕ) (whole : List Entry) where
   pub copying_ends : (m : List Entry) → IsCopying m → length es ≤ i → m ≡ whole
   copying_ends m so_far past = sym (ap (fold put_entry m) (drop_all i es past)) ∙ so_far
 
--- a map whose keys rise, with the entries of another behind it
+-- a map whose keys rise, with the entries of another after it
 pub joined_rising : (winners es slice : List Entry) → Rises (keys_of winners) → slice ≡ es → fold put_entry winners slice ≡ joined_maps winners es
 joined_rising winners es slice rises same =
     ap (fold put_entry winners) same ∙ ap (λ l. fold put_entry l es) (sym (map_of_rising winners rises)) ∙ sym (fold-append put_entry [] winners es)

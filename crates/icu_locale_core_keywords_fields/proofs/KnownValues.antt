@@ -27,14 +27,14 @@ phonebook = (codes "co", codes "phonebk" ∷ [])
 -- ---- memory
 
 -- what is kept of these pieces is nothing
-pub fault_behind_key : begins_entry is_key keyword_needs_value (pieces (codes "nu-toolongpiece")) ≡ false
-fault_behind_key = refl
+pub fault_after_key : begins_entry is_key keyword_needs_value (pieces (codes "nu-toolongpiece")) ≡ false
+fault_after_key = refl
 
-pub empty_behind_key : begins_entry is_key keyword_needs_value (pieces (codes "nu-")) ≡ false
-empty_behind_key = refl
+pub empty_after_key : begins_entry is_key keyword_needs_value (pieces (codes "nu-")) ≡ false
+empty_after_key = refl
 
-pub fault_behind_true : begins_entry is_field_key field_needs_value (pieces (codes "m0-true-toolongpiece")) ≡ false
-fault_behind_true = refl
+pub fault_after_true : begins_entry is_field_key field_needs_value (pieces (codes "m0-true-toolongpiece")) ≡ false
+fault_after_true = refl
 
 pub only_true : keeps_value (pieces (codes "true")) ≡ false
 only_true = refl
@@ -71,7 +71,7 @@ key_taken = refl
 pub no_key_taken : without_key (codes "co") (buddhist ∷ thai ∷ []) ≡ buddhist ∷ thai ∷ []
 no_key_taken = refl
 
--- of equal keys the first map's stands
+-- of equal keys the first map's counts
 pub joined_with : joined_maps (phonebook ∷ latn ∷ []) (buddhist ∷ thai ∷ []) ≡ buddhist ∷ phonebook ∷ latn ∷ []
 joined_with = refl
 
@@ -100,8 +100,8 @@ keyword_without_value = refl
 pub field_without_value : entries_text true ((codes "m0", []) ∷ []) ≡ codes "m0-true"
 field_without_value = refl
 
-pub fields_behind : hyphened_entries true ((codes "h0", codes "hybrid" ∷ []) ∷ (codes "m0", []) ∷ []) ≡ codes "-h0-hybrid-m0-true"
-fields_behind = refl
+pub fields_after : hyphened_entries true ((codes "h0", codes "hybrid" ∷ []) ∷ (codes "m0", []) ∷ []) ≡ codes "-h0-hybrid-m0-true"
+fields_after = refl
 
 pub nothing_shown : entries_text true [] ≡ []
 nothing_shown = refl

@@ -8,7 +8,7 @@ use Rattle.icu_locale_core_grammar.specs.Extensions.{value_meaning, has_enough}
 use Rattle.icu_locale_core_grammar.specs.NormalText.{entry_pieces}
 use Rattle.icu_locale_core_grammar.specs.WellFormed.{IsNormalValue, AreNormalEntries}
 use Rattle.icu_locale_core_grammar.specs.PartReaders.{MeansValue, MeansKeywords, MeansFields, ReadsValue, ReadsKeywords, ReadsFields, listed}
-use Rattle.icu_locale_core_grammar.proofs.PartReaders.{keywords_behind, fields_behind}
+use Rattle.icu_locale_core_grammar.proofs.PartReaders.{keywords_after, fields_after}
 use Rattle.icu_locale_core_grammar.proofs.MeaningsAreNormal.{unicode_normal, transform_normal}
 use Rattle.icu_locale_core_grammar.proofs.PlainPieces.{pieces-joined}
 use Rattle.icu_locale_core_grammar.proofs.PartPlain.{value_is_plain, keywords_are_plain, fields_are_plain, value_back, keywords_back, fields_back}
@@ -58,7 +58,7 @@ value_entry (p ∷ ps) vs false enough a = cc
 
 value_normal : (ps vs : List Text) → MeansValue ps vs → AllByRecursion IsNormalValue vs
 value_normal ps vs a =
-    let normal = unicode_normal _ _ (keywords_behind _ _ (value_entry ps vs (has_enough false ps) refl a)) in
+    let normal = unicode_normal _ _ (keywords_after _ _ (value_entry ps vs (has_enough false ps) refl a)) in
     subst (AllByRecursion IsNormalValue) a.meant normal.keywords.each.0.values
 
 value_text_back : (needs : Bool) (vs : List Text) → AllByRecursion IsNormalValue vs → ReadsValue (value_text needs vs) vs
@@ -92,12 +92,12 @@ fields_text_back (e ∷ es) n =
 
 pub keywords_read_back : KeywordsReadBack
 keywords_read_back = record {
-  normal = λ text es a. (unicode_normal _ _ (keywords_behind (listed text) es a)).keywords;
+  normal = λ text es a. (unicode_normal _ _ (keywords_after (listed text) es a)).keywords;
   back = keywords_text_back;
 }
 
 pub fields_read_back : FieldsReadBack
 fields_read_back = record {
-  normal = λ text es a. (transform_normal _ _ (fields_behind (listed text) es a)).fields;
+  normal = λ text es a. (transform_normal _ _ (fields_after (listed text) es a)).fields;
   back = fields_text_back;
 }

@@ -101,7 +101,7 @@ module _ (key : Text) where
   without_here value es above =
       ap (λ b. cond (not b) ((key, value) ∷ without_key key es) (without_key key es)) (same_text_refl key) ∙ without_above es above
 
-  -- ---- the key stands at place i
+  -- ---- the key is at place i
 
   module _ (es : List Entry) (i : ℕ) (found : IsFoundAt key es i) where
     pub value_found : value_at key es ≡ Some found.value
@@ -135,7 +135,7 @@ module _ (key : Text) where
     pub old_index : (x : Entry) → x ≡ get_or es i x → x.1 ≡ found.value
     old_index x e = ap (λ f. f.1) (e ∙ found.at x)
 
-  -- ---- the key would stand at place i
+  -- ---- the key would be at place i
 
   module _ (es : List Entry) (i : ℕ) (missing : IsMissingAt key es i) where
     split : es ≡ take i es ++ drop i es

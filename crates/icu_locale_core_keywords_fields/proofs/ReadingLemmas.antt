@@ -1,4 +1,4 @@
--- A reading loop: what was taken so far led to the stage, and what is left comes behind.
+-- A reading loop: what was taken so far led to the stage, and what is left comes after.
 use Rattle.std.proofs.Common.{◌≡◌, ◌==◌, Bool, true, false, List, [], ◌∷◌, ◌++◌, Option, None, Some, Result, Ok, Err, length, refl, sym, ap, subst, ◌∙◌, append_assoc}
 use Rattle.std.specs.Prelude.{if◌then◌else◌, MatchOption, MatchResult}
 use Rattle.std.specs.Result.{result_ok}

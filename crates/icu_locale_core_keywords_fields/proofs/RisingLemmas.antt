@@ -31,7 +31,7 @@ keys-set e (f ∷ fs) = by_order (text_cmp e.0 f.0) refl (keys-set e fs)
 pub Rises-set : (e : Entry) (fs : List Entry) → Rises (keys_of fs) → Rises (keys_of (set_entry e fs))
 Rises-set e fs rises = subst Rises (sym (keys-set e fs)) (Rises-insert e.0 (keys_of fs) rises)
 
--- behind a call that sets it, or fails and changes nothing
+-- after a call that sets it, or fails and changes nothing
 pub Rises_either : {T E : Type 0} (r : Result T E) (e : Entry) (es new : List Entry) → Rises (keys_of es) → OnOk r (new ≡ set_entry e es) → OnErr r (new ≡ es) → Rises (keys_of new)
 Rises_either (Ok x) e es new rises set kept = subst (λ l. Rises (keys_of l)) (sym set) (Rises-set e es rises)
 Rises_either (Err x) e es new rises set kept = subst (λ l. Rises (keys_of l)) (sym kept) rises
@@ -71,7 +71,7 @@ Rises-filtered test (e ∷ es) rises = by_test (test e) (Rises-filtered test es 
 pub Rises-without : (key : Text) (es : List Entry) → Rises (keys_of es) → Rises (keys_of (without_key key es))
 Rises-without key es rises = Rises-filtered (λ e. not (same_text key e.0)) es rises
 
--- ---- what stands at a key
+-- ---- what is at a key
 
 module _ (q : Text) where
   -- a key below all keys of a map is not there
@@ -89,15 +89,15 @@ module _ (q : Text) where
       let differs : same_text q f.0 ≡ false = ap (same_text q) (sym (cmp_equal e.0 f.0 tie)) ∙ same in
       sym (ap (λ b. if b then Some f.1 else value_at q fs) differs)
 
-  set_behind : (e f : Entry) (fs : List Entry) (a b : Bool) → same_text q f.0 ≡ a → same_text q e.0 ≡ b → text_cmp e.0 f.0 ≡ Greater
+  set_after : (e f : Entry) (fs : List Entry) (a b : Bool) → same_text q f.0 ≡ a → same_text q e.0 ≡ b → text_cmp e.0 f.0 ≡ Greater
       → value_at q (set_entry e fs) ≡ (if b then Some e.1 else value_at q fs)
       → (if a then Some f.1 else value_at q (set_entry e fs)) ≡ (if b then Some e.1 else (if a then Some f.1 else value_at q fs))
-  set_behind e f fs true true first second order more =
+  set_after e f fs true true first second order more =
       let one : e.0 ≡ f.0 = sym (same_text_equal q e.0 second) ∙ same_text_equal q f.0 first in
       let tie : same_text e.0 f.0 ≡ true = ap (λ k. same_text e.0 k) (sym one) ∙ same_text_refl e.0 in
       let apart : same_text e.0 f.0 ≡ false = texts_ties e.0 f.0 ∙ ap is_eq order in cc
-  set_behind e f fs true false first second order more = refl
-  set_behind e f fs false b first second order more = more
+  set_after e f fs true false first second order more = refl
+  set_after e f fs false b first second order more = more
 
   pub value_at-set : (e : Entry) (fs : List Entry) → value_at q (set_entry e fs) ≡ (if same_text q e.0 then Some e.1 else value_at q fs)
   value_at-set e [] = refl
@@ -107,7 +107,7 @@ module _ (q : Text) where
           → value_at q (match_ordering o (e ∷ f ∷ fs) (e ∷ fs) (f ∷ set_entry e fs)) ≡ (if same_text q e.0 then Some e.1 else value_at q (f ∷ fs))
       by_order Less order more = refl
       by_order Equal order more = set_over e f fs (same_text q e.0) refl order
-      by_order Greater order more = set_behind e f fs (same_text q f.0) (same_text q e.0) refl refl order more
+      by_order Greater order more = set_after e f fs (same_text q f.0) (same_text q e.0) refl refl order more
 
   without_step : (key : Text) (e : Entry) (es : List Entry) (a b c : Bool) → same_text key e.0 ≡ a → same_text q e.0 ≡ b → same_text q key ≡ c
       → value_at q (without_key key es) ≡ (if c then None else value_at q es)

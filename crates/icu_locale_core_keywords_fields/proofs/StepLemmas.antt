@@ -12,7 +12,7 @@ module _ {H K : Type 0} (step : H → Text → Option H) (test : Text → Bool) 
   abbrev StepsFrom : H → Type 0
   StepsFrom head = IsStep (headed_after step ends_anywhere test needs) headed_view (InHead head) p result
 
-  -- a head that refuses the piece stays as it was: so the step behind it is the step of the whole
+  -- a head that refuses the piece stays as it was: so the step after it is the step of the whole
   pub refused_within : (before head : H) (told : Step H) → told ≡ Refused head → IsStep step (λ t. t) before p told
       → ((again : H → Text → Option H) → again head p ≡ None → IsStep (headed_after again ends_anywhere test needs) headed_view (InHead head) p result) → StepsFrom before
   refused_within before head told is taken goes_on =

@@ -16,7 +16,7 @@ use Rattle.icu_locale_core_keywords_fields.specs.Values.{shown_value}
 use Rattle.icu_locale_core_keywords_fields.specs.EntryText.{value_text, hyphened_value, entries_text, hyphened_entries}
 
 module _ (needs : Bool) where
-  -- the first entry, and those behind it
+  -- the first entry, and those after it
   first_entry : (e : Entry) (es : List Entry) → hyphened_entries needs (e ∷ es) ≡ hyphened e.0 ++ (hyphened_value needs e.1 ++ hyphened_entries needs es)
   first_entry e es = ap (λ l. hyphened e.0 ++ l) (flat_map-append hyphened (shown_value needs e.1) (entry_pieces needs es))
 

@@ -10,12 +10,12 @@ abbrev pub keeps_value : List Text → Bool
 keeps_value [] = false
 keeps_value (p ∷ ps) = is_value p && (not (is_true p) || keeps_value ps)
 
--- behind a key: a piece that its value keeps, or where the entry may end its end, comes before the first piece at fault
+-- after a key: a piece that its value keeps, or where the entry may end its end, comes before the first piece at fault
 abbrev pub keeps_entry : (Text → Bool) → Bool → List Text → Bool
 keeps_entry test full [] = full
 keeps_entry test full (p ∷ ps) = if is_value p then not (is_true p) || keeps_entry test true ps else full && test p
 
--- a key comes first, and behind it what is kept; where an entry needs a value, `true` is one
+-- a key comes first, and after it what is kept; where an entry needs a value, `true` is one
 abbrev pub begins_entry : (Text → Bool) → Bool → List Text → Bool
 begins_entry test needs [] = false
 begins_entry test needs (p ∷ ps) = test p && keeps_entry test (not needs) ps

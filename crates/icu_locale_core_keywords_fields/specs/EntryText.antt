@@ -12,7 +12,7 @@ use Rattle.icu_locale_core_keywords_fields.specs.Values.{shown_value}
 abbrev pub value_text : Bool → List Text → Text
 value_text needs vs = joined_text (shown_value needs vs)
 
--- a value behind its key
+-- a value after its key
 abbrev pub hyphened_value : Bool → List Text → Text
 hyphened_value needs vs = flat_map hyphened (shown_value needs vs)
 
@@ -24,6 +24,6 @@ entry_text needs e = e.0 ++ hyphened_value needs e.1
 abbrev pub entries_text : Bool → List Entry → Text
 entries_text needs es = joined_text (entry_pieces needs es)
 
--- a map behind a singleton
+-- a map after a singleton
 abbrev pub hyphened_entries : Bool → List Entry → Text
 hyphened_entries needs es = flat_map hyphened (entry_pieces needs es)

@@ -16,7 +16,7 @@ use icu_locale_core_subtags::{Step, SubtagIterator};
 use std::alloc::Global;
 
 impl<K: EntryKind> EntriesOf<K> {
-    /// The map in this text: keys, each with the pieces of its value behind it; of equal keys the first is kept.
+    /// The map in this text: keys, each with the pieces of its value after it; of equal keys the first is kept.
     ///
     /// `NU-thai-ca-buddhist-nu-latn` has `ca` with `buddhist` and `nu` with `thai`; the empty text is the empty map.
     /// `ParseError::InvalidExtension`: the text is no such list, or a field has no value. `ParseError::Memory`: out of

@@ -1,4 +1,4 @@
-//! Reading a head and entries behind it, piece by piece.
+//! Reading a head and entries after it, piece by piece.
 
 ghost use Rattle.std.specs.Prelude.{◌≡◌, true, false, Some, None, IfOk, IsOk, OnOk, MatchOption, Bool, List, ℕ, Option};
 ghost use Rattle.icu_locale_core_grammar.specs.Subtags.{lower};
@@ -54,7 +54,7 @@ impl HeadReader for NoHead {
     }
 }
 
-/// How far a head and the entries behind it are read. It begins with the stage `InHead` of a head that is not begun.
+/// How far a head and the entries after it are read. It begins with the stage `InHead` of a head that is not begun.
 #[derive(Drop)]
 pub enum HeadedStage<H, K: EntryKind> {
     /// The head is read.
@@ -71,7 +71,7 @@ fn read_key<K: EntryKind>(piece: &[u8]) -> Option<SubtagOf<K, 2>>
     SubtagOf::try_from_utf8(piece).ok()
 }
 
-// The stage behind a head that has ended: the piece opens the first entry, or does not fit.
+// The stage after a head that has ended: the piece opens the first entry, or does not fit.
 #[tactic(auto, unfolding(icu_locale_core_grammar::specs::Stepping::headed_after))]
 fn after_ended_head<H, K: EntryKind>(
     alloc: Global,
@@ -93,7 +93,7 @@ fn after_ended_head<H, K: EntryKind>(
     }
 }
 
-// The stage behind an entry that is read: the piece goes into its value, or opens the next entry, or does not fit.
+// The stage after an entry that is read: the piece goes into its value, or opens the next entry, or does not fit.
 #[tactic(auto, unfolding(icu_locale_core_grammar::specs::Stepping::headed_after))]
 fn after_entry<H: Drop, K: EntryKind>(
     alloc: Global,
@@ -131,8 +131,8 @@ fn after_entry<H: Drop, K: EntryKind>(
 
 /// The stage of a head and entries after a piece, or the stage as it was where the piece does not fit.
 ///
-/// Behind `nu-thai` the piece `latn` goes into the value, `ca` opens the next keyword, and `a` is refused.
-/// `AllocError`: out of memory. A first key does not allocate, nor does a refused piece behind a key.
+/// After `nu-thai` the piece `latn` goes into the value, `ca` opens the next keyword, and `a` is refused.
+/// `AllocError`: out of memory. A first key does not allocate, nor does a refused piece after a key.
 #[tactic(auto, unfolding(icu_locale_core_grammar::specs::Stepping::headed_after))]
 pub fn headed_after<R: HeadReader, K: EntryKind>(
     alloc: Global,

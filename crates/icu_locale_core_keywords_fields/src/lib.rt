@@ -1,7 +1,7 @@
 //! Keywords and fields: maps from keys to values, read, changed and written.
 //!
-//! In `en-u-ca-buddhist-nu-thai` the keywords behind `u` are the map of `ca` to `buddhist` and `nu` to `thai`, and
-//! fields behind `t` have the same form. Both are one type, [`EntriesOf`], over the rule of their keys. The rules are
+//! In `en-u-ca-buddhist-nu-thai` the keywords after `u` are the map of `ca` to `buddhist` and `nu` to `thai`, and
+//! fields after `t` have the same form. Both are one type, [`EntriesOf`], over the rule of their keys. The rules are
 //! in docs/tags.md.
 //!
 //! ```rust

@@ -69,7 +69,7 @@ impl<K: EntryKind> ValueOf<K> {
         Ok(value)
     }
 
-    /// Puts a subtag behind the others, or leaves it out where it is `true`.
+    /// Puts a subtag after the others, or leaves it out where it is `true`.
     ///
     /// `abc` and then `true` and `def` give `abc-def`. `AllocError`: out of memory, and the value is as before.
     pub fn push_subtag(&mut self, subtag: Subtag) -> Result<(), AllocError>

@@ -6,7 +6,7 @@ use Rattle.icu_locale_core_grammar.specs.Stepping.{run}
 use Rattle.icu_locale_core_langid.specs.Allocation.{grows_along}
 
 module _ {S : Type 0} (after : S → Text → Option S) (grows : S → Text → Bool) (ends : S → Bool) where
-  -- a walk that allocates nothing allocates nothing behind the pieces that were taken
+  -- a walk that allocates nothing allocates nothing after the pieces that were taken
   none_behind : (o : Option S) (taken left : List Text) (s : S) → run after o taken ≡ Some s → grows_along after grows ends o (taken ++ left) ≡ false
       → grows_along after grows ends (Some s) left ≡ false
   none_behind None taken left s reached none = cc

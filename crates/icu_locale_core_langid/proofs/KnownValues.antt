@@ -5,7 +5,7 @@ use Rattle.icu_locale_core_grammar.specs.LanguagePart.{LanguageId}
 use Rattle.icu_locale_core_grammar.specs.Pieces.{pieces}
 use Rattle.icu_locale_core_grammar.specs.Stepping.{run}
 use Rattle.icu_locale_core_grammar.specs.TagStages.{with_piece}
-use Rattle.icu_locale_core_grammar.specs.SingleVariant.{SingleStage, InLanguage, BehindUnicode, BehindKey, BehindValue, single_after}
+use Rattle.icu_locale_core_grammar.specs.SingleVariant.{SingleStage, InLanguage, AfterUnicode, AfterKey, AfterValue, single_after}
 use Rattle.icu_locale_core_langid.specs.OneVariant.{one_variant, one_variant_after}
 use Rattle.icu_locale_core_langid.specs.Allocation.{may_grow}
 
@@ -30,29 +30,29 @@ german = one_variant (codes "de") None None (Some (codes "1996"))
 
 -- ---- whole tags
 
-pub keyword : stages (pieces (codes "EN-us-u-NU-Thai")) ≡ Some (BehindValue american (codes "nu") (Some (codes "thai")))
+pub keyword : stages (pieces (codes "EN-us-u-NU-Thai")) ≡ Some (AfterValue american (codes "nu") (Some (codes "thai")))
 unfolding single_after with_piece
 keyword = refl
 
-pub true_is_no_value : stages (pieces (codes "en-u-nu-true")) ≡ Some (BehindValue english (codes "nu") None)
+pub true_is_no_value : stages (pieces (codes "en-u-nu-true")) ≡ Some (AfterValue english (codes "nu") None)
 unfolding single_after with_piece
 true_is_no_value = refl
 
-pub key_alone : stages (pieces (codes "en-u-nu")) ≡ Some (BehindKey english (codes "nu"))
+pub key_alone : stages (pieces (codes "en-u-nu")) ≡ Some (AfterKey english (codes "nu"))
 unfolding single_after with_piece
 key_alone = refl
 
-pub behind_value : stages (pieces (codes "en-u-nu-thai")) ≡ Some (BehindValue english (codes "nu") (Some (codes "thai")))
+pub after_value : stages (pieces (codes "en-u-nu-thai")) ≡ Some (AfterValue english (codes "nu") (Some (codes "thai")))
 unfolding single_after with_piece
-behind_value = refl
+after_value = refl
 
-pub behind_unicode : stages (pieces (codes "en-u")) ≡ Some (BehindUnicode english)
+pub behind_unicode : stages (pieces (codes "en-u")) ≡ Some (AfterUnicode english)
 unfolding single_after with_piece
 behind_unicode = refl
 
-pub behind_variant : stages (pieces (codes "de-1996")) ≡ Some (InLanguage (Some german))
+pub after_variant : stages (pieces (codes "de-1996")) ≡ Some (InLanguage (Some german))
 unfolding single_after with_piece
-behind_variant = refl
+after_variant = refl
 
 pub behind_language : stages (pieces (codes "en")) ≡ Some (InLanguage (Some english))
 unfolding single_after with_piece
@@ -68,11 +68,11 @@ pub no_transform : single_after (InLanguage (Some english)) (codes "t") ≡ None
 unfolding single_after with_piece
 no_transform = refl
 
-pub no_attribute : single_after (BehindUnicode english) (codes "foo") ≡ None
+pub no_attribute : single_after (AfterUnicode english) (codes "foo") ≡ None
 unfolding single_after
 no_attribute = refl
 
-pub no_second : (k : Text) (v : Option Text) (p : Text) → single_after (BehindValue english k v) p ≡ None
+pub no_second : (k : Text) (v : Option Text) (p : Text) → single_after (AfterValue english k v) p ≡ None
 unfolding single_after
 no_second k v p = refl
 
@@ -120,7 +120,7 @@ pub script_and_region : may_grow (pieces (codes "zh-Hant-TW")) ≡ false
 unfolding with_piece
 script_and_region = refl
 
--- a piece at fault stands before the variant
+-- a piece at fault is before the variant
 pub fault_before_variant : may_grow (pieces (codes "de-toolongpiece-1996")) ≡ false
 unfolding with_piece
 fault_before_variant = refl
@@ -129,7 +129,7 @@ pub no_language_before_variant : may_grow (pieces (codes "abcd-1996")) ≡ false
 unfolding with_piece
 no_language_before_variant = refl
 
--- what has the form of a variant stands behind a singleton
+-- what has the form of a variant is after a singleton
 pub value_of_keyword : may_grow (pieces (codes "en-u-ca-buddhist")) ≡ false
 unfolding with_piece
 value_of_keyword = refl
@@ -148,14 +148,14 @@ pub variant_kept : may_grow (pieces (codes "de-1996")) ≡ true
 unfolding with_piece
 variant_kept = refl
 
-pub variant_behind_region : may_grow (pieces (codes "zh-Hant-TW-pinyin")) ≡ true
+pub variant_after_region : may_grow (pieces (codes "zh-Hant-TW-pinyin")) ≡ true
 unfolding with_piece
-variant_behind_region = refl
+variant_after_region = refl
 
 -- a variant is taken before the fault
-pub fault_behind_variant : may_grow (pieces (codes "en-1996-toolongpiece")) ≡ true
+pub fault_after_variant : may_grow (pieces (codes "en-1996-toolongpiece")) ≡ true
 unfolding with_piece
-fault_behind_variant = refl
+fault_after_variant = refl
 
 pub repeated_variant : may_grow (pieces (codes "de-1996-1996")) ≡ true
 unfolding with_piece

@@ -63,13 +63,13 @@ hyphened_ascii : (p : Text) → is_plain p ≡ true → IsAscii (hyphened p)
 hyphened_ascii p is zero = lit< tt
 hyphened_ascii p is (suc k) = plain_ascii p is k
 
-behind_utf8 : (ps : List Text) → Each is_plain ps → IsUtf8 (flat_map hyphened ps)
-behind_utf8 [] each = IsUtf8-nil
-behind_utf8 (p ∷ ps) each = IsUtf8-append (hyphened p) (flat_map hyphened ps) (IsUtf8-from_ascii (hyphened p) (hyphened_ascii p each.0)) (behind_utf8 ps each.1)
+after_utf8 : (ps : List Text) → Each is_plain ps → IsUtf8 (flat_map hyphened ps)
+after_utf8 [] each = IsUtf8-nil
+after_utf8 (p ∷ ps) each = IsUtf8-append (hyphened p) (flat_map hyphened ps) (IsUtf8-from_ascii (hyphened p) (hyphened_ascii p each.0)) (after_utf8 ps each.1)
 
 joined_utf8 : (ps : List Text) → Each is_plain ps → IsUtf8 (joined_text ps)
 joined_utf8 [] each = IsUtf8-nil
-joined_utf8 (p ∷ ps) each = IsUtf8-append p (flat_map hyphened ps) (IsUtf8-from_ascii p (plain_ascii p each.0)) (behind_utf8 ps each.1)
+joined_utf8 (p ∷ ps) each = IsUtf8-append p (flat_map hyphened ps) (IsUtf8-from_ascii p (plain_ascii p each.0)) (after_utf8 ps each.1)
 
 pub plain_utf8 : (text : Text) → Each is_plain (pieces text) → IsUtf8 text
 plain_utf8 text each = subst IsUtf8 (joined-pieces text) (joined_utf8 (pieces text) each)

@@ -57,7 +57,7 @@ pub whole_front : (ps : List Text) (id : LanguageId) (rest : List Text) → Read
 whole_front ps id [] front e = subst (λ l. MeansOneVariant l id) (sym (front.parts ∙ append-nil front.taken)) front.meant
 whole_front ps id (p ∷ rest) front e = cc
 
--- the first piece behind the front is at fault
+-- the first piece after the front is at fault
 pub rest_refused : (ps : List Text) (id : LanguageId) (rest : List Text) → ReadsFront MeansOneVariant ps id rest → has_none rest ≡ false → HasFault MeansOneVariant ps InvalidSubtag
 rest_refused ps id [] front e = cc
 rest_refused ps id (p ∷ rest) front e = record {

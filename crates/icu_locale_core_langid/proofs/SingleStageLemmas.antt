@@ -1,4 +1,4 @@
--- The stages of a tag of one variant and one keyword: behind a language part, and in a loop over the pieces.
+-- The stages of a tag of one variant and one keyword: after a language part, and in a loop over the pieces.
 use Rattle.std.proofs.Common.{◌≡◌, Bool, true, false, List, [], ◌∷◌, ◌++◌, Option, None, Some, refl, sym, ap, ◌∙◌, subst, append_assoc}
 use Rattle.std.specs.Prelude.{if◌then◌else◌}
 use Rattle.std.proofs.lemmas.Bool.{false_from_ne_true}
@@ -7,14 +7,14 @@ use Rattle.icu_locale_core_grammar.specs.Subtags.{Text, is_unicode}
 use Rattle.icu_locale_core_grammar.specs.LanguagePart.{LanguageId}
 use Rattle.icu_locale_core_grammar.specs.Stepping.{run}
 use Rattle.icu_locale_core_grammar.specs.TagStages.{language_after}
-use Rattle.icu_locale_core_grammar.specs.SingleVariant.{SingleMeaning, MeansSingle, HasSingleFault, SingleStage, InLanguage, BehindUnicode, has_short, kept_short, after_language, single_after, single_ends, single_fault}
+use Rattle.icu_locale_core_grammar.specs.SingleVariant.{SingleMeaning, MeansSingle, HasSingleFault, SingleStage, InLanguage, AfterUnicode, has_short, kept_short, after_language, single_after, single_ends, single_fault}
 use Rattle.icu_locale_core_grammar.proofs.SingletonLemmas.{unicode_single}
 use Rattle.icu_locale_core_grammar.proofs.BodyReaders.{language_closed}
 use Rattle.icu_locale_core_grammar.proofs.SingleReader.{single_reader}
 use Rattle.icu_locale_core_grammar.proofs.CallerLemmas.{run_more, none_left, read_whole, single_refused, single_cut}
 use Rattle.icu_locale_core_langid.specs.OneVariant.{kept_one, one_variant_after}
 
--- ---- behind a language part
+-- ---- after a language part
 
 kept_there : (l : Option LanguageId) (o : Option (Option LanguageId)) (p : Text) (next : LanguageId) → kept_one o ≡ Some (Some next) → after_language l o p ≡ Some (InLanguage (Some next))
 kept_there l None p next e = cc
@@ -50,19 +50,19 @@ no_unicode : (id : LanguageId) (p : Text) (m : Option LanguageId) → language_a
 no_unicode id p m e =
     false_from_ne_true (is_unicode p) (λ is. let f : Some m ≡ None = sym e ∙ language_closed (Some id) p (unicode_single p is) in cc)
 
-part_refused : (id : LanguageId) (p : Text) → one_variant_after (Some id) p ≡ None → single_after (InLanguage (Some id)) p ≡ (if is_unicode p then Some (BehindUnicode id) else None)
+part_refused : (id : LanguageId) (p : Text) → one_variant_after (Some id) p ≡ None → single_after (InLanguage (Some id)) p ≡ (if is_unicode p then Some (AfterUnicode id) else None)
 unfolding single_after
 part_refused id p e = by_step (language_after (Some id) p) refl e
   where
-    by_step : (o : Option (Option LanguageId)) → language_after (Some id) p ≡ o → kept_one o ≡ None → after_language (Some id) o p ≡ (if is_unicode p then Some (BehindUnicode id) else None)
+    by_step : (o : Option (Option LanguageId)) → language_after (Some id) p ≡ o → kept_one o ≡ None → after_language (Some id) o p ≡ (if is_unicode p then Some (AfterUnicode id) else None)
     by_step None e none = refl
-    by_step (Some m) e none = long_refused m none ∙ sym (ap (λ b. if b then Some (BehindUnicode id) else None) (no_unicode id p m e))
+    by_step (Some m) e none = long_refused m none ∙ sym (ap (λ b. if b then Some (AfterUnicode id) else None) (no_unicode id p m e))
 
-pub unicode_opened : (id : LanguageId) (p : Text) → one_variant_after (Some id) p ≡ None → is_unicode p ≡ true → single_after (InLanguage (Some id)) p ≡ Some (BehindUnicode id)
-unicode_opened id p e is = part_refused id p e ∙ ap (λ b. if b then Some (BehindUnicode id) else None) is
+pub unicode_opened : (id : LanguageId) (p : Text) → one_variant_after (Some id) p ≡ None → is_unicode p ≡ true → single_after (InLanguage (Some id)) p ≡ Some (AfterUnicode id)
+unicode_opened id p e is = part_refused id p e ∙ ap (λ b. if b then Some (AfterUnicode id) else None) is
 
 pub nothing_opened : (id : LanguageId) (p : Text) → one_variant_after (Some id) p ≡ None → is_unicode p ≡ false → single_after (InLanguage (Some id)) p ≡ None
-nothing_opened id p e is = part_refused id p e ∙ ap (λ b. if b then Some (BehindUnicode id) else None) is
+nothing_opened id p e is = part_refused id p e ∙ ap (λ b. if b then Some (AfterUnicode id) else None) is
 
 -- ---- a loop over the pieces
 

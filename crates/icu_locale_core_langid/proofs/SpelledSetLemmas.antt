@@ -24,8 +24,8 @@ is_among set p = is_variant p && contains_text (lower p) set
 
 -- ---- what a list contains
 
-contains_behind : (q t : Text) (ts : List Text) → contains_text q ts ≡ true → contains_text q (t ∷ ts) ≡ true
-contains_behind q t ts e = or_right (same_text q t) (contains_text q ts) e
+contains_after : (q t : Text) (ts : List Text) → contains_text q ts ≡ true → contains_text q (t ∷ ts) ≡ true
+contains_after q t ts e = or_right (same_text q t) (contains_text q ts) e
 
 contains_cases : (q t : Text) (ts : List Text) → contains_text q (t ∷ ts) ≡ true → (q ≡ t) ⊎ (contains_text q ts ≡ true)
 contains_cases q t ts e = by (same_text q t) refl e
@@ -101,12 +101,12 @@ member_is q (v ∷ vs) normal there = elim (contains_cases q v vs there) [
 every_piece : (f : Text → Bool) (ps : List Text) → ((p : Text) → contains_text (lower p) (map lower ps) ≡ true → f p ≡ true) → list_all f ps ≡ true
 every_piece f [] each = refl
 every_piece f (p ∷ ps) each =
-    and_from (f p) (list_all f ps) (each p (contains_first (lower p) (map lower ps))) (every_piece f ps (λ q e. each q (contains_behind (lower q) (lower p) (map lower ps) e)))
+    and_from (f p) (list_all f ps) (each p (contains_first (lower p) (map lower ps))) (every_piece f ps (λ q e. each q (contains_after (lower q) (lower p) (map lower ps) e)))
 
 every_text : (f : Text → Bool) (vs : List Text) → ((v : Text) → contains_text v vs ≡ true → f v ≡ true) → list_all f vs ≡ true
 every_text f [] each = refl
 every_text f (v ∷ vs) each =
-    and_from (f v) (list_all f vs) (each v (contains_first v vs)) (every_text f vs (λ q e. each q (contains_behind q v vs e)))
+    and_from (f v) (list_all f vs) (each v (contains_first v vs)) (every_text f vs (λ q e. each q (contains_after q v vs e)))
 
 stays_lower : (q : Text) (vs : List Text) → AreLower is_variant vs → contains_text q vs ≡ true → lower q ≡ q
 stays_lower q [] normal there = cc

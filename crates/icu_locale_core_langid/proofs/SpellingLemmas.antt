@@ -13,10 +13,10 @@ use Rattle.icu_locale_core_grammar.specs.TagStages.{language_after, language_end
 use Rattle.icu_locale_core_grammar.proofs.CaseLemmas.{lower_keeps, variant_changed, lower-lower, lowered_twice, lower-title, lower-upper}
 use Rattle.icu_locale_core_grammar.proofs.CaseSteps.{language_ignores, alike_means}
 use Rattle.icu_locale_core_grammar.proofs.LanguageReader.{language_reader}
-use Rattle.icu_locale_core_langid.specs.Spelling.{IsBehind, Takes, SpellsSet}
+use Rattle.icu_locale_core_langid.specs.Spelling.{IsAfter, Takes, SpellsSet}
 use Rattle.icu_locale_core_langid.proofs.SpelledSetLemmas.{is_among, pieces_among, answer_no}
 
--- ---- what is behind is one list
+-- ---- what is after is one list
 
 no_front : (ps : List Text) → map lower ps ≡ [] → ps ≡ []
 no_front [] e = refl
@@ -33,8 +33,8 @@ same_rest (t ∷ ts) (a ∷ front) (b ∷ other) rest left e f g =
     let g : front ++ rest ≡ other ++ left = cc in
     same_rest ts front other rest left e f g
 
-one_behind : (ts ps rest left : List Text) → IsBehind ts ps rest → IsBehind ts ps left → rest ≡ left
-one_behind ts ps rest left a b = same_rest ts a.front b.front rest left a.same b.same (sym a.parts ∙ b.parts)
+one_after : (ts ps rest left : List Text) → IsAfter ts ps rest → IsAfter ts ps left → rest ≡ left
+one_after ts ps rest left a b = same_rest ts a.front b.front rest left a.same b.same (sym a.parts ∙ b.parts)
 
 -- ---- the parts in their order
 
@@ -42,21 +42,21 @@ pub record SpellsParts (ps : List Text) (id : LanguageId) : Type 0 where
   pub second : List Text
   pub third : List Text
   pub last : List Text
-  pub language : IsBehind (id.language ∷ []) ps second
-  pub script : IsBehind (option_to_list id.script) second third
-  pub region : IsBehind (option_to_list id.region) third last
+  pub language : IsAfter (id.language ∷ []) ps second
+  pub script : IsAfter (option_to_list id.script) second third
+  pub region : IsAfter (option_to_list id.region) third last
   pub variants : SpellsSet last id.variants
 
 -- what means the identifier spells its parts
-script_behind : (written script : Option Text) (rest : List Text) → option_map title written ≡ script → IsBehind (option_to_list script) (option_to_list written ++ rest) rest
-script_behind None script rest e = subst (λ s. IsBehind (option_to_list s) rest rest) e (record { front = []; parts = refl; same = refl })
-script_behind (Some q) script rest e =
-    subst (λ s. IsBehind (option_to_list s) (q ∷ rest) rest) e (record { front = q ∷ []; parts = refl; same = ap (λ t. t ∷ []) (sym (lower-title q)) })
+script_after : (written script : Option Text) (rest : List Text) → option_map title written ≡ script → IsAfter (option_to_list script) (option_to_list written ++ rest) rest
+script_after None script rest e = subst (λ s. IsAfter (option_to_list s) rest rest) e (record { front = []; parts = refl; same = refl })
+script_after (Some q) script rest e =
+    subst (λ s. IsAfter (option_to_list s) (q ∷ rest) rest) e (record { front = q ∷ []; parts = refl; same = ap (λ t. t ∷ []) (sym (lower-title q)) })
 
-region_behind : (written region : Option Text) (rest : List Text) → option_map upper written ≡ region → IsBehind (option_to_list region) (option_to_list written ++ rest) rest
-region_behind None region rest e = subst (λ s. IsBehind (option_to_list s) rest rest) e (record { front = []; parts = refl; same = refl })
-region_behind (Some q) region rest e =
-    subst (λ s. IsBehind (option_to_list s) (q ∷ rest) rest) e (record { front = q ∷ []; parts = refl; same = ap (λ t. t ∷ []) (sym (lower-upper q)) })
+region_after : (written region : Option Text) (rest : List Text) → option_map upper written ≡ region → IsAfter (option_to_list region) (option_to_list written ++ rest) rest
+region_after None region rest e = subst (λ s. IsAfter (option_to_list s) rest rest) e (record { front = []; parts = refl; same = refl })
+region_after (Some q) region rest e =
+    subst (λ s. IsAfter (option_to_list s) (q ∷ rest) rest) e (record { front = q ∷ []; parts = refl; same = ap (λ t. t ∷ []) (sym (lower-upper q)) })
 
 pub means_spells : (ps : List Text) (id : LanguageId) → MeansLanguage ps id → SpellsParts ps id
 means_spells ps id a =
@@ -67,8 +67,8 @@ means_spells ps id a =
       third = option_to_list w.region ++ w.variants;
       last = w.variants;
       language = record { front = w.language ∷ []; parts = sym a.parts; same = ap (λ t. t ∷ []) (sym (lower-lower w.language) ∙ ap lower language) };
-      script = script_behind w.script id.script (option_to_list w.region ++ w.variants) (ap (λ i. i.script) a.meant);
-      region = region_behind w.region id.region w.variants (ap (λ i. i.region) a.meant);
+      script = script_after w.script id.script (option_to_list w.region ++ w.variants) (ap (λ i. i.script) a.meant);
+      region = region_after w.region id.region w.variants (ap (λ i. i.region) a.meant);
       variants = record { apart = a.sound.apart; same = ap (λ i. i.variants) a.meant };
     }
 
@@ -123,31 +123,31 @@ spells_means ps id normal s =
 
 -- ---- where one part is not there
 
-pub no_language : (ps : List Text) (id : LanguageId) → ((rest : List Text) → IsBehind (id.language ∷ []) ps rest → ⊥) → MeansLanguage ps id → ⊥
+pub no_language : (ps : List Text) (id : LanguageId) → ((rest : List Text) → IsAfter (id.language ∷ []) ps rest → ⊥) → MeansLanguage ps id → ⊥
 no_language ps id none a = let s = means_spells ps id a in none s.second s.language
 
-pub no_script : (ps second : List Text) (id : LanguageId) → IsBehind (id.language ∷ []) ps second → ((rest : List Text) → IsBehind (option_to_list id.script) second rest → ⊥) → MeansLanguage ps id → ⊥
+pub no_script : (ps second : List Text) (id : LanguageId) → IsAfter (id.language ∷ []) ps second → ((rest : List Text) → IsAfter (option_to_list id.script) second rest → ⊥) → MeansLanguage ps id → ⊥
 no_script ps second id language none a =
     let s = means_spells ps id a in
-    none s.third (subst (λ l. IsBehind (option_to_list id.script) l s.third) (one_behind (id.language ∷ []) ps s.second second s.language language) s.script)
+    none s.third (subst (λ l. IsAfter (option_to_list id.script) l s.third) (one_after (id.language ∷ []) ps s.second second s.language language) s.script)
 
--- what is behind the script, where the first two are there
-third_is : (ps second third : List Text) (id : LanguageId) (s : SpellsParts ps id) → IsBehind (id.language ∷ []) ps second → IsBehind (option_to_list id.script) second third → s.third ≡ third
+-- what is after the script, where the first two are there
+third_is : (ps second third : List Text) (id : LanguageId) (s : SpellsParts ps id) → IsAfter (id.language ∷ []) ps second → IsAfter (option_to_list id.script) second third → s.third ≡ third
 third_is ps second third id s language script =
-    one_behind (option_to_list id.script) second s.third third
-    (subst (λ l. IsBehind (option_to_list id.script) l s.third) (one_behind (id.language ∷ []) ps s.second second s.language language) s.script) script
+    one_after (option_to_list id.script) second s.third third
+    (subst (λ l. IsAfter (option_to_list id.script) l s.third) (one_after (id.language ∷ []) ps s.second second s.language language) s.script) script
 
-pub no_region : (ps second third : List Text) (id : LanguageId) → IsBehind (id.language ∷ []) ps second → IsBehind (option_to_list id.script) second third
-    → ((rest : List Text) → IsBehind (option_to_list id.region) third rest → ⊥) → MeansLanguage ps id → ⊥
+pub no_region : (ps second third : List Text) (id : LanguageId) → IsAfter (id.language ∷ []) ps second → IsAfter (option_to_list id.script) second third
+    → ((rest : List Text) → IsAfter (option_to_list id.region) third rest → ⊥) → MeansLanguage ps id → ⊥
 no_region ps second third id language script none a =
     let s = means_spells ps id a in
-    none s.last (subst (λ l. IsBehind (option_to_list id.region) l s.last) (third_is ps second third id s language script) s.region)
+    none s.last (subst (λ l. IsAfter (option_to_list id.region) l s.last) (third_is ps second third id s language script) s.region)
 
-pub last_spells : (ps second third last : List Text) (id : LanguageId) → IsBehind (id.language ∷ []) ps second → IsBehind (option_to_list id.script) second third
-    → IsBehind (option_to_list id.region) third last → MeansLanguage ps id → SpellsSet last id.variants
+pub last_spells : (ps second third last : List Text) (id : LanguageId) → IsAfter (id.language ∷ []) ps second → IsAfter (option_to_list id.script) second third
+    → IsAfter (option_to_list id.region) third last → MeansLanguage ps id → SpellsSet last id.variants
 last_spells ps second third last id language script region a =
     let s = means_spells ps id a in
-    let same : s.last ≡ last = one_behind (option_to_list id.region) third s.last last (subst (λ l. IsBehind (option_to_list id.region) l s.last) (third_is ps second third id s language script) s.region) region in
+    let same : s.last ≡ last = one_after (option_to_list id.region) third s.last last (subst (λ l. IsAfter (option_to_list id.region) l s.last) (third_is ps second third id s language script) s.region) region in
     subst (λ l. SpellsSet l id.variants) same s.variants
 
 -- ---- taking one piece
@@ -161,7 +161,7 @@ piece_taken true p t w ps rest first is both = record { front = p ∷ []; parts 
 piece_taken false p t w ps rest first is both =
     λ left b. false≢true (both.1 (front_differs p t rest left b.front (sym first ∙ b.parts) b.same ∙ ap lower (sym is)))
 
-pub none_taken : (t : Text) (ps left : List Text) → ps ≡ [] → IsBehind (t ∷ []) ps left → ⊥
+pub none_taken : (t : Text) (ps left : List Text) → ps ≡ [] → IsAfter (t ∷ []) ps left → ⊥
 none_taken t ps left past b = by b.front (sym past ∙ b.parts) b.same
   where
     by : (front : List Text) → [] ≡ front ++ left → map lower front ≡ lower t ∷ [] → ⊥
@@ -176,8 +176,8 @@ moved from ps held id e f a = subst (λ l. MeansLanguage l held) (sym e) (subst 
 pub answers_no : (from ps : List Text) (held id : LanguageId) → from ≡ ps → held ≡ id → (MeansLanguage from held → ⊥) → IsTrue false ↔ MeansLanguage ps id
 answers_no from ps held id e f none = answer_no (λ a. none (moved from ps held id e f a))
 
-pub answers_last : (from ps second third last : List Text) (held id : LanguageId) (r : Bool) → from ≡ ps → held ≡ id → IsNormalLanguage id → IsBehind (held.language ∷ []) from second
-    → IsBehind (option_to_list held.script) second third → IsBehind (option_to_list held.region) third last → IsTrue r ↔ SpellsSet last held.variants → IsTrue r ↔ MeansLanguage ps id
+pub answers_last : (from ps second third last : List Text) (held id : LanguageId) (r : Bool) → from ≡ ps → held ≡ id → IsNormalLanguage id → IsAfter (held.language ∷ []) from second
+    → IsAfter (option_to_list held.script) second third → IsAfter (option_to_list held.region) third last → IsTrue r ↔ SpellsSet last held.variants → IsTrue r ↔ MeansLanguage ps id
 answers_last from ps second third last held id r e f normal language script region both = (
   (λ yes. subst (λ l. MeansLanguage l id) e (subst (MeansLanguage from) f
       (spells_means from held (subst IsNormalLanguage (sym f) normal) (record { second = second; third = third; last = last; language = language; script = script; region = region; variants = both.0 yes })))),

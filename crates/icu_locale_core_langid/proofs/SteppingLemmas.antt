@@ -6,7 +6,7 @@ use Rattle.icu_locale_core_grammar.specs.LanguagePart.{LanguageId}
 use Rattle.icu_locale_core_grammar.specs.TagStages.{fits_script, fits_region, fits_variant, with_script, with_region, with_variant, with_piece, only_language, language_after}
 use Rattle.icu_locale_core_grammar.specs.Stepping.{run}
 use Rattle.icu_locale_core_grammar.proofs.CallerLemmas.{run_more}
-use Rattle.icu_locale_core_langid.specs.LanguageStep.{StopsBehind, StopsWith}
+use Rattle.icu_locale_core_langid.specs.LanguageStep.{StopsAfter, StopsWith}
 
 pub failed : (b : Bool) (t : Text) → None ≡ (if b then Some t else None) → b ≡ false
 failed true t e = cc
@@ -38,20 +38,20 @@ one_more_taken step ps left more s t p took first next =
     (took.0 ++ p ∷ [], took.1 ∙ ap (λ l. took.0 ++ l) first ∙ sym (append_assoc took.0 (p ∷ []) more), run_more step None s t took.0 p took.2 next)
 
 -- the steps took these pieces from the stage `was`, and reached the stage `now`
-abbrev pub TookBehind : LanguageId → List Text → LanguageId → List Text → Type 0
-TookBehind was ps now left = (taken : List Text) × (ps ≡ taken ++ left) × (run language_after (Some (Some was)) taken ≡ Some (Some now))
+abbrev pub TookAfter : LanguageId → List Text → LanguageId → List Text → Type 0
+TookAfter was ps now left = (taken : List Text) × (ps ≡ taken ++ left) × (run language_after (Some (Some was)) taken ≡ Some (Some now))
 
-pub one_more_behind : (was now new : LanguageId) (ps left more : List Text) (p : Text) → TookBehind was ps now left → left ≡ p ∷ more
-    → with_piece now p ≡ Some new → TookBehind was ps new more
-one_more_behind was now new ps left more p took first next = (
+pub one_more_after : (was now new : LanguageId) (ps left more : List Text) (p : Text) → TookAfter was ps now left → left ≡ p ∷ more
+    → with_piece now p ≡ Some new → TookAfter was ps new more
+one_more_after was now new ps left more p took first next = (
   took.0 ++ p ∷ [],
   took.1 ∙ ap (λ l. took.0 ++ l) first ∙ sym (append_assoc took.0 (p ∷ []) more),
   run_more language_after (Some was) (Some now) (Some new) took.0 p took.2 (ap (option_map Some) next),
 )
 
--- behind a language the steps go on from it alone
+-- after a language the steps go on from it alone
 pub stops_in_front : (ps more rest : List Text) (p : Text) (was now : LanguageId) → ps ≡ p ∷ more → is_language p ≡ true → was ≡ only_language p
-    → StopsBehind was more now rest → StopsWith ps (Some now) rest
+    → StopsAfter was more now rest → StopsWith ps (Some now) rest
 stops_in_front ps more rest p was now first is alone stops = record {
   taken = p ∷ stops.taken;
   parts = first ∙ ap (λ l. p ∷ l) stops.parts;

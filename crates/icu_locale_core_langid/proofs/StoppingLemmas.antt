@@ -46,7 +46,7 @@ front_left ps id rest s =
     subst (λ l. ReadsFront MeansLanguage l id rest) (sym s.parts)
     (front_read language_reader s.taken rest (Some id) id s.reached refl (stuck_first (Some id) rest s.stuck))
 
--- ---- what stands before a single character
+-- ---- what is before a single character
 
 take_next : (p : Text) (n : ℕ) (rest : List Text) → take (1 + n) (p ∷ rest) ≡ p ∷ take n rest
 take_next p n rest = let e : 1 + n ≡ suc n = omega arith in ap (λ m. take m (p ∷ rest)) e

@@ -17,7 +17,7 @@ abbrev pub grows_at : Option LanguageId → Text → Bool
 grows_at None p = false
 grows_at (Some id) p = fits_variant id p
 
--- behind this stage of a language part a variant is taken
+-- after this stage of a language part a variant is taken
 abbrev pub grows_from : Option LanguageId → List Text → Bool
 grows_from l ps = grows_along language_after grows_at (λ m. false) (Some l) ps
 

@@ -19,13 +19,13 @@ pub record StopsWith (ps : List Text) (s : Option LanguageId) (rest : List Text)
   pub reached : run language_after (Some None) taken ≡ Some s
   pub stuck : IsStuck s rest
 
--- one more piece behind a language: the stage behind it where it fits, and else the stage as it was
+-- one more piece after a language: the stage after it where it fits, and else the stage as it was
 abbrev pub PutsPiece : LanguageId → Text → LanguageId → Bool → Type 0
 PutsPiece was p now true = with_piece was p ≡ Some now
 PutsPiece was p now false = (with_piece was p ≡ None) × (now ≡ was)
 
 -- the steps from the stage `was` took all but `rest`, and stopped there at the stage `now`
-pub record StopsBehind (was : LanguageId) (ps : List Text) (now : LanguageId) (rest : List Text) : Type 0 where
+pub record StopsAfter (was : LanguageId) (ps : List Text) (now : LanguageId) (rest : List Text) : Type 0 where
   pub taken : List Text
   pub parts : ps ≡ taken ++ rest
   pub reached : run language_after (Some (Some was)) taken ≡ Some (Some now)

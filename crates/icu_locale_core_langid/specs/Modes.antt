@@ -23,7 +23,7 @@ HasFaultInMode LanguageIdentifier ps e = HasFault MeansLanguage ps e
 HasFaultInMode Locale ps e = HasFault MeansLanguage (before_single ps) e
 HasFaultInMode Partial ps e = HasFault MeansLanguage ps e × (e ≡ InvalidLanguage)
 
--- the mode may leave these pieces behind a language identifier
+-- the mode may leave these pieces after a language identifier
 abbrev pub may_leave : ParserMode → List Text → Bool
 may_leave mode [] = true
 may_leave LanguageIdentifier (p ∷ rest) = false

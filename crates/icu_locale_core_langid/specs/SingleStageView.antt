@@ -6,16 +6,16 @@ use Rattle.std.specs.declared.result.Result.{Result}
 use Rattle.std.specs.declared.result.Result.TheVariants.{Ok, Err}
 use Rattle.icu_locale_core_grammar.specs.declared.error.ParseError.{ParseError}
 use Rattle.icu_locale_core_grammar.specs.Subtags.{Text}
-use Rattle.icu_locale_core_grammar.specs.SingleVariant.{SingleStage, InLanguage, BehindUnicode, BehindKey, BehindValue, single_after, single_fault}
+use Rattle.icu_locale_core_grammar.specs.SingleVariant.{SingleStage, InLanguage, AfterUnicode, AfterKey, AfterValue, single_after, single_fault}
 use Rattle.icu_locale_core_langid.specs.OneVariant.{parts_id}
 use Rattle.icu_locale_core_langid.specs.declared.single.stage.Stage.{Stage}
 use Rattle.icu_locale_core_langid.specs.declared.single.stage.Stage.TheVariants as code
 
 abbrev pub stage_view : Stage → SingleStage
 stage_view (code.InLanguage parts) = InLanguage (option_map parts_id parts)
-stage_view (code.BehindUnicode parts) = BehindUnicode (parts_id parts)
-stage_view (code.BehindKey parts key) = BehindKey (parts_id parts) key
-stage_view (code.BehindValue parts key value) = BehindValue (parts_id parts) key value
+stage_view (code.AfterUnicode parts) = AfterUnicode (parts_id parts)
+stage_view (code.AfterKey parts key) = AfterKey (parts_id parts) key
+stage_view (code.AfterValue parts key value) = AfterValue (parts_id parts) key value
 
 -- the stage after the piece p, or the fault of the stage at that piece
 abbrev pub GoesOn : SingleStage → Text → Result Stage ParseError → Type 0

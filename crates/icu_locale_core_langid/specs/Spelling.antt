@@ -6,16 +6,16 @@ use Rattle.icu_locale_core_grammar.specs.Subtags.{Text, is_variant, lower}
 use Rattle.icu_locale_core_grammar.specs.Collections.{AreApart, contains_text, set_of}
 use Rattle.icu_locale_core_subtag_lists.specs.SubtagSets.{IsSubtagSet}
 
--- the pieces begin with these texts but for case, and `rest` is behind them
-pub record IsBehind (ts ps rest : List Text) : Type 0 where
+-- the pieces begin with these texts but for case, and `rest` is after them
+pub record IsAfter (ts ps rest : List Text) : Type 0 where
   pub front : List Text
   pub parts : ps ≡ front ++ rest
   pub same : map lower front ≡ map lower ts
 
 -- the result of a call that takes these texts from the pieces
 abbrev pub Takes : Bool → List Text → List Text → List Text → Type 0
-Takes true ts ps left = IsBehind ts ps left
-Takes false ts ps left = (rest : List Text) → IsBehind ts ps rest → ⊥
+Takes true ts ps left = IsAfter ts ps left
+Takes false ts ps left = (rest : List Text) → IsAfter ts ps rest → ⊥
 
 -- these pieces are apart, and the set of them is given
 pub record SpellsSet (ps set : List Text) : Type 0 where

@@ -43,7 +43,7 @@ impl Model for LanguageStage {
 }
 
 impl LanguageStage {
-    /// The stage behind this language: of `en` it is `en`. It does not allocate.
+    /// The stage after this language: of `en` it is `en`. It does not allocate.
     pub fn from_language(alloc: Global, language: Language) -> Self
         ensures { result ≡ with_parts language None None [] }
     {
@@ -55,7 +55,7 @@ impl LanguageStage {
         }
     }
 
-    /// The identifier of the pieces so far: behind `en`, `us` it is `en-US`. It does not allocate.
+    /// The identifier of the pieces so far: after `en`, `us` it is `en-US`. It does not allocate.
     pub fn settled(self) -> LanguageIdentifier
         ensures { result ≡ self }
     {

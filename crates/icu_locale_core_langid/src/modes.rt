@@ -8,8 +8,8 @@
 pub enum ParserMode {
     /// All pieces; a single character is an error.
     LanguageIdentifier,
-    /// The pieces before the first single character, which is left with all behind it.
+    /// The pieces before the first single character, which is left with all after it.
     Locale,
-    /// The longest front that is a language identifier; the first piece that does not fit is left with all behind it.
+    /// The longest front that is a language identifier; the first piece that does not fit is left with all after it.
     Partial,
 }

@@ -17,7 +17,7 @@ use icu_locale_core_subtags::{Language, Region, Script, SubtagIterator, Variant}
 /// Those of `de-DE-1996` are `de`, no script, `DE` and `1996`. They need no allocation.
 pub type OneVariantParts = (Language, Option<Script>, Option<Region>, Option<Variant>);
 
-// The script that the piece is, right behind the language.
+// The script that the piece is, right after the language.
 fn next_script(parts: &OneVariantParts, piece: &[u8]) -> Option<Script>
     ensures { result ≡ (if fits_script (parts_id parts.now) piece.now then Some (title piece.now) else None) }
 {
@@ -79,7 +79,7 @@ fn parts_after(parts: &OneVariantParts, piece: &[u8]) -> Option<OneVariantParts>
 
 /// The step that the readers of one variant share: the parts with one more piece, where `None` means no part yet.
 ///
-/// `None` and `de` give `de`; behind it `DE` gives `de-DE`, and behind `de-1996` the second variant `fonipa` gives
+/// `None` and `de` give `de`; after it `DE` gives `de-DE`, and after `de-1996` the second variant `fonipa` gives
 /// `None`, as any piece that does not fit there. It does not allocate. Source: UTS 35, section 3.1.
 pub fn one_variant_step(parts: &Option<OneVariantParts>, piece: &[u8]) -> Option<OneVariantParts>
     ensures { MatchOption result (one_variant_after (option_map parts_id parts.now) piece.now ≡ None)
@@ -94,7 +94,7 @@ pub fn one_variant_step(parts: &Option<OneVariantParts>, piece: &[u8]) -> Option
     }
 }
 
-// The fault where no piece fits behind these.
+// The fault where no piece fits after these.
 fn fault_of(parts: &Option<OneVariantParts>) -> ParseError
     ensures { result ≡ language_fault (option_map parts_id parts.now) }
 {

@@ -4,7 +4,7 @@ ghost use Rattle.std.specs.Prelude.{◌≡◌, ◌⊎◌, ℕ, false, List, [], 
 ghost use Rattle.std.specs.Result.{IsErrOf};
 ghost use Rattle.icu_locale_core_grammar.specs.declared.error.ParseError.{ParseError};
 ghost use Rattle.icu_locale_core_grammar.specs.Pieces.{pieces};
-ghost use Rattle.icu_locale_core_langid.specs.LanguageStep.{StopsBehind, StopsWith};
+ghost use Rattle.icu_locale_core_langid.specs.LanguageStep.{StopsAfter, StopsWith};
 ghost use Rattle.icu_locale_core_langid.specs.Modes.{ReadsInMode, HasFaultInMode, may_leave};
 ghost use Rattle.icu_locale_core_langid.specs.Allocation.{grows_from, may_grow};
 
@@ -16,7 +16,7 @@ use icu_locale_core_grammar::ParseError;
 use icu_locale_core_subtags::{Language, SubtagIterator};
 use std::alloc::{AllocError, Global};
 
-// The next piece, and the pieces behind it.
+// The next piece, and the pieces after it.
 fn next_piece<'a>(from: &SubtagIterator<'a>) -> Option<(&'a [u8], SubtagIterator<'a>)>
     ensures { MatchOption result (from.now ≡ []) (λ next. from.now ≡ next.0.now ∷ next.1) }
 {
@@ -29,7 +29,7 @@ fn put_pieces<'a>(
     id: &mut LanguageStage,
     from: SubtagIterator<'a>,
 ) -> Result<SubtagIterator<'a>, AllocError>
-    ensures stops { IfOk result (StopsBehind id.old from.entry id.new) }
+    ensures stops { IfOk result (StopsAfter id.old from.entry id.new) }
     ensures room { grows_from (Some id.old) from.entry ≡ false → IsOk result }
 {
     let mut rest = from;

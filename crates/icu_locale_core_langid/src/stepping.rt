@@ -11,7 +11,7 @@ use crate::language_stage::LanguageStage;
 use icu_locale_core_subtags::{Language, Region, Script, Step, Variant};
 use std::alloc::{AllocError, Global};
 
-// The script that the piece is, right behind the language.
+// The script that the piece is, right after the language.
 fn fitting_script(id: &LanguageStage, piece: &[u8]) -> Option<Script>
     ensures { result ≡ (if fits_script id.now piece.now then Some (title piece.now) else None) }
 {
@@ -91,7 +91,7 @@ fn piece_after(id: LanguageStage, piece: &[u8]) -> Result<Step<LanguageStage>, A
 
 /// The language part with one more piece, `None` before its first piece; a piece that does not fit leaves it as it was.
 ///
-/// Behind `en` the piece `us` gives `en-US`, and the piece `u` does not fit. `AllocError`: out of memory. It allocates
+/// After `en` the piece `us` gives `en-US`, and the piece `u` does not fit. `AllocError`: out of memory. It allocates
 /// only for one more variant.
 pub fn language_after(
     alloc: Global,

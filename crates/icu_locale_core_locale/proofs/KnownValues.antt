@@ -7,22 +7,22 @@ use Rattle.icu_locale_core_locale.specs.Allocation.{tag_may_grow}
 
 -- ---- no memory
 
--- a singleton alone, and a piece at fault right behind it
+-- a singleton alone, and a piece at fault right after it
 pub singleton_alone : tag_may_grow (pieces (codes "en-u")) ≡ false
 unfolding whole_after headed_after body_after with_piece
 singleton_alone = refl
 
-pub fault_behind_singleton : tag_may_grow (pieces (codes "en-u-toolongpiece")) ≡ false
+pub fault_after_singleton : tag_may_grow (pieces (codes "en-u-toolongpiece")) ≡ false
 unfolding whole_after headed_after body_after with_piece
-fault_behind_singleton = refl
+fault_after_singleton = refl
 
 pub private_alone : tag_may_grow (pieces (codes "en-x")) ≡ false
 unfolding whole_after headed_after body_after with_piece
 private_alone = refl
 
-pub singleton_behind_singleton : tag_may_grow (pieces (codes "en-a-b")) ≡ false
+pub singleton_after_singleton : tag_may_grow (pieces (codes "en-a-b")) ≡ false
 unfolding whole_after headed_after body_after with_piece
-singleton_behind_singleton = refl
+singleton_after_singleton = refl
 
 -- a language of `t`, and a key of `t` without a value
 pub inner_language : tag_may_grow (pieces (codes "en-t-de-Latn")) ≡ false
@@ -33,11 +33,11 @@ pub field_without_value : tag_may_grow (pieces (codes "en-t-de-k0")) ≡ false
 unfolding whole_after headed_after body_after with_piece
 field_without_value = refl
 
-pub behind_inner_language : tag_may_grow (pieces (codes "en-t-de-u")) ≡ false
+pub after_inner_language : tag_may_grow (pieces (codes "en-t-de-u")) ≡ false
 unfolding whole_after headed_after body_after with_piece
-behind_inner_language = refl
+after_inner_language = refl
 
--- a piece at fault stands before what would want memory
+-- a piece at fault is before what would want memory
 pub fault_before_variant : tag_may_grow (pieces (codes "de-toolongpiece-1996")) ≡ false
 unfolding whole_after headed_after body_after with_piece
 fault_before_variant = refl
@@ -46,10 +46,10 @@ pub fault_before_extension : tag_may_grow (pieces (codes "de-toolongpiece-u-ca-b
 unfolding whole_after headed_after body_after with_piece
 fault_before_extension = refl
 
--- a piece at fault behind a keyword, which is then not kept
-pub fault_behind_keyword : tag_may_grow (pieces (codes "en-u-nu-toolongpiece")) ≡ false
+-- a piece at fault after a keyword, which is then not kept
+pub fault_after_keyword : tag_may_grow (pieces (codes "en-u-nu-toolongpiece")) ≡ false
 unfolding whole_after headed_after body_after with_piece
-fault_behind_keyword = refl
+fault_after_keyword = refl
 
 -- ---- memory
 
@@ -74,6 +74,6 @@ unfolding whole_after headed_after body_after with_piece
 variant_kept = refl
 
 -- memory is wanted before the fault
-pub fault_behind_value : tag_may_grow (pieces (codes "en-u-ca-buddhist-toolongpiece")) ≡ true
+pub fault_after_value : tag_may_grow (pieces (codes "en-u-ca-buddhist-toolongpiece")) ≡ true
 unfolding whole_after headed_after body_after with_piece
-fault_behind_value = refl
+fault_after_value = refl

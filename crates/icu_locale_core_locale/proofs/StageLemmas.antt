@@ -1,4 +1,4 @@
--- A part that has ended goes on with what comes behind it.
+-- A part that has ended goes on with what comes after it.
 use Rattle.std.proofs.Common.{◌≡◌, ◌<◌, ℕ, Bool, true, false, not, ◌&&◌, ◌||◌, List, [], ◌∷◌, ◌++◌, length, Option, None, Some, sym, refl, ap, ◌∙◌, subst}
 use Rattle.std.specs.Prelude.{is_some, if◌then◌else◌}
 use Rattle.std.proofs.lemmas.Bool.{or_parts, false≢true}
@@ -89,7 +89,7 @@ pub body_small : (id : LanguageId) (seen : List ℕ) (e : ExtensionMeanings) (b 
 body_small id seen e b true p none = (or_parts (body_grows_at (body_view b) p) (is_singleton p && body_keeps (body_view b)) none).0
 body_small id seen e b false p none = none
 
--- nor, behind a first piece, for its end, where the piece may end it
+-- nor, after a first piece, for its end, where the piece may end it
 pub end_small : (id : LanguageId) (seen : List ℕ) (e : ExtensionMeanings) (b : code.BodyStage) (filled : Bool) (p : Text) → filled ≡ true → tag_grows_at (block_view id seen e b filled) p ≡ false
     → (is_singleton p && body_keeps (body_view b)) ≡ false
 end_small id seen e b true p is none = (or_parts (body_grows_at (body_view b) p) (is_singleton p && body_keeps (body_view b)) none).1

@@ -49,7 +49,7 @@ impl SubdivisionId {
         SubdivisionId { region, suffix }
     }
 
-    /// The subdivision that the text spells: a region, and 1 to 4 letters and digits behind it.
+    /// The subdivision that the text spells: a region, and 1 to 4 letters and digits after it.
     ///
     /// `USTX` is region `US` and suffix `tx`, `419abc` region `419` and suffix `abc`. Any other text is
     /// `InvalidExtension`. It does not allocate.

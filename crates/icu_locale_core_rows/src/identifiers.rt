@@ -29,26 +29,26 @@ pub fn identifier(call: Call<'_>, out: &mut String) -> Result<(), Stop> {
             put_parts(read(parts, out)?, out)
         }
         "language_after" => language_behind(call, out),
-        "parse_language_identifier_from_iter" | "parse_behind_the_end" | "peek_behind_refusal" => {
+        "parse_language_identifier_from_iter" | "parse_after_the_end" | "peek_after_refusal" => {
             of_iterator(call, out)
         }
         _ => part::answer::<LanguageIdentifier>(call, out),
     }
 }
 
-// Writes what a mode reads of the pieces of a text, of none where the call is `parse_behind_the_end`; the first piece
-// that it leaves, or `-`; and of a refused text that piece alone, by `peek_behind_refusal`.
+// Writes what a mode reads of the pieces of a text, of none where the call is `parse_after_the_end`; the first piece
+// that it leaves, or `-`; and of a refused text that piece alone, by `peek_after_refusal`.
 fn of_iterator(call: Call<'_>, out: &mut String) -> Result<(), Stop> {
     let mode = mode_of(call.first)?;
     let mut iter = SubtagIterator::new(call.second.as_bytes());
-    if call.name == "parse_behind_the_end" {
+    if call.name == "parse_after_the_end" {
         let _first = iter.next();
     }
     let id = parse_language_identifier_from_iter(call.alloc, &mut iter, mode);
     let left = iter.peek().unwrap_or(b"-");
     match call.name {
-        "peek_behind_refusal" => put_behind_refusal(id, left, out),
-        "parse_behind_the_end" => put_read(id, out),
+        "peek_after_refusal" => put_after_refusal(id, left, out),
+        "parse_after_the_end" => put_read(id, out),
         _ => {
             put_read(id, out)?;
             put_text(out, " ")?;
@@ -57,8 +57,8 @@ fn of_iterator(call: Call<'_>, out: &mut String) -> Result<(), Stop> {
     }
 }
 
-// Writes the first piece that is there behind a refusal; `-` where the text is read.
-fn put_behind_refusal(
+// Writes the first piece that is there after a refusal; `-` where the text is read.
+fn put_after_refusal(
     id: Result<LanguageIdentifier, ParseError>,
     left: &[u8],
     out: &mut String,

@@ -28,7 +28,7 @@ pub fn locale(call: Call<'_>, out: &mut String) -> Result<(), Stop> {
     }
 }
 
-// Puts a text so often behind another.
+// Puts a text so often after another.
 fn push_times(text: &mut String, piece: &str, times: usize) -> Result<(), AllocError> {
     for _ in 0..times {
         text.push_str(piece)?;
@@ -36,7 +36,7 @@ fn push_times(text: &mut String, piece: &str, times: usize) -> Result<(), AllocE
     Ok(())
 }
 
-// Writes how many private subtags the locale has of a front and a piece behind it so many times.
+// Writes how many private subtags the locale has of a front and a piece after it so many times.
 fn put_repeated(call: Call<'_>, out: &mut String) -> Result<(), Stop> {
     let times = number_of(call.third)?;
     let mut text = String::from_str(call.alloc, call.first)?;

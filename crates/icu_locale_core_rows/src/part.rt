@@ -104,7 +104,7 @@ fn put_hint(out: &mut String, hint: LengthHint) -> Result<(), Stop> {
     }
 }
 
-/// Writes the text of the copy of a value, which is equal, and is then let go.
+/// Writes the text of the copy of a value, which is equal, and is then dropped.
 pub fn put_copy<T: Writeable + PartialEq + Drop>(
     value: &T,
     copy: Result<T, AllocError>,

@@ -51,7 +51,7 @@ impl Part for Private {
     }
 }
 
-/// The answer of a call of one subtag, another that is pushed behind it, and a text.
+/// The answer of a call of one subtag, another that is pushed after it, and a text.
 pub fn push_alike(call: Call<'_>, out: &mut String) -> Result<(), Stop> {
     let first = read(Subtag::try_from_str(call.first), out)?;
     let second = read(Subtag::try_from_str(call.second), out)?;

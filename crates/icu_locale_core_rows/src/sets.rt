@@ -12,13 +12,13 @@ use icu_locale_core_subtags::unicode::AttributeRule;
 use rows::{Stop, filled, number_of, put, put_debug, put_last_written, put_text};
 use writeable::TextSink;
 
-/// A class of subtags that stand in sets.
+/// A class of subtags that are in sets.
 pub trait Kind: SubtagRule<8> + Sized {
     /// The set that a call makes; `None` where the call makes none.
     fn set(call: Call<'_>, out: &mut String) -> Result<Option<SubtagSet<Self>>, Stop>;
 }
 
-/// Variants stand between spaces, and are pushed one after another.
+/// Variants are between spaces, and are pushed one after another.
 impl Kind for VariantRule {
     fn set(call: Call<'_>, out: &mut String) -> Result<Option<Variants>, Stop> {
         match call.name {

@@ -48,7 +48,7 @@ pub fn in_mode(call: Call<'_>, out: &mut String) -> Result<(), Stop> {
     }
 }
 
-/// Writes the texts of the parts, with `-` for each that is missing: `en - US -`, and behind them the keyword, if any.
+/// Writes the texts of the parts, with `-` for each that is missing: `en - US -`, and after them the keyword, if any.
 pub fn put_single(parts: Result<SingleParts, ParseError>, out: &mut String) -> Result<(), Stop> {
     let (language, script, region, variant, keyword) = read(parts, out)?;
     put_parts((language, script, region, variant), out)?;

@@ -9,7 +9,7 @@ use icu_locale_core_subtags::{Step, SubtagIterator};
 use rows::{Stop, put_last_written, put_text};
 use std::alloc::{AllocError, Global};
 
-/// Writes the language identifier behind the pieces of a text and one more, and whether that one was taken.
+/// Writes the language identifier after the pieces of a text and one more, and whether that one was taken.
 pub fn language_behind(call: Call<'_>, out: &mut String) -> Result<(), Stop> {
     let stage = language_stage(call.alloc, call.first)?;
     match language_after(call.alloc, stage, call.second.as_bytes())? {
@@ -18,7 +18,7 @@ pub fn language_behind(call: Call<'_>, out: &mut String) -> Result<(), Stop> {
     }
 }
 
-// The stage behind the pieces of a text, without those that are refused.
+// The stage after the pieces of a text, without those that are refused.
 fn language_stage(alloc: Global, front: &str) -> Result<Option<LanguageStage>, AllocError> {
     let mut stage = None;
     for piece in SubtagIterator::new(front.as_bytes()) {

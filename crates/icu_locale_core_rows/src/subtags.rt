@@ -5,7 +5,7 @@ use crate::part::{self, Part, put_copy, second};
 use crate::refusals::{put_read, read, read_some};
 use crate::writing::json_of;
 use icu_locale_core::subtags::{Language, Region, Script, Subtag, SubtagOf, SubtagRule, Variant};
-use rows::{Stop, escaped, put, put_behind, put_debug, put_last, put_text, put_written};
+use rows::{Stop, escaped, put, put_after, put_debug, put_last, put_text, put_written};
 use std::collections::BTreeSet;
 use tinystr::TinyAsciiStr;
 
@@ -99,7 +99,7 @@ fn insert_all(set: &mut BTreeSet<Variant>, texts: &str, out: &mut String) -> Res
 
 fn put_spaced(out: &mut String, set: &BTreeSet<Variant>) -> Result<(), Stop> {
     for variant in set.iter() {
-        put_behind(out, " ", variant.as_str())?;
+        put_after(out, " ", variant.as_str())?;
     }
     Ok(())
 }

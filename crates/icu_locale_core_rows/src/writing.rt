@@ -4,7 +4,7 @@ use crate::call::Call;
 use crate::refusals::read;
 use icu_locale_core::ParseError;
 use icu_locale_core::subtags::{SubtagOf, SubtagRule};
-use rows::{Stop, put_behind, put_last_written, put_text, put_written};
+use rows::{Stop, put_after, put_last_written, put_text, put_written};
 use serde_json::Value;
 use std::alloc::Global;
 use std::borrow::CowStr;
@@ -18,7 +18,7 @@ pub fn put_optional<T: Writeable>(out: &mut String, value: Option<&T>) -> Result
     }
 }
 
-/// The same, of a value that is then let go.
+/// The same, of a value that is then dropped.
 pub fn put_last_optional<T: Writeable + Drop>(
     out: &mut String,
     value: Option<T>,
@@ -41,12 +41,12 @@ pub fn put_joined<R: SubtagRule<8>>(
     subtags: &[SubtagOf<R, 8>],
 ) -> Result<(), Stop> {
     for subtag in subtags {
-        put_behind(out, "-", subtag.as_str())?;
+        put_after(out, "-", subtag.as_str())?;
     }
     Ok(())
 }
 
-/// Writes the text that a sink took, which is then let go; a sink refuses for memory alone.
+/// Writes the text that a sink took, which is then dropped; a sink refuses for memory alone.
 pub fn put_taken(out: &mut String, is_written: bool, sink: TextSink) -> Result<(), Stop> {
     let done = if is_written {
         put_text(out, sink.text())
@@ -71,7 +71,7 @@ pub fn put_normal(
     Ok(done?)
 }
 
-/// The JSON value of the first argument: `"en"` is a text, `null` is none.
+/// The JSON value of the first argument: `"en"` is a text, `null` is not one.
 pub fn json_of(call: Call<'_>) -> Result<Value, Stop> {
     match Value::from_slice(call.alloc, call.first.as_bytes()) {
         Ok(value) => Ok(value),

@@ -38,7 +38,7 @@ looked_up t (u ∷ us) = λ i. sym (texts_ties t u) i || looked_up t us i
 pub found_in_few : (t : Text) (items : List Text) → list_any (λ u. same_text u t) items ≡ contains_text t (set_of items)
 found_in_few t items = looked_through t items ∙ sym (contains-set_of t items)
 
--- the first of them, and those behind
+-- the first of them, and those after
 found_in_many : (t : Text) (items known : List Text) → known ≡ set_of (drop few items)
     → (list_any (λ u. same_text u t) (take few items) || list_any (is_at (text_cmp t)) known) ≡ contains_text t (set_of items)
 found_in_many t items known searched =
@@ -52,9 +52,9 @@ pub found_in_front : (t : Text) (items known : List Text) (found : Bool) → kno
 found_in_front t items known found searched front there =
     there ∙ ap (λ b. b || list_any (is_at (text_cmp t)) known) (sym there ∙ front) ∙ found_in_many t items known searched
 
-pub found_behind : (t : Text) (items known : List Text) (found known_too : Bool) → known ≡ set_of (drop few items) → found ≡ list_any (λ u. same_text u t) (take few items) → found ≡ false
+pub found_after : (t : Text) (items known : List Text) (found known_too : Bool) → known ≡ set_of (drop few items) → found ≡ list_any (λ u. same_text u t) (take few items) → found ≡ false
     → known_too ≡ list_any (is_at (text_cmp t)) known → known_too ≡ contains_text t (set_of items)
-found_behind t items known found known_too searched front missing back =
+found_after t items known found known_too searched front missing back =
     back ∙ ap (λ b. b || list_any (is_at (text_cmp t)) known) (sym missing ∙ front) ∙ found_in_many t items known searched
 
 -- no text in the list is no text in the set
@@ -97,7 +97,7 @@ module _ {accepts : List ℕ → Bool} {normal : List ℕ → List ℕ} (items k
       searched = growing.searched ∙ none_behind items (omega arith) ∙ sym (none_behind (items ++ t ∷ []) (omega (arith, length-append items (t ∷ []))));
     }
 
-    -- behind them
+    -- after them
     pub grown_many : (many : List Text) → few ≤ length items → many ≡ insert_key text_cmp known t → IsGrowing accepts normal (items ++ t ∷ []) many
     grown_many many past put = record {
       each = more_each;

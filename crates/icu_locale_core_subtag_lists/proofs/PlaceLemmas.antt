@@ -135,15 +135,15 @@ remove-append t (u ∷ us) vs = by (not (same_text t u)) (remove-append t us vs)
     by true more = ap (λ l. u ∷ l) more
     by false more = more
 
-apart_behind : (t : Text) (front back : List Text) → AreApart (front ++ t ∷ back) → contains_text t back ≡ false
+apart_after : (t : Text) (front back : List Text) → AreApart (front ++ t ∷ back) → contains_text t back ≡ false
 unfolding IsDistinct
-apart_behind t [] back apart = none_same t back apart.0
-apart_behind t (u ∷ us) back apart = apart_behind t us back apart.1
+apart_after t [] back apart = none_same t back apart.0
+apart_after t (u ∷ us) back apart = apart_after t us back apart.1
 
 remove_amid : (t : Text) (front back : List Text) → AreApart (front ++ t ∷ back) → remove_text t (front ++ t ∷ back) ≡ front ++ back
 remove_amid t front back apart =
     let first : contains_text t front ≡ false = apart_new front t back apart in
-    let last : contains_text t back ≡ false = apart_behind t front back apart in
+    let last : contains_text t back ≡ false = apart_after t front back apart in
     remove-append t front (t ∷ back)
     ∙ ap (λ l. remove_text t front ++ l) (ap (λ b. cond (not b) (t ∷ remove_text t back) (remove_text t back)) (same_text_refl t))
     ∙ (λ i. remove_absent t front first i ++ remove_absent t back last i)

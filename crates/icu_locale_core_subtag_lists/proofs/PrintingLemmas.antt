@@ -12,7 +12,7 @@ pub use Rattle.writeable.proofs.AnnotatedTextLemmas.{bytes_joined, no_bytes}
 hyphened_bytes : (p rest : Text) → bytes (hyphened p ++ rest) ≡ (bytes (hyphen ∷ []) ++ bytes p) ++ bytes rest
 hyphened_bytes p rest = bytes_joined (hyphened p) rest ∙ ap (λ es. es ++ bytes rest) (bytes_joined (hyphen ∷ []) p)
 
--- the piece at i, and those behind it
+-- the piece at i, and those after it
 pub next_piece : (ps : List Text) (i : ℕ) (p : Text) → i < length ps → p ≡ get_or ps i p
     → flat_map hyphened (drop i ps) ≡ hyphened p ++ flat_map hyphened (drop (i + 1) ps)
 next_piece ps i p within is =

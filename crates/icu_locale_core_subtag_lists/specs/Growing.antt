@@ -1,4 +1,4 @@
--- A set that is being read: its texts in the order in which they came, those behind the first few also in byte order.
+-- A set that is being read: its texts in the order in which they came, those after the first few also in byte order.
 -- Defined in docs/tags.md, "Sets and lists as values".
 -- Cited by the calls of `GrowingSet`.
 use Rattle.std.specs.Prelude.{◌≡◌, ℕ, Bool, List, drop}
@@ -10,7 +10,7 @@ use Rattle.icu_locale_core_subtag_lists.specs.SubtagSets.{AreNormalPieces}
 abbrev pub few : ℕ
 few = 16
 
--- the texts differ, each is accepted and in normal case, and those behind the first few are known in byte order
+-- the texts differ, each is accepted and in normal case, and those after the first few are known in byte order
 pub record IsGrowing (accepts : List ℕ → Bool) (normal : List ℕ → List ℕ) (items known : List Text) : Type 0 where
   pub each : AreNormalPieces accepts normal items
   pub apart : AreApart items

@@ -16,10 +16,10 @@ abbrev pub begins : (Text → Bool) → List Text → Bool
 begins test [] = false
 begins test (p ∷ ps) = test p
 
--- the first piece passes a test, and the one behind it another; else nothing is kept, and nothing allocates
-abbrev pub begins_behind : (Text → Bool) → (Text → Bool) → List Text → Bool
-begins_behind opens test [] = false
-begins_behind opens test (p ∷ ps) = opens p && begins test ps
+-- the first piece passes a test, and the one after it another; else nothing is kept, and nothing allocates
+abbrev pub begins_after : (Text → Bool) → (Text → Bool) → List Text → Bool
+begins_after opens test [] = false
+begins_after opens test (p ∷ ps) = opens p && begins test ps
 
 -- amid the reading of attributes: what is left decides as all pieces do, and completes the set
 pub record IsReadingSet (ps left set : List Text) : Type 0 where

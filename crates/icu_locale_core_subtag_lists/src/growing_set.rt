@@ -20,7 +20,7 @@ const FEW: usize = 16;
 pub struct GrowingSet<R: SubtagRule<8>> {
     // In the order in which they came.
     items: Vec<SubtagOf<R, 8>>,
-    // The texts of those behind the first few.
+    // The texts of those after the first few.
     known: BTreeSet<TinyAsciiStr<8>>,
 }
 

@@ -28,7 +28,7 @@ pub fn write_piece<R: SubtagRule<N>, const N: usize, S: Sink>(
 
 /// Writes the subtags into `sink`, each with a hyphen before it: `-1996-valencia`.
 ///
-/// The condition is that the sink has not refused yet. `Ok`: the sink took them all behind what it held. `Error`, only
+/// The condition is that the sink has not refused yet. `Ok`: the sink took them all after what it held. `Error`, only
 /// where the sink refused: it has taken a beginning. Only the sink may allocate.
 pub fn write_pieces<R: SubtagRule<8>, S: Sink>(
     pieces: &[SubtagOf<R, 8>],

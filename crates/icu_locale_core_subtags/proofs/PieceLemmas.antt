@@ -1,4 +1,4 @@
--- A text cut at its first hyphen: its first piece, and the pieces of what stands behind.
+-- A text cut at its first hyphen: its first piece, and the pieces of what is after.
 use Rattle.std.proofs.Common.{◌≡◌, ℕ, ◌+◌, ◌-◌, ◌<◌, ◌≤◌, [], ◌∷◌, length, take, drop, Some, None, position, sym, ap, ◌∙◌, append-nil, true, arith}
 use Rattle.std.specs.List.{position_or_len}
 use Rattle.std.proofs.lemmas.Grind.{common_steps}

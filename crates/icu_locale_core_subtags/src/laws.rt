@@ -39,7 +39,7 @@ pub fn order_is_of_texts<R: SubtagRule<N>, const N: usize>(
 }
 
 /// Subtags that rise are a set: exactly such lists are their own set in the grammar of tags. `1996`, `fonipa` is one,
-/// and `fonipa`, `1996` is none.
+/// and `fonipa`, `1996` is not one.
 pub fn rising_subtags_are_a_set<R: SubtagRule<N>, const N: usize>(subtags: &[SubtagOf<R, N>])
     ensures { Rises subtags.now ↔ (set_of subtags.now ≡ subtags.now) }
 {

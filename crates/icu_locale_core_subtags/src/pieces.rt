@@ -46,7 +46,7 @@ impl<'a> SubtagIterator<'a> {
         SubtagIterator { rest: Some(text) }
     }
 
-    /// The same pieces, from the same place on: behind `en` of `en-US` they are `US`. It does not allocate.
+    /// The same pieces, from the same place on: after `en` of `en-US` they are `US`. It does not allocate.
     pub fn again(&self) -> SubtagIterator<'a>
         ensures { result ≡ self.now }
     {

@@ -32,7 +32,7 @@ pub fn read_text(rt: &HostRuntime, path: &str) -> Result<Vec<u8>, ProgramFault>
     }
 }
 
-/// The book that a text is. `Book` where it is none.
+/// The book that a text is. `Book` where it is not one.
 pub fn book_of(alloc: Global, text: &[u8]) -> Result<Book, ProgramFault>
     ensures says { IfOk result (λ book. Says text.now book) }
     ensures refused { IfErr result (IsRefusal text.now) }

@@ -72,7 +72,7 @@ pub fn tell_tag(rt: &HostRuntime) -> u8
     2
 }
 
-/// Tells that the code of a currency is none, and returns the status.
+/// Tells that the code of a currency is not one, and returns the status.
 pub fn tell_code(rt: &HostRuntime, code: &str) -> u8
     ensures status { result ≡ 2 }
 {
@@ -82,7 +82,7 @@ pub fn tell_code(rt: &HostRuntime, code: &str) -> u8
     2
 }
 
-/// Tells that a sign or a rounding is none, or that the form takes none, and returns the status.
+/// Tells that a sign or a rounding is not one, or that the form takes none, and returns the status.
 pub fn tell_fields(rt: &HostRuntime, form: &str, sign: &str, rounding: &str) -> u8
     ensures status { result ≡ 2 }
 {

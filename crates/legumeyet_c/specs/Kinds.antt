@@ -1,4 +1,4 @@
--- Which content a handle of each kind has open, or none: a content of another kind is none.
+-- Which content a handle of each kind has open, or none: a content of another kind is not one.
 -- Defined in docs/c-api.md, "Handles".
 -- Cited by what the handles of each kind have open, and by the exports through Views.antt.
 use Rattle.std.specs.Prelude.{Bool, true, false, Option, Some, None}

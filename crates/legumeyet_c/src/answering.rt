@@ -23,7 +23,7 @@ fn answer_of(alloc: Global, book: &Book, line: &[u8]) -> Result<Vec<u8>, CallErr
 }
 
 // The answer of the book behind a handle, which stays as it is.
-fn answer_behind(alloc: Global, book: &mut BookHandle, line: &[u8]) -> Result<Vec<u8>, CallError>
+fn answer_after(alloc: Global, book: &mut BookHandle, line: &[u8]) -> Result<Vec<u8>, CallError>
     ensures same { book_content book.new ≡ book_content book.old }
     ensures value { IfOk result (λ text. SaysAnswer (book_open book.old) line.now text.items) }
     ensures fault { IfErr result (λ error. IsAnswerFault (book_open book.old) error) }
@@ -56,7 +56,7 @@ pub extern "C" fn legumeyet_book_answer(
         (IsPut (SaysAnswer (book_open book.old) line.now) (IsAnswerFault (book_open book.old)) out.old out.new
         length.old length.new) result }
 {
-    match answer_behind(alloc, book, line) {
+    match answer_after(alloc, book, line) {
         Ok(text) => answer(put_bytes(text.as_slice(), out, length)),
         Err(error) => error.number(),
     }

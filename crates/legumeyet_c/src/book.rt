@@ -7,7 +7,7 @@ ghost use Rattle.legumeyet_c.specs.Opening.{IsBookFault, IsClosing, IsOpening, S
 ghost use Rattle.legumeyet_c.specs.Views.{book_content, book_open};
 
 use crate::handles::BookHandle;
-use crate::opening::{close, put_behind};
+use crate::opening::{close, put_after};
 use legumeyet_c_values::{CallError, answer};
 use locale_numbers::{Book, BookError};
 use std::alloc::Global;
@@ -24,13 +24,13 @@ pub extern "C" fn legumeyet_book_open(alloc: Global, json: &[u8], book: &mut Boo
     match Book::from_json(alloc, json) {
         Ok(found) => {
             let fault = CallError::Book(BookError::Memory);
-            answer(put_behind(alloc, &mut book.handle, found, fault))
+            answer(put_after(alloc, &mut book.handle, found, fault))
         }
         Err(error) => CallError::Book(error).number(),
     }
 }
 
-/// Closes a book, and lets go of its memory. Its formatters stay as they are.
+/// Closes a book, and frees its memory. Its formatters stay as they are.
 ///
 /// Returns 0; 2, where it was closed already.
 #[unsafe(no_mangle)]

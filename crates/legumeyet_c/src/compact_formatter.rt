@@ -95,7 +95,7 @@ pub extern "C" fn legumeyet_compact_formatter_open(
     answer(open::<HeldCompactTables>(alloc, book, choice, tag, formatter))
 }
 
-/// Closes a formatter, and lets go of its memory.
+/// Closes a formatter, and frees its memory.
 ///
 /// Returns 0; 2, where it was closed already.
 #[unsafe(no_mangle)]

@@ -52,7 +52,7 @@ impl Pointer {
         }
     }
 
-    // Lets go of a pointer to nothing.
+    // Drops a pointer to nothing.
     fn forget(self)
         requires { self.value ≡ None }
     {
@@ -95,7 +95,7 @@ impl Handle {
         content_of(std::mem::replace(self, closed), alloc)
     }
 
-    // Puts a content in, and lets go of what was there.
+    // Puts a content in, and drops what was there.
     pub(crate) fn put(&mut self, alloc: Global, content: Box<Content>)
         ensures { self.new.pointer.value ≡ Some content.value }
     {

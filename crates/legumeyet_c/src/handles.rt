@@ -6,27 +6,27 @@ use crate::handle::Handle;
 /// A book, or a closed handle: `legumeyet_book`.
 #[repr(C)]
 pub struct BookHandle {
-    /// What is behind it.
+    /// What is after it.
     pub handle: Handle,
 }
 
 /// A formatter of plain numbers, or a closed handle: `legumeyet_decimal_formatter`.
 #[repr(C)]
 pub struct DecimalHandle {
-    /// What is behind it.
+    /// What is after it.
     pub handle: Handle,
 }
 
 /// A formatter of compact numbers, or a closed handle: `legumeyet_compact_formatter`.
 #[repr(C)]
 pub struct CompactHandle {
-    /// What is behind it.
+    /// What is after it.
     pub handle: Handle,
 }
 
 /// A formatter of percents or of amounts of money, or a closed handle: `legumeyet_unit_formatter`.
 #[repr(C)]
 pub struct UnitHandle {
-    /// What is behind it.
+    /// What is after it.
     pub handle: Handle,
 }

@@ -39,7 +39,7 @@ fn keep(alloc: Global, content: Box<Content>) -> (Box<Content>, Result<(), CallE
 }
 
 // Keeps the book behind a handle.
-fn keep_behind(alloc: Global, book: &mut Handle) -> Result<(), CallError>
+fn keep_after(alloc: Global, book: &mut Handle) -> Result<(), CallError>
     ensures same { book_in book.new.pointer.value ≡ book_in book.old.pointer.value }
     ensures told { IsKeeping book.old.pointer.value book.new.pointer.value result }
 {
@@ -60,5 +60,5 @@ pub extern "C" fn legumeyet_book_keep(alloc: Global, book: &mut BookHandle) -> i
     ensures same { book_open book.new ≡ book_open book.old }
     ensures told { Answers (IsKeeping (book_content book.old) (book_content book.new)) result }
 {
-    answer(keep_behind(alloc, &mut book.handle))
+    answer(keep_after(alloc, &mut book.handle))
 }

@@ -78,7 +78,7 @@ fn find_for<T: Found>(
 }
 
 // What the book behind a handle has for a tag, where a choice is known; the book stays as it is.
-fn find_behind<T: Found>(
+fn find_after<T: Found>(
     alloc: Global,
     book: &mut Handle,
     choice: Option<T::Choice>,
@@ -103,7 +103,7 @@ fn find_behind<T: Found>(
 
 // Puts a content behind a handle, and closes what it had open, of whatever kind. The error that is given: out of
 // memory.
-pub(crate) fn put_behind<T: Held>(
+pub(crate) fn put_after<T: Held>(
     alloc: Global,
     handle: &mut Handle,
     held: T,
@@ -121,7 +121,7 @@ pub(crate) fn put_behind<T: Held>(
     }
 }
 
-// Opens a handle with what the book behind another one has for a tag, where a choice is known; the book stays as it
+// Opens a handle with what the book after another one has for a tag, where a choice is known; the book stays as it
 // is.
 pub(crate) fn open<T: Found>(
     alloc: Global,
@@ -135,8 +135,8 @@ pub(crate) fn open<T: Found>(
         (IsFindingFault T.found (book_in book.old.pointer.value) choice tag.now) handle.old.pointer.value
         handle.new.pointer.value result }
 {
-    match find_behind::<T>(alloc, book, choice, tag) {
-        Ok(tables) => put_behind(alloc, handle, tables, CallError::Memory),
+    match find_after::<T>(alloc, book, choice, tag) {
+        Ok(tables) => put_after(alloc, handle, tables, CallError::Memory),
         Err(error) => Err(error),
     }
 }

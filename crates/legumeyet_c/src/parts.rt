@@ -77,7 +77,7 @@ pub(crate) fn annotated_in<T: Annotates>(
 }
 
 // The text, with its parts, of a number, where there is one, with what is behind a handle, which stays as it is.
-fn annotated_behind<T: Annotates>(
+fn annotated_after<T: Annotates>(
     alloc: Global,
     handle: &mut Handle,
     number: &Result<Decimal, CallError>,
@@ -111,7 +111,7 @@ pub(crate) fn write_parts<T: Annotates>(
         (IsValueFault T.fails (T.held_in handle.old.pointer.value) number.now)
         (given out.old length.old intervals.old count.old) (given out.new length.new intervals.new count.new) result }
 {
-    match annotated_behind::<T>(alloc, handle, number) {
+    match annotated_after::<T>(alloc, handle, number) {
         Ok(sink) => put_parts(&sink, out, length, intervals, count),
         Err(error) => Err(error),
     }

@@ -200,7 +200,7 @@ pub extern "C" fn legumeyet_currency_formatter_open(
     answer(open_unit::<AskedAmount>(alloc, book, asked, tag, formatter))
 }
 
-/// Closes a formatter, and lets go of its memory.
+/// Closes a formatter, and frees its memory.
 ///
 /// Returns 0; 2, where it was closed already.
 #[unsafe(no_mangle)]

@@ -8,7 +8,7 @@ ghost use Rattle.legumeyet_c.specs.UnitOpening.{FindsUnit, IsUnitFindingFault};
 use crate::content::{Held, kept_in};
 use crate::handle::Handle;
 use crate::held_units::HeldUnits;
-use crate::opening::put_behind;
+use crate::opening::put_after;
 use legumeyet_c_values::CallError;
 use locale_numbers::{Book, FormatterError};
 use std::alloc::Global;
@@ -59,7 +59,7 @@ fn find_for<A: AskedUnit>(
 }
 
 // What the book behind a handle has, where it is kept; the book stays as it is.
-fn find_behind<A: AskedUnit>(
+fn find_after<A: AskedUnit>(
     alloc: Global,
     book: &mut Handle,
     asked: Result<A, CallError>,
@@ -92,7 +92,7 @@ fn find_behind<A: AskedUnit>(
     found
 }
 
-// Opens a handle with what the book behind another one has, where it is kept; the book stays as it is.
+// Opens a handle with what the book after another one has, where it is kept; the book stays as it is.
 pub(crate) fn open_unit<A: AskedUnit>(
     alloc: Global,
     book: &mut Handle,
@@ -106,8 +106,8 @@ pub(crate) fn open_unit<A: AskedUnit>(
         (IsUnitFindingFault A.found (book_in book.old.pointer.value) (is_kept book.old.pointer.value) asked tag.now)
         handle.old.pointer.value handle.new.pointer.value result }
 {
-    match find_behind::<A>(alloc, book, asked, tag) {
-        Ok(held) => put_behind(alloc, handle, held, CallError::Memory),
+    match find_after::<A>(alloc, book, asked, tag) {
+        Ok(held) => put_after(alloc, handle, held, CallError::Memory),
         Err(error) => Err(error),
     }
 }

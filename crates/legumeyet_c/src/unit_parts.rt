@@ -73,7 +73,7 @@ pub(crate) fn annotated_held(
 }
 
 // The same with what is behind a handle, which stays as it is.
-fn annotated_behind(
+fn annotated_after(
     alloc: Global,
     handle: &mut Handle,
     number: Result<Decimal, CallError>,
@@ -119,7 +119,7 @@ pub extern "C" fn legumeyet_unit_formatter_format_parts(
         result }
 {
     let number = read_number(alloc, number);
-    match annotated_behind(alloc, &mut formatter.handle, number, options) {
+    match annotated_after(alloc, &mut formatter.handle, number, options) {
         Ok(sink) => answer(put_parts(&sink, out, length, intervals, count)),
         Err(error) => error.number(),
     }

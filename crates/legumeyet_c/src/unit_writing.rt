@@ -59,7 +59,7 @@ pub(crate) fn write_held(
 }
 
 // Writes a number, where there is one, with what is behind a handle, which stays as it is.
-fn write_behind(
+fn write_after(
     alloc: Global,
     handle: &mut Handle,
     number: Result<Decimal, CallError>,
@@ -104,7 +104,7 @@ pub extern "C" fn legumeyet_unit_formatter_format(
         out.old out.new length.old length.new) result }
 {
     let number = read_number(alloc, number);
-    answer(write_behind(alloc, &mut formatter.handle, number, options, out, length))
+    answer(write_after(alloc, &mut formatter.handle, number, options, out, length))
 }
 
 /// Writes the number `mantissa` times ten to the power `exponent`: -12345 and -1 as `-€1,234.50` in English with euros.
@@ -127,7 +127,7 @@ pub extern "C" fn legumeyet_unit_formatter_format_i64(
         (IsScaledFault mantissa exponent)) out.old out.new length.old length.new) result }
 {
     let number = scaled(alloc, mantissa, exponent);
-    answer(write_behind(alloc, &mut formatter.handle, number, options, out, length))
+    answer(write_after(alloc, &mut formatter.handle, number, options, out, length))
 }
 
 /// Writes the number `mantissa` times ten to the power `exponent`: 18446744073709551615 and -2 as
@@ -151,7 +151,7 @@ pub extern "C" fn legumeyet_unit_formatter_format_u64(
         (IsScaledFault (pos mantissa) exponent)) out.old out.new length.old length.new) result }
 {
     let number = scaled_unsigned(alloc, mantissa, exponent);
-    answer(write_behind(alloc, &mut formatter.handle, number, options, out, length))
+    answer(write_after(alloc, &mut formatter.handle, number, options, out, length))
 }
 
 /// Writes a double, by digits that give it back: -1234.5 as `-€1,234.50` in English with euros.
@@ -173,5 +173,5 @@ pub extern "C" fn legumeyet_unit_formatter_format_double(
         out.new length.old length.new) result }
 {
     let number = read_double(alloc, number);
-    answer(write_behind(alloc, &mut formatter.handle, number, options, out, length))
+    answer(write_after(alloc, &mut formatter.handle, number, options, out, length))
 }

@@ -73,7 +73,7 @@ pub(crate) fn write_held<F: Form>(
 }
 
 // Writes a number, where there is one, with what is behind a handle, which stays as it is.
-pub(crate) fn write_behind<F: Form>(
+pub(crate) fn write_after<F: Form>(
     alloc: Global,
     handle: &mut Handle,
     number: &Result<F::Number, CallError>,

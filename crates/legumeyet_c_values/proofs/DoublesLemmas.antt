@@ -22,7 +22,7 @@ use Rattle.std.proofs.lemmas.Float.Parse.{parse_float-text_of}
 use Rattle.std.proofs.lemmas.Int.Digits.{digits_value-lt}
 use Rattle.std.proofs.lemmas.Bool.{cases_lt}
 use Rattle.std.proofs.lemmas.List.{length-append}
-use Rattle.fixed_decimal.specs.NumberText.{AreEndsIn, Parts, Spells, behind_mark, behind_point, number_of, small_mark}
+use Rattle.fixed_decimal.specs.NumberText.{AreEndsIn, Parts, Spells, after_mark, after_point, number_of, small_mark}
 use Rattle.fixed_decimal.specs.SignedText.{sign_text}
 use Rattle.fixed_decimal.specs.declared.Sign.{Sign}
 use Rattle.fixed_decimal.specs.declared.Sign.TheVariants.{None as Unsigned, Negative}
@@ -30,21 +30,21 @@ use Rattle.legumeyet_c_values.specs.Numbers.{ReadsSome}
 
 -- ---- the text
 
-same_exponent : (negative : Bool) (ds : List ℕ) → exponent_text negative ds ≡ behind_mark small_mark negative ds
+same_exponent : (negative : Bool) (ds : List ℕ) → exponent_text negative ds ≡ after_mark small_mark negative ds
 same_exponent negative [] = refl
 same_exponent true (d ∷ ds) = refl
 same_exponent false (d ∷ ds) = refl
 
-same_fraction : (point : Bool) (ds : List ℕ) → (point ≡ true → 0 < length ds) → (point ≡ false → ds ≡ []) → (if point then 46 ∷ ds else []) ≡ behind_point ds
+same_fraction : (point : Bool) (ds : List ℕ) → (point ≡ true → 0 < length ds) → (point ≡ false → ds ≡ []) → (if point then 46 ∷ ds else []) ≡ after_point ds
 same_fraction true [] some none = absurd (omega (arith, some refl))
 same_fraction true (d ∷ ds) some none = refl
-same_fraction false ds some none = sym (ap behind_point (none refl))
+same_fraction false ds some none = sym (ap after_point (none refl))
 
 -- a numeral's parts as a decimal has them
 abbrev pub parts_by : Numeral → Parts
 parts_by p = record { integer = p.whole; fraction = p.fraction; negative = p.exponent_negative; exponent = p.exponent }
 
--- a numeral with a digit before its point, and one behind it
+-- a numeral with a digit before its point, and one after it
 pub numeral_spells : (p : Numeral) → IsWellFormed p → 0 < length p.whole → (p.point ≡ true → 0 < length p.fraction) → Spells (numeral_text p) (parts_by p)
 numeral_spells p formed some fraction = record {
   last = exponent_text p.exponent_negative p.exponent;

@@ -35,7 +35,7 @@ more_front f items new i d y within room front is =
     ∙ sym (take_more (map f items) i (f d) (omega (arith, length-map items f, within)))
 
 -- the others stay
-pub more_behind : {Y : Type 0} (new before : List Y) (i : ℕ) (y : Y) → drop i new ≡ drop i before → drop (i + 1) (slice_set new i y) ≡ drop (i + 1) before
-more_behind new before i y behind =
+pub more_after : {Y : Type 0} (new before : List Y) (i : ℕ) (y : Y) → drop i new ≡ drop i before → drop (i + 1) (slice_set new i y) ≡ drop (i + 1) before
+more_after new before i y behind =
     drop-set-lt (i + 1) new i y (omega arith)
     ∙ sym (drop-drop 1 i new) ∙ ap (λ xs. drop 1 xs) behind ∙ drop-drop 1 i before

@@ -36,7 +36,7 @@ listed_as listed = as_interval (interval_of listed)
 
 -- ---- what is left where the caller gives room
 
--- a list at the front of another, as far as that reaches, and behind it what was there
+-- a list at the front of another, as far as that reaches, and after it what was there
 abbrev pub over : {T : Type 0} → List T → List T → List T
 over items before = take (length before) items ++ drop (length items) before
 

@@ -6,7 +6,7 @@ use Rattle.legumeyet_c_values.specs.CallErrors.{answer_of}
 use Rattle.legumeyet_c_values.specs.declared.call_error.CallError.{CallError}
 use Rattle.legumeyet_c_values.specs.declared.call_error.CallError.TheVariants.{TooSmall}
 
--- the text is at the front, and behind it what was there
+-- the text is at the front, and after it what was there
 pub record IsWhole (says : List ℕ → Type 0) (before after : List ℕ) (told : ℕ) : Type 0 where
   pub text : List ℕ
   pub said : says text

@@ -11,7 +11,7 @@ use writeable::Part;
 pub struct Interval {
     /// Its first byte.
     pub start: usize,
-    /// The byte behind its last one.
+    /// The byte after its last one.
     pub end: usize,
     /// What it is: 1 a minus sign.
     pub kind: u32,
@@ -55,7 +55,7 @@ fn interval_by(listed: (usize, usize, Part)) -> Interval
     }
 }
 
-// Lists parts at the front of the caller's intervals, as many as have room there; those behind them stay as they were.
+// Lists parts at the front of the caller's intervals, as many as have room there; those after them stay as they were.
 pub(crate) fn list_parts(parts: &[(usize, usize, Part)], intervals: &mut [Interval])
     ensures { intervals.new ≡ over (map listed_as parts.now) intervals.old }
 {

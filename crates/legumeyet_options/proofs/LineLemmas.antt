@@ -23,7 +23,7 @@ line_fields tag form grouping sign rounding text a b c d e f =
     ∙ ap (λ more. sign ∷ more) (first_field rounding _ e
     ∙ ap (λ more. rounding ∷ more) (slice_split_none (is_separator tab) text f)))))
 
--- a text behind the front
+-- a text after the front
 front_then : (tag form grouping sign rounding text : List ℕ)
     → line_by tag form grouping sign rounding [] ++ text ≡ line_by tag form grouping sign rounding text
 front_then tag form grouping sign rounding text = simp (append_assoc)

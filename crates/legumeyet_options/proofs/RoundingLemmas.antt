@@ -1,4 +1,4 @@
--- Words behind two commas lack nothing.
+-- Words after two commas lack nothing.
 use Rattle.std.proofs.Common.{◌≡◌, ℕ, ◌<◌, List, [], ◌∷◌, length, refl, sym, ap, ◌∙◌, arith}
 use Rattle.std.proofs.lemmas.List.Splits.{length-slice_split}
 use Rattle.locale_numbers_requests.specs.Cutting.{cut_at, is_separator}

@@ -41,7 +41,7 @@ pub fn front_of(alloc: Global, fields: &Fields<'_>) -> Result<String, AllocError
 
 /// Whether lines with this front are requests: whether each field is known, and the form takes the sign and the rounding.
 ///
-/// The front of `de`, `plain`, `auto`, `keep` and `-` is one, that of `de`, `read`, `auto`, `always` and `-` is none. It
+/// The front of `de`, `plain`, `auto`, `keep` and `-` is one, that of `de`, `read`, `auto`, `always` and `-` is not one. It
 /// does not allocate.
 pub fn is_asked(front: &[u8]) -> bool
     ensures value { (result ≡ true) ↔ IsSome (request_of front.now) }

@@ -212,7 +212,7 @@ fn numbers<'a>(alloc: Global) -> Result<Arg<'a>, AllocError> {
         .required_unless_present("lines")
 }
 
-// Puts an option behind others, where it was made.
+// Puts an option after others, where it was made.
 fn put<'a>(args: &mut Vec<Arg<'a>>, made: Result<Arg<'a>, AllocError>) -> Result<(), AllocError> {
     match made {
         Ok(arg) => Ok(args.push(arg)?),

@@ -82,7 +82,7 @@ joined_bytes (p ∷ ps) h =
 tag_bytes : (text : Text) (m : TagMeaning) → MeansTag (pieces text) m → list_all is_tag_byte text ≡ true
 tag_bytes text m means = subst (λ t. list_all is_tag_byte t ≡ true) (joined-pieces text) (joined_bytes (pieces text) (tag_plain (pieces text) m means))
 
--- ---- a line behind its tag
+-- ---- a line after its tag
 
 -- an ASCII character in front changes nothing
 utf8_past : (b : ℕ) (rest : List ℕ) → b < 128 → is_utf8 (b ∷ rest) ≡ is_utf8 rest
@@ -93,25 +93,25 @@ utf8_past b rest h =
       (λ u. is_utf8-from_IsUtf8 rest (IsUtf8-past_char (b ∷ rest) rest b u (sym (ap (λ e. e ++ rest) (encode_ascii b h))))),
     )
 
-utf8_behind : (text rest : List ℕ) → list_all is_tag_byte text ≡ true → is_utf8 (text ++ tab ∷ rest) ≡ is_utf8 rest
-utf8_behind [] rest h = utf8_past tab rest (omega arith)
-utf8_behind (b ∷ bs) rest h =
+utf8_after : (text rest : List ℕ) → list_all is_tag_byte text ≡ true → is_utf8 (text ++ tab ∷ rest) ≡ is_utf8 rest
+utf8_after [] rest h = utf8_past tab rest (omega arith)
+utf8_after (b ∷ bs) rest h =
     let parts = and_parts (is_tag_byte b) (list_all is_tag_byte bs) h in
-    utf8_past b (bs ++ tab ∷ rest) (byte_ascii b parts.0) ∙ utf8_behind bs rest parts.1
+    utf8_past b (bs ++ tab ∷ rest) (byte_ascii b parts.0) ∙ utf8_after bs rest parts.1
 
-fields_behind : (text rest : List ℕ) → list_all is_tag_byte text ≡ true → fields (text ++ tab ∷ rest) ≡ text ∷ fields rest
-fields_behind [] rest h = refl
-fields_behind (b ∷ bs) rest h =
+fields_after : (text rest : List ℕ) → list_all is_tag_byte text ≡ true → fields (text ++ tab ∷ rest) ≡ text ∷ fields rest
+fields_after [] rest h = refl
+fields_after (b ∷ bs) rest h =
     let parts = and_parts (is_tag_byte b) (list_all is_tag_byte bs) h in
     ap (λ t. cond t ([] ∷ fields (bs ++ tab ∷ rest)) (onto_first b (fields (bs ++ tab ∷ rest)))) (byte_no_tab b parts.0)
-    ∙ ap (onto_first b) (fields_behind bs rest parts.1)
+    ∙ ap (onto_first b) (fields_after bs rest parts.1)
 
-request_behind : (text rest : List ℕ) → list_all is_tag_byte text ≡ true → request_of (text ++ tab ∷ rest) ≡ (if is_utf8 rest then request_in (text ∷ fields rest) else None)
-request_behind text rest h =
-    ap (λ t. if t then request_in (fields (text ++ tab ∷ rest)) else None) (utf8_behind text rest h)
-    ∙ ap (λ fs. if is_utf8 rest then request_in fs else None) (fields_behind text rest h)
+request_after : (text rest : List ℕ) → list_all is_tag_byte text ≡ true → request_of (text ++ tab ∷ rest) ≡ (if is_utf8 rest then request_in (text ∷ fields rest) else None)
+request_after text rest h =
+    ap (λ t. if t then request_in (fields (text ++ tab ∷ rest)) else None) (utf8_after text rest h)
+    ∙ ap (λ fs. if is_utf8 rest then request_in fs else None) (fields_after text rest h)
 
--- ---- fields behind a tag
+-- ---- fields after a tag
 
 abbrev asked_by : List ℕ → Form → GroupingStrategy → SignAsked → RoundingAsked → List ℕ → Asked
 asked_by tag form grouping sign rounding digits =
@@ -208,9 +208,9 @@ pub alike_tags : AlikeTagsAreAnsweredAlike
 alike_tags book text other rest m n first second a =
     let alike : AreAnsweredAlike book text other (wanted_of text) (wanted_of other) =
     rw (asks_of text m first, asks_of other n second) (asks_alike book text other m n a) in
-    ap (answer_asked book) (request_behind text rest (tag_bytes text m first))
+    ap (answer_asked book) (request_after text rest (tag_bytes text m first))
     ∙ read_alike book text other alike rest (is_utf8 rest)
-    ∙ sym (ap (answer_asked book) (request_behind other rest (tag_bytes other n second)))
+    ∙ sym (ap (answer_asked book) (request_after other rest (tag_bytes other n second)))
 
 pub normal_text_alike : NormalTextIsAnsweredAlike
 normal_text_alike book text rest m means =

@@ -17,7 +17,7 @@ use Rattle.locale_numbers_book.specs.Book.{BookTables}
 use Rattle.locale_numbers_cache.specs.LastRead.{Remembered}
 use Rattle.locale_numbers.specs.Answer.{answer_asked, answer_in, answer_of, answer_tagged, refused}
 use Rattle.locale_numbers.specs.FormatterKeys.{key_asked, key_of, key_tagged, key_with, kind_of}
-use Rattle.locale_numbers.specs.Front.{FitsForm, FitsKey, HasKeyThat, answer_behind, answer_front, answer_keyed, asked_behind, asked_text, front_asked, front_of, key_behind, key_front, key_keyed}
+use Rattle.locale_numbers.specs.Front.{FitsForm, FitsKey, HasKeyThat, answer_after, answer_front, answer_keyed, asked_after, asked_text, front_asked, front_of, key_after, key_front, key_keyed}
 use Rattle.locale_numbers_requests.specs.Request.{Asked, fields, request_by, request_in, request_of, tab, takes, with_text}
 use Rattle.locale_numbers_book.specs.Wanted.{wanted_of}
 use Rattle.locale_numbers.specs.declared.formatter_key.FormatterKey.{FormatterKey}
@@ -35,7 +35,7 @@ module _ {A : Type 0} (p : A → Bool) where
   onto_more x [] more some = absurd (omega (arith, some))
   onto_more x (piece ∷ pieces) more some = refl
 
-  -- the pieces before a separator, and those behind it
+  -- the pieces before a separator, and those after it
   split_apart : (xs : List A) (y : A) (ys : List A) → p y ≡ true → slice_split p (xs ++ y ∷ ys) ≡ slice_split p xs ++ slice_split p ys
   split_apart [] y ys is = slice_split-cons_yes p y ys is
   split_apart (x ∷ xs) y ys is = at (p x) refl (split_apart xs y ys is)
@@ -89,7 +89,7 @@ asks_in (tag ∷ form ∷ grouping ∷ sign ∷ rounding ∷ more ∷ most ∷ r
 
 -- ---- where they are UTF-8
 
--- both sides of a cut behind a tab are UTF-8, where the whole is
+-- both sides of a cut after a tab are UTF-8, where the whole is
 sides_utf8 : (before text : List ℕ) → IsUtf8 ((before ++ tab ∷ []) ++ text) → IsUtf8 (before ++ tab ∷ []) × IsUtf8 text
 sides_utf8 before text utf8 =
     let front : List ℕ = before ++ tab ∷ [] in
@@ -116,8 +116,8 @@ asked_if : (b : Bool) (text : List ℕ) (before : List (List ℕ)) → (if b the
 asked_if true text before = asks_in before text
 asked_if false text before = refl
 
-asked_behind_tab : (before text : List ℕ) → All (IsNot tab) text → IsUtf8 text → request_of ((before ++ tab ∷ []) ++ text) ≡ with_text text (request_of (before ++ tab ∷ []))
-asked_behind_tab before text none utf8 =
+asked_after_tab : (before text : List ℕ) → All (IsNot tab) text → IsUtf8 text → request_of ((before ++ tab ∷ []) ++ text) ≡ with_text text (request_of (before ++ tab ∷ []))
+asked_after_tab before text none utf8 =
     ap (λ b. if b then request_in (fields ((before ++ tab ∷ []) ++ text)) else None) (front_utf8 before text utf8)
     ∙ ap (λ pieces. if is_utf8 (before ++ tab ∷ []) then request_in pieces else None) (last_field before text none)
     ∙ asked_if (is_utf8 (before ++ tab ∷ [])) text (fields before)
@@ -140,7 +140,7 @@ module _ (line front text : List ℕ) (cut : IsLastCut tab line front text) wher
   line_asks utf8 = elim cut.ends [
     | inl none ↦ (let whole : line ≡ text = cut.whole ∙ ap (λ f. f ++ text) none in
         ap request_of whole ∙ no_tab text cut.none ∙ sym (ap (λ f. with_text text (request_of f)) none ∙ nothing_asked text))
-    | inr ends ↦ ap request_of (cut.whole ∙ ap (λ f. f ++ text) ends.1) ∙ asked_behind_tab ends.0 text cut.none utf8 ∙ sym (ap (λ f. with_text text (request_of f)) ends.1)
+    | inr ends ↦ ap request_of (cut.whole ∙ ap (λ f. f ++ text) ends.1) ∙ asked_after_tab ends.0 text cut.none utf8 ∙ sym (ap (λ f. with_text text (request_of f)) ends.1)
   ]
 
   not_utf8 : (b : Bool) → (b ≡ true → ⊥) → (pieces : List (List ℕ)) → (if b then request_in pieces else None) ≡ None
@@ -173,7 +173,7 @@ abbrev fronted : Asked → Option FormatterKey → Front
 fronted asked key = record { form = asked.form; sign = asked.sign; rounding = asked.rounding; key = key }
 
 answered_in : (form : Form) (book : BookTables) (p : Preferences) (asked : Asked) (key : Option FormatterKey) (text : List ℕ)
-    → answer_in form book p (texted asked text) ≡ answer_in form book p (asked_behind (fronted asked key) (key_with asked.form asked.grouping p) text)
+    → answer_in form book p (texted asked text) ≡ answer_in form book p (asked_after (fronted asked key) (key_with asked.form asked.grouping p) text)
 answered_in Plain book p asked key text = refl
 answered_in (Compact length) book p asked key text = refl
 answered_in (Exact length) book p asked key text = refl
@@ -201,8 +201,8 @@ keyed None text = refl
 keyed (Some asked) text = keyed_by asked (wanted_of asked.tag) text
 
 module _ (line bytes text : List ℕ) (asks : request_of line ≡ asked_text text (request_of bytes)) where
-  -- a line is answered as its text is behind its front
-  pub answer_of_line : (book : BookTables) → answer_of book line ≡ answer_behind book (front_of bytes) text
+  -- a line is answered as its text is after its front
+  pub answer_of_line : (book : BookTables) → answer_of book line ≡ answer_after book (front_of bytes) text
   answer_of_line book = at (is_utf8 text) asks
     where
       at : (b : Bool) → request_of line ≡ (if b then with_text text (request_of bytes) else None) → answer_of book line ≡ (if b then answer_front book (front_of bytes) text else refused refusal.Shape)
@@ -210,7 +210,7 @@ module _ (line bytes text : List ℕ) (asks : request_of line ≡ asked_text tex
       at false asks = ap (answer_asked book) asks
 
   -- and asks for the same key
-  pub key_of_line : key_of line ≡ key_behind (front_of bytes) text
+  pub key_of_line : key_of line ≡ key_after (front_of bytes) text
   key_of_line = at (is_utf8 text) asks
     where
       at : (b : Bool) → request_of line ≡ (if b then with_text text (request_of bytes) else None) → key_of line ≡ (if b then key_front (front_of bytes) text else None)

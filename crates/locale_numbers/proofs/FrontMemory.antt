@@ -1,4 +1,4 @@
--- What a text wants memory for behind a front, by the front's form, and which answer it has there: `specs/Front.antt`.
+-- What a text wants memory for after a front, by the front's form, and which answer it has there: `specs/Front.antt`.
 use Rattle.std.proofs.Common.{◌≡◌, ℕ, List, Option, Some, true, sym, ap, ◌∙◌, subst, ◌⊎◌, inl, inr}
 use Rattle.std.specs.Prelude.{if◌then◌else◌, IfSome}
 use Rattle.std.specs.Str.{is_utf8}
@@ -16,7 +16,7 @@ use Rattle.locale_numbers_answers.specs.UnitAnswer.{MayGrowUnit, read_unit_with,
 use Rattle.locale_numbers.specs.FoundUnit.{found_unit}
 use Rattle.locale_numbers.specs.FormatterKeys.{code_of, found_keyed_unit, keyed_unit, kind_of, unit_code}
 use Rattle.locale_numbers.specs.KeptFormatters.{IsOfUnit, answer_of_kind, found_keyed}
-use Rattle.locale_numbers.specs.Front.{FitsForm, FitsKey, HasKeyThat, MayTakeBehind, MayTakeIn, MayTakeKeyed, answer_behind, answer_keyed, asked_behind, if_text}
+use Rattle.locale_numbers.specs.Front.{FitsForm, FitsKey, HasKeyThat, MayTakeAfter, MayTakeIn, MayTakeKeyed, answer_after, answer_keyed, asked_after, if_text}
 use Rattle.locale_numbers_answers.specs.NumberReading.{reading_of}
 use Rattle.locale_numbers_requests.specs.Request.{Asked}
 use Rattle.locale_numbers.specs.UnitHeld.{keyed_code}
@@ -55,8 +55,8 @@ number_may_take form book key rounding text value (inr compact) wants = subst (�
 module _ (book : BookTables) (asked : Option Front) (front : Front) (key : FormatterKey) (text : List ℕ) (is : asked ≡ Some front) (keyed : front.key ≡ Some key) where
   -- ---- the answer
 
-  answer_formed : answer_behind book asked text ≡ if_text text (answer_in front.form book key.preferences (asked_behind front key text))
-  answer_formed = ap (λ a. answer_behind book a text) is ∙ ap (λ k. if_text text (answer_keyed book front k text)) keyed
+  answer_formed : answer_after book asked text ≡ if_text text (answer_in front.form book key.preferences (asked_after front key text))
+  answer_formed = ap (λ a. answer_after book a text) is ∙ ap (λ k. if_text text (answer_keyed book front k text)) keyed
 
   -- the key is of the kind of the form, and has its code
   pub key_fits : IfSome asked FitsForm → FitsKey front.form key
@@ -68,19 +68,19 @@ module _ (book : BookTables) (asked : Option Front) (front : Front) (key : Forma
 
   -- to a number
   pub answer_number : WritesNumber front.form → IfSome asked FitsForm
-      → answer_behind book asked text ≡ if_text text (answer_to (answer_of_kind key.kind key.code book key.preferences key.grouping) front.sign front.rounding (reading_of text))
+      → answer_after book asked text ≡ if_text text (answer_to (answer_of_kind key.kind key.code book key.preferences key.grouping) front.sign front.rounding (reading_of text))
   answer_number form fits =
       answer_formed
-      ∙ ap (λ answer. if_text text answer) (number_in front.form book key.preferences (asked_behind front key text) form)
+      ∙ ap (λ answer. if_text text answer) (number_in front.form book key.preferences (asked_after front key text) form)
       ∙ ap (λ kind. if_text text (answer_to (answer_of_kind kind (code_of front.form) book key.preferences key.grouping) front.sign front.rounding (reading_of text))) (sym (key_fits fits).kind)
       ∙ ap (λ code. if_text text (answer_to (answer_of_kind key.kind code book key.preferences key.grouping) front.sign front.rounding (reading_of text))) (sym (key_fits fits).code)
 
   -- to the text of an exact form
   pub answer_exact : (length : PatternLength) (shown : List ℕ) → front.form ≡ Exact length → is_utf8 text ≡ true → shown ≡ text
-      → answer_behind book asked text ≡ exact_to (found_compact length book key.preferences key.grouping) front.sign (compact_reading_of shown)
+      → answer_after book asked text ≡ exact_to (found_compact length book key.preferences key.grouping) front.sign (compact_reading_of shown)
   answer_exact length shown form utf8 whole =
       answer_formed
-      ∙ ap (λ f. if_text text (answer_in f book key.preferences (asked_behind front key text))) form
+      ∙ ap (λ f. if_text text (answer_in f book key.preferences (asked_after front key text))) form
       ∙ ap (λ b. if b then exact_to (found_compact length book key.preferences key.grouping) front.sign (compact_reading_of text) else refused refusal.Shape) utf8
       ∙ ap (λ t. exact_to (found_compact length book key.preferences key.grouping) front.sign (compact_reading_of t)) (sym whole)
 
@@ -103,19 +103,19 @@ module _ (book : BookTables) (asked : Option Front) (front : Front) (key : Forma
   is_of_unit unit kind = subst IsOfUnit (sym kind) tt
 
   pub answer_unit : (unit : UnitAsked) → front.form ≡ Unit unit → IfSome asked FitsForm
-      → answer_behind book asked text ≡ if_text text (unit_to (found_keyed key.kind key.code book key.preferences key.grouping) front.sign front.rounding (reading_of text))
+      → answer_after book asked text ≡ if_text text (unit_to (found_keyed key.kind key.code book key.preferences key.grouping) front.sign front.rounding (reading_of text))
   answer_unit unit form fits =
       let fitting = unit_fits unit form fits in
       answer_formed
-      ∙ ap (λ f. if_text text (answer_in f book key.preferences (asked_behind front key text))) form
+      ∙ ap (λ f. if_text text (answer_in f book key.preferences (asked_after front key text))) form
       ∙ ap (λ found. if_text text (unit_to found front.sign front.rounding (reading_of text))) (sym (found_fits unit fitting.kind fitting.code))
 
   pub answer_read_unit : (unit : UnitAsked) (shown : List ℕ) → front.form ≡ ReadUnit unit → IfSome asked FitsForm → is_utf8 text ≡ true → shown ≡ text
-      → answer_behind book asked text ≡ read_unit_with (found_keyed key.kind key.code book key.preferences key.grouping) front.rounding shown
+      → answer_after book asked text ≡ read_unit_with (found_keyed key.kind key.code book key.preferences key.grouping) front.rounding shown
   answer_read_unit unit shown form fits utf8 whole =
       let fitting = read_unit_fits unit form fits in
       answer_formed
-      ∙ ap (λ f. if_text text (answer_in f book key.preferences (asked_behind front key text))) form
+      ∙ ap (λ f. if_text text (answer_in f book key.preferences (asked_after front key text))) form
       ∙ ap (λ b. if b then read_unit_with (found_unit unit book key.preferences key.grouping) front.rounding text else refused refusal.Shape) utf8
       ∙ ap (λ found. read_unit_with found front.rounding text) (sym (found_fits unit fitting.kind fitting.code))
       ∙ ap (read_unit_with (found_keyed key.kind key.code book key.preferences key.grouping) front.rounding) (sym whole)
@@ -129,14 +129,14 @@ module _ (book : BookTables) (asked : Option Front) (front : Front) (key : Forma
       lenient_unit_with (keyed_code of code) (found_keyed_unit of code book key.preferences key.grouping) (found_keyed_unit of code book (in_latin key.preferences) key.grouping) shown
 
   pub answer_lenient_unit : (unit : UnitAsked) (of : KeyedUnit) (shown : List ℕ) → front.form ≡ ReadLenientUnit unit → of ≡ keyed_unit unit → IfSome asked FitsForm → is_utf8 text ≡ true → shown ≡ text
-      → answer_behind book asked text ≡ lenient_unit_with (keyed_code of key.code)
+      → answer_after book asked text ≡ lenient_unit_with (keyed_code of key.code)
       (found_keyed_unit of key.code book key.preferences key.grouping) (found_keyed_unit of key.code book (in_latin key.preferences) key.grouping) shown
   answer_lenient_unit unit of shown form keyed fits utf8 whole =
       let code : key.code ≡ unit_code unit = (lenient_unit_fits unit form fits).code in
       let found = found_unit unit book key.preferences key.grouping in
       let latin = found_unit unit book (in_latin key.preferences) key.grouping in
       answer_formed
-      ∙ ap (λ f. if_text text (answer_in f book key.preferences (asked_behind front key text))) form
+      ∙ ap (λ f. if_text text (answer_in f book key.preferences (asked_after front key text))) form
       ∙ ap (λ b. if b then lenient_unit_with (typed_code unit) found latin text else refused refusal.Shape) utf8
       ∙ ap (λ c. lenient_unit_with c found latin text) (sym (code_keyed unit))
       ∙ ap (λ f. lenient_unit_with (keyed_code (keyed_unit unit) (unit_code unit)) f latin text) (sym (unit_keyed unit book key.preferences key.grouping))
@@ -148,26 +148,26 @@ module _ (book : BookTables) (asked : Option Front) (front : Front) (key : Forma
   -- ---- the memory
 
   module _ (value : SignedValue Number) where
-    may_take : MayTakeIn front.form book key front.rounding text value → MayTakeBehind book asked text value
-    may_take wants = subst (λ a. MayTakeBehind book a text value) (sym is) (subst (λ k. MayTakeKeyed book front k text value) (sym keyed) wants)
+    may_take : MayTakeIn front.form book key front.rounding text value → MayTakeAfter book asked text value
+    may_take wants = subst (λ a. MayTakeAfter book a text value) (sym is) (subst (λ k. MayTakeKeyed book front k text value) (sym keyed) wants)
 
-    pub number_may_take_behind : WritesNumber front.form → ReadsMore text value ⊎ MayGrowRead front.rounding (reading_of text) → MayTakeBehind book asked text value
-    number_may_take_behind form wants = may_take (number_may_take front.form book key front.rounding text value form wants)
+    pub number_may_take_after : WritesNumber front.form → ReadsMore text value ⊎ MayGrowRead front.rounding (reading_of text) → MayTakeAfter book asked text value
+    number_may_take_after form wants = may_take (number_may_take front.form book key front.rounding text value form wants)
 
-    pub exact_may_take_behind : (length : PatternLength) (shown : List ℕ) → front.form ≡ Exact length → shown ≡ text → ReadsLongCompact shown → MayTakeBehind book asked text value
-    exact_may_take_behind length shown form whole long = may_take (subst (λ f. MayTakeIn f book key front.rounding text value) (sym form) (subst ReadsLongCompact whole long))
+    pub exact_may_take_after : (length : PatternLength) (shown : List ℕ) → front.form ≡ Exact length → shown ≡ text → ReadsLongCompact shown → MayTakeAfter book asked text value
+    exact_may_take_after length shown form whole long = may_take (subst (λ f. MayTakeIn f book key front.rounding text value) (sym form) (subst ReadsLongCompact whole long))
 
-    pub unit_may_take_behind : (unit : UnitAsked) → front.form ≡ Unit unit → IfSome asked FitsForm
-        → ReadsMore text value ⊎ MayGrowUnit (found_keyed key.kind key.code book key.preferences key.grouping) front.rounding (reading_of text) → MayTakeBehind book asked text value
-    unit_may_take_behind unit form fits wants =
+    pub unit_may_take_after : (unit : UnitAsked) → front.form ≡ Unit unit → IfSome asked FitsForm
+        → ReadsMore text value ⊎ MayGrowUnit (found_keyed key.kind key.code book key.preferences key.grouping) front.rounding (reading_of text) → MayTakeAfter book asked text value
+    unit_may_take_after unit form fits wants =
         let fitting = unit_fits unit form fits in
         may_take (subst (λ f. MayTakeIn f book key front.rounding text value) (sym form)
         (subst (λ found. ReadsMore text value ⊎ MayGrowUnit found front.rounding (reading_of text)) (found_fits unit fitting.kind fitting.code) wants))
 
     -- any text that is read back with a unit
-    pub read_unit_may_take_behind : (unit : UnitAsked) → front.form ≡ ReadUnit unit → is_utf8 text ≡ true → MayTakeBehind book asked text value
-    read_unit_may_take_behind unit form utf8 = may_take (subst (λ f. MayTakeIn f book key front.rounding text value) (sym form) utf8)
+    pub read_unit_may_take_after : (unit : UnitAsked) → front.form ≡ ReadUnit unit → is_utf8 text ≡ true → MayTakeAfter book asked text value
+    read_unit_may_take_after unit form utf8 = may_take (subst (λ f. MayTakeIn f book key front.rounding text value) (sym form) utf8)
 
     -- and any that is read leniently with one
-    pub lenient_unit_may_take_behind : (unit : UnitAsked) → front.form ≡ ReadLenientUnit unit → is_utf8 text ≡ true → MayTakeBehind book asked text value
-    lenient_unit_may_take_behind unit form utf8 = may_take (subst (λ f. MayTakeIn f book key front.rounding text value) (sym form) utf8)
+    pub lenient_unit_may_take_after : (unit : UnitAsked) → front.form ≡ ReadLenientUnit unit → is_utf8 text ≡ true → MayTakeAfter book asked text value
+    lenient_unit_may_take_after unit form utf8 = may_take (subst (λ f. MayTakeIn f book key front.rounding text value) (sym form) utf8)

@@ -46,7 +46,7 @@ nothing_that_reads : wanted_of (codes "en-u-nu-latn-thai-sd-12a") ≡ wanted_of 
 unfolding tag_of whole_after headed_after body_after with_piece
 nothing_that_reads = refl
 
--- a region that stands in `sd` alone is none
+-- a region that is in `sd` alone is not one
 no_region : asked_of (codes "en-u-sd-ustx") ≡ Some (
   record { language = codes "en"; script = None; region = None; variant = None; subdivision = Some (record { region = codes "US"; suffix = codes "tx" }) },
   None,

@@ -1,9 +1,9 @@
 -- A text is cut at its last tab in one way, and a printed value has no tab: `specs/Printed.antt`.
 use Rattle.std.proofs.Common.{◌≡◌, ℕ, ◌<◌, List, [], ◌∷◌, ◌++◌, map, refl, subst, arith}
 use Rattle.std.specs.Int.Digits.{digits_of}
-use Rattle.fixed_decimal.specs.CompactText.{CompactValue, behind_compact_mark, compact_text_of}
+use Rattle.fixed_decimal.specs.CompactText.{CompactValue, after_compact_mark, compact_text_of}
 use Rattle.fixed_decimal.specs.Number.{fraction_digits, whole_digits}
-use Rattle.fixed_decimal.specs.NumberText.{behind_point, character}
+use Rattle.fixed_decimal.specs.NumberText.{after_point, character}
 use Rattle.fixed_decimal.specs.SignedText.{sign_text}
 use Rattle.fixed_decimal.specs.declared.Sign.{Sign}
 use Rattle.fixed_decimal.specs.declared.Sign.TheVariants.{None as Unsigned, Positive, Negative}
@@ -38,11 +38,11 @@ characters_have_no_tab : (ds : List ℕ) → HasNoTab (map character ds)
 characters_have_no_tab [] = tt
 characters_have_no_tab (d ∷ ds) = (other_code (character d) (omega arith), characters_have_no_tab ds)
 
-fraction_has_no_tab : (ds : List ℕ) → HasNoTab (behind_point (map character ds))
+fraction_has_no_tab : (ds : List ℕ) → HasNoTab (after_point (map character ds))
 fraction_has_no_tab [] = tt
 fraction_has_no_tab (d ∷ ds) = (other_code 46 (omega arith), characters_have_no_tab (d ∷ ds))
 
-exponent_has_no_tab : (ds : List ℕ) → HasNoTab (behind_compact_mark (map character ds))
+exponent_has_no_tab : (ds : List ℕ) → HasNoTab (after_compact_mark (map character ds))
 exponent_has_no_tab [] = tt
 exponent_has_no_tab (d ∷ ds) = (other_code 99 (omega arith), characters_have_no_tab (d ∷ ds))
 
@@ -54,9 +54,9 @@ sign_has_no_tab Negative = (other_code 45 (omega arith), tt)
 pub printed_has_no_tab : (v : CompactValue) → HasNoTab (compact_text_of v)
 printed_has_no_tab v =
     let whole : List ℕ = map character (whole_digits v.significand.absolute) in
-    let fraction : List ℕ = behind_point (map character (fraction_digits v.significand.absolute)) in
+    let fraction : List ℕ = after_point (map character (fraction_digits v.significand.absolute)) in
     let sign : List ℕ = sign_text v.significand.sign in
-    joined_has_no_tab (sign ++ (whole ++ fraction)) (behind_compact_mark (map character (digits_of 10 v.exponent)))
+    joined_has_no_tab (sign ++ (whole ++ fraction)) (after_compact_mark (map character (digits_of 10 v.exponent)))
     (joined_has_no_tab sign (whole ++ fraction) (sign_has_no_tab v.significand.sign)
     (joined_has_no_tab whole fraction (characters_have_no_tab (whole_digits v.significand.absolute)) (fraction_has_no_tab (fraction_digits v.significand.absolute))))
     (exponent_has_no_tab (digits_of 10 v.exponent))

@@ -9,7 +9,7 @@ use Rattle.icu_locale_core.specs.Pieces.{pieces}
 use Rattle.icu_locale_core.specs.TagAllocation.{tag_may_grow}
 use Rattle.locale_numbers_book.specs.Book.{BookTables}
 use Rattle.locale_numbers_requests.specs.Request.{Asked, request_of, with_text}
-use Rattle.locale_numbers.specs.Front.{HasKeyThat, MayTakeBehind, asked_text, front_asked, front_of}
+use Rattle.locale_numbers.specs.Front.{HasKeyThat, MayTakeAfter, asked_text, front_asked, front_of}
 use Rattle.locale_numbers.specs.LineMemory.{MayTakeTag, front_before}
 use Rattle.locale_numbers.specs.declared.formatter_key.FormatterKey.{FormatterKey}
 use Rattle.locale_numbers.specs.declared.front.Front.{Front}
@@ -55,11 +55,11 @@ front_is_before line front text asked whole same =
     ∙ take-append_seam front text
 
 -- what is known of a request holds of the front that was read of it
-pub formatter_behind : (takes : FormatterKey → Type 0) (read : Option Front) (front text : List ℕ) (asked : Asked) → read ≡ front_of front → IsFrontOf front text asked
+pub formatter_after : (takes : FormatterKey → Type 0) (read : Option Front) (front text : List ℕ) (asked : Asked) → read ≡ front_of front → IsFrontOf front text asked
     → HasKeyThat (λ key. ¬ (takes key)) (front_asked (Some asked)) → HasKeyThat (λ key. ¬ (takes key)) read
-formatter_behind takes read front text asked is whole quiet = subst (HasKeyThat (λ key. ¬ (takes key))) (sym (is ∙ whole.fronts)) quiet
+formatter_after takes read front text asked is whole quiet = subst (HasKeyThat (λ key. ¬ (takes key))) (sym (is ∙ whole.fronts)) quiet
 
-pub text_behind : (book : BookTables) (before : SignedValue Number) (read : Option Front) (front text : List ℕ) (asked : Asked) → read ≡ front_of front → IsFrontOf front text asked
-    → ¬ (MayTakeBehind book (front_asked (Some asked)) asked.text before) → ¬ (MayTakeBehind book read text before)
-text_behind book before read front text asked is whole none = λ wants.
-    none (subst (λ t. MayTakeBehind book (front_asked (Some asked)) t before) whole.texts (subst (λ f. MayTakeBehind book f text before) (is ∙ whole.fronts) wants))
+pub text_after : (book : BookTables) (before : SignedValue Number) (read : Option Front) (front text : List ℕ) (asked : Asked) → read ≡ front_of front → IsFrontOf front text asked
+    → ¬ (MayTakeAfter book (front_asked (Some asked)) asked.text before) → ¬ (MayTakeAfter book read text before)
+text_after book before read front text asked is whole none = λ wants.
+    none (subst (λ t. MayTakeAfter book (front_asked (Some asked)) t before) whole.texts (subst (λ f. MayTakeAfter book f text before) (is ∙ whole.fronts) wants))

@@ -56,7 +56,7 @@ abbrev pub answer_tagged : BookTables → Option Preferences → Asked → List 
 answer_tagged book None asked = refused refusal.Tag
 answer_tagged book (Some preferences) asked = answer_in asked.form book preferences asked
 
--- the answer to a request, or to a line that is none
+-- the answer to a request, or to a line that is not one
 abbrev pub answer_asked : BookTables → Option Asked → List ℕ
 answer_asked book None = refused refusal.Shape
 answer_asked book (Some asked) = answer_tagged book (wanted_of asked.tag) asked

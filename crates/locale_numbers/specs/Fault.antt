@@ -17,7 +17,7 @@ status_of (Book refusal) = 4
 status_of (Run run.Memory) = 6
 status_of (Run fault) = 5
 
--- what the line says behind the word `fault`
+-- what the line says after the word `fault`
 abbrev pub cause_of : ProgramFault → List ℕ
 cause_of Usage = codes "usage"
 cause_of File = codes "file"

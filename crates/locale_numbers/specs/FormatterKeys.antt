@@ -99,7 +99,7 @@ abbrev pub key_tagged : Asked → Option Preferences → Option FormatterKey
 key_tagged asked None = None
 key_tagged asked (Some preferences) = key_in asked.form (key_with asked.form asked.grouping preferences) asked.text
 
--- the key of a request, or of a line that is none
+-- the key of a request, or of a line that is not one
 abbrev pub key_asked : Option Asked → Option FormatterKey
 key_asked None = None
 key_asked (Some asked) = key_tagged asked (wanted_of asked.tag)

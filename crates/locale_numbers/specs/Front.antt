@@ -1,4 +1,4 @@
--- What the front of a line asks, all that stands before its text: it is read as a line with no text.
+-- What the front of a line asks, all that is before its text: it is read as a line with no text.
 -- Defined in docs/requests.md, "Request line" and "What a cache keeps".
 -- Cited by the private steps of an answer.
 -- A front is a line without its text, so both what a line asks and what it is answered are imported.
@@ -26,7 +26,7 @@ use Rattle.locale_numbers_requests.specs.declared.Form.{Form}
 use Rattle.locale_numbers_requests.specs.declared.Form.TheVariants as form
 use Rattle.locale_numbers_requests.specs.declared.RoundingAsked.{RoundingAsked}
 
--- what a line asks, by the text behind its front and what this asks: nothing, where the text is not UTF-8
+-- what a line asks, by the text after its front and what this asks: nothing, where the text is not UTF-8
 abbrev pub asked_text : List ℕ → Option Asked → Option Asked
 asked_text text asked = if is_utf8 text then with_text text asked else None
 
@@ -54,23 +54,23 @@ HasKeyThat holds None = Unit {0}
 HasKeyThat holds (Some front) = IfSome front.key holds
 
 -- what a front with this key asks of a text; the tag is in the key
-abbrev pub asked_behind : Front → FormatterKey → List ℕ → Asked
-asked_behind front key text =
+abbrev pub asked_after : Front → FormatterKey → List ℕ → Asked
+asked_after front key text =
     record { tag = []; form = front.form; grouping = key.grouping; sign = front.sign; rounding = front.rounding; text = text }
 
--- the answer to a text behind a front, by its key, where its tag is one
+-- the answer to a text after a front, by its key, where its tag is one
 abbrev pub answer_keyed : BookTables → Front → Option FormatterKey → List ℕ → List ℕ
 answer_keyed book front None text = refused refusal.Tag
-answer_keyed book front (Some key) text = answer_in front.form book key.preferences (asked_behind front key text)
+answer_keyed book front (Some key) text = answer_in front.form book key.preferences (asked_after front key text)
 
--- the answer to a text behind a front, or behind one that asks nothing
+-- the answer to a text after a front, or after one that asks nothing
 abbrev pub answer_front : BookTables → Option Front → List ℕ → List ℕ
 answer_front book None text = refused refusal.Shape
 answer_front book (Some front) text = answer_keyed book front front.key text
 
--- the answer to what stands behind a front
-abbrev pub answer_behind : BookTables → Option Front → List ℕ → List ℕ
-answer_behind book front text = if_text text (answer_front book front text)
+-- the answer to what is after a front
+abbrev pub answer_after : BookTables → Option Front → List ℕ → List ℕ
+answer_after book front text = if_text text (answer_front book front text)
 
 -- the key that such a line asks for
 abbrev pub key_keyed : Form → Option FormatterKey → List ℕ → Option FormatterKey
@@ -85,8 +85,8 @@ key_front (Some front) text = key_keyed front.form front.key text
 abbrev pub key_if_text : List ℕ → Option FormatterKey → Option FormatterKey
 key_if_text text key = if is_utf8 text then key else None
 
-abbrev pub key_behind : Option Front → List ℕ → Option FormatterKey
-key_behind front text = key_if_text text (key_front front text)
+abbrev pub key_after : Option Front → List ℕ → Option FormatterKey
+key_after front text = key_if_text text (key_front front text)
 
 -- a text that may want memory, beside its answer and its formatter. To write a number: one that says a number of more than eight digits, and
 -- of more than the one that is there, or one whose number a rounding to multiples of 25 may lengthen. In an exact form: one that says a
@@ -104,12 +104,12 @@ MayTakeIn (form.Unit unit) book key rounding text value =
 MayTakeIn (form.ReadUnit unit) book key rounding text value = is_utf8 text ≡ true
 MayTakeIn (form.ReadLenientUnit unit) book key rounding text value = is_utf8 text ≡ true
 
--- the same behind a front, by its key: where its tag is none, no text wants memory
+-- the same after a front, by its key: where its tag is not one, no text wants memory
 abbrev pub MayTakeKeyed : BookTables → Front → Option FormatterKey → List ℕ → SignedValue Number → Type 0
 MayTakeKeyed book front None text value = ⊥
 MayTakeKeyed book front (Some key) text value = MayTakeIn front.form book key front.rounding text value
 
--- nor behind a front that asks nothing
-abbrev pub MayTakeBehind : BookTables → Option Front → List ℕ → SignedValue Number → Type 0
-MayTakeBehind book None text value = ⊥
-MayTakeBehind book (Some front) text value = MayTakeKeyed book front front.key text value
+-- nor after a front that asks nothing
+abbrev pub MayTakeAfter : BookTables → Option Front → List ℕ → SignedValue Number → Type 0
+MayTakeAfter book None text value = ⊥
+MayTakeAfter book (Some front) text value = MayTakeKeyed book front front.key text value

@@ -34,7 +34,7 @@ use Rattle.locale_numbers_requests.specs.declared.RoundingAsked.TheVariants.{Unr
 
 -- ---- lines
 
--- no tab stands in a text
+-- no tab is in a text
 abbrev pub HasNoTab : List ℕ → Type 0
 HasNoTab text = AllByRecursion (λ c. c ≢ tab) text
 

@@ -12,7 +12,7 @@ use Rattle.icu_locale_core.specs.TagAllocation.{tag_may_grow}
 use Rattle.locale_numbers_book.specs.Book.{BookTables}
 use Rattle.locale_numbers_cache.specs.LastRead.{Remembered, either_remembers, pair_at}
 use Rattle.locale_numbers_requests.specs.Request.{Asked}
-use Rattle.locale_numbers.specs.Front.{HasKeyThat, MayTakeBehind, front_asked}
+use Rattle.locale_numbers.specs.Front.{HasKeyThat, MayTakeAfter, front_asked}
 use Rattle.locale_numbers.specs.declared.formatter_key.FormatterKey.{FormatterKey}
 use Rattle.locale_numbers.specs.declared.front.Front.{Front}
 
@@ -21,10 +21,10 @@ abbrev pub MayTakeTag : Option Asked → Type 0
 MayTakeTag None = ⊥
 MayTakeTag (Some asked) = tag_may_grow (pieces asked.tag) ≡ true
 
--- neither the formatter of a request, by what is known of keys, nor its text takes memory, behind a number that was read before
+-- neither the formatter of a request, by what is known of keys, nor its text takes memory, after a number that was read before
 pub record TakesNone (book : BookTables) (takes : FormatterKey → Type 0) (before : SignedValue Number) (asked : Asked) : Type 0 where
   pub formatter : HasKeyThat (λ key. ¬ (takes key)) (front_asked (Some asked))
-  pub text : ¬ (MayTakeBehind book (front_asked (Some asked)) asked.text before)
+  pub text : ¬ (MayTakeAfter book (front_asked (Some asked)) asked.text before)
 
 -- the number before the first line
 abbrev pub no_number : SignedValue Number

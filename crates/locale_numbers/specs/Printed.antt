@@ -1,4 +1,4 @@
--- What a request in a compact form prints: a compact text, and behind the last tab the value shown; and the request that sends this value.
+-- What a request in a compact form prints: a compact text, and after the last tab the value shown; and the request that sends this value.
 -- Defined in docs/requests.md, "Answer line", and docs/compact-text.md, "Laws".
 -- Cited by PrintedLaws.antt.
 -- It joins requests, tables and values shown, which are defined in three members and imported from each.
@@ -27,7 +27,7 @@ use Rattle.locale_numbers_requests.specs.declared.PatternLength.{PatternLength}
 use Rattle.locale_numbers_requests.specs.declared.RoundingAsked.TheVariants.{Unrounded}
 use Rattle.locale_numbers_requests.specs.declared.SignAsked.TheVariants.{Keep}
 
--- the answer to a request is a text, and behind its last tab the value printed
+-- the answer to a request is a text, and after its last tab the value printed
 pub record Prints (book : BookTables) (asked : Asked) (text printed : List ℕ) : Type 0 where
   pub whole : answer_asked book (Some asked) ≡ written (text ++ tab ∷ printed)
   pub last : HasNoTab printed

@@ -36,20 +36,20 @@ subdivisions (Some s) (Some t) h = ap Some (subdivision_is s t h)
 abbrev same_subdivisions : LocalePreferencesMeaning → LocalePreferencesMeaning → Bool
 same_subdivisions a b = option_eq same_subdivision a.subdivision b.subdivision && option_eq same_subdivision a.region_override b.region_override
 
-abbrev same_behind_region : LocalePreferencesMeaning → LocalePreferencesMeaning → Bool
-same_behind_region a b = option_eq same_text a.variant b.variant && same_subdivisions a b
+abbrev same_after_region : LocalePreferencesMeaning → LocalePreferencesMeaning → Bool
+same_after_region a b = option_eq same_text a.variant b.variant && same_subdivisions a b
 
-abbrev same_behind_script : LocalePreferencesMeaning → LocalePreferencesMeaning → Bool
-same_behind_script a b = option_eq same_text a.region b.region && same_behind_region a b
+abbrev same_after_script : LocalePreferencesMeaning → LocalePreferencesMeaning → Bool
+same_after_script a b = option_eq same_text a.region b.region && same_after_region a b
 
-abbrev same_behind_language : LocalePreferencesMeaning → LocalePreferencesMeaning → Bool
-same_behind_language a b = option_eq same_text a.script b.script && same_behind_script a b
+abbrev same_after_language : LocalePreferencesMeaning → LocalePreferencesMeaning → Bool
+same_after_language a b = option_eq same_text a.script b.script && same_after_script a b
 
 locale_is : (a b : LocalePreferencesMeaning) → same_locale a b ≡ true → a ≡ b
 locale_is a b h =
-    let p = and_parts (same_text a.language b.language) (same_behind_language a b) h in
-    let q = and_parts (option_eq same_text a.script b.script) (same_behind_script a b) p.1 in
-    let r = and_parts (option_eq same_text a.region b.region) (same_behind_region a b) q.1 in
+    let p = and_parts (same_text a.language b.language) (same_after_language a b) h in
+    let q = and_parts (option_eq same_text a.script b.script) (same_after_script a b) p.1 in
+    let r = and_parts (option_eq same_text a.region b.region) (same_after_region a b) q.1 in
     let s = and_parts (option_eq same_text a.variant b.variant) (same_subdivisions a b) r.1 in
     let t = and_parts (option_eq same_subdivision a.subdivision b.subdivision) (option_eq same_subdivision a.region_override b.region_override) s.1 in
     let language : a.language ≡ b.language = (bytes_decides a.language b.language).0 p.0 in

@@ -29,7 +29,7 @@ pub record WritesUnit (unit : Result UnitFound DataError) (formatter : UnitForma
 
 -- ---- typed
 
--- the code that may stand beside a number: that of the currency, or a percent sign
+-- the code that may be beside a number: that of the currency, or a percent sign
 abbrev pub code_held : UnitNumbers → List ℕ
 code_held (Percents percents) = codes "%"
 code_held (Amounts amounts) = code_of amounts

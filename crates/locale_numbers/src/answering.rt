@@ -4,7 +4,7 @@ ghost use Rattle.std.specs.Prelude.{◌≡◌, ◌∷◌, ◌++◌, List, Option
 ghost use Rattle.locale_numbers_lines.specs.Growth.{Grows};
 ghost use Rattle.locale_numbers.specs.Answer.{answer_of};
 ghost use Rattle.locale_numbers_answers.specs.AnswerSink.{HasRoom};
-ghost use Rattle.locale_numbers.specs.Front.{FitsForm, HasKeyThat, MayTakeBehind, answer_behind, key_behind};
+ghost use Rattle.locale_numbers.specs.Front.{FitsForm, HasKeyThat, MayTakeAfter, answer_after, key_after};
 ghost use Rattle.locale_numbers.specs.LineMemory.{MayTakeTag, TakesNone, no_number};
 ghost use Rattle.locale_numbers_requests.specs.Request.{Asked, request_of};
 ghost use Rattle.locale_numbers.specs.declared.formatter_key.FormatterKey.{FormatterKey};
@@ -25,12 +25,12 @@ use locale_numbers_book::Book;
 use locale_numbers_requests::{Form, Refusal, as_text};
 use std::alloc::{AllocError, Global};
 
-// Writes the answer to a text behind a front, behind what `out` holds. It is tested as UTF-8 only where no number is
+// Writes the answer to a text after a front, after what `out` holds. It is tested as UTF-8 only where no number is
 // read.
 //
 // `value` is where a number is read, and `is_held` says whether the formatter that was found last is the front's.
-// `AllocError`: out of memory; a part of the answer may then stand there.
-pub(crate) fn answer_behind_front<'a, F: Formatters<'a>>(
+// `AllocError`: out of memory; a part of the answer may then be there.
+pub(crate) fn answer_after_front<'a, F: Formatters<'a>>(
     alloc: Global,
     value: &mut Decimal,
     formatters: &mut F,
@@ -43,18 +43,18 @@ pub(crate) fn answer_behind_front<'a, F: Formatters<'a>>(
     requires kind { IfSome front.now FitsForm }
     requires held { IsTrue is_held.old → HasKeyThat (F.holds formatters.old) front.now }
     ensures text { OnOk result (string_bytes out.new
-        ≡ string_bytes out.old ++ answer_behind (F.book formatters.old) front.now text.now) }
+        ≡ string_bytes out.old ++ answer_after (F.book formatters.old) front.now text.now) }
     ensures err { OnErr result (Grows (string_bytes out.old) (string_bytes out.new)) }
 
     // Where there is room for the answer, and handing out the formatter of the front's key takes none, only a text of
     // more than eight digits may be out of memory, to write a number only one of more than `value` had, and a rounding
     // to multiples of 25 that may lengthen one of eight.
-    ensures room { HasRoom out.old (answer_behind (F.book formatters.old) front.now text.now)
+    ensures room { HasRoom out.old (answer_after (F.book formatters.old) front.now text.now)
         → HasKeyThat (λ key. ¬ (F.may_take_memory formatters.old key)) front.now
-        → ¬ (MayTakeBehind (F.book formatters.old) front.now text.now value.old)
+        → ¬ (MayTakeAfter (F.book formatters.old) front.now text.now value.old)
         → IsOk result }
     ensures counted { OnOk result ((more : List (Option FormatterKey)) →
-        F.counted_over formatters.old (key_behind front.now text.now ∷ more) ≡ F.counted_over formatters.new more) }
+        F.counted_over formatters.old (key_after front.now text.now ∷ more) ≡ F.counted_over formatters.new more) }
     ensures same { F.book formatters.new ≡ F.book formatters.old }
     ensures held { IsTrue is_held.new → HasKeyThat (F.holds formatters.new) front.now }
     ensures ready { F.is_ready formatters.new }
@@ -122,7 +122,7 @@ pub(crate) fn answer_behind_front<'a, F: Formatters<'a>>(
     }
 }
 
-// Writes the answer to a line behind what `out` holds. After an error a part of it may stand there.
+// Writes the answer to a line after what `out` holds. After an error a part of it may be there.
 fn answer_whole_line<'a, F: Formatters<'a>>(
     alloc: Global,
     formatters: &mut F,
@@ -146,7 +146,7 @@ fn answer_whole_line<'a, F: Formatters<'a>>(
     let front = read_front(alloc, front)?;
     let mut value = Decimal::zero(alloc);
     let mut is_held = false;
-    answer_behind_front(
+    answer_after_front(
         alloc,
         &mut value,
         formatters,

@@ -20,7 +20,7 @@ use locale_numbers_cache::Hashed;
 use locale_numbers_requests::{PatternLength, Refusal, SignAsked};
 use std::alloc::{AllocError, Global};
 
-// Writes a significand with its exponent, as the formatter of a key writes both, behind what `out` holds; or the word
+// Writes a significand with its exponent, as the formatter of a key writes both, after what `out` holds; or the word
 // `table`, where it has none.
 fn write_exact_answer_of_key<'a, F: Formatters<'a>>(
     formatters: &mut F,
@@ -61,9 +61,9 @@ fn write_exact_answer_of_key<'a, F: Formatters<'a>>(
     }
 }
 
-// Writes the answer to the text of an exact form, with the formatter of a key, behind what `out` holds.
+// Writes the answer to the text of an exact form, with the formatter of a key, after what `out` holds.
 //
-// `AllocError`: out of memory; a part of the answer may then stand there.
+// `AllocError`: out of memory; a part of the answer may then be there.
 pub(crate) fn answer_exact<'a, F: Formatters<'a>>(
     alloc: Global,
     formatters: &mut F,

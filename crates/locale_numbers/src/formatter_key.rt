@@ -42,7 +42,7 @@ pub(crate) struct FormatterKey {
     pub kind: Kind,
     /// The code of the currency, where the kind is one of amounts.
     pub code: Option<CurrencyCode>,
-    /// Where separators stand.
+    /// Where separators are.
     pub grouping: GroupingStrategy,
 }
 

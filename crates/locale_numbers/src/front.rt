@@ -1,4 +1,4 @@
-//! The front of a line: all that stands before its text.
+//! The front of a line: all that is before its text.
 
 ghost use Rattle.std.specs.Prelude.{◌≡◌, ◌++◌, IfOk, OnErr, option_map};
 ghost use Rattle.locale_numbers.specs.FormatterKeys.{key_with};
@@ -29,7 +29,7 @@ pub(crate) struct Front {
     pub key: Option<Hashed<FormatterKey>>,
 }
 
-// The front of a line, which is all that stands before its text, and the text, which need not be UTF-8.
+// The front of a line, which is all that is before its text, and the text, which need not be UTF-8.
 //
 // The front ends with the last tab. It asks what the line does, as a line with no text.
 pub(crate) fn cut_text(line: &[u8]) -> (&[u8], &[u8])
@@ -58,7 +58,7 @@ fn hashed_key(
     }
 }
 
-// What a front asks: it is read as a line with no text. `None` where it is none.
+// What a front asks: it is read as a line with no text. `None` where it is not one.
 //
 // It may allocate for its tag. `AllocError`: out of memory.
 pub(crate) fn read_front(alloc: Global, bytes: &[u8]) -> Result<Option<Front>, AllocError>

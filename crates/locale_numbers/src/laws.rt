@@ -39,7 +39,7 @@ pub use locale_numbers_lines::laws::{
 };
 use locale_numbers_requests::PatternLength;
 
-/// A line is answered as what its fields ask is, where these are UTF-8 and no tab stands in them: so each law over
+/// A line is answered as what its fields ask is, where these are UTF-8 and no tab is in them: so each law over
 /// requests holds of lines. The line of `en`, `plain`, `auto`, `keep`, `-`, `1000` with a tab between each two is
 /// answered by `ok`, a tab and `1,000`, and that of five fields by `shape`.
 pub fn lines_ask_their_fields()
@@ -48,7 +48,7 @@ pub fn lines_ask_their_fields()
 
 /// Of a tag its language, script, region and first variant count, and its `sd` and `nu` where they read: nothing else
 /// in a tag changes an answer, neither `rg` nor any other keyword, attribute, extension, private subtag or later
-/// variant. Variants stand in the order of their bytes: the first one of `de-fonipa-1996` is `1996`. `EN-X-Foo` and
+/// variant. Variants are in the order of their bytes: the first one of `de-fonipa-1996` is `1996`. `EN-X-Foo` and
 /// `en` are answered alike.
 pub fn alike_tags_are_answered_alike()
     ensures { AlikeTagsAreAnsweredAlike }
@@ -139,7 +139,7 @@ pub fn rounded_is_written_again()
 }
 
 /// What is found in a book for percents, and for the amounts of a currency in a style, is made of texts, as the laws of
-/// reading back with a unit ask for: in `SAMPLE_UNITS_BOOK` with `en` and `EUR` `-€` stands before a number with a minus
+/// reading back with a unit ask for: in `SAMPLE_UNITS_BOOK` with `en` and `EUR` `-€` is before a number with a minus
 /// sign. The code of the currency is three letters `A` to `Z`, as that of each form is.
 pub fn found_units_are_texts()
     ensures { FoundUnitsAreTexts }

@@ -20,7 +20,7 @@ use locale_numbers_cache::Hashed;
 use locale_numbers_requests::Refusal;
 use std::alloc::{AllocError, Global};
 
-// Writes the answer to a text with a unit that was typed, by a formatter, behind what `out` holds.
+// Writes the answer to a text with a unit that was typed, by a formatter, after what `out` holds.
 fn write_lenient_unit(
     alloc: Global,
     made: &LenientUnitFormatter<'_>,
@@ -41,10 +41,10 @@ fn write_lenient_unit(
     }
 }
 
-// Writes the answer to a text with a unit that the formatter of a key reads leniently behind what `out` holds.
+// Writes the answer to a text with a unit that the formatter of a key reads leniently after what `out` holds.
 //
 // `is_held` says whether the formatter that was found last is the one of the key. `AllocError`: out of memory; a part
-// of the answer may then stand there.
+// of the answer may then be there.
 pub(crate) fn answer_lenient_unit<'a, F: Formatters<'a>>(
     alloc: Global,
     formatters: &mut F,

@@ -11,7 +11,7 @@ ghost use Rattle.locale_numbers.specs.FormatterKeys.{finds, key_of};
 ghost use Rattle.locale_numbers.specs.LineMemory.{IsRemembered, TakesNone, front_before};
 ghost use Rattle.locale_numbers.specs.LineState.{IsSoundState};
 
-use crate::answering::answer_behind_front;
+use crate::answering::answer_after_front;
 use crate::formatter_key::FormatterKey;
 use crate::front::{Front, FrontReader, cut_text};
 use crate::kept::Kept;
@@ -37,7 +37,7 @@ pub(crate) struct LineAnswerer<'a, T: Tables> {
 }
 
 impl<'a, T: Tables> LineAnswerer<'a, T> {
-    // Puts the answer to a line behind what `out` holds. `AllocError`: out of memory; a part of it may then stand there.
+    // Puts the answer to a line after what `out` holds. `AllocError`: out of memory; a part of it may then be there.
     fn answer_line(&mut self, line: &[u8], out: &mut String) -> Result<(), AllocError>
         requires { IsSoundState (T.book self.old.kept.maker.tables.now) self.old.kept.formatters self.old.read
             self.old.is_held }
@@ -53,7 +53,7 @@ impl<'a, T: Tables> LineAnswerer<'a, T> {
             self.new.is_held }
         ensures err { OnErr result (Grows (string_bytes out.old) (string_bytes out.new)) }
 
-        // A request whose front was read lately, whose formatter is kept and whose text takes no memory, behind the number
+        // A request whose front was read lately, whose formatter is kept and whose text takes no memory, after the number
         // that was read before, takes none where there is room for its answer.
         ensures room { (asked : Asked) → request_of line.now ≡ Some asked
             → HasRoom out.old (answer_of (T.book self.old.kept.maker.tables.now) line.now)
@@ -67,7 +67,7 @@ impl<'a, T: Tables> LineAnswerer<'a, T> {
         let reader = FrontReader { alloc: self.alloc };
         let same = self.read.find(&reader, front)?;
         self.is_held &= same;
-        answer_behind_front(
+        answer_after_front(
             self.alloc,
             &mut self.value,
             &mut self.kept,

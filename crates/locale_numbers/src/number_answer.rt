@@ -24,7 +24,7 @@ use locale_numbers_cache::Hashed;
 use locale_numbers_requests::{Refusal, RoundingAsked, SignAsked};
 use std::alloc::AllocError;
 
-// Writes the answer to a number, by a formatter of any kind, behind what `out` holds.
+// Writes the answer to a number, by a formatter of any kind, after what `out` holds.
 fn write_answer_of_formatter(
     formatter: &KeptFormatter<'_>,
     value: &mut Decimal,
@@ -45,7 +45,7 @@ fn write_answer_of_formatter(
     }
 }
 
-// Writes the answer to a number, by the formatter of a key, behind what `out` holds; or the word `table`, where it has
+// Writes the answer to a number, by the formatter of a key, after what `out` holds; or the word `table`, where it has
 // none.
 fn write_answer_of_key<'a, F: Formatters<'a>>(
     formatters: &mut F,
@@ -76,10 +76,10 @@ fn write_answer_of_key<'a, F: Formatters<'a>>(
     write_answer_of_formatter(formatters.found(key), value, out)
 }
 
-// Writes the answer to a number's text, with the formatter of a key, behind what `out` holds. `value` is read anew.
+// Writes the answer to a number's text, with the formatter of a key, after what `out` holds. `value` is read again.
 //
 // `is_held` says whether the formatter that was found last is the one of the key. `AllocError`: out of memory; a part
-// of the answer may then stand there.
+// of the answer may then be there.
 pub(crate) fn answer_number<'a, F: Formatters<'a>>(
     value: &mut Decimal,
     formatters: &mut F,

@@ -17,10 +17,10 @@ use locale_numbers_cache::Hashed;
 use locale_numbers_requests::Refusal;
 use std::alloc::{AllocError, Global};
 
-// Writes the answer to a text that the formatter of a key reads back behind what `out` holds.
+// Writes the answer to a text that the formatter of a key reads back after what `out` holds.
 //
 // `is_held` says whether the formatter that was found last is the one of the key. `AllocError`: out of memory; a part
-// of the answer may then stand there.
+// of the answer may then be there.
 pub(crate) fn answer_read<'a, F: Formatters<'a>>(
     alloc: Global,
     formatters: &mut F,

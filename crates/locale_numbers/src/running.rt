@@ -26,7 +26,7 @@ use std::alloc::Global;
 /// sign and digits written, and `read-lenient` gives the same answer to these. The definition is that
 /// of [`answer`](crate::answer).
 ///
-/// A line ends at a line feed; what stands after the last one is a line too, where it is not empty.
+/// A line ends at a line feed; what is after the last one is a line too, where it is not empty.
 /// Under the sample book the bytes `xx`, line feed give `err`, a tab, `shape`, line feed, and a report
 /// of 1 line.
 ///

@@ -30,7 +30,7 @@ fn fault_of(error: io::Error) -> ProgramFault
     }
 }
 
-// The words behind the program's own name.
+// The words after the program's own name.
 fn own_words<H: Env + AllocGlobal>(rt: &H) -> Result<Vec<String>, ProgramFault>
     ensures { IfErr result IsOfWords }
 {

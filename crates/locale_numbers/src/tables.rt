@@ -13,7 +13,7 @@ use locale_numbers_book::Book;
 /// Tables of all ten kinds and parents of locales, as those of a [`Book`]: of the sample book the symbols of `en`, the
 /// digits of `thai`, and so on. The five kinds of units have nothing where the book has no units.
 ///
-/// Under each identifier a type of your own returns what stands there in one book, at each call the same, and where
+/// Under each identifier a type of your own returns what is there in one book, at each call the same, and where
 /// nothing does it returns `IdentifierNotFound`: one that forwards to a book and counts what is loaded, say. Its
 /// parents and its chains of them are those of that book. That it does so is its proof's to say.
 pub trait Tables: DataProvider<DecimalSymbolsV1>
@@ -37,7 +37,7 @@ pub trait Tables: DataProvider<DecimalSymbolsV1>
     // the book that the tables are those of
     ghost book: { Self → BookTables };
 
-    // each is what stands there in that book
+    // each is what is there in that book
     ghost symbols: { (s : Self) (id : Identifier) → Self.DataProvider-1.table s id ≡ symbols_under (book s) id };
 
     ghost digits: { (s : Self) (id : Identifier) → Self.DataProvider-2.table s id ≡ digits_under (book s) id };

@@ -26,7 +26,7 @@ use locale_numbers_cache::Hashed;
 use locale_numbers_requests::{Refusal, RoundingAsked, SignAsked};
 use std::alloc::{AllocError, Global};
 
-// Writes the answer to a number with a unit, by the formatter of a key, behind what `out` holds; or the word `table`,
+// Writes the answer to a number with a unit, by the formatter of a key, after what `out` holds; or the word `table`,
 // where it has none.
 fn write_unit_of_key<'a, F: Formatters<'a>>(
     alloc: Global,
@@ -72,11 +72,11 @@ fn write_unit_of_key<'a, F: Formatters<'a>>(
     }
 }
 
-// Writes the answer to a number's text with a unit, with the formatter of a key, behind what `out` holds. `value` is
-// read anew.
+// Writes the answer to a number's text with a unit, with the formatter of a key, after what `out` holds. `value` is
+// read again.
 //
 // `is_held` says whether the formatter that was found last is the one of the key. `AllocError`: out of memory; a part
-// of the answer may then stand there.
+// of the answer may then be there.
 pub(crate) fn answer_unit<'a, F: Formatters<'a>>(
     alloc: Global,
     value: &mut Decimal,
@@ -121,7 +121,7 @@ pub(crate) fn answer_unit<'a, F: Formatters<'a>>(
     }
 }
 
-// Writes the answer to a text with a unit that a formatter reads back behind what `out` holds.
+// Writes the answer to a text with a unit that a formatter reads back after what `out` holds.
 fn write_read_unit(
     alloc: Global,
     made: &UnitFormatter<'_>,
@@ -144,10 +144,10 @@ fn write_read_unit(
     }
 }
 
-// Writes the answer to a text with a unit that the formatter of a key reads back behind what `out` holds.
+// Writes the answer to a text with a unit that the formatter of a key reads back after what `out` holds.
 //
 // `is_held` says whether the formatter that was found last is the one of the key. `AllocError`: out of memory; a part
-// of the answer may then stand there.
+// of the answer may then be there.
 pub(crate) fn answer_read_unit<'a, F: Formatters<'a>>(
     alloc: Global,
     formatters: &mut F,

@@ -3,7 +3,7 @@ use Rattle.std.proofs.Common.{◌≡◌, ◌==◌, ◌||◌, ◌&&◌, ◌<◌, 
 use Rattle.std.specs.List.{list_all}
 use Rattle.std.proofs.lemmas.Bool.{le-ltb, lt-ltb, ltb-false, ltb-true}
 use Rattle.std.proofs.lemmas.Bool.Decides.{nat_tests}
-use Rattle.fixed_decimal.specs.CompactText.{CompactValue, IsBeyondCompact, IsNoCompactText, PassesExponent, ReadsCompact, SpellsCompact, StartsNoZero, behind_compact_mark}
+use Rattle.fixed_decimal.specs.CompactText.{CompactValue, IsBeyondCompact, IsNoCompactText, PassesExponent, ReadsCompact, SpellsCompact, StartsNoZero, after_compact_mark}
 use Rattle.fixed_decimal.specs.NumberText.{AreDigits, capital_mark, digit_zero, small_mark, spelled}
 use Rattle.fixed_decimal.specs.PlainParts.{StartsWithMark}
 use Rattle.fixed_decimal.specs.PlainText.{HasNoMark, MarksExponent, compact_mark}
@@ -58,7 +58,7 @@ mark_rest (c ∷ cs) = at (marks_exponent c) refl (mark_rest cs)
     at false is rest = rest
 
 -- the front and the digits that spell a text are those that the function finds
-agree : (text front digits : List ℕ) → SpellsCompact text front digits → (before_mark text ≡ front) × (from_mark text ≡ behind_compact_mark digits)
+agree : (text front digits : List ℕ) → SpellsCompact text front digits → (before_mark text ≡ front) × (from_mark text ≡ after_compact_mark digits)
 agree text front digits spells =
     found_compact text (before_mark text) (from_mark text) (mark_whole text) (mark_plain text) (mark_rest text) front digits spells
 
@@ -69,7 +69,7 @@ size_is d ds digits first =
     let other : (d == digit_zero) ≡ false = grind (arith, nat_tests) in
     rw (other, digits_all (d ∷ ds) digits) refl
 
-exponent_is : (digits : List ℕ) → AreDigits digits → StartsNoZero digits → exponent_in (behind_compact_mark digits) ≡ Some digits
+exponent_is : (digits : List ℕ) → AreDigits digits → StartsNoZero digits → exponent_in (after_compact_mark digits) ≡ Some digits
 exponent_is [] digits first = refl
 exponent_is (d ∷ ds) digits first = rw (size_is d ds digits first) refl
 
@@ -103,7 +103,7 @@ spells_of text (mark ∷ tail) digits rest found = at (mark == compact_mark) (is
         let sized = size_shown tail size in
         subst (λ ds. SpellsCompact text (before_mark text) ds) same
         (record {
-          whole = mark_whole text ∙ ap (λ r. before_mark text ++ r) (rest ∙ ap (λ m. m ∷ tail) is ∙ ap (λ t. compact_mark ∷ t) (sized.some.2) ∙ sym (ap behind_compact_mark sized.some.2));
+          whole = mark_whole text ∙ ap (λ r. before_mark text ++ r) (rest ∙ ap (λ m. m ∷ tail) is ∙ ap (λ t. compact_mark ∷ t) (sized.some.2) ∙ sym (ap after_compact_mark sized.some.2));
           plain = mark_plain text;
           are_digits = sized.all;
           first = sized.first;

@@ -63,8 +63,8 @@ parts_of_point = refl
 parts_of_exponent : parts_of (codes ".5E-3") ≡ Some (record { integer = []; fraction = codes "5"; negative = true; exponent = codes "3" })
 parts_of_exponent = refl
 
-no_digit_behind : reading_of (codes "5.") ≡ nothing
-no_digit_behind = refl
+no_digit_after : reading_of (codes "5.") ≡ nothing
+no_digit_after = refl
 
 no_exponent : reading_of (codes "1e") ≡ nothing
 no_exponent = refl
@@ -118,7 +118,7 @@ no_table_typed latin = refl
 
 -- ---- typed texts with a unit
 
--- beside a number stands the code of the currency, or a percent sign
+-- beside a number is the code of the currency, or a percent sign
 euro_beside : typed_code (Currency Standard (codes "EUR")) ≡ codes "EUR"
 euro_beside = refl
 

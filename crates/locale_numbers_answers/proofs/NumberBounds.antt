@@ -36,7 +36,7 @@ use Rattle.locale_numbers_answers.proofs.RoundedLemmas.{multiple_right, rounds_a
 
 -- ---- counts at a place
 
--- a count of n digits whose last stands at a place
+-- a count of n digits whose last is at a place
 count_below : (m n k j : ℕ) → m < 10 ^ n → n + k ≤ j → m * 10 ^ k < 10 ^ j
 count_below m n k j less within =
     let split : 10 ^ (n + k) ≡ 10 ^ n * 10 ^ k = pow-add 10 n k in

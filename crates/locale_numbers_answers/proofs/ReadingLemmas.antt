@@ -16,11 +16,11 @@ record AgreesOn (a b : Bool) (x y : List ℕ) : Type 0 where
   up : cond a 0 (spelled x) ≡ cond b 0 (spelled y)
   down : cond a (spelled x) 0 ≡ cond b (spelled y) 0
 
-behind_agree : (a b : Bool) (c d : ℕ) (cs ds : List ℕ) → digit_value c < 10 → digit_value d < 10 → minus_if a ++ c ∷ cs ≡ minus_if b ++ d ∷ ds → AgreesOn a b (c ∷ cs) (d ∷ ds)
-behind_agree true true c d cs ds first second same = let e = cons_tail minus minus (c ∷ cs) (d ∷ ds) same in record { digits = e; up = refl; down = ap spelled e }
-behind_agree false false c d cs ds first second same = record { digits = same; up = ap spelled same; down = refl }
-behind_agree true false c d cs ds first second same = absurd (minus_first d (cons_head minus d (c ∷ cs) ds same) second)
-behind_agree false true c d cs ds first second same = absurd (minus_first c (sym (cons_head c minus cs (d ∷ ds) same)) first)
+after_agree : (a b : Bool) (c d : ℕ) (cs ds : List ℕ) → digit_value c < 10 → digit_value d < 10 → minus_if a ++ c ∷ cs ≡ minus_if b ++ d ∷ ds → AgreesOn a b (c ∷ cs) (d ∷ ds)
+after_agree true true c d cs ds first second same = let e = cons_tail minus minus (c ∷ cs) (d ∷ ds) same in record { digits = e; up = refl; down = ap spelled e }
+after_agree false false c d cs ds first second same = record { digits = same; up = ap spelled same; down = refl }
+after_agree true false c d cs ds first second same = absurd (minus_first d (cons_head minus d (c ∷ cs) ds same) second)
+after_agree false true c d cs ds first second same = absurd (minus_first c (sym (cons_head c minus cs (d ∷ ds) same)) first)
 
 none_agree : (a b : Bool) → AgreesOn a b [] []
 none_agree true true = record { digits = refl; up = refl; down = refl }
@@ -33,7 +33,7 @@ powers_agree last a b [] [] one two = none_agree a b
 powers_agree last a b [] (d ∷ ds) one two = let bad : [] ≡ two.mark ∷ (minus_if b ++ d ∷ ds) = sym one.whole ∙ two.whole in absurd (cc)
 powers_agree last a b (c ∷ cs) [] one two = let bad : [] ≡ one.mark ∷ (minus_if a ++ c ∷ cs) = sym two.whole ∙ one.whole in absurd (cc)
 powers_agree last a b (c ∷ cs) (d ∷ ds) one two =
-    behind_agree a b c d cs ds one.digits.0 two.digits.0 (cons_tail one.mark two.mark (minus_if a ++ c ∷ cs) (minus_if b ++ d ∷ ds) (sym one.whole ∙ two.whole))
+    after_agree a b c d cs ds one.digits.0 two.digits.0 (cons_tail one.mark two.mark (minus_if a ++ c ∷ cs) (minus_if b ++ d ∷ ds) (sym one.whole ∙ two.whole))
 
 -- two lists of parts of one text have one mantissa, one range and one exponent
 pub record Agree (one two : Parts) : Type 0 where

@@ -13,7 +13,7 @@ use Rattle.fixed_decimal.specs.Number.{Number}
 use Rattle.fixed_decimal.specs.NumberText.{point, minus, small_mark, capital_mark, Parts}
 use Rattle.fixed_decimal.specs.SignedText.{plus}
 use Rattle.fixed_decimal.specs.SignedValue.{SignedValue}
-use Rattle.locale_numbers_answers.specs.NumberReading.{number, beyond, nothing, is_digit, digits_front, behind_digits, is_mark, digits_alone, behind_mark_of, power_of, parts_with, behind_point_of, parts_behind, parts_of, reading_by, reading_of}
+use Rattle.locale_numbers_answers.specs.NumberReading.{number, beyond, nothing, is_digit, digits_front, after_digits, is_mark, digits_alone, after_mark_of, power_of, parts_with, after_point_of, parts_behind, parts_of, reading_by, reading_of}
 
 digit_small : (c : ℕ) → is_digit c ≡ true → c < 128
 digit_small c is = grind (arith, nat_tests)
@@ -26,7 +26,7 @@ mark_small c is = at (c == small_mark) (c == capital_mark) refl refl is
     at false true first second either = omega (arith, eqb-true c capital_mark second)
     at false false first second either = cc
 
--- digits, and what stands behind them
+-- digits, and what is after them
 digits_ascii : (cs : List ℕ) → list_all is_digit cs ≡ true → IsAscii cs
 digits_ascii [] all = IsAscii-nil
 digits_ascii (c ∷ cs) all = at (is_digit c) (list_all is_digit cs) refl refl (digits_ascii cs) all
@@ -36,11 +36,11 @@ digits_ascii (c ∷ cs) all = at (is_digit c) (list_all is_digit cs) refl refl (
     at true false one rest more both = cc
     at false b one rest more both = cc
 
-behind_ascii : (cs : List ℕ) → IsAscii (behind_digits cs) → IsAscii cs
+behind_ascii : (cs : List ℕ) → IsAscii (after_digits cs) → IsAscii cs
 behind_ascii [] behind = IsAscii-nil
 behind_ascii (c ∷ cs) behind = at (is_digit c) refl (behind_ascii cs) behind
   where
-    at : (b : Bool) → is_digit c ≡ b → (IsAscii (behind_digits cs) → IsAscii cs) → IsAscii (if b then behind_digits cs else c ∷ cs) → IsAscii (c ∷ cs)
+    at : (b : Bool) → is_digit c ≡ b → (IsAscii (after_digits cs) → IsAscii cs) → IsAscii (if b then after_digits cs else c ∷ cs) → IsAscii (c ∷ cs)
     at true one more rest = IsAscii-cons c cs (digit_small c one) (more rest)
     at false one more rest = rest
 
@@ -53,7 +53,7 @@ alone_ascii negative (c ∷ cs) power is = at (list_all is_digit (c ∷ cs)) ref
     at true all is = digits_ascii (c ∷ cs) all
     at false all is = cc
 
-mark_ascii : (cs : List ℕ) (power : Bool × List ℕ) → behind_mark_of cs ≡ Some power → IsAscii cs
+mark_ascii : (cs : List ℕ) (power : Bool × List ℕ) → after_mark_of cs ≡ Some power → IsAscii cs
 mark_ascii [] power is = IsAscii-nil
 mark_ascii (c ∷ cs) power is = at (c == minus) refl is
   where
@@ -65,7 +65,7 @@ power_ascii : (cs : List ℕ) (power : Bool × List ℕ) → power_of cs ≡ Som
 power_ascii [] power is = IsAscii-nil
 power_ascii (c ∷ cs) power is = at (is_mark c) refl is
   where
-    at : (b : Bool) → is_mark c ≡ b → (if b then behind_mark_of cs else None) ≡ Some power → IsAscii (c ∷ cs)
+    at : (b : Bool) → is_mark c ≡ b → (if b then after_mark_of cs else None) ≡ Some power → IsAscii (c ∷ cs)
     at true mark is = IsAscii-cons c cs (mark_small c mark) (mark_ascii cs power is)
     at false mark is = cc
 
@@ -77,7 +77,7 @@ power_there integer fraction (Some power) parts is = (power, refl)
 last_ascii : (integer fraction cs : List ℕ) (parts : Parts) → parts_with integer fraction (power_of cs) ≡ Some parts → IsAscii cs
 last_ascii integer fraction cs parts is = let power = power_there integer fraction (power_of cs) parts is in power_ascii cs power.0 power.1
 
-point_ascii : (integer digits last : List ℕ) (parts : Parts) → behind_point_of integer digits last ≡ Some parts → IsAscii last
+point_ascii : (integer digits last : List ℕ) (parts : Parts) → after_point_of integer digits last ≡ Some parts → IsAscii last
 point_ascii integer [] last parts is = cc
 point_ascii integer (c ∷ cs) last parts is = last_ascii integer (c ∷ cs) last parts is
 
@@ -85,13 +85,13 @@ rest_ascii : (integer cs : List ℕ) (parts : Parts) → parts_behind integer cs
 rest_ascii integer [] parts is = IsAscii-nil
 rest_ascii integer (c ∷ cs) parts is = at (c == point) refl is
   where
-    at : (b : Bool) → (c == point) ≡ b → (if b then behind_point_of integer (digits_front cs) (behind_digits cs) else parts_with integer [] (power_of (c ∷ cs))) ≡ Some parts → IsAscii (c ∷ cs)
-    at true mark is = IsAscii-cons c cs (omega (arith, eqb-true c point mark)) (behind_ascii cs (point_ascii integer (digits_front cs) (behind_digits cs) parts is))
+    at : (b : Bool) → (c == point) ≡ b → (if b then after_point_of integer (digits_front cs) (after_digits cs) else parts_with integer [] (power_of (c ∷ cs))) ≡ Some parts → IsAscii (c ∷ cs)
+    at true mark is = IsAscii-cons c cs (omega (arith, eqb-true c point mark)) (behind_ascii cs (point_ascii integer (digits_front cs) (after_digits cs) parts is))
     at false mark is = last_ascii integer [] (c ∷ cs) parts is
 
 parts_ascii : (sign : Sign) (text : List ℕ) (found : Option Parts) → parts_of text ≡ found → (reading_by sign found ≡ nothing → ⊥) → IsAscii text
 parts_ascii sign text None is some = absurd (some refl)
-parts_ascii sign text (Some parts) is some = behind_ascii text (rest_ascii (digits_front text) (behind_digits text) parts is)
+parts_ascii sign text (Some parts) is some = behind_ascii text (rest_ascii (digits_front text) (after_digits text) parts is)
 
 reading_ascii : (text : List ℕ) → (reading_of text ≡ nothing → ⊥) → IsAscii text
 reading_ascii [] some = IsAscii-nil

@@ -1,10 +1,10 @@
--- Texts put one behind the other: the whole is put, and where it fits each fits.
+-- Texts put one after the other: the whole is put, and where it fits each fits.
 use Rattle.std.proofs.Common.{◌≡◌, ◌≤◌, ◌+◌, List, ◌∷◌, ◌++◌, ℕ, length, map, sym, ap, ◌∙◌, subst}
 use Rattle.std.proofs.lemmas.List.{append_assoc}
 use Rattle.writeable.specs.AnnotatedText.{bytes, text_of as written_text}
 use Rattle.fixed_decimal.specs.CompactText.{CompactValue, compact_text_of}
 use Rattle.fixed_decimal.specs.Number.{Number, fraction_digits, whole_digits}
-use Rattle.fixed_decimal.specs.NumberText.{behind_point, character}
+use Rattle.fixed_decimal.specs.NumberText.{after_point, character}
 use Rattle.fixed_decimal.specs.SignedText.{sign_text, signed_text_of}
 use Rattle.fixed_decimal.specs.SignedValue.{SignedValue}
 use Rattle.fixed_decimal.proofs.UnsignedWritingLemmas.{events_text}
@@ -16,26 +16,26 @@ use Rattle.locale_numbers_answers.specs.AnswerLine.{refused, written}
 use Rattle.locale_numbers_answers.specs.CompactAnswer.{can_be_shown, compact_answer, text_and_value}
 use Rattle.locale_numbers_requests.specs.Request.{tab}
 use Rattle.locale_numbers_requests.specs.declared.Refusal.TheVariants as refusal
-use Rattle.locale_numbers_answers.proofs.AnswerLineLemmas.{fits_behind, front_fits, two_texts}
+use Rattle.locale_numbers_answers.proofs.AnswerLineLemmas.{fits_after, front_fits, two_texts}
 use Rattle.locale_numbers_answers.proofs.CompactAnswerLemmas.{by_test, can_test}
 
 module _ (front back whole old : List ℕ) (is : front ++ back ≡ whole) where
-  pub put_behind : (begun new : List ℕ) → begun ≡ old ++ front → new ≡ begun ++ back → new ≡ old ++ whole
-  put_behind begun new put rest = rest ∙ ap (λ held. held ++ back) put ∙ append_assoc old front back ∙ ap (λ text. old ++ text) is
+  pub put_after : (begun new : List ℕ) → begun ≡ old ++ front → new ≡ begun ++ back → new ≡ old ++ whole
+  put_after begun new put rest = rest ∙ ap (λ held. held ++ back) put ∙ append_assoc old front back ∙ ap (λ text. old ++ text) is
 
   pub first_fits : (room : ℕ) → length old + length whole ≤ room → length old + length front ≤ room
   first_fits room fits = front_fits front back old room (subst (λ text. length old + length text ≤ room) (sym is) fits)
 
   pub second_fits : (begun : List ℕ) (before after : ℕ) → begun ≡ old ++ front → before ≤ after → length old + length whole ≤ before → length begun + length back ≤ after
-  second_fits begun before after put grows fits = fits_behind front back old begun before after put grows (subst (λ text. length old + length text ≤ before) (sym is) fits)
+  second_fits begun before after put grows fits = fits_after front back old begun before after put grows (subst (λ text. length old + length text ≤ before) (sym is) fits)
 
 -- what grew since a text was put has grown since before
-pub grows_behind : (old begun new front : List ℕ) → begun ≡ old ++ front → Grows begun new → Grows old new
-grows_behind old begun new front put grows = record { more = front ++ grows.more; grew = grows.grew ∙ ap (λ held. held ++ grows.more) put ∙ append_assoc old front grows.more }
+pub grows_after : (old begun new front : List ℕ) → begun ≡ old ++ front → Grows begun new → Grows old new
+grows_after old begun new front put grows = record { more = front ++ grows.more; grew = grows.grew ∙ ap (λ held. held ++ grows.more) put ∙ append_assoc old front grows.more }
 
--- a sign behind a tab, and the text of the number without it
+-- a sign after a tab, and the text of the number without it
 pub signed_whole : (v d : SignedValue Number) → v ≡ d
-    → (tab ∷ sign_text v.sign) ++ written_text (bytes (map character (whole_digits v.absolute)) ++ bytes (behind_point (map character (fraction_digits v.absolute)))) ≡ tab ∷ signed_text_of d
+    → (tab ∷ sign_text v.sign) ++ written_text (bytes (map character (whole_digits v.absolute)) ++ bytes (after_point (map character (fraction_digits v.absolute)))) ≡ tab ∷ signed_text_of d
 signed_whole v d is = ap (λ text. (tab ∷ sign_text v.sign) ++ text) (events_text v.absolute) ∙ ap (λ (x : SignedValue Number). tab ∷ signed_text_of x) is
 
 -- the compact text and the value shown are the answer

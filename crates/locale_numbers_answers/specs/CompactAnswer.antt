@@ -26,7 +26,7 @@ use Rattle.locale_numbers_requests.specs.declared.SignAsked.{SignAsked}
 abbrev pub can_be_shown : CompactTables → SignedValue Number → Bool
 can_be_shown tables value = nat_lt (shown_under 32768 tables.patterns.entries value.absolute.count) count_limit
 
--- the compact text, and the value shown behind a tab
+-- the compact text, and the value shown after a tab
 abbrev pub text_and_value : CompactTables → SignedValue Number → List ℕ
 text_and_value tables value = compact_decimal_text tables value ++ tab ∷ compact_text_of (value_shown tables value)
 

@@ -1,4 +1,4 @@
--- The compact number that a text spells as a function of the text: the number before its mark, and the exponent behind it.
+-- The compact number that a text spells as a function of the text: the number before its mark, and the exponent after it.
 -- Defined in docs/numbers.md, "Compact and scientific texts"; a law of `laws.rt` says that it is the reading which the relations of CompactText.antt of `fixed_decimal` name.
 -- Cited by `answer` and `run`, through Answer.antt of `locale_numbers`, and by `read_compact`.
 use Rattle.std.specs.Prelude.{ℕ, ◌==◌, ◌||◌, ◌&&◌, nat_lt, Bool, if◌then◌else◌, List, [], ◌∷◌, Option, Some, None}
@@ -12,17 +12,17 @@ use Rattle.locale_numbers_requests.specs.RoundingField.{is_size}
 abbrev pub marks_exponent : ℕ → Bool
 marks_exponent c = c == compact_mark || is_mark c
 
--- what stands before the first of these
+-- what is before the first of these
 abbrev pub before_mark : List ℕ → List ℕ
 before_mark [] = []
 before_mark (c ∷ cs) = if marks_exponent c then [] else c ∷ before_mark cs
 
--- what stands from there on
+-- what is from there on
 abbrev pub from_mark : List ℕ → List ℕ
 from_mark [] = []
 from_mark (c ∷ cs) = if marks_exponent c then c ∷ cs else from_mark cs
 
--- the digits of an exponent behind a `c`, of which the first is not zero; none, where nothing is left
+-- the digits of an exponent after a `c`, of which the first is not zero; none, where nothing is left
 abbrev pub exponent_in : List ℕ → Option (List ℕ)
 exponent_in [] = Some []
 exponent_in (mark ∷ digits) = if mark == compact_mark && is_size digits then Some digits else None

@@ -1,6 +1,6 @@
 -- The answer of the forms that read what people type of numbers with a unit: the decimal that was typed, as it is printed, or why there is none. A form with digits of its own is also read in those of ASCII.
 -- Defined in docs/requests.md, "Answer line", and docs/units.md, "Lenient reading".
--- Cited by `answer` and `run`, through Answer.antt, and by `KnownLenientReader`, `UnitReadersInTurn` and `write_lenient_unit_answer`.
+-- Cited by `answer` and `run`, through Answer.antt of `locale_numbers`, and by `KnownLenientReader`, `UnitReadersInTurn` and `write_lenient_unit_answer`.
 -- A text is read exactly, and else leniently, and each is defined in a file of its own to import.
 use Rattle.std.specs.Prelude.{ℕ, cond, List, Option, Some, None, option_map, Result, Ok, Err, codes}
 use Rattle.icu_decimal.specs.LenientReading.{or_else}
@@ -65,7 +65,7 @@ typed_in_turn code found second = record { first = typed_found code found; secon
 
 -- ---- the answer
 
--- the code that may stand beside a number in place of its unit: that of the currency, or a percent sign
+-- the code that may be beside a number in place of its unit: that of the currency, or a percent sign
 abbrev pub typed_code : UnitAsked → List ℕ
 typed_code Percent = codes "%"
 typed_code (Currency style code) = code

@@ -16,10 +16,10 @@ abbrev pub digits_front : List ℕ → List ℕ
 digits_front [] = []
 digits_front (c ∷ cs) = if is_digit c then c ∷ digits_front cs else []
 
--- what stands behind them
-abbrev pub behind_digits : List ℕ → List ℕ
-behind_digits [] = []
-behind_digits (c ∷ cs) = if is_digit c then behind_digits cs else c ∷ cs
+-- what is after them
+abbrev pub after_digits : List ℕ → List ℕ
+after_digits [] = []
+after_digits (c ∷ cs) = if is_digit c then after_digits cs else c ∷ cs
 
 -- the mark of an exponent
 abbrev pub is_mark : ℕ → Bool
@@ -30,15 +30,15 @@ abbrev pub digits_alone : Bool → List ℕ → Option (Bool × List ℕ)
 digits_alone negative [] = None
 digits_alone negative (c ∷ cs) = if list_all is_digit (c ∷ cs) then Some (negative, c ∷ cs) else None
 
--- the sign and the digits of an exponent, behind its mark
-abbrev pub behind_mark_of : List ℕ → Option (Bool × List ℕ)
-behind_mark_of [] = None
-behind_mark_of (c ∷ cs) = if c == minus then digits_alone true cs else digits_alone false (c ∷ cs)
+-- the sign and the digits of an exponent, after its mark
+abbrev pub after_mark_of : List ℕ → Option (Bool × List ℕ)
+after_mark_of [] = None
+after_mark_of (c ∷ cs) = if c == minus then digits_alone true cs else digits_alone false (c ∷ cs)
 
 -- the sign and the digits of the exponent that a text is
 abbrev pub power_of : List ℕ → Option (Bool × List ℕ)
 power_of [] = Some (false, [])
-power_of (c ∷ cs) = if is_mark c then behind_mark_of cs else None
+power_of (c ∷ cs) = if is_mark c then after_mark_of cs else None
 
 -- the parts, where there is a digit and an exponent or none
 abbrev pub parts_with : List ℕ → List ℕ → Option (Bool × List ℕ) → Option Parts
@@ -48,20 +48,20 @@ parts_with integer fraction (Some power) =
     else Some (record { integer = integer; fraction = fraction; negative = power.0; exponent = power.1 })
 
 -- the parts, where digits follow the point
-abbrev pub behind_point_of : List ℕ → List ℕ → List ℕ → Option Parts
-behind_point_of integer [] last = None
-behind_point_of integer (c ∷ cs) last = parts_with integer (c ∷ cs) (power_of last)
+abbrev pub after_point_of : List ℕ → List ℕ → List ℕ → Option Parts
+after_point_of integer [] last = None
+after_point_of integer (c ∷ cs) last = parts_with integer (c ∷ cs) (power_of last)
 
--- the parts of a text that goes on behind its first digits
+-- the parts of a text that goes on after its first digits
 abbrev pub parts_behind : List ℕ → List ℕ → Option Parts
 parts_behind integer [] = parts_with integer [] (power_of [])
 parts_behind integer (c ∷ cs) =
-    if c == point then behind_point_of integer (digits_front cs) (behind_digits cs)
+    if c == point then after_point_of integer (digits_front cs) (after_digits cs)
     else parts_with integer [] (power_of (c ∷ cs))
 
 -- the parts of a text
 abbrev pub parts_of : List ℕ → Option Parts
-parts_of text = parts_behind (digits_front text) (behind_digits text)
+parts_of text = parts_behind (digits_front text) (after_digits text)
 
 -- both ends, and the exponent, lie in magnitudes -32768 to 32767
 abbrev pub is_within : Parts → Bool
@@ -77,12 +77,12 @@ pub data Reading : Type 0 where
   beyond : Reading
   nothing : Reading
 
--- the number of parts behind a sign
+-- the number of parts after a sign
 abbrev pub reading_by : Sign → Option Parts → Reading
 reading_by sign None = nothing
 reading_by sign (Some parts) = if is_within parts then number (record { sign = sign; absolute = number_of parts }) else beyond
 
--- the reading of a text: a plus or a minus, where it begins with one, and the parts behind it
+-- the reading of a text: a plus or a minus, where it begins with one, and the parts after it
 abbrev pub reading_of : List ℕ → Reading
 reading_of [] = reading_by Unsigned (parts_of [])
 reading_of (c ∷ cs) =

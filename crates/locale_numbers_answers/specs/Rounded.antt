@@ -1,4 +1,4 @@
--- The number that a rounding makes, as a function: the least multiples round a count, and the one of them that the mode takes.
+-- The number that a rounding makes, as a function: the least multiples around a count, and the one of them that the mode takes.
 -- Defined in docs/numbers.md, "Rounding"; a law of `laws.rt` says that it is the number which the relations of `fixed_decimal` name.
 -- Cited by `answer` and `run`, through Answer.antt of `locale_numbers`.
 use Rattle.std.specs.Prelude.{ℕ, zero, suc, ◌+◌, ◌-◌, ◌*◌, ◌/◌, ◌%◌, ◌^◌, ◌==◌, nat_le, nat_lt, min, max, Bool, true, false, if◌then◌else◌}

@@ -11,9 +11,9 @@ use locale_numbers_requests::{Refusal, is_text};
 use std::alloc::AllocError;
 use writeable::Writeable;
 
-/// Writes `err`, a tab and the word of a refusal behind what `out` holds: for `Table` `err`, a tab and `table`.
+/// Writes `err`, a tab and the word of a refusal after what `out` holds: for `Table` `err`, a tab and `table`.
 ///
-/// Where there is room, it does not allocate. `AllocError`: out of memory; a part of the answer may then stand there.
+/// Where there is room, it does not allocate. `AllocError`: out of memory; a part of the answer may then be there.
 pub fn write_refusal(out: &mut String, cause: Refusal) -> Result<(), AllocError>
     ensures text { OnOk result (string_bytes out.new ≡ string_bytes out.old ++ refused cause) }
     ensures err { OnErr result (Grows (string_bytes out.old) (string_bytes out.new)) }
@@ -23,10 +23,10 @@ pub fn write_refusal(out: &mut String, cause: Refusal) -> Result<(), AllocError>
     out.push_str(cause.word())
 }
 
-/// Writes a refusal of a line with this text behind what `out` holds, or one by `shape`, where the text is not UTF-8.
+/// Writes a refusal of a line with this text after what `out` holds, or one by `shape`, where the text is not UTF-8.
 ///
 /// Of the text `1e` by `Number` it writes `err`, a tab and `number`. Where there is room, it does not allocate.
-/// `AllocError`: out of memory; a part of the answer may then stand there.
+/// `AllocError`: out of memory; a part of the answer may then be there.
 pub fn write_refusal_or_shape(
     out: &mut String,
     text: &[u8],
@@ -43,7 +43,7 @@ pub fn write_refusal_or_shape(
     }
 }
 
-// Writes `ok`, a tab and the text of a value behind what `out` holds.
+// Writes `ok`, a tab and the text of a value after what `out` holds.
 pub(crate) fn write_ok<T: Writeable>(out: &mut String, value: &T) -> Result<(), AllocError>
     ensures text { OnOk result (string_bytes out.new ≡ string_bytes out.old ++ written (text_of (T.events value.now))) }
     ensures err { OnErr result (Grows (string_bytes out.old) (string_bytes out.new)) }

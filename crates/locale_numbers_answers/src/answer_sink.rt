@@ -13,13 +13,13 @@ use icu_decimal::CompactDecimalFormatter;
 use std::alloc::AllocError;
 use writeable::{Error, Part, Sink, Writeable};
 
-// A text goes behind what the buffer holds, and its parts are left out.
+// A text goes after what the buffer holds, and its parts are left out.
 struct AnswerSink<'o> {
     out: &'o mut String,
     refused: bool,
 }
 
-// Writes a piece of a text, for which there is room, behind what `out` holds.
+// Writes a piece of a text, for which there is room, after what `out` holds.
 fn write_piece_in_room(out: &mut String, text: &str)
     requires { HasRoom out.old text.now }
     ensures text { string_bytes out.new ≡ string_bytes out.old ++ text.now }
@@ -31,7 +31,7 @@ fn write_piece_in_room(out: &mut String, text: &str)
     }
 }
 
-// Makes room for a piece of a text and writes it behind what `out` holds. A call of its own, since there mostly is
+// Makes room for a piece of a text and writes it after what `out` holds. A call of its own, since there mostly is
 // room.
 #[inline(never)]
 fn write_piece_and_grow(out: &mut String, text: &str) -> Result<(), AllocError>
@@ -49,7 +49,7 @@ fn write_piece_and_grow(out: &mut String, text: &str) -> Result<(), AllocError>
     }
 }
 
-// Writes a piece of a text behind what `out` holds.
+// Writes a piece of a text after what `out` holds.
 fn write_piece(out: &mut String, text: &str) -> Result<(), AllocError>
     ensures text { OnOk result (string_bytes out.new ≡ string_bytes out.old ++ text.now) }
     ensures same { OnErr result (string_bytes out.new ≡ string_bytes out.old) }
@@ -102,10 +102,10 @@ impl<'o> Sink for AnswerSink<'o> {
     }
 }
 
-// Writes the text of a value behind what `out` holds.
+// Writes the text of a value after what `out` holds.
 //
 // Where its hint tells the length, it allocates once; where there is room, not at all. After an error a part of the
-// text may stand there.
+// text may be there.
 #[tactic(auto, using(writeable::proofs::AnnotatedTextLemmas::text_of_bytes))]
 pub(crate) fn write_text_of<T: Writeable>(out: &mut String, value: &T) -> Result<(), AllocError>
     ensures text { OnOk result (string_bytes out.new ≡ string_bytes out.old ++ text_of (T.events value.now)) }
@@ -126,10 +126,10 @@ pub(crate) fn write_text_of<T: Writeable>(out: &mut String, value: &T) -> Result
     }
 }
 
-// Writes a decimal, as a compact formatter writes it, behind what `out` holds, makes it what is shown, and returns the
+// Writes a decimal, as a compact formatter writes it, after what `out` holds, makes it what is shown, and returns the
 // exponent shown.
 //
-// Where there is room, it does not allocate. After an error a part of the text may stand there.
+// Where there is room, it does not allocate. After an error a part of the text may be there.
 pub(crate) fn write_number_shown(
     formatter: &CompactDecimalFormatter<'_>,
     value: &mut Decimal,

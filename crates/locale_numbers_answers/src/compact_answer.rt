@@ -3,7 +3,7 @@
 ghost use Rattle.std.specs.Prelude.{◌≡◌, ◌≤◌, ◌∷◌, ◌++◌, map, IfOk, IsOk, OnOk, OnErr, string_bytes, string_capacity};
 ghost use Rattle.std.specs.Int.Digits.{digits_of};
 ghost use Rattle.std.specs.Str.{IsAscii};
-ghost use Rattle.fixed_decimal.specs.CompactText.{behind_compact_mark, compact_text_of};
+ghost use Rattle.fixed_decimal.specs.CompactText.{after_compact_mark, compact_text_of};
 ghost use Rattle.fixed_decimal.specs.NumberText.{character};
 ghost use Rattle.fixed_decimal.specs.SignedText.{sign_text, signed_text_of};
 ghost use Rattle.icu_decimal.specs.CompactText.{compact_decimal_text, value_shown};
@@ -30,7 +30,7 @@ fn ascii_text(characters: &[u8]) -> &str
     unsafe { str::from_utf8_unchecked(characters) }
 }
 
-// Writes a tab and a sign behind what `out` holds.
+// Writes a tab and a sign after what `out` holds.
 fn write_tab_and_sign(out: &mut String, sign: Sign) -> Result<(), AllocError>
     ensures text { OnOk result (string_bytes out.new ≡ string_bytes out.old ++ tab ∷ sign_text sign) }
     ensures err { OnErr result (Grows (string_bytes out.old) (string_bytes out.new)) }
@@ -44,13 +44,13 @@ fn write_tab_and_sign(out: &mut String, sign: Sign) -> Result<(), AllocError>
     }
 }
 
-// Writes an exponent with its mark, or nothing for 0, behind what `out` holds.
+// Writes an exponent with its mark, or nothing for 0, after what `out` holds.
 #[tactic(auto, using(crate::proofs::ExponentLemmas::no_digits, crate::proofs::ExponentLemmas::one_digit, crate::proofs::ExponentLemmas::two_digits, crate::proofs::ExponentLemmas::three_digits))]
 fn write_exponent(out: &mut String, exponent: u8) -> Result<(), AllocError>
     ensures text { OnOk result
-        (string_bytes out.new ≡ string_bytes out.old ++ behind_compact_mark (map character (digits_of 10 exponent))) }
+        (string_bytes out.new ≡ string_bytes out.old ++ after_compact_mark (map character (digits_of 10 exponent))) }
     ensures err { OnErr result (Grows (string_bytes out.old) (string_bytes out.new)) }
-    ensures room { HasRoom out.old (behind_compact_mark (map character (digits_of 10 exponent))) → IsOk result }
+    ensures room { HasRoom out.old (after_compact_mark (map character (digits_of 10 exponent))) → IsOk result }
 {
     let last = b'0' + exponent % 10;
     match exponent {
@@ -66,7 +66,7 @@ fn write_exponent(out: &mut String, exponent: u8) -> Result<(), AllocError>
     }
 }
 
-// Writes a tab and a decimal behind what `out` holds.
+// Writes a tab and a decimal after what `out` holds.
 fn write_tab_and_decimal(out: &mut String, value: &Decimal) -> Result<(), AllocError>
     ensures text { OnOk result (string_bytes out.new ≡ string_bytes out.old ++ tab ∷ signed_text_of value.now) }
     ensures err { OnErr result (Grows (string_bytes out.old) (string_bytes out.new)) }
@@ -77,7 +77,7 @@ fn write_tab_and_decimal(out: &mut String, value: &Decimal) -> Result<(), AllocE
     write_text_of(out, &value.absolute)
 }
 
-// Writes a tab and the value shown behind what `out` holds.
+// Writes a tab and the value shown after what `out` holds.
 fn write_tab_and_value_shown(
     out: &mut String,
     significand: &Decimal,
@@ -96,7 +96,7 @@ fn write_tab_and_value_shown(
     write_exponent(out, exponent)
 }
 
-// Writes `ok`, a tab and a number, as a compact formatter writes it, behind what `out` holds, makes the number what is
+// Writes `ok`, a tab and a number, as a compact formatter writes it, after what `out` holds, makes the number what is
 // shown, and returns the exponent shown.
 fn write_ok_and_number_shown(
     formatter: &CompactDecimalFormatter<'_>,
@@ -118,12 +118,12 @@ fn write_ok_and_number_shown(
     write_number_shown(formatter, value, out)
 }
 
-/// Writes a number as a compact formatter shows it, and the value shown, behind what `out` holds. The number becomes
+/// Writes a number as a compact formatter shows it, and the value shown, after what `out` holds. The number becomes
 /// what is shown.
 ///
-/// The word `range` stands there where the value shown would be no decimal. Where there is room for the answer, it does
+/// The word `range` is there where the value shown would be no decimal. Where there is room for the answer, it does
 /// not allocate. By a short formatter of `en` 1650 is answered by `ok`, `1.6K` and `1.6c3`, with tabs between.
-/// `AllocError`: out of memory; a part of the answer may then stand there.
+/// `AllocError`: out of memory; a part of the answer may then be there.
 pub fn write_compact_answer(
     formatter: &CompactDecimalFormatter<'_>,
     value: &mut Decimal,

@@ -29,12 +29,12 @@ pub fn read_compact(alloc: Global, text: &str) -> Result<CompactDecimal, ParseEr
     CompactDecimal::try_from_str(alloc, text)
 }
 
-/// Writes a significand with its exponent, as a compact formatter writes both, behind what `out` holds; or the word
+/// Writes a significand with its exponent, as a compact formatter writes both, after what `out` holds; or the word
 /// `range`, where their magnitude is beyond that of a decimal; or the word `exponent`, where the formatter has another
 /// exponent for it.
 ///
 /// By a short formatter of `en` -1.20 and 6 are answered by `ok`, a tab and `-1.20M`. `AllocError`: out of memory; a part
-/// of the answer may then stand there.
+/// of the answer may then be there.
 pub fn write_exact_answer(
     formatter: &CompactDecimalFormatter<'_>,
     significand: &Decimal,

@@ -18,7 +18,7 @@ pub fn compact_texts_have_one_reading()
 {}
 
 /// Each text has one reading under a pattern and a unit, and the answer to a line goes by it: what the relation of
-/// `icu_dimension` says of a text. In English with `€` `-€1,234.50` is -1234.50, and `$1.00` is none.
+/// `icu_dimension` says of a text. In English with `€` `-€1,234.50` is -1234.50, and `$1.00` is not one.
 pub fn unit_texts_have_one_reading()
     ensures { HasOneUnitReading }
 {

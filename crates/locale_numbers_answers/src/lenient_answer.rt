@@ -13,11 +13,11 @@ use icu_decimal::error::ReadError;
 use locale_numbers_requests::Refusal;
 use std::alloc::{AllocError, Global};
 
-/// Writes the answer to a text that was typed behind what `out` holds: the number that it is by a reader, printed with
+/// Writes the answer to a text that was typed after what `out` holds: the number that it is by a reader, printed with
 /// its sign and the digits shown, or the word `unreadable` or `not-written`.
 ///
 /// By a reader of `en` ` 1,234.5 ` is answered by `ok`, a tab and `1234.5`. `AllocError`: out of memory; a part of the
-/// answer may then stand there.
+/// answer may then be there.
 pub fn write_lenient_answer(
     alloc: Global,
     reader: &LenientReader<'_>,

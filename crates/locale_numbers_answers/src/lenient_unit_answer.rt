@@ -12,11 +12,11 @@ use icu_decimal::error::ReadError;
 use locale_numbers_requests::Refusal;
 use std::alloc::{AllocError, Global};
 
-/// Writes the answer to a text with a unit that was typed behind what `out` holds: the number that it is by a reader,
+/// Writes the answer to a text with a unit that was typed after what `out` holds: the number that it is by a reader,
 /// printed with its sign and the digits shown, or the word `unreadable` or `not-written`.
 ///
 /// By a reader of `en`, `€` and `EUR` ` 1.5 EUR ` is answered by `ok`, a tab and `1.5`: how many digits the currency has is
-/// not looked at. `AllocError`: out of memory; a part of the answer may then stand there.
+/// not looked at. `AllocError`: out of memory; a part of the answer may then be there.
 pub fn write_lenient_unit_answer(
     alloc: Global,
     readers: &UnitReadersInTurn<'_>,

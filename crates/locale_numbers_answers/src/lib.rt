@@ -1,7 +1,7 @@
 //! The answers to request lines, once their formatters and numbers are there: what each says, and how it is written.
 //!
 //! Nothing here knows of books, tags or caches: a formatter is given, a number is read from its text, changed as the
-//! request asks, and its answer goes behind the answers that wait. The rules are in docs/requests.md.
+//! request asks, and its answer goes after the answers that wait. The rules are in docs/requests.md.
 //!
 //! ```rust
 //! use locale_numbers_answers::{change, read_number, write_plain_answer, write_refusal};

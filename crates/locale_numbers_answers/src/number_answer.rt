@@ -32,10 +32,10 @@ pub fn read_number(value: &mut Decimal, text: &[u8]) -> Result<(), ParseError>
     value.assign_from_utf8(text)
 }
 
-/// Writes the answer that is a number, as a plain formatter writes it, behind what `out` holds.
+/// Writes the answer that is a number, as a plain formatter writes it, after what `out` holds.
 ///
 /// By a formatter of `en` -987654.321 is answered by `ok`, a tab and `-987,654.321`. Where there is room, it does not
-/// allocate. `AllocError`: out of memory; a part of the answer may then stand there.
+/// allocate. `AllocError`: out of memory; a part of the answer may then be there.
 pub fn write_plain_answer(
     formatter: &DecimalFormatter<'_>,
     value: &Decimal,

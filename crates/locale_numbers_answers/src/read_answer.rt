@@ -17,7 +17,7 @@ use icu_decimal::{DecimalFormatter, read_plain, read_readable};
 use locale_numbers_requests::Refusal;
 use std::alloc::{AllocError, Global};
 
-// Writes the answer that is a number, as it is printed, behind what `out` holds.
+// Writes the answer that is a number, as it is printed, after what `out` holds.
 pub(crate) fn write_number_read(value: &Decimal, out: &mut String) -> Result<(), AllocError>
     ensures text { OnOk result (string_bytes out.new ≡ string_bytes out.old ++ written (signed_text_of value.now)) }
     ensures err { OnErr result (Grows (string_bytes out.old) (string_bytes out.new)) }
@@ -45,12 +45,12 @@ fn read_by(
     }
 }
 
-/// Writes the answer to a text that is read back under a formatter behind what `out` holds: the number whose plain text
+/// Writes the answer to a text that is read back under a formatter after what `out` holds: the number whose plain text
 /// this is, printed with its sign and the digits shown, or the word `unreadable` or `not-written`.
 ///
 /// `is_readable` says whether the formatter's symbols are readable; `None` where they were not asked. The condition is
 /// that this is so. By a formatter of `en` `-987,654.321` is answered by `ok`, a tab and `-987654.321`. `AllocError`: out
-/// of memory; a part of the answer may then stand there.
+/// of memory; a part of the answer may then be there.
 pub fn write_read_answer(
     alloc: Global,
     formatter: &DecimalFormatter<'_>,

@@ -39,10 +39,10 @@ fn change_unit(
     Ok(())
 }
 
-/// Writes the answer that is a number, as it is, with its unit behind what `out` holds: by the tables of English and
+/// Writes the answer that is a number, as it is, with its unit after what `out` holds: by the tables of English and
 /// euros, of -1234.5 `ok`, a tab and `-€1,234.5`.
 ///
-/// Where there is room, it does not allocate. `AllocError`: out of memory; a part of the answer may then stand there.
+/// Where there is room, it does not allocate. `AllocError`: out of memory; a part of the answer may then be there.
 pub fn write_with_unit(
     tables: UnitTables<'_>,
     value: &Decimal,
@@ -57,13 +57,13 @@ pub fn write_with_unit(
     write_ok(out, &tables.format(value))
 }
 
-/// Writes the answer that is a number with its unit behind what `out` holds, once it is rounded and has its sign: an
+/// Writes the answer that is a number with its unit after what `out` holds, once it is rounded and has its sign: an
 /// amount is rounded to the digits of its currency where no other rounding is asked for, and the sign is chosen by what
 /// that left.
 ///
 /// By the tables of English and dollars -0.001 with `SignDisplay::Negative` is answered by `ok`, a tab and `$0.00`.
 /// `value` becomes what is written. Where there is room, only a rounding to multiples of 25 may allocate. `AllocError`:
-/// out of memory; a part of the answer may then stand there.
+/// out of memory; a part of the answer may then be there.
 pub fn write_unit_answer(
     alloc: Global,
     unit: UnitParts<'_>,

@@ -18,7 +18,7 @@ use icu_dimension_fractions::{Fraction, FractionInfo};
 use locale_numbers_requests::{Refusal, RoundingAsked};
 use std::alloc::{AllocError, Global};
 
-// Writes the answer that is the number which was read, where it is its own rounding to these digits, behind what `out`
+// Writes the answer that is the number which was read, where it is its own rounding to these digits, after what `out`
 // holds.
 fn write_own_amount(value: &Decimal, fraction: Fraction, out: &mut String) -> Result<(), AllocError>
     ensures text { OnOk result (string_bytes out.new
@@ -48,13 +48,13 @@ fn write_own(
     }
 }
 
-/// Writes the answer to a text with a unit that is read back behind what `out` holds: the number whose text this is,
+/// Writes the answer to a text with a unit that is read back after what `out` holds: the number whose text this is,
 /// printed with its sign and the digits shown, or the word `unreadable` or `not-written`.
 ///
 /// An amount is read only where it is its own rounding: of euros `€1.50` is answered by `ok`, a tab and `1.50`, and
 /// `€1.5` by `not-written`. `digits` are those of the currency; percents have none. It allocates where more than eight
 /// digits are in the text, or a rounding to multiples of 25 does. `AllocError`: out of memory; a part of the answer may
-/// then stand there.
+/// then be there.
 pub fn write_unit_read_answer(
     alloc: Global,
     reader: &KnownReader<'_>,

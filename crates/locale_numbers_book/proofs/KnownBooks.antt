@@ -23,7 +23,7 @@ latin_digits = refl
 unknown_system : digits_under latin_alone (of_system (codes "wxyz")) ≡ Err DataError.IdentifierNotFound
 unknown_system = refl
 
--- digits stand under no locale
+-- digits are under no locale
 digits_of_a_locale : digits_under latin_alone (of_both (codes "latn") english) ≡ Err DataError.IdentifierNotFound
 digits_of_a_locale = refl
 

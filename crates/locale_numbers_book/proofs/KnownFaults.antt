@@ -135,7 +135,7 @@ system_before_text : book_fault (book (symbols (codes "en") (codes "TH") (9 ∷ 
 unfolding data_locale_of tag_of whole_after headed_after body_after with_piece chars is_utf8 encode_utf8
 system_before_text = refl
 
--- of the book the first faulty entry, whatever stands behind it
+-- of the book the first faulty entry, whatever is after it
 first_entry : book_fault (book (symbols (codes "en") [] (9 ∷ []) ∷ null ∷ []) (digits (codes "LATN") [] ∷ []) [] [] []) ≡ Some Text
 unfolding data_locale_of tag_of whole_after headed_after body_after with_piece chars is_utf8 encode_utf8
 first_entry = refl

@@ -18,7 +18,7 @@ use Rattle.locale_numbers_tables.specs.declared.BookError.{BookError}
 use Rattle.locale_numbers_tables.specs.declared.BookError.TheVariants.{Shape, Tag, System, Text, Types, Exponents}
 use Rattle.locale_numbers_tables.specs.CompactEntries.{Row, compact_entry, compact_of, has_plain_patterns, rise_from, row_in, row_with, rows_in, rows_of, table_made, zero_of}
 use Rattle.locale_numbers_tables.specs.Entries.{all_of, entry_key, field_at, has_count}
-use Rattle.locale_numbers_tables.specs.Faults.{compact_fault, compact_faults, digits_faults, first_broken, first_fault_behind, has_compact_shape, has_locale, rules_faults, symbols_faults}
+use Rattle.locale_numbers_tables.specs.Faults.{compact_fault, compact_faults, digits_faults, first_broken, first_fault_after, has_compact_shape, has_locale, rules_faults, symbols_faults}
 use Rattle.locale_numbers_book.specs.Form.{book_half, has_form, items_at}
 use Rattle.locale_numbers_tables.specs.Fields.{size_in, system_or_none_in}
 use Rattle.locale_numbers_tables.specs.Keys.{same_key}
@@ -149,7 +149,7 @@ pairs_by (Some key) None p pairs is f g = absurd (cc)
 pairs_by None t p pairs is f g = absurd (cc)
 
 sound_items : (items : Items) (before : List Identifier) (pairs : List Pair) → all_of compact_entry items ≡ Some pairs
-    → first_fault_behind same_key entry_key compact_fault before items ≡ None → AreSoundTables pairs
+    → first_fault_after same_key entry_key compact_fault before items ≡ None → AreSoundTables pairs
 sound_items no_items before pairs is none = let same : [] ≡ pairs = cc in subst AreSoundTables same tt
 sound_items (item d ds) before pairs is none =
     let here = first_none _ _ none in

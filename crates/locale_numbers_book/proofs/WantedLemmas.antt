@@ -1,4 +1,4 @@
--- What a text asks for where it is a tag, and where it is none: `specs/Wanted.antt`.
+-- What a text asks for where it is a tag, and where it is not one: `specs/Wanted.antt`.
 use Rattle.std.proofs.Common.{◌≡◌, Bool, true, false, cond, not, List, [], ◌∷◌, Option, Some, None, refl, sym, ap, ◌∙◌, subst}
 use Rattle.std.specs.Prelude.{IfSome, if◌then◌else◌, option_map, option_and_then, option_to_list}
 use Rattle.icu_locale_core.specs.declared.ParseError.{ParseError}

@@ -9,7 +9,7 @@ use Rattle.locale_numbers_units.specs.Units.{units_may_grow}
 use Rattle.locale_numbers_book.specs.Form.{book_half, has_form, has_units_form, items_at, units_half}
 use Rattle.locale_numbers_book.specs.ParentEntries.{has_parent_shape, parent_fault}
 
--- parents, behind these: an entry of two texts, of which a locale may take memory, or one that has no fault
+-- parents, after these: an entry of two texts, of which a locale may take memory, or one that has no fault
 abbrev pub parent_may_grow : List Entry → Data → Bool
 parent_may_grow before entry = has_parent_shape entry && (locale_may_grow 0 entry || locale_may_grow 1 entry) || not (is_some (parent_fault before entry))
 

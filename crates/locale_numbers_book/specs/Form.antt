@@ -15,7 +15,7 @@ use Rattle.locale_numbers_book.specs.ParentEntries.{parents_faults}
 abbrev pub is_array_at : ℕ → Data → Bool
 is_array_at place value = is_some (field_at as_array place value)
 
--- the items of the array at a place, none where no array stands there
+-- the items of the array at a place, none where no array is there
 abbrev pub items_at : ℕ → Data → Items
 items_at place value = unwrap_or (field_at as_array place value) no_items
 

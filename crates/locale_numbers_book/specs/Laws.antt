@@ -82,7 +82,7 @@ AreSoundTables tables = AllByRecursion (λ pair. IsSoundTable pair.1) tables
 abbrev pub BookTablesAreSound : Type 0
 BookTablesAreSound = (value : Data) (book : BookTables) → IsBook value book → AreSoundTables book.short × AreSoundTables book.long
 
--- symbols and digits that stand in a book are texts, and ten digits
+-- symbols and digits that are in a book are texts, and ten digits
 abbrev pub BookTablesAreTexts : Type 0
 BookTablesAreTexts = (value : Data) (book : BookTables) → IsBook value book → (symbols : Symbols) (digits : List ℕ) (strategy : GroupingStrategy)
     → (id other : Identifier) → symbols_under book id ≡ Ok symbols → digits_under book other ≡ Ok digits

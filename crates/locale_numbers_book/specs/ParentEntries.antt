@@ -20,7 +20,7 @@ parent_entry entry = option_and_then (λ locale. option_map {T = DataLocaleMeani
 abbrev pub has_parent_shape : Data → Bool
 has_parent_shape entry = has_count 2 entry && is_text_at 0 entry && is_text_at 1 entry
 
--- the locale stands there already
+-- the locale is there already
 abbrev pub is_listed : List Entry → Option Entry → Bool
 is_listed before None = false
 is_listed before (Some entry) = is_some (listed_parent before entry.0)
@@ -30,7 +30,7 @@ abbrev pub closes_cycle : List Entry → Option Entry → Bool
 closes_cycle before None = false
 closes_cycle before (Some entry) = leads_to before entry.1 entry.0
 
--- what is wrong with an entry behind these
+-- what is wrong with an entry after these
 abbrev pub parent_fault : List Entry → Data → Option BookError
 parent_fault before entry = first_broken (
     (Shape, has_parent_shape entry)
@@ -39,12 +39,12 @@ parent_fault before entry = first_broken (
     ∷ (Cycle, not (closes_cycle before (parent_entry entry)))
     ∷ [])
 
--- the fault of the first faulty entry, where these entries stand before
+-- the fault of the first faulty entry, where these entries are before
 abbrev pub parents_faults : List Entry → Items → Option BookError
 parents_faults before no_items = None
 parents_faults before (item entry rest) = option_or (parent_fault before entry) (parents_faults (before ++ option_to_list (parent_entry entry)) rest)
 
--- what an entry without a fault says stands behind the others
+-- what an entry without a fault says is after the others
 pub record AddsParent (entry : Data) (before after : List Entry) : Type 0 where
   pub pair : Entry
   pub says : parent_entry entry ≡ Some pair

@@ -52,7 +52,7 @@ sample_digits = (codes "latn", codes "0123456789") ∷ (codes "arab", ten_from 0
 abbrev pub english_rules : Option Rules
 english_rules = rules_of ((One, codes "i = 1 and v = 0") ∷ (Other, []) ∷ [])
 
--- a text behind the number
+-- a text after the number
 abbrev pub behind : List ℕ → Patterns
 behind text = only_other (around [] text)
 

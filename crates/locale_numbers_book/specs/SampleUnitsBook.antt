@@ -77,7 +77,7 @@ units_book_symbols =
 
 -- ---- patterns
 
--- the unit before the number, or after it, and the texts round both
+-- the unit before the number, or after it, and the texts around both
 abbrev pub before : List ℕ → List ℕ → List ℕ → AffixesText
 before first second third = record { place = Before; first = first; second = second; third = third }
 

@@ -1,4 +1,4 @@
--- What stands in a book under an identifier, of each of its tables, and the locales of a book.
+-- What is in a book under an identifier, of each of its tables, and the locales of a book.
 -- Defined in docs/books.md, "Choosing tables", "Choosing units" and "The locales of a book".
 -- Cited by the impls of `DataProvider` for `Book`, by `Book::locale`, and by the answer to a line.
 -- A book has five tables and five of units, and the type and the key of each are imported.

@@ -76,7 +76,7 @@ abbrev pub or_no_table : {T : Type 0} → Result T DataError → Result T Format
 or_no_table (Ok tables) = Ok tables
 or_no_table (Err error) = Err Table
 
--- what is found for the preferences of a tag, or that it is none
+-- what is found for the preferences of a tag, or that it is not one
 abbrev pub found_by : {T : Type 0} → (Preferences → Result T DataError) → Option Preferences → Result T FormatterError
 found_by find None = Err Tag
 found_by find (Some preferences) = or_no_table (find preferences)

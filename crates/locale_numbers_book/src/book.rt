@@ -52,7 +52,7 @@ impl Model for Book {
     } };
 }
 
-// A book is let go by one call, whose proof a user's exits cite: a derived drop would be opened table by table at each
+// A book is dropped by one call, whose proof a user's exits cite: a derived drop would be opened table by table at each
 // of them.
 impl Drop for Book {
     fn drop(self) {
@@ -188,7 +188,7 @@ impl Book {
 }
 
 /// The book that a JSON text is, as by [`Book::from_json`]: the one without tables of `[[],[],[],[],[]]`, and `Json` of
-/// `[1`. The text is let go before the tables are made, so that the two are never in memory together.
+/// `[1`. The text is dropped before the tables are made, so that the two are never in memory together.
 pub fn book_from(alloc: Global, bytes: Vec<u8>) -> Result<Book, BookError>
     ensures value { IfOk result (λ book. (value : Data) × Reads bytes.items value × IsBook value book) }
     ensures refused { IfErr result (λ fault. IsRefused bytes.items fault) }

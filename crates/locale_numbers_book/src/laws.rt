@@ -46,7 +46,7 @@ pub fn tables_are_sound()
     ensures { BookTablesAreSound }
 {}
 
-/// Symbols and digits that stand in a book are six texts and ten characters, as the laws of reading back ask for: in
+/// Symbols and digits that are in a book are six texts and ten characters, as the laws of reading back ask for: in
 /// `SAMPLE_BOOK` under `en` and `latn` `-`, `+`, `.`, `,` and `0` to `9`.
 pub fn tables_are_texts()
     ensures { BookTablesAreTexts }

@@ -50,7 +50,7 @@ module _ {K F : Type 0} (same : K → K → Bool) (finds : K → Bool) (is_made 
         let right = subst (λ k. (finds k ≡ true) × is_made k entry.1) (sym one) (sound entry.0 entry.1 at.0) in
         (one, right.0, right.1)
 
-    -- the entry that is promoted, and the ones behind it
+    -- the entry that is promoted, and the ones after it
     promotes : (entry : K × F) → lookup_entry (same key) entries ≡ Some entry → length entries ≤ capacity → 0 < capacity
         → Uses key (cached entries capacity made) (cached (promoted (same key) entries) capacity made)
     promotes entry h fits room =
@@ -72,7 +72,7 @@ module _ {K F : Type 0} (same : K → K → Bool) (finds : K → Bool) (is_made 
           bounds = (fits_of key entries (promoted (same key) entries) capacity keys, room);
         }
 
-    -- the new entry, and the ones that stay behind it
+    -- the new entry, and the ones that stay after it
     puts : (kept : F) → lookup_entry (same key) entries ≡ None → 0 < capacity → finds key ≡ true → is_made key kept
         → Uses key (cached entries capacity made) (cached (put_entries same (lru_cache entries capacity) key kept) capacity (min (made + 1) most))
     puts kept h room found right =
@@ -133,7 +133,7 @@ module _ {K F : Type 0} (same : K → K → Bool) (exact : (one other : K) → s
 -- ---- the key that was used last is used again
 
 module _ {K : Type 0} (same : K → K → Bool) (finds : K → Bool) (key : K) (itself : same key key ≡ true) where
-  -- it goes to the front, where it stands
+  -- it goes to the front, where it is
   stays_first : (capacity : ℕ) (recent : List K) → length recent ≤ capacity → slice_get recent 0 ≡ Some key → (has same key recent ≡ true) × (recent_after same capacity recent key ≡ recent)
   stays_first capacity [] fits first = cc
   stays_first capacity (other ∷ recent) fits first =

@@ -10,7 +10,7 @@ module _ {K : Type 0} (same : K → K → Bool) where
   kept_after capacity recent [] = recent
   kept_after capacity recent (key ∷ keys) = kept_after capacity (recent_after same capacity recent key) keys
 
-  -- each key once, where it stands first
+  -- each key once, where it is first
   abbrev pub distinct : List K → List K
   distinct [] = []
   distinct (key ∷ keys) = key ∷ without same key (distinct keys)

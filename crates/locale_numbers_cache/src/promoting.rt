@@ -1,4 +1,4 @@
-//! The entry of a key goes to the front, with no look-up where it stands there.
+//! The entry of a key goes to the front, with no look-up where it is there.
 
 ghost use Rattle.std.specs.Prelude.{◌≡◌, is_some};
 ghost use Rattle.std.specs.Map.{lookup};

@@ -21,7 +21,7 @@ fn print_parts(rt: &HostRuntime, plain: &DecimalFormatter<'_>, number: &Decimal)
     Ok(())
 }
 
-/// A form field: the number that was typed, or that it is none. In a file that a program wrote `read_plain` takes what
+/// A form field: the number that was typed, or that it is not one. In a file that a program wrote `read_plain` takes what
 /// `plain` writes, to the byte, and nothing else.
 fn print_field(rt: &HostRuntime, plain: &DecimalFormatter<'_>, typed: &str) -> Result<()> {
     match read_lenient(rt.alloc(), plain, typed) {

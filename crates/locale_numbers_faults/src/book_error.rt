@@ -24,7 +24,7 @@ pub enum BookError {
     /// `Thai`, `th`.
     #[error("system")]
     System,
-    /// A tab or a line feed stands in a text that is written, as a tab for the minus sign or in the symbol of a currency.
+    /// A tab or a line feed is in a text that is written, as a tab for the minus sign or in the symbol of a currency.
     #[error("text")]
     Text,
     /// The digits of a system are not ten characters, as the nine of `012345678`, or a tab or a line feed is among
@@ -41,7 +41,7 @@ pub enum BookError {
     /// it.
     #[error("exponents")]
     Exponents,
-    /// An earlier entry of the same array has the same key, as `EN` behind `en`.
+    /// An earlier entry of the same array has the same key, as `EN` after `en`.
     #[error("duplicate")]
     Duplicate,
     /// The parents of a locale lead back to it, under the entries up to its own: `en` for `en`, or `en-US` for `en`.

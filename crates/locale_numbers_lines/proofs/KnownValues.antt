@@ -40,5 +40,5 @@ read_at_start may_read may = may (97 ∷ 10 ∷ []) [] [] refl refl
 pub read_within_a_line : (may_read : List ℕ → Type 0) → MayReadOnceAnswered may_read Some Some (λ line. line) (97 ∷ 10 ∷ []) [] → may_read (10 ∷ [])
 read_within_a_line may_read may = may (10 ∷ []) [] (97 ∷ []) refl refl
 
-pub read_behind_a_line : (may_read : List ℕ → Type 0) → MayReadOnceAnswered may_read Some Some (λ line. line) (97 ∷ 10 ∷ []) [] → may_read []
-read_behind_a_line may_read may = may [] (97 ∷ 10 ∷ []) (97 ∷ 10 ∷ []) refl refl
+pub read_after_a_line : (may_read : List ℕ → Type 0) → MayReadOnceAnswered may_read Some Some (λ line. line) (97 ∷ 10 ∷ []) [] → may_read []
+read_after_a_line may_read may = may [] (97 ∷ 10 ∷ []) (97 ∷ 10 ∷ []) refl refl

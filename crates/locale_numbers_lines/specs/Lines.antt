@@ -1,4 +1,4 @@
--- The lines of a byte list: its pieces ended by line feeds, and what stands after the last feed where that is not empty.
+-- The lines of a byte list: its pieces ended by line feeds, and what is after the last feed where that is not empty.
 -- Defined in docs/requests.md, "Lines".
 -- Cited by `run_with`, through Run.antt, and by the laws of `laws.rt`.
 use Rattle.std.specs.Prelude.{ℕ, ◌==◌, ◌≡◌, false, List, [], ◌∷◌, ◌++◌, if◌then◌else◌}
@@ -43,7 +43,7 @@ pub record Splits (bytes : List ℕ) (lines : List (List ℕ)) (rest : List ℕ)
   pub each : AreLines lines
   pub cut : HasNoFeed rest
 
--- the line that stands after the last line feed, where any byte does
+-- the line that is after the last line feed, where any byte does
 abbrev pub last_line : List ℕ → List (List ℕ)
 last_line [] = []
 last_line (byte ∷ bytes) = (byte ∷ bytes) ∷ []

@@ -68,7 +68,7 @@ module _ (answer : List ℕ → List ℕ) where
     pub counted : CountsLines had count
     pub made : CountsMade over had (next [])
 
--- these bytes were fed: their lines were answered, `held` is behind the last feed, and `ready` are the answers that are not written yet
+-- these bytes were fed: their lines were answered, `held` is after the last feed, and `ready` are the answers that are not written yet
 abbrev pub Feeds : (List ℕ → List ℕ) → (bytes held ready : List ℕ) → (before after : Option (List ℕ)) → ℕ → (over next : List (List ℕ) → ℕ) → Result ℕ RunError → Type 0
 Feeds answer bytes held ready before after old over next result = MatchResult result
     (λ count. Progress answer bytes held [] ready before after old count over next)

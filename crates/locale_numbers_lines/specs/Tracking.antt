@@ -4,7 +4,7 @@
 use Rattle.std.specs.Prelude.{ℕ, Bool, refl}
 use Rattle.std.specs.Coded.{Coded, code_by, coded×, coded_bool, coded_ℕ}
 
--- what stands inside, whether a call of it has failed, and the count of reads
+-- what is inside, whether a call of it has failed, and the count of reads
 pub record Tracking (T : Type 0) : Type 0 where
   pub inner : T
   pub failed : Bool

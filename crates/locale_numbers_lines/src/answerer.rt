@@ -17,11 +17,11 @@ pub trait Answerer {
     // How many things it will have made once these lines are answered too.
     ghost made_over: { Self → List (List ℕ) → ℕ };
 
-    /// Puts the answer to `line`, with no line feed after it, behind what `out` holds: in upper
-    /// case `b` puts `B` behind `A` and a line feed.
+    /// Puts the answer to `line`, with no line feed after it, after what `out` holds: in upper
+    /// case `b` puts `B` after `A` and a line feed.
     ///
     /// The condition is that it is ready, as it is again after each answer. It fails only where it is out
-    /// of memory; a part of the answer may then stand there.
+    /// of memory; a part of the answer may then be there.
     fn answer_onto(&mut self, line: &[u8], out: &mut String) -> Result<(), AllocError>
         requires { is_ready self.old }
         ensures text { OnOk result (

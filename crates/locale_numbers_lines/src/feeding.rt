@@ -12,7 +12,7 @@ use crate::ready_answers::answer_held;
 use crate::run_error::RunError;
 use crate::writing::{PIECE, write_full, write_ready};
 
-// Answers the lines that end in this piece, and holds what stands after the last line feed. Answers
+// Answers the lines that end in this piece, and holds what is after the last line feed. Answers
 // may be left ready; after Memory those that are left are whole.
 fn gather<A: Answerer, W: ByteWriter>(
     answerer: &mut A,

@@ -1,4 +1,4 @@
-//! Answers behind those that wait to be written.
+//! Answers after those that wait to be written.
 
 ghost use Rattle.std.specs.Prelude.{◌≡◌, ℕ, List, [], ◌∷◌, ◌++◌, string_bytes, OnOk, OnErr};
 ghost use Rattle.locale_numbers_lines.specs.Lines.{ended};
@@ -7,7 +7,7 @@ ghost use Rattle.locale_numbers_lines.specs.Growth.{Grows};
 use crate::answerer::Answerer;
 use std::alloc::AllocError;
 
-// The answer to a line and its line feed, behind the ready ones; a part of it may stand after an error.
+// The answer to a line and its line feed, after the ready ones; a part of it may be after an error.
 fn push_ended<A: Answerer>(
     answerer: &mut A,
     line: &[u8],
@@ -26,7 +26,7 @@ fn push_ended<A: Answerer>(
     ready.push('\n')
 }
 
-// The answer to a line and its line feed, behind the ready ones; these are as before after an error.
+// The answer to a line and its line feed, after the ready ones; these are as before after an error.
 pub fn answer_line<A: Answerer>(
     answerer: &mut A,
     line: &[u8],

@@ -6,7 +6,7 @@ use crate::byte_writer::ByteWriteFault;
 use std::alloc::AllocError;
 use thiserror::Error;
 
-/// Why a run ended before it had answered all lines: `Read` where the reader failed behind `ab`,
+/// Why a run ended before it had answered all lines: `Read` where the reader failed after `ab`,
 /// line feed, `c`.
 #[derive(Clone, Copy, Debug, PartialEq, Eq, Error)]
 pub enum RunError {

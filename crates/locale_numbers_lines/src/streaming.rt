@@ -1,4 +1,4 @@
-//! A run from the first read to the flush behind the last line.
+//! A run from the first read to the flush after the last line.
 
 ghost use Rattle.std.specs.Prelude.{◌≡◌, ◌<◌, [], length, string_bytes, true, false, IfOk, IsErrOf, MatchResult, OnOk};
 ghost use Rattle.std.specs.Io.KnownBytes.{Keeps};
@@ -18,7 +18,7 @@ use crate::run_error::RunError;
 use crate::writing::{PIECE, write_ready};
 use std::alloc::Global;
 
-// Answers what stands after the last line feed, where any byte does.
+// Answers what is after the last line feed, where any byte does.
 fn finish<A: Answerer, W: ByteWriter>(
     answerer: &mut A,
     held: &[u8],
@@ -121,7 +121,7 @@ fn stream<A: Answerer, R: ByteReader, W: ByteWriter>(
 
 /// Answers each line that `reader` gives, in order, onto `writer`, each answer with a line feed.
 ///
-/// A line ends at a line feed; what stands after the last one is a line too, where it is not empty.
+/// A line ends at a line feed; what is after the last one is a line too, where it is not empty.
 /// With an answerer that turns letters to upper case the bytes `one`, line feed, `two` give `ONE`,
 /// line feed, `TWO`, line feed, and a report of 2 lines.
 ///

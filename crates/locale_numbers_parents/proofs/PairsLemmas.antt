@@ -131,7 +131,7 @@ list_apart x xs h = cc
 cons_same : {E : Type 0} (x y : E) (xs ys : List E) → x ≡ y → xs ≡ ys → x ∷ xs ≡ y ∷ ys
 cons_same x y xs ys h k = cc
 
--- what stands before one more is the whole, or part of the rest
+-- what is before one more is the whole, or part of the rest
 pub last_split : {E : Type 0} (done : List E) (e : E) (before : List E) (x : E) (behind : List E) → done ++ e ∷ [] ≡ before ++ x ∷ behind
     → ((before ≡ done) × (x ≡ e)) ⊎ ((rest : List E) × (done ≡ before ++ x ∷ rest))
 last_split [] e [] x behind h = inl (refl, cc)

@@ -36,7 +36,7 @@ leads_to entries start goal = list_any (λ x. same_data_locale x goal) (parents_
 abbrev pub ClosesCycle : List Entry → Entry → Type 0
 ClosesCycle before entry = ComesBack (parent_step (before ++ entry ∷ [])) entry.0
 
--- no locale stands twice, and no entry closes a cycle
+-- no locale is twice, and no entry closes a cycle
 pub record IsParents (entries : List Entry) : Type 0 where
   pub once : (before : List Entry) (entry : Entry) (behind : List Entry) → entries ≡ before ++ entry ∷ behind → listed_parent before entry.0 ≡ None
   pub open_ended : (before : List Entry) (entry : Entry) (behind : List Entry) → entries ≡ before ++ entry ∷ behind → ¬ (ClosesCycle before entry)

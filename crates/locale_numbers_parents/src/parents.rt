@@ -17,13 +17,13 @@ use std::marker::Model;
 pub enum ParentFault {
     /// The locale has a parent already: `en-AU`, of which `en-001` was added.
     Duplicate,
-    /// The parents of the locale would lead back to it: `en-US` for `en`, since `en` stands behind `en-US`.
+    /// The parents of the locale would lead back to it: `en-US` for `en`, since `en` is after `en-US`.
     Cycle,
     /// Out of memory.
     Memory,
 }
 
-/// Locales and their parents, of which no locale stands twice and none leads back to itself: `en-001` for `en-AU`, `en`
+/// Locales and their parents, of which no locale is twice and none leads back to itself: `en-001` for `en-AU`, `en`
 /// for `en-001`.
 #[derive(Drop)]
 pub struct Parents {

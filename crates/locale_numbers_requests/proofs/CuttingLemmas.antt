@@ -1,4 +1,4 @@
--- What a search for a text's first or last separator tells of the bytes round it.
+-- What a search for a text's first or last separator tells of the bytes around it.
 use Rattle.std.proofs.Common.{◌≡◌, ℕ, ◌+◌, ◌<◌, ◌≤◌, ◌==◌, true, false, List, length, drop, get_or, Option, None, Some, sym, ap, ◌∙◌, arith, length-drop}
 use Rattle.std.proofs.lemmas.Bool.{false_from_ne_true, eqb-true, le-ltb, lt-ltb}
 use Rattle.std.proofs.lemmas.Grind.{get_or_default_zero}
@@ -21,7 +21,7 @@ pub last_found : (separator : ℕ) (text : List ℕ) (found : Option ℕ) → Is
 last_found separator text None nowhere = none_from separator text 0 nowhere
 last_found separator text (Some at) found = (found.0.high, eqb-true _ _ found.1, none_from separator text (at + 1) found.0.after)
 
--- the first place is what is found, by how many bytes stand before it
+-- the first place is what is found, by how many bytes are before it
 place_found : (separator : ℕ) (text : List ℕ) (n : ℕ) (passes : Bool) → position_or_len (is_separator separator) text ≡ n → nat_lt n (length text) ≡ passes → cond passes (Some n) None ≡ position (is_separator separator) text
 place_found separator text n passes at tells =
     sym (ap (λ k. cond (nat_lt k (length text)) (Some k) None) at ∙ ap (λ b. cond b (Some n) None) tells)

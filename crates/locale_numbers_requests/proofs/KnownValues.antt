@@ -48,7 +48,7 @@ five_fields = refl
 seven_fields : request_in (codes "en" ∷ codes "plain" ∷ codes "auto" ∷ codes "keep" ∷ codes "-" ∷ codes "1" ∷ [] ∷ []) ≡ None
 seven_fields = refl
 
--- words are told apart by case, and a part of one is none
+-- words are told apart by case, and a part of one is not one
 capital_word : grouping_named (codes "Auto") ≡ None
 capital_word = refl
 

@@ -34,7 +34,7 @@ whole p (x ∷ xs) none = at (p x) none (whole p xs)
 pub fields_none : (separator : ℕ) (text : List ℕ) → None ≡ position (is_separator separator) text → cut_at separator text ≡ text ∷ []
 fields_none separator text none = whole (is_separator separator) text (none_is _ _ none)
 
--- with one, the first piece stands before it
+-- with one, the first piece is before it
 pub fields_some : (separator : ℕ) (text : List ℕ) (end : ℕ) → Some end ≡ position (is_separator separator) text
     → cut_at separator text ≡ take end text ∷ cut_at separator (take (length text - (end + 1)) (drop (end + 1) text))
 fields_some separator text end some =

@@ -14,7 +14,7 @@ cut_at separator text = slice_split (is_separator separator) text
 abbrev pub IsNot : ℕ → ℕ → Type 0
 IsNot separator byte = is_separator separator byte ≡ false
 
--- a text is cut before its last piece: what stands before it is nothing, or ends with a separator, and the piece has none
+-- a text is cut before its last piece: what is before it is nothing, or ends with a separator, and the piece has none
 pub record IsLastCut (separator : ℕ) (text front last : List ℕ) : Type 0 where
   pub whole : text ≡ front ++ last
   pub ends : (front ≡ []) ⊎ ((before : List ℕ) × (front ≡ before ++ separator ∷ []))

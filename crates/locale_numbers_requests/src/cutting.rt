@@ -36,7 +36,7 @@ pub fn cut_field(text: &[u8], separator: u8) -> (&[u8], Option<&[u8]>)
     }
 }
 
-/// What stands before the last piece of a text, the separator with it, and that piece.
+/// What is before the last piece of a text, the separator with it, and that piece.
 pub fn cut_last(text: &[u8], separator: u8) -> (&[u8], &[u8])
     ensures { IsLastCut separator text.now result.0.now result.1.now }
 {

@@ -27,7 +27,7 @@ pub enum Refusal {
 }
 
 impl Refusal {
-    /// The word behind `err`: `table` for `Table`, `not-written` for `NotWritten`.
+    /// The word after `err`: `table` for `Table`, `not-written` for `NotWritten`.
     pub fn word(&self) -> &'static str
         ensures value { result.now ≡ word_of self.now }
     {

@@ -20,7 +20,7 @@ pub struct Request<'a> {
     pub tag: &'a [u8],
     /// What is written.
     pub form: Form,
-    /// Where separators stand.
+    /// Where separators are.
     pub grouping: GroupingStrategy,
     /// Which sign is written.
     pub sign: SignAsked,
@@ -104,7 +104,7 @@ pub fn is_text(bytes: &[u8]) -> bool
     str::from_utf8(bytes).is_ok()
 }
 
-/// The request that a line is, its text left out, or `None` where it is none: not UTF-8, or not six known fields that
+/// The request that a line is, its text left out, or `None` where it is not one: not UTF-8, or not six known fields that
 /// go together.
 pub fn read_request(line: &[u8]) -> Option<Request<'_>>
     ensures { MatchOption result (request_of line.now ≡ None) (λ asked. with_text [] (request_of line.now)

@@ -5,7 +5,7 @@ use locale_numbers::{Book, BookError, answer};
 use rows::{Stop, escaped, put, put_text, unescaped};
 use std::alloc::Global;
 
-/// The bytes of the book that a field names, with parents behind its five arrays or without, or says.
+/// The bytes of the book that a field names, with parents after its five arrays or without, or says.
 pub fn book_bytes(alloc: Global, field: &str) -> Result<Vec<u8>, Stop> {
     let (name, parents) = field.split_once(" + ").unwrap_or((field, ""));
     match book_named(name) {

@@ -64,7 +64,7 @@ fn leaves(alloc: Global, run: &BookRun<'_>, sides: Sides<'_>, text: &str) -> Res
     Ok(is_same)
 }
 
-/// Writes what a run leaves, and behind it the first number of bytes below `end` where it leaves another text, if there
+/// Writes what a run leaves, and after it the first number of bytes below `end` where it leaves another text, if there
 /// is one: its first read gives so many bytes, and, where it counts, each other read too.
 pub fn put_alike(
     run: &BookRun<'_>,

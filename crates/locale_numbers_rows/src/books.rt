@@ -10,7 +10,7 @@ const THREE_TWO: &str = r#"[[["en","","latn","-","","+","",".",",",3,2,1],
  [["en","",[[3,3,[["1",["a thousand"]],["other",["","-thousands"]]]],
    [6,6,[["one",["","-million"]],["other",["","-millions"]]]]],null]]]"#;
 
-// The English symbols, grouped where two digits stand in front.
+// The English symbols, grouped where two digits are in front.
 const TWO_IN_FRONT: &str = r#"[[["en","","latn","-","","+","",".",",",3,3,2]],
  [["latn","0123456789"]],[],[],[]]"#;
 

@@ -3,7 +3,7 @@
 use rows::{Stop, number_of, split_word};
 
 /// How many bytes a reader gives at its first read and at the others, how many reads it answers, and whether it fails
-/// behind its last byte.
+/// after its last byte.
 #[derive(Clone, Copy)]
 pub struct Giving {
     pub at_first: usize,

@@ -1,5 +1,5 @@
 //! Answers rows of calls of `locale_numbers`: each line of standard input is a row, and is written on standard output
-//! with a tab and its answer behind it. The README lists the calls.
+//! with a tab and its answer after it. The README lists the calls.
 
 #![tactic(auto)]
 

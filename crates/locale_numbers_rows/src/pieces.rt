@@ -44,7 +44,7 @@ impl<'a> Pieces<'a> {
     }
 }
 
-// Notes how many bytes were written behind how many that were given; false where there is no memory for that.
+// Notes how many bytes were written after how many that were given; false where there is no memory for that.
 fn is_noted(notes: &mut String, written: usize, given: usize) -> bool {
     write!(notes, ", {written} behind {given}").is_ok()
 }

@@ -1,4 +1,4 @@
-//! Numbers in the symbols and the sizes of a row, and where separators stand.
+//! Numbers in the symbols and the sizes of a row, and where separators are.
 
 use crate::calls::answer_under;
 use icu_decimal::grouper;
@@ -6,7 +6,7 @@ use icu_decimal::options::GroupingStrategy;
 use icu_decimal::provider::GroupingSizes;
 use rows::{Stop, number_of, put};
 
-// The signs or the digits of this name, as they stand in a book: signs are the prefix and the suffix of the minus sign,
+// The signs or the digits of this name, as they are in a book: signs are the prefix and the suffix of the minus sign,
 // and those of the plus sign.
 fn text_named(name: &str) -> Result<&'static str, Stop> {
     match name {

@@ -6,7 +6,7 @@ use rows::{Stop, filled, number_of, unescaped};
 use std::alloc::{AllocError, Global};
 use std::num::NonZeroUsize;
 
-// Puts bytes so often behind the others.
+// Puts bytes so often after the others.
 fn push_times(out: &mut Vec<u8>, times: usize, bytes: &[u8]) -> Result<(), AllocError> {
     for _ in 0..times {
         out.extend_from_slice(bytes)?;
@@ -14,7 +14,7 @@ fn push_times(out: &mut Vec<u8>, times: usize, bytes: &[u8]) -> Result<(), Alloc
     Ok(())
 }
 
-// Puts the bytes of `3*ab` behind the others: `ababab`.
+// Puts the bytes of `3*ab` after the others: `ababab`.
 fn push_piece(alloc: Global, out: &mut Vec<u8>, piece: &str) -> Result<(), Stop> {
     let Some((times, text)) = piece.split_once('*') else {
         return Err(Stop::Unknown);
@@ -26,7 +26,7 @@ fn push_piece(alloc: Global, out: &mut Vec<u8>, piece: &str) -> Result<(), Stop>
     Ok(pushed?)
 }
 
-// Puts the bytes of `3*ab|1*c` behind the others: `abababc`.
+// Puts the bytes of `3*ab|1*c` after the others: `abababc`.
 fn push_pieces(alloc: Global, out: &mut Vec<u8>, field: &str) -> Result<(), Stop> {
     for piece in field.split('|') {
         push_piece(alloc, out, piece)?;

@@ -12,7 +12,7 @@ use std::num::NonZeroUsize;
 
 /// What runs between a reader and a writer.
 pub trait Runs {
-    /// Runs, and writes how that ended behind the text.
+    /// Runs, and writes how that ended after the text.
     fn run(
         &self,
         reader: &mut Pieces<'_>,
@@ -54,7 +54,7 @@ fn put_sides(reader: &Pieces<'_>, writer: &Narrow<'_>, out: &mut String) -> Resu
 }
 
 // Writes what a run left.
-fn put_behind(
+fn put_after(
     left: Left,
     reader: &Pieces<'_>,
     writer: &Narrow<'_>,
@@ -76,7 +76,7 @@ pub fn put_left<T: Runs>(runs: &T, sides: Sides<'_>, out: &mut String) -> Result
     let mut reader = Pieces::new(alloc, sides.input, sides.giving, &written, watches);
     let mut writer = Narrow::new(alloc, sides.taking, &written);
     let ran = runs.run(&mut reader, &mut writer, out);
-    let put = put_behind(sides.left, &reader, &writer, out);
+    let put = put_after(sides.left, &reader, &writer, out);
     drop(writer);
     drop(reader);
     ran?;

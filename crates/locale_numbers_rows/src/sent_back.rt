@@ -4,8 +4,8 @@ use crate::answers::put_answer;
 use locale_numbers::Book;
 use rows::Stop;
 
-// The line with the same tag and grouping that sends back, in the exact form, the value behind the last tab of the
-// answer to a line, as that stands in a field.
+// The line with the same tag and grouping that sends back, in the exact form, the value after the last tab of the
+// answer to a line, as that is in a field.
 fn exact_line(line: &[u8], answer: &String) -> Result<String, Stop> {
     let Ok(line) = str::from_utf8(line) else {
         return Err(Stop::Unknown);

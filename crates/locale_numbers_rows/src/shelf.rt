@@ -6,14 +6,14 @@ use std::io::{Read, Seek, SeekFrom, Write};
 use std::rt::Files;
 
 /// A file system that has the same thing under every path: `nothing`, a `whole` file with a text, or one that is
-/// `broken` off behind it.
+/// `broken` off after it.
 #[derive(Clone, Copy)]
 pub struct Shelf<'a> {
     pub kind: &'a str,
     pub text: &'a [u8],
 }
 
-/// An opened file, which may fail behind its last byte. It takes no byte, and counts its flushes.
+/// An opened file, which may fail after its last byte. It takes no byte, and counts its flushes.
 #[derive(Drop)]
 pub struct Page<'a> {
     pub rest: &'a [u8],

@@ -4,7 +4,7 @@ use crate::giving::Giving;
 use crate::taking::Taking;
 use rows::Stop;
 
-/// What is written of a run behind the way in which it ended.
+/// What is written of a run after the way in which it ended.
 #[derive(Clone, Copy)]
 pub enum Left {
     /// How often the writer was flushed, which sides have failed, and what the writer holds.

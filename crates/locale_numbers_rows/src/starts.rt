@@ -66,8 +66,8 @@ fn put_program<F: Files>(
     put_left(&start, sides, out)
 }
 
-/// Writes what the program leaves. The kind says what stands under every path: `nothing`, a `whole` file with this
-/// text, one that is `broken` off behind it, or what is there (`real`).
+/// Writes what the program leaves. The kind says what is under every path: `nothing`, a `whole` file with this
+/// text, one that is `broken` off after it, or what is there (`real`).
 pub fn answer<F: Files>(
     files: &F,
     passed: &[&str],

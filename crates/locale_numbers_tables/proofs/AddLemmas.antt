@@ -6,18 +6,18 @@ use Rattle.locale_numbers_faults.specs.declared.BookError.{BookError}
 use Rattle.locale_numbers_faults.specs.declared.BookError.TheVariants.{Duplicate}
 use Rattle.locale_numbers_tables.specs.Adding.{Adds}
 use Rattle.locale_numbers_tables.specs.Entries.{all_of}
-use Rattle.locale_numbers_tables.specs.Faults.{first_fault_behind}
+use Rattle.locale_numbers_tables.specs.Faults.{first_fault_after}
 use Rattle.locale_numbers_tables.specs.Keys.{has_no_key_twice, table_at}
 use Rattle.locale_numbers_tables.proofs.TableLemmas.{once_more, moved}
 use Rattle.locale_numbers_tables.proofs.FaultLemmas.{among_keys, keys_more, keys_of}
 
 module _ {K V : Type 0} (same : K → K → Bool) (key : Data → Option K) (fault : Data → Option BookError) where
-  abbrev pub faults_behind : List (K × V) → Items → Option BookError
-  faults_behind pairs items = first_fault_behind same key fault (keys_of pairs) items
+  abbrev pub faults_after : List (K × V) → Items → Option BookError
+  faults_after pairs items = first_fault_after same key fault (keys_of pairs) items
 
-  -- a key that stands already is the fault of its entry
+  -- a key that is there already is the fault of its entry
   pub doubled : (pairs : List (K × V)) (entry : Data) (k : K) → fault entry ≡ None → key entry ≡ Some k → is_some (table_at same k pairs) ≡ true
-      → faults_behind pairs (item entry no_items) ≡ Some Duplicate
+      → faults_after pairs (item entry no_items) ≡ Some Duplicate
   doubled pairs entry k sound keyed there =
       let old : list_any (same k) (keys_of pairs) ≡ true = among_keys same k pairs ∙ there in
       rw (sound, keyed, old) refl
@@ -25,7 +25,7 @@ module _ {K V : Type 0} (same : K → K → Bool) (key : Data → Option K) (fau
 module _ {K V : Type 0} (same : K → K → Bool) (meaning : Data → Option (K × V)) (key : Data → Option K) (fault : Data → Option BookError) where
   -- an entry that was added is passed
   pub passed : (entry : Data) (items : Items) (before after : List (K × V)) → Adds same meaning key fault entry before after
-      → faults_behind same key fault before (item entry items) ≡ faults_behind same key fault after items
+      → faults_after same key fault before (item entry items) ≡ faults_after same key fault after items
   passed entry items before after adds =
       let new : list_any (same adds.pair.0) (keys_of before) ≡ false = among_keys same adds.pair.0 before ∙ ap is_some adds.fresh in
       rw (adds.sound, adds.keyed, new, adds.added, keys_more before adds.pair.0 adds.pair.1) refl

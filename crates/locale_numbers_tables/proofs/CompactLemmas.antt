@@ -66,21 +66,21 @@ no_table_made zero given DataError.Custom is memory falls above zeros = absurd i
 
 -- ---- types that rise
 
--- those behind are greater
-least_behind : (least : ℕ) (rows : List Row) (row : Row) (rest : List Row) → rise_from least (rows ++ row ∷ rest) ≡ true → least ≤ row.0
-least_behind least [] row rest rise = leb-true least row.0 (and_parts (nat_le least row.0) (rise_from (suc row.0) rest) rise).0
-least_behind least (first ∷ rows) row rest rise =
+-- those after are greater
+least_after : (least : ℕ) (rows : List Row) (row : Row) (rest : List Row) → rise_from least (rows ++ row ∷ rest) ≡ true → least ≤ row.0
+least_after least [] row rest rise = leb-true least row.0 (and_parts (nat_le least row.0) (rise_from (suc row.0) rest) rise).0
+least_after least (first ∷ rows) row rest rise =
     let parts = and_parts (nat_le least first.0) (rise_from (suc first.0) (rows ++ row ∷ rest)) rise in
     let here = leb-true least first.0 parts.0 in
-    let behind = least_behind (suc first.0) rows row rest parts.1 in
+    let behind = least_after (suc first.0) rows row rest parts.1 in
     omega (arith, here, behind)
 
--- a type behind the others is put at the end
+-- a type after the others is put at the end
 pub put_last : (least : ℕ) (rows : List Row) (row : Row) (rest : List Row) → rise_from least (rows ++ row ∷ rest) ≡ true
     → insert_entry nat_cmp rows row.0 row.1 ≡ rows ++ row ∷ []
 put_last least [] row rest rise = refl
 put_last least (first ∷ rows) row rest rise =
     let parts = and_parts (nat_le least first.0) (rise_from (suc first.0) (rows ++ row ∷ rest)) rise in
-    let behind : suc first.0 ≤ row.0 = least_behind (suc first.0) rows row rest parts.1 in
+    let behind : suc first.0 ≤ row.0 = least_after (suc first.0) rows row rest parts.1 in
     let above : nat_cmp row.0 first.0 ≡ Greater = grind (arith, nat_tests, behind) in
     rw above (ap (λ more. first ∷ more) (put_last (suc first.0) rows row rest parts.1))

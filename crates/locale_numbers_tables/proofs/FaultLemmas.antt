@@ -36,7 +36,7 @@ told_first a b Memory h = tt
 told_first a b Unit h = rw h refl
 told_first a b Code h = rw h refl
 
--- a key that stands twice, or out of memory
+-- a key that is twice, or out of memory
 pub told_twice : (found : Option BookError) (e : BookError) → (e ≡ Duplicate) ⊎ (e ≡ Memory) → (e ≡ Duplicate → found ≡ Some Duplicate) → IsTold found e
 told_twice found e (inl same) h = subst (IsTold found) (sym same) (h same)
 told_twice found e (inr same) h = subst (IsTold found) (sym same) tt

@@ -1,4 +1,4 @@
--- A text in which no tab and no line feed stands is a field.
+-- A text in which no tab and no line feed is is a field.
 use Rattle.std.proofs.Common.{◌≡◌, Bool, true, false, ◌&&◌, List, ℕ, Some, None, refl, if◌then◌else◌}
 
 pub plain_both : (u p : Bool) (text : List ℕ) → u ≡ true → p ≡ true → Some text ≡ (if u && p then Some text else None)

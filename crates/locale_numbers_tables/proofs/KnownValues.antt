@@ -34,7 +34,7 @@ two_pieces : system_asked (codes "en-u-nu-latn-thai") ≡ Some None
 unfolding tag_of whole_after headed_after body_after with_piece
 two_pieces = refl
 
--- other keywords, attributes and extensions stand beside it
+-- other keywords, attributes and extensions are beside it
 beside_others : system_asked (codes "en-a-foo-u-attr-ca-buddhist-nu-thai-x-bar") ≡ Some (Some (codes "thai"))
 unfolding tag_of whole_after headed_after body_after with_piece
 beside_others = refl
@@ -86,7 +86,7 @@ one_variant_alone = refl
 
 -- ---- fields
 
--- 255 is a size, 256 is none
+-- 255 is a size, 256 is not one
 largest_size : size_in (number (unsigned 255)) ≡ Some 255
 largest_size = refl
 

@@ -19,17 +19,17 @@ none_from (Some x) h = cc
 -- ---- no key twice
 
 module _ {K V : Type 0} (same : K → K → Bool) (symmetric : (a b : K) → same a b ≡ same b a) where
-  -- a key that stands behind others is found
-  pub found_behind : (pairs : List (K × V)) (key : K) (first : K) (value : V) (rest : List (K × V)) → same first key ≡ true
+  -- a key that is after others is found
+  pub found_after : (pairs : List (K × V)) (key : K) (first : K) (value : V) (rest : List (K × V)) → same first key ≡ true
       → is_some (table_at same first (pairs ++ (key, value) ∷ rest)) ≡ true
-  found_behind [] key first value rest h = rw h refl
-  found_behind (pair ∷ pairs) key first value rest h =
+  found_after [] key first value rest h = rw h refl
+  found_after (pair ∷ pairs) key first value rest h =
       elim (same first pair.0) as (λ b. is_some (if b then Some pair.1 else table_at same first (pairs ++ (key, value) ∷ rest)) ≡ true) [
         | true ↦ refl
-        | false ↦ found_behind pairs key first value rest h
+        | false ↦ found_after pairs key first value rest h
       ]
 
-  -- a key that is there already stands twice
+  -- a key that is there already is twice
   pub twice : (pairs : List (K × V)) (key : K) (value : V) (rest : List (K × V)) → is_some (table_at same key pairs) ≡ true
       → has_no_key_twice same (pairs ++ (key, value) ∷ rest) ≡ false
   twice [] key value rest h = cc
@@ -38,17 +38,17 @@ module _ {K V : Type 0} (same : K → K → Bool) (symmetric : (a b : K) → sam
       by : (is_some (table_at same key pairs) ≡ true → has_no_key_twice same (pairs ++ (key, value) ∷ rest) ≡ false)
           → (b : Bool) → same key pair.0 ≡ b → is_some (if b then Some pair.1 else table_at same key pairs) ≡ true
           → has_no_key_twice same ((pair ∷ pairs) ++ (key, value) ∷ rest) ≡ false
-      by again true e g = rw (found_behind pairs key pair.0 value rest (symmetric pair.0 key ∙ e)) refl
+      by again true e g = rw (found_after pairs key pair.0 value rest (symmetric pair.0 key ∙ e)) refl
       by again false e g = rw (again g) (and-false _)
 
-  -- a new key behind the others is found by itself alone
-  absent_behind : (pairs : List (K × V)) (first key : K) (value : V) → same first key ≡ false
+  -- a new key after the others is found by itself alone
+  absent_after : (pairs : List (K × V)) (first key : K) (value : V) → same first key ≡ false
       → is_some (table_at same first (pairs ++ (key, value) ∷ [])) ≡ is_some (table_at same first pairs)
-  absent_behind [] first key value h = rw h refl
-  absent_behind (pair ∷ pairs) first key value h =
+  absent_after [] first key value h = rw h refl
+  absent_after (pair ∷ pairs) first key value h =
       elim (same first pair.0) as (λ b. is_some (if b then Some pair.1 else table_at same first (pairs ++ (key, value) ∷ [])) ≡ is_some (if b then Some pair.1 else table_at same first pairs)) [
         | true ↦ refl
-        | false ↦ absent_behind pairs first key value h
+        | false ↦ absent_after pairs first key value h
       ]
 
   pub once_more : (pairs : List (K × V)) (key : K) (value : V) → table_at same key pairs ≡ None → has_no_key_twice same pairs ≡ true
@@ -62,7 +62,7 @@ module _ {K V : Type 0} (same : K → K → Bool) (symmetric : (a b : K) → sam
       by again true e g m = cc
       by again false e g m =
           let parts = and_parts (not (is_some (table_at same pair.0 pairs))) (has_no_key_twice same pairs) m in
-          rw (absent_behind pairs pair.0 key value (symmetric pair.0 key ∙ e), parts.0) (again g parts.1)
+          rw (absent_after pairs pair.0 key value (symmetric pair.0 key ∙ e), parts.0) (again g parts.1)
 
   -- a key that is there already: the array makes no table
   pub no_table : (read : Data → Option (K × V)) (items : Items) (pairs : List (K × V)) (key : K) (value : V) (left : Option (List (K × V)))

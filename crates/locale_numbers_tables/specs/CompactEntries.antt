@@ -56,7 +56,7 @@ each_in holds value = option_map_or (each holds) (as_array value) true
 abbrev pub is_so_at : (Data → Bool) → ℕ → Data → Bool
 is_so_at holds place value = option_map_or holds (at place value) true
 
--- no tab and no line feed stands in the texts of a pattern, of slots, of a type
+-- no tab and no line feed is in the texts of a pattern, of slots, of a type
 abbrev pub is_plain_text : Data → Bool
 is_plain_text text = is_some (plain_text_in text)
 

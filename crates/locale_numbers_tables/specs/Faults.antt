@@ -93,21 +93,21 @@ abbrev pub is_among : {K : Type 0} → (K → K → Bool) → List K → Option 
 is_among same keys None = false
 is_among same keys (Some key) = list_any (same key) keys
 
--- the fault of the first faulty entry, where entries with these keys stand before
-abbrev pub first_fault_behind : {K : Type 0} → (K → K → Bool) → (Data → Option K) → (Data → Option BookError) → List K → Items → Option BookError
-first_fault_behind same key fault before no_items = None
-first_fault_behind same key fault before (item entry rest) =
+-- the fault of the first faulty entry, where entries with these keys are before
+abbrev pub first_fault_after : {K : Type 0} → (K → K → Bool) → (Data → Option K) → (Data → Option BookError) → List K → Items → Option BookError
+first_fault_after same key fault before no_items = None
+first_fault_after same key fault before (item entry rest) =
     option_or (option_or (fault entry) (first_broken ((Duplicate, not (is_among same before (key entry))) ∷ [])))
-    (first_fault_behind same key fault (before ++ option_to_list (key entry)) rest)
+    (first_fault_after same key fault (before ++ option_to_list (key entry)) rest)
 
 abbrev pub symbols_faults : Items → Option BookError
-symbols_faults entries = first_fault_behind same_key entry_key symbols_fault [] entries
+symbols_faults entries = first_fault_after same_key entry_key symbols_fault [] entries
 
 abbrev pub digits_faults : Items → Option BookError
-digits_faults entries = first_fault_behind bytes_eq digits_key digits_fault [] entries
+digits_faults entries = first_fault_after bytes_eq digits_key digits_fault [] entries
 
 abbrev pub rules_faults : Items → Option BookError
-rules_faults entries = first_fault_behind same_data_locale rules_key rules_fault [] entries
+rules_faults entries = first_fault_after same_data_locale rules_key rules_fault [] entries
 
 abbrev pub compact_faults : Items → Option BookError
-compact_faults entries = first_fault_behind same_key entry_key compact_fault [] entries
+compact_faults entries = first_fault_after same_key entry_key compact_fault [] entries

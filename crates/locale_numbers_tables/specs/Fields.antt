@@ -19,7 +19,7 @@ tab = 9
 abbrev pub line_feed : ℕ
 line_feed = 10
 
--- a character that may stand in a symbol and among digits
+-- a character that may be in a symbol and among digits
 abbrev pub is_plain : ℕ → Bool
 is_plain c = not (c == tab) && not (c == line_feed)
 
@@ -59,7 +59,7 @@ locale_in field = option_and_then (λ text. data_locale_of (pieces text)) (as_st
 abbrev pub size_in : Data → Option ℕ
 size_in field = option_and_then (λ n. if nat_lt n 256 then Some n else None) (option_and_then as_u64 (as_number field))
 
--- ten characters that may stand in a text
+-- ten characters that may be in a text
 abbrev pub ten_characters : List ℕ → Option (List ℕ)
 ten_characters characters = if length characters == 10 then Some characters else None
 

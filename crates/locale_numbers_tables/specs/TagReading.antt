@@ -10,7 +10,7 @@ use Rattle.icu_locale_core.specs.Stepping.{run}
 use Rattle.icu_locale_core.specs.TagStages.{tag_start, tag_after, tag_ends}
 use Rattle.icu_locale_core.specs.LocaleValue.{same_locale}
 
--- the meaning of the stage behind the last piece
+-- the meaning of the stage after the last piece
 unfoldable pub tag_of : List Text → Option TagMeaning
 tag_of list = option_and_then tag_ends (run tag_after (Some tag_start) list)
 

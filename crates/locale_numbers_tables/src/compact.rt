@@ -239,7 +239,7 @@ fn entry_table(alloc: Global, entry: &Value) -> Result<CompactPatterns, BookErro
     }
 }
 
-// Whether types stand in an entry.
+// Whether types are in an entry.
 fn has_rows(alloc: Global, entry: &Value) -> Result<bool, AllocError>
     ensures { IfOk result (λ holds. holds ≡ is_some (field_at rows_in 2 (view entry.now))) }
 {
@@ -249,7 +249,7 @@ fn has_rows(alloc: Global, entry: &Value) -> Result<bool, AllocError>
     }
 }
 
-// Whether patterns below all types stand in an entry, or null.
+// Whether patterns below all types are in an entry, or null.
 fn has_zero(alloc: Global, entry: &Value) -> Result<bool, AllocError>
     ensures { IfOk result (λ holds. holds ≡ is_some (field_at zero_in 3 (view entry.now))) }
 {
@@ -328,7 +328,7 @@ impl Entry for CompactPatterns {
                     Err(fault)
                 }
             },
-            // A fault of the key comes behind one of the form: only then are types and patterns read to see which it
+            // A fault of the key comes after one of the form: only then are types and patterns read to see which it
             // is.
             Err(fault) => match has_table_shape(alloc, entry) {
                 Ok(true) => Err(fault),

@@ -103,7 +103,7 @@ impl Entry for DecimalSymbols {
 
     ghost fault_in = { symbols_fault };
 
-    // A fault is reported as out of memory only behind a locale whose reading may allocate.
+    // A fault is reported as out of memory only after a locale whose reading may allocate.
     ghost may_grow = { symbols_may_grow };
 
     #[tactic(auto, using(crate::proofs::FaultLemmas::symbols_sound))]

@@ -10,7 +10,7 @@ use serde_json::Value;
 use std::alloc::Global;
 use std::hash::Hash;
 
-/// What stands in an array of a book, each one in an entry and under a key.
+/// What is in an array of a book, each one in an entry and under a key.
 pub trait Entry: Drop {
     ghost use Rattle.locale_numbers_faults.specs.declared.BookError.{BookError};
 

@@ -16,7 +16,7 @@ use serde_json::Value;
 use std::alloc::{AllocError, Global};
 use tinystr::TinyAsciiStr;
 
-// Whether no tab and no line feed stands in a text.
+// Whether no tab and no line feed is in a text.
 fn is_plain_text(text: &str) -> bool
     ensures { result ≡ list_all is_plain (chars text.now) }
 {
@@ -40,14 +40,14 @@ pub fn text_at(entry: &Value, place: usize) -> Option<&str>
     entry.get(place)?.as_str()
 }
 
-/// Whether a text stands at a place of an entry.
+/// Whether a text is at a place of an entry.
 pub fn is_text_at(entry: &Value, place: usize) -> bool
     ensures { result ≡ is_text_at place (view entry.now) }
 {
     text_at(entry, place).is_some()
 }
 
-/// A text, where no tab and no line feed stands in it.
+/// A text, where no tab and no line feed is in it.
 pub fn plain_alone(text: &str) -> Option<&str>
     ensures { option_map (λ text. text.now) result ≡ plain_text text.now }
 {
@@ -58,7 +58,7 @@ pub fn plain_alone(text: &str) -> Option<&str>
     }
 }
 
-// The text at a place of an entry, where no tab and no line feed stands in it.
+// The text at a place of an entry, where no tab and no line feed is in it.
 fn plain_text(entry: &Value, place: usize) -> Option<&str>
     ensures { option_map (λ text. text.now) result ≡ field_at plain_text_in place (view entry.now) }
 {
@@ -66,7 +66,7 @@ fn plain_text(entry: &Value, place: usize) -> Option<&str>
     plain_alone(text)
 }
 
-/// Whether a text without tab and line feed stands at a place of an entry.
+/// Whether a text without tab and line feed is at a place of an entry.
 pub fn has_text(entry: &Value, place: usize) -> bool
     ensures { result ≡ is_some (field_at plain_text_in place (view entry.now)) }
 {

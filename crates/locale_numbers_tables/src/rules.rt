@@ -56,7 +56,7 @@ fn has_category(list: &[(PluralCategory, &str)], category: PluralCategory) -> bo
     false
 }
 
-// The categories and conditions of an array, where each is one and no category stands twice.
+// The categories and conditions of an array, where each is one and no category is twice.
 fn conditions(
     alloc: Global,
     items: &[Value],

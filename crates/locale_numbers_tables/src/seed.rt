@@ -1,7 +1,7 @@
 //! What the tables of a book are hashed by: two numbers that come of the book's text.
 //!
 //! With a hash that is known, keys can be chosen that all have one: they would make the loading of a book quadratic.
-//! Here they would have to be chosen for the digest of the text that they stand in.
+//! Here they would have to be chosen for the digest of the text that they are in.
 
 ghost use Rattle.std.specs.Prelude.{◌≡◌};
 ghost use Rattle.std.specs.Hash as fed;
@@ -36,7 +36,7 @@ impl Hasher for SeededHasher {
     }
 }
 
-/// What the tables of one book are hashed by: the hasher of its text, with which each key begins anew.
+/// What the tables of one book are hashed by: the hasher of its text, with which each key begins again.
 #[derive(Clone, Copy)]
 pub struct Seed {
     first: SeededHasher,

@@ -14,7 +14,7 @@ pub struct Table<K: Eq + Hash, V> {
     pub map: IndexMap<K, V, Seed>,
 }
 
-// A table is let go by one call, whose proof a user's exits cite: a derived drop would be opened column by column at
+// A table is dropped by one call, whose proof a user's exits cite: a derived drop would be opened column by column at
 // each of them.
 impl<K: Eq + Hash + Drop, V: Drop> Drop for Table<K, V> {
     fn drop(self) {
@@ -32,7 +32,7 @@ pub fn add<K: Eq + Hash + Drop, V: Drop>(
     ensures fresh { OnOk result (get K.eq table.old key ≡ None) }
     ensures duplicate { IsErrOf result BookError.Duplicate → IsSome (get K.eq table.old key) }
 
-    // A key that stands already is never reported as out of memory.
+    // A key that is there already is never reported as out of memory.
     ensures twice { IsSome (get K.eq table.old key) → IsErrOf result BookError.Duplicate }
     ensures seeded { hasher_of table.new ≡ hasher_of table.old }
     ensures only { IfErr result (λ fault. (fault ≡ BookError.Duplicate) ⊎ (fault ≡ BookError.Memory)) }

@@ -5,7 +5,7 @@ ghost use Rattle.indexmap.specs.IndexMap.{hasher_of};
 ghost use Rattle.serde_json.specs.Data.{item, no_items};
 ghost use Rattle.serde_json.specs.View.{items_view, view};
 ghost use Rattle.locale_numbers_tables.specs.Adding.{Adds};
-ghost use Rattle.locale_numbers_tables.specs.Faults.{first_fault_behind};
+ghost use Rattle.locale_numbers_tables.specs.Faults.{first_fault_after};
 ghost use Rattle.locale_numbers_tables.specs.Keys.{table_in};
 ghost use Rattle.locale_numbers_tables.specs.Telling.{IsTold};
 ghost use Rattle.locale_numbers_tables.specs.Allocation.{begins_with};
@@ -28,7 +28,7 @@ fn add_entry<V: Entry>(
         (Adds V.Key.eq V.meaning V.key_in V.fault_in (view entry) table.old.entries table.new.entries) }
     ensures fault { IfErr result
         (λ fault. IsTold
-        (first_fault_behind V.Key.eq V.key_in V.fault_in (map (λ pair. pair.0) table.old.entries)
+        (first_fault_after V.Key.eq V.key_in V.fault_in (map (λ pair. pair.0) table.old.entries)
         (item (view entry) no_items)) fault) }
     ensures seeded { OnOk result (hasher_of table.new ≡ hasher_of table.old) }
     ensures grows { OnOk result (V.may_grow (view entry) ≡ true) }
@@ -54,9 +54,9 @@ fn fill<V: Entry>(
     requires { table.old.entries ≡ [] }
     ensures value { OnOk result (table_in V.Key.eq V.meaning (items_view entries.items) ≡ Some table.new.entries) }
     ensures seeded { OnOk result (hasher_of table.new ≡ hasher_of table.old) }
-    ensures sound { OnOk result (first_fault_behind V.Key.eq V.key_in V.fault_in [] (items_view entries.items) ≡ None) }
+    ensures sound { OnOk result (first_fault_after V.Key.eq V.key_in V.fault_in [] (items_view entries.items) ≡ None) }
     ensures fault { IfErr result
-        (λ fault. IsTold (first_fault_behind V.Key.eq V.key_in V.fault_in [] (items_view entries.items)) fault) }
+        (λ fault. IsTold (first_fault_after V.Key.eq V.key_in V.fault_in [] (items_view entries.items)) fault) }
     ensures room { IsErrOf result BookError.Memory → begins_with V.may_grow (items_view entries.items) ≡ true }
 {
     for entry in entries {
@@ -68,7 +68,7 @@ fn fill<V: Entry>(
     Ok(())
 }
 
-/// The table that the entries of an array make, hashed by this seed; each entry is let go once it is read.
+/// The table that the entries of an array make, hashed by this seed; each entry is dropped once it is read.
 pub fn table_of<V: Entry>(
     alloc: Global,
     seed: Seed,
@@ -77,9 +77,9 @@ pub fn table_of<V: Entry>(
     ensures value { IfOk result
         (λ table. table_in V.Key.eq V.meaning (items_view entries.items) ≡ Some table.map.entries) }
     ensures seeded { IfOk result (λ table. hasher_of table.map ≡ seed) }
-    ensures sound { OnOk result (first_fault_behind V.Key.eq V.key_in V.fault_in [] (items_view entries.items) ≡ None) }
+    ensures sound { OnOk result (first_fault_after V.Key.eq V.key_in V.fault_in [] (items_view entries.items) ≡ None) }
     ensures fault { IfErr result
-        (λ fault. IsTold (first_fault_behind V.Key.eq V.key_in V.fault_in [] (items_view entries.items)) fault) }
+        (λ fault. IsTold (first_fault_after V.Key.eq V.key_in V.fault_in [] (items_view entries.items)) fault) }
 
     // A fault of the first entry that is found before anything is allocated is never reported as out of memory.
     ensures room { IsErrOf result BookError.Memory → begins_with V.may_grow (items_view entries.items) ≡ true }

@@ -1,4 +1,4 @@
-//! The texts of patterns: no tab and no line feed stands in one.
+//! The texts of patterns: no tab and no line feed is in one.
 
 ghost use Rattle.std.specs.Prelude.{◌≡◌};
 ghost use Rattle.serde_json.specs.View.{view, items_view};
@@ -109,7 +109,7 @@ fn are_plain_rows_at(entry: &Value, place: usize) -> bool
     }
 }
 
-/// Whether no tab and no line feed stands in a pattern of an entry.
+/// Whether no tab and no line feed is in a pattern of an entry.
 pub fn has_plain_patterns(entry: &Value) -> bool
     ensures { result ≡ has_plain_patterns (view entry.now) }
 {

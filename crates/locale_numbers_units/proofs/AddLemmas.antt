@@ -9,7 +9,7 @@ use Rattle.locale_numbers_tables.proofs.FaultLemmas.{among_keys, keys_more, keys
 use Rattle.locale_numbers_tables.specs.declared.BookError.{BookError}
 use Rattle.locale_numbers_units.specs.Adding.{Adds}
 use Rattle.locale_numbers_units.specs.Faults.{under_key}
-use Rattle.locale_numbers_units.proofs.FaultLemmas.{faults_behind}
+use Rattle.locale_numbers_units.proofs.FaultLemmas.{faults_after}
 
 -- what an entry says under its key
 pub said_under : {K V : Type 0} (key : Data → Option K) (said : Data → Option V) (entry : Data) (k : K) (v : V) → key entry ≡ Some k → said entry ≡ Some v
@@ -19,7 +19,7 @@ said_under key said entry k v keyed says = rw (keyed, says) refl
 module _ {K V : Type 0} (same : K → K → Bool) (key : Data → Option K) (said : Data → Option V) (fault : Bool → Data → Option BookError) where
   -- an entry that was added is passed
   pub passed : (entry : Data) (items : Items) (before after : List (K × V)) → Adds same key said fault entry before after
-      → faults_behind same key fault before (item entry items) ≡ faults_behind same key fault after items
+      → faults_after same key fault before (item entry items) ≡ faults_after same key fault after items
   passed entry items before after adds =
       let new : list_any (same adds.pair.0) (keys_of before) ≡ false = among_keys same adds.pair.0 before ∙ ap is_some adds.fresh in
       rw (adds.keyed, new, adds.sound, adds.added, keys_more before adds.pair.0 adds.pair.1) refl

@@ -8,7 +8,7 @@ use Rattle.locale_numbers_tables.specs.Entries.{all_of}
 use Rattle.locale_numbers_tables.specs.Faults.{is_among}
 use Rattle.locale_numbers_tables.specs.Keys.{has_no_key_twice, without_key_twice}
 use Rattle.locale_numbers_tables.specs.declared.BookError.{BookError}
-use Rattle.locale_numbers_units.specs.Faults.{first_fault_behind, under_key}
+use Rattle.locale_numbers_units.specs.Faults.{first_fault_after, under_key}
 
 -- of two faults there is neither
 pub first_none : (a b : Option BookError) → option_or a b ≡ None → a ≡ None
@@ -45,7 +45,7 @@ module _ {K V : Type 0} (P : V → Type 0) where
   module _ (same : K → K → Bool) (key : Data → Option K) (said : Data → Option V) (fault : Bool → Data → Option BookError)
       (each : (is_new : Bool) (entry : Data) (v : V) → fault is_new entry ≡ None → said entry ≡ Some v → P v) where
     sound_said : (items : Items) (before : List K) (pairs : List (K × V)) → all_of (under_key key said) items ≡ Some pairs
-        → first_fault_behind same key fault before items ≡ None → AllSaid pairs
+        → first_fault_after same key fault before items ≡ None → AllSaid pairs
     sound_said no_items before pairs is none = let one : [] ≡ pairs = cc in subst AllSaid one tt
     sound_said (item d ds) before pairs is none =
         said_by (key d) (said d) (all_of (under_key key said) ds) pairs is
@@ -54,5 +54,5 @@ module _ {K V : Type 0} (P : V → Type 0) where
 
     -- each entry of an array without a fault
     pub all_said : (items : Items) (pairs : List (K × V)) → option_and_then (without_key_twice same) (all_of (under_key key said) items) ≡ Some pairs
-        → first_fault_behind same key fault [] items ≡ None → AllSaid pairs
+        → first_fault_after same key fault [] items ≡ None → AllSaid pairs
     all_said items pairs is none = sound_said items [] pairs (read_whole same (all_of (under_key key said) items) pairs is) none

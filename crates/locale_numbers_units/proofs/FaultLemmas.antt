@@ -8,7 +8,7 @@ use Rattle.locale_numbers_tables.specs.Keys.{table_at}
 use Rattle.locale_numbers_tables.proofs.FaultLemmas.{among_keys, keys_of, told_at, told_first}
 use Rattle.locale_numbers_tables.specs.declared.BookError.{BookError}
 use Rattle.locale_numbers_tables.specs.declared.BookError.TheVariants.{Duplicate}
-use Rattle.locale_numbers_units.specs.Faults.{first_fault_behind}
+use Rattle.locale_numbers_units.specs.Faults.{first_fault_after}
 use Rattle.locale_numbers_tables.specs.Telling.{IsTold}
 
 alone : (o : Option BookError) → option_or o None ≡ o
@@ -16,26 +16,26 @@ alone None = refl
 alone (Some e) = refl
 
 module _ {K V : Type 0} (same : K → K → Bool) (key : Data → Option K) (fault : Bool → Data → Option BookError) where
-  abbrev pub faults_behind : List (K × V) → Items → Option BookError
-  faults_behind pairs items = first_fault_behind same key fault (keys_of pairs) items
+  abbrev pub faults_after : List (K × V) → Items → Option BookError
+  faults_after pairs items = first_fault_after same key fault (keys_of pairs) items
 
   -- a fault whose entry has it whether or not its key is new
   pub told_anyway : (pairs : List (K × V)) (entry : Data) (e : BookError) → ((is_new : Bool) → IsTold (fault is_new entry) e)
-      → IsTold (faults_behind pairs (item entry no_items)) e
+      → IsTold (faults_after pairs (item entry no_items)) e
   told_anyway pairs entry e told =
       let is_new = not (is_among same (keys_of pairs) (key entry)) in
       told_first (fault is_new entry) None e (told is_new)
 
   -- a key that is there already is the fault of its entry
   pub doubled : (pairs : List (K × V)) (entry : Data) (k : K) → fault false entry ≡ Some Duplicate → key entry ≡ Some k → is_some (table_at same k pairs) ≡ true
-      → faults_behind pairs (item entry no_items) ≡ Some Duplicate
+      → faults_after pairs (item entry no_items) ≡ Some Duplicate
   doubled pairs entry k sound keyed there =
       let old : list_any (same k) (keys_of pairs) ≡ true = among_keys same k pairs ∙ there in
       rw (keyed, old, sound) refl
 
   -- the fault of an entry whose key is new
   pub told_new : (pairs : List (K × V)) (entry : Data) (k : K) (e : BookError) → key entry ≡ Some k → table_at same k pairs ≡ None → IsTold (fault true entry) e
-      → IsTold (faults_behind pairs (item entry no_items)) e
+      → IsTold (faults_after pairs (item entry no_items)) e
   told_new pairs entry k e keyed fresh told =
       let new : list_any (same k) (keys_of pairs) ≡ false = among_keys same k pairs ∙ ap is_some fresh in
       let is_new : not (is_among same (keys_of pairs) (key entry)) ≡ true = rw (keyed, new) refl in
@@ -43,8 +43,8 @@ module _ {K V : Type 0} (same : K → K → Bool) (key : Data → Option K) (fau
       told_first (fault (not (is_among same (keys_of pairs) (key entry))) entry) None e (told_at _ _ e same_fault told)
 
   -- the fault of an entry is the first one of those that begin with it
-  pub told_entry : (pairs : List (K × V)) (entry : Data) (rest : Items) (e : BookError) → IsTold (faults_behind pairs (item entry no_items)) e
-      → IsTold (faults_behind pairs (item entry rest)) e
+  pub told_entry : (pairs : List (K × V)) (entry : Data) (rest : Items) (e : BookError) → IsTold (faults_after pairs (item entry no_items)) e
+      → IsTold (faults_after pairs (item entry rest)) e
   told_entry pairs entry rest e told =
       let here = fault (not (is_among same (keys_of pairs) (key entry))) entry in
       told_first here _ e (told_at (option_or here None) here e (alone here) told)

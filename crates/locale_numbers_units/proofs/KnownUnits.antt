@@ -15,7 +15,7 @@ use Rattle.locale_numbers_tables.specs.TagReading.{tag_of, data_locale_of}
 use Rattle.locale_numbers_tables.specs.declared.BookError.{BookError}
 use Rattle.locale_numbers_tables.specs.declared.BookError.TheVariants.{Shape, Tag, System, Text, Duplicate, Unit, Code}
 use Rattle.locale_numbers_units.specs.Amounts.{accounts_fault, accounts_key, amounts_said, currencies_fault, currencies_key}
-use Rattle.locale_numbers_units.specs.Faults.{first_fault_behind}
+use Rattle.locale_numbers_units.specs.Faults.{first_fault_after}
 use Rattle.locale_numbers_units.specs.Units.{units_fault}
 use Rattle.locale_numbers_units.specs.Percents.{percents_fault, percents_said}
 use Rattle.locale_numbers_units.proofs.KnownValues.{digits, items, list, size, symbol, text}
@@ -124,13 +124,13 @@ hebrew = refl
 -- ---- faults
 
 abbrev percents_faults : List Data → Option BookError
-percents_faults entries = first_fault_behind same_key entry_key percents_fault [] (items entries)
+percents_faults entries = first_fault_after same_key entry_key percents_fault [] (items entries)
 
 abbrev currencies_faults : List Data → Option BookError
-currencies_faults entries = first_fault_behind same_key currencies_key currencies_fault [] (items entries)
+currencies_faults entries = first_fault_after same_key currencies_key currencies_fault [] (items entries)
 
 abbrev accounts_faults : List Data → Option BookError
-accounts_faults entries = first_fault_behind same_key accounts_key accounts_fault [] (items entries)
+accounts_faults entries = first_fault_after same_key accounts_key accounts_fault [] (items entries)
 
 abbrev english_percents : Data → Data
 english_percents pattern = percents (codes "en") [] (codes "%") null pattern

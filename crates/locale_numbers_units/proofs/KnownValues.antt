@@ -13,7 +13,7 @@ use Rattle.locale_numbers_tables.specs.declared.BookError.{BookError}
 use Rattle.locale_numbers_tables.specs.declared.BookError.TheVariants.{Shape, Tag, Text, Duplicate, Code}
 use Rattle.locale_numbers_units.specs.CurrencyDigits.{digits_fault, digits_key, digits_said}
 use Rattle.locale_numbers_units.specs.CurrencySymbols.{symbols_fault, symbols_key, symbols_said}
-use Rattle.locale_numbers_units.specs.Faults.{first_fault_behind}
+use Rattle.locale_numbers_units.specs.Faults.{first_fault_after}
 
 -- ---- entries
 
@@ -43,7 +43,7 @@ francs_key : digits_key (digits (codes "CHF") 2 5) ≡ Some (codes "CHF")
 francs_key = refl
 
 abbrev digits_faults : List Data → Option BookError
-digits_faults entries = first_fault_behind bytes_eq digits_key digits_fault [] (items entries)
+digits_faults entries = first_fault_after bytes_eq digits_key digits_fault [] (items entries)
 
 no_fault : digits_faults (digits (codes "CHF") 2 5 ∷ digits (codes "JPY") 0 1 ∷ []) ≡ None
 no_fault = refl
@@ -82,7 +82,7 @@ unfolding chars is_utf8 encode_utf8
 both_ends = refl
 
 abbrev symbols_faults : List Data → Option BookError
-symbols_faults entries = first_fault_behind same_key symbols_key symbols_fault [] (items entries)
+symbols_faults entries = first_fault_after same_key symbols_key symbols_fault [] (items entries)
 
 sound_symbol : symbols_faults (symbol (codes "und") (codes "USD") (codes "US$") 1 ∷ []) ≡ None
 unfolding data_locale_of tag_of whole_after headed_after body_after with_piece chars is_utf8 encode_utf8

@@ -21,7 +21,7 @@ use Rattle.locale_numbers_units.specs.Percents.{has_percents_shape, has_percents
 use Rattle.icu_decimal.specs.Symbols.{Symbols}
 use Rattle.locale_numbers_units.specs.Patterns.{affixes_of, after_place, before_place, cut, has_pattern_shape, or_null, pattern_in}
 
--- a text round the place has it once more
+-- a text around the place has it once more
 places_around : (xs ys : List ℕ) → places (xs ++ (placeholder ++ ys)) ≡ places xs + (1 + places ys)
 places_around [] ys = omega arith
 places_around (x ∷ []) ys = omega arith

@@ -12,8 +12,8 @@ abbrev pub under_key : {K V : Type 0} → (Data → Option K) → (Data → Opti
 under_key {K} {V} key said entry = option_and_then (λ k. option_map {T = V} {U = K × V} (λ v. (k, v)) (said entry)) (key entry)
 
 -- the fault of the first faulty entry, where entries with these keys are before; the fault of an entry depends on whether its key is new
-abbrev pub first_fault_behind : {K : Type 0} → (K → K → Bool) → (Data → Option K) → (Bool → Data → Option BookError) → List K → Items → Option BookError
-first_fault_behind same key fault before no_items = None
-first_fault_behind same key fault before (item entry rest) =
+abbrev pub first_fault_after : {K : Type 0} → (K → K → Bool) → (Data → Option K) → (Bool → Data → Option BookError) → List K → Items → Option BookError
+first_fault_after same key fault before no_items = None
+first_fault_after same key fault before (item entry rest) =
     option_or (fault (not (is_among same before (key entry))) entry)
-    (first_fault_behind same key fault (before ++ option_to_list (key entry)) rest)
+    (first_fault_after same key fault (before ++ option_to_list (key entry)) rest)

@@ -12,7 +12,7 @@ use Rattle.locale_numbers_units.specs.Units.{AreUnits, UnitsTables}
 
 -- ---- patterns
 
--- three texts round a number and its unit
+-- three texts around a number and its unit
 pub record AreAffixTexts (affixes : AffixesText) : Type 0 where
   pub first : IsUtf8 affixes.first
   pub second : IsUtf8 affixes.second

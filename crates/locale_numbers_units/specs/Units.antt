@@ -18,7 +18,7 @@ use Rattle.locale_numbers_units.specs.Allocation.{passes, tagged_may_grow}
 use Rattle.locale_numbers_units.specs.Amounts.{accounts_fault, accounts_key, amounts_said, currencies_fault, currencies_key, has_amounts_shape}
 use Rattle.locale_numbers_units.specs.CurrencyDigits.{digits_fault, digits_key, digits_said}
 use Rattle.locale_numbers_units.specs.CurrencySymbols.{has_symbols_shape, symbols_fault, symbols_key, symbols_said}
-use Rattle.locale_numbers_units.specs.Faults.{first_fault_behind, under_key}
+use Rattle.locale_numbers_units.specs.Faults.{first_fault_after, under_key}
 use Rattle.locale_numbers_units.specs.Percents.{has_percents_shape, percents_fault, percents_said}
 
 -- the tables of units
@@ -32,19 +32,19 @@ pub record UnitsTables : Type 0 where
 -- ---- the first fault
 
 abbrev pub percents_faults : Items → Option BookError
-percents_faults entries = first_fault_behind same_key entry_key percents_fault [] entries
+percents_faults entries = first_fault_after same_key entry_key percents_fault [] entries
 
 abbrev pub currencies_faults : Items → Option BookError
-currencies_faults entries = first_fault_behind same_key currencies_key currencies_fault [] entries
+currencies_faults entries = first_fault_after same_key currencies_key currencies_fault [] entries
 
 abbrev pub accounts_faults : Items → Option BookError
-accounts_faults entries = first_fault_behind same_key accounts_key accounts_fault [] entries
+accounts_faults entries = first_fault_after same_key accounts_key accounts_fault [] entries
 
 abbrev pub symbols_faults : Items → Option BookError
-symbols_faults entries = first_fault_behind same_key symbols_key symbols_fault [] entries
+symbols_faults entries = first_fault_after same_key symbols_key symbols_fault [] entries
 
 abbrev pub digits_faults : Items → Option BookError
-digits_faults entries = first_fault_behind bytes_eq digits_key digits_fault [] entries
+digits_faults entries = first_fault_after bytes_eq digits_key digits_fault [] entries
 
 -- the fault of the first faulty entry, in the order of the arrays
 abbrev pub units_fault : Items → Items → Items → Items → Items → Option BookError

@@ -7,7 +7,7 @@ ghost use Rattle.serde_json.specs.View.{items_view, view};
 ghost use Rattle.locale_numbers_tables.specs.Allocation.{begins_with};
 ghost use Rattle.locale_numbers_tables.specs.Keys.{table_in};
 ghost use Rattle.locale_numbers_units.specs.Adding.{Adds};
-ghost use Rattle.locale_numbers_units.specs.Faults.{first_fault_behind, under_key};
+ghost use Rattle.locale_numbers_units.specs.Faults.{first_fault_after, under_key};
 ghost use Rattle.locale_numbers_tables.specs.Telling.{IsTold};
 ghost use Rattle.locale_numbers_tables.specs.declared.BookError.{BookError};
 
@@ -28,7 +28,7 @@ fn new_key<A: UnitArray>(
     ensures fresh { IfOk result (λ key. get A.Key.eq table.now key ≡ None) }
     ensures fault { IfErr result
         (λ fault. IsTold
-        (first_fault_behind A.Key.eq A.key_in A.fault_in (map (λ pair. pair.0) table.now.entries)
+        (first_fault_after A.Key.eq A.key_in A.fault_in (map (λ pair. pair.0) table.now.entries)
         (item (view entry.now) no_items)) fault) }
     ensures grows { OnOk result (A.may_grow (view entry.now) ≡ true) }
     ensures room { IsErrOf result BookError.Memory → A.may_grow (view entry.now) ≡ true }
@@ -54,7 +54,7 @@ fn add_entry<A: UnitArray>(
         (Adds A.Key.eq A.key_in A.said_in A.fault_in (view entry) table.old.entries table.new.entries) }
     ensures fault { IfErr result
         (λ fault. IsTold
-        (first_fault_behind A.Key.eq A.key_in A.fault_in (map (λ pair. pair.0) table.old.entries)
+        (first_fault_after A.Key.eq A.key_in A.fault_in (map (λ pair. pair.0) table.old.entries)
         (item (view entry) no_items)) fault) }
     ensures seeded { OnOk result (hasher_of table.new ≡ hasher_of table.old) }
     ensures grows { OnOk result (A.may_grow (view entry) ≡ true) }
@@ -82,9 +82,9 @@ fn fill<A: UnitArray>(
     ensures value { OnOk result
         (table_in A.Key.eq (under_key A.key_in A.said_in) (items_view entries.items) ≡ Some table.new.entries) }
     ensures seeded { OnOk result (hasher_of table.new ≡ hasher_of table.old) }
-    ensures sound { OnOk result (first_fault_behind A.Key.eq A.key_in A.fault_in [] (items_view entries.items) ≡ None) }
+    ensures sound { OnOk result (first_fault_after A.Key.eq A.key_in A.fault_in [] (items_view entries.items) ≡ None) }
     ensures fault { IfErr result
-        (λ fault. IsTold (first_fault_behind A.Key.eq A.key_in A.fault_in [] (items_view entries.items)) fault) }
+        (λ fault. IsTold (first_fault_after A.Key.eq A.key_in A.fault_in [] (items_view entries.items)) fault) }
     ensures room { IsErrOf result BookError.Memory → begins_with A.may_grow (items_view entries.items) ≡ true }
 {
     for entry in entries {
@@ -96,7 +96,7 @@ fn fill<A: UnitArray>(
     Ok(())
 }
 
-/// The table that the entries of an array of units make, hashed by this seed; each entry is let go once it is read.
+/// The table that the entries of an array of units make, hashed by this seed; each entry is dropped once it is read.
 pub fn table_of<A: UnitArray>(
     alloc: Global,
     seed: Seed,
@@ -105,9 +105,9 @@ pub fn table_of<A: UnitArray>(
     ensures value { IfOk result
         (λ table. table_in A.Key.eq (under_key A.key_in A.said_in) (items_view entries.items) ≡ Some table.map.entries) }
     ensures seeded { IfOk result (λ table. hasher_of table.map ≡ seed) }
-    ensures sound { OnOk result (first_fault_behind A.Key.eq A.key_in A.fault_in [] (items_view entries.items) ≡ None) }
+    ensures sound { OnOk result (first_fault_after A.Key.eq A.key_in A.fault_in [] (items_view entries.items) ≡ None) }
     ensures fault { IfErr result
-        (λ fault. IsTold (first_fault_behind A.Key.eq A.key_in A.fault_in [] (items_view entries.items)) fault) }
+        (λ fault. IsTold (first_fault_after A.Key.eq A.key_in A.fault_in [] (items_view entries.items)) fault) }
 
     // A fault of the first entry that is found before anything is allocated is never reported as out of memory.
     ensures room { IsErrOf result BookError.Memory → begins_with A.may_grow (items_view entries.items) ≡ true }

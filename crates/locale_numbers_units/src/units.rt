@@ -56,7 +56,7 @@ impl Model for Units {
     } };
 }
 
-// Units are let go by one call, as a book is.
+// Units are dropped by one call, as a book is.
 impl Drop for Units {
     fn drop(self) {
         let Units {

@@ -1,4 +1,4 @@
-//! A row, and the read that stands before its call.
+//! A row, and the read that is before its call.
 
 use std::io::Read;
 

@@ -37,7 +37,7 @@ pub trait Change {
     ) -> Result<(), AllocError>;
 }
 
-/// Answers the call of a row: the receiver behind it, as `nu-latn`, or `refused` and then the receiver.
+/// Answers the call of a row: the receiver after it, as `nu-latn`, or `refused` and then the receiver.
 pub fn answer<C: Change>(case: Case<'_>, out: &mut String) -> Result<(), Stop>
 where
     C::Receiver: Receiver + Drop,

@@ -62,7 +62,7 @@ fn pushed(case: Case<'_>, mut digits: GivenDigits, digit: u8, out: &mut String) 
     shown
 }
 
-/// The answer of `GivenDigits::push`: the number of the digits behind it, or `refused` and then the number.
+/// The answer of `GivenDigits::push`: the number of the digits after it, or `refused` and then the number.
 pub fn answer(case: Case<'_>, out: &mut String) -> Result<(), Stop> {
     out.reserve(ROOM)?;
     let word = case.receiver;

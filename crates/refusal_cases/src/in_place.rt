@@ -5,7 +5,7 @@ use crate::change::{ROOM, Receiver};
 use fixed_decimal::{RoundingIncrement, UnsignedDecimal, UnsignedRoundingMode};
 use rows::{Stop, number_of};
 
-/// The answer of such a call: the number behind it.
+/// The answer of such a call: the number after it.
 pub fn answer(case: Case<'_>, out: &mut String) -> Result<(), Stop> {
     out.reserve(ROOM)?;
     let position = number_of::<i16>(case.argument)?;

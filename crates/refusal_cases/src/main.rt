@@ -1,4 +1,4 @@
-//! Answers rows that each name a call, a receiver and an argument: what the receiver is behind the call, or that memory
+//! Answers rows that each name a call, a receiver and an argument: what the receiver is after the call, or that memory
 //! was refused and what it is then.
 //!
 //! Before the call a row reads standard input once more. What `tools/try_refusals` refuses from that read on is asked

@@ -1,4 +1,4 @@
-//! Answers that are written, and values that are let go once they were.
+//! Answers that are written, and values that are dropped once they were.
 
 use crate::stop::Stop;
 use std::fmt::{Debug, Display};
@@ -22,7 +22,7 @@ pub fn put_debug<T: Debug>(out: &mut String, value: &T) -> Result<(), Stop> {
     Ok(())
 }
 
-/// Writes what a value displays, which is then let go.
+/// Writes what a value displays, which is then dropped.
 pub fn put_last<T: Display + Drop>(out: &mut String, value: T) -> Result<(), Stop> {
     let done = put(out, &value);
     drop(value);
@@ -37,7 +37,7 @@ pub fn put_written<T: Writeable>(out: &mut String, value: &T) -> Result<(), Stop
     done
 }
 
-/// Writes the text of a value, which is then let go.
+/// Writes the text of a value, which is then dropped.
 pub fn put_last_written<T: Writeable + Drop>(out: &mut String, value: T) -> Result<(), Stop> {
     let done = put_written(out, &value);
     drop(value);
@@ -62,8 +62,8 @@ pub fn refused_debug<E: Debug>(out: &mut String, refusal: &E) -> Stop {
     }
 }
 
-/// Writes a text behind the others, with a separator between where there are any: `1996-fonipa`.
-pub fn put_behind(out: &mut String, separator: &str, text: &str) -> Result<(), Stop> {
+/// Writes a text after the others, with a separator between where there are any: `1996-fonipa`.
+pub fn put_after(out: &mut String, separator: &str, text: &str) -> Result<(), Stop> {
     if !out.is_empty() {
         out.push_str(separator)?;
     }
@@ -71,13 +71,13 @@ pub fn put_behind(out: &mut String, separator: &str, text: &str) -> Result<(), S
     Ok(())
 }
 
-/// Puts an item behind those of a list.
+/// Puts an item after those of a list.
 pub fn push<T: Drop>(list: &mut Vec<T>, item: T) -> Result<(), Stop> {
     list.push(item)?;
     Ok(())
 }
 
-/// A value that was filled step by step, or what refused a step; then the value is let go.
+/// A value that was filled step by step, or what refused a step; then the value is dropped.
 pub fn filled<T: Drop, E>(value: T, steps: Result<(), E>) -> Result<T, E> {
     match steps {
         Ok(()) => Ok(value),

@@ -1,4 +1,4 @@
-//! Bytes and UTF-16 units as they stand in a field of a row. A backslash begins an escape: `\t`, `\n`, `\r`, `\0`,
+//! Bytes and UTF-16 units as they are in a field of a row. A backslash begins an escape: `\t`, `\n`, `\r`, `\0`,
 //! `\\`, `\xFF` for a byte, `\u30AB` for a unit. Each other byte is itself.
 
 use crate::answers::filled;
@@ -9,9 +9,9 @@ use std::alloc::Global;
 #[derive(Clone, Copy)]
 enum State {
     Plain,
-    // behind a backslash
+    // after a backslash
     Escape,
-    // behind the first hexadecimal digits of this number; how many are to come
+    // after the first hexadecimal digits of this number; how many are to come
     Digits(u16, u8),
 }
 
@@ -27,7 +27,7 @@ fn digit_of(byte: u8) -> Result<u16, Stop> {
     }
 }
 
-// The step of a byte behind a backslash.
+// The step of a byte after a backslash.
 fn escape(byte: u8) -> Result<Step, Stop> {
     match byte {
         b't' => Ok((State::Plain, Some(9))),
@@ -110,7 +110,7 @@ pub fn unescaped(alloc: Global, field: &str) -> Result<Vec<u8>, Stop> {
     bytes
 }
 
-// Writes a character as it stands in a field.
+// Writes a character as it is in a field.
 fn put_escaped(out: &mut String, character: char) -> Result<(), Stop> {
     match character {
         '\t' => out.push_str("\\t")?,
@@ -135,7 +135,7 @@ fn put_bytes(out: &mut String, bytes: &[u8]) -> Result<(), Stop> {
     Ok(())
 }
 
-/// Writes bytes as they stand in a field: a tab as `\t`, a NUL as `\x00`, and a byte of what is no text as `\xFF`.
+/// Writes bytes as they are in a field: a tab as `\t`, a NUL as `\x00`, and a byte of what is no text as `\xFF`.
 pub fn escaped(out: &mut String, bytes: &[u8]) -> Result<(), Stop> {
     let Ok(text) = str::from_utf8(bytes) else {
         return put_bytes(out, bytes);

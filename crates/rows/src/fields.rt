@@ -14,7 +14,7 @@ where
     }
 }
 
-/// A field up to its first space, and what stands behind it: `round -2` are `round` and `-2`, `one` are `one` and
+/// A field up to its first space, and what is after it: `round -2` are `round` and `-2`, `one` are `one` and
 /// nothing.
 pub fn split_word(field: &str) -> (&str, &str) {
     match field.split_once(' ') {

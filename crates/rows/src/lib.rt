@@ -1,5 +1,5 @@
 //! What the programs of rows share: a table that is repeated with its answers, the escapes in its fields, numbers,
-//! answers that are written and let go, and a sink with little room.
+//! answers that are written and dropped, and a sink with little room.
 
 #![tactic(auto)]
 
@@ -11,7 +11,7 @@ mod stop;
 mod table;
 
 pub use answers::{
-    filled, push, put, put_behind, put_debug, put_last, put_last_written, put_text, put_written,
+    filled, push, put, put_after, put_debug, put_last, put_last_written, put_text, put_written,
     refused, refused_debug,
 };
 pub use bounded::{Bounded, put_held, put_in_room};

@@ -1,4 +1,4 @@
-//! Rows, and their answers behind them.
+//! Rows, and their answers after them.
 
 use crate::stop::Stop;
 use std::alloc::{AllocError, Global};
@@ -6,7 +6,7 @@ use std::io;
 
 /// A table of rows without their answers, and how a row is answered.
 pub trait Table {
-    /// Writes the answer of a row behind the text: the row `Decimal`, `one` with a tab between is answered by `1`.
+    /// Writes the answer of a row after the text: the row `Decimal`, `one` with a tab between is answered by `1`.
     fn answer(&self, row: &str, out: &mut String) -> Result<(), Stop>;
 }
 
@@ -59,7 +59,7 @@ fn print_by<R: Print, T: Table>(
     Ok(())
 }
 
-/// Prints each line of a text with a tab and its answer behind it; one that begins with `#` is a heading, and has none.
+/// Prints each line of a text with a tab and its answer after it; one that begins with `#` is a heading, and has none.
 pub fn print_answers<R: Print, T: Table>(
     rt: &R,
     alloc: Global,

@@ -51,7 +51,7 @@ IsDecimalText-decimal n small = record {
 pub longer : (n : ℕ) → 10 ≤ n → n < 2 ^ 64 → length (decimal n) ≡ length (decimal (n / 10)) + 1
 longer n more small = ap length (decimal_step n more small) ∙ length_push (decimal (n / 10)) (48 + n % 10)
 
--- the last digit of what is left, written before those that stand
+-- the last digit of what is left, written before those that are
 pub digit_before : (n start : ℕ) (digits : List ℕ) → 10 ≤ n → n < 2 ^ 64 → start < length digits
     → decimal (n / 10) ++ drop start (set digits start (48 + n % 10)) ≡ decimal n ++ drop (start + 1) digits
 digit_before n start digits more small within =

@@ -8,7 +8,7 @@ use Rattle.std.proofs.lemmas.List.Folds.{list_all-append}
 use Rattle.tinystr.specs.SmallText.{NUL, LAST_ASCII, is_text_byte, IsSmall}
 use Rattle.tinystr.specs.declared.error.ParseError.{ParseError}
 use Rattle.tinystr.specs.declared.error.ParseError.TheVariants.{TooLong, ContainsNull, NonAscii}
-use Rattle.tinystr.specs.Faults.{IsFaultless, StopsAtNonAscii, StopsBehindNul, EndsInNul, IsFault}
+use Rattle.tinystr.specs.Faults.{IsFaultless, StopsAtNonAscii, StopsAfterNul, EndsInNul, IsFault}
 
 -- nothing read
 pub faultless_none : IsFaultless false []
@@ -77,9 +77,9 @@ stops_at_non_ascii nul units i within clean above = record {
   above = above;
 }
 
-pub stops_behind_nul : (nul : Bool) (units : List ℕ) (i : ℕ) → i < length units → IsFaultless nul (take i units)
-    → nul ≡ true → is_text_byte (get_or units i 0) ≡ true → StopsBehindNul units
-stops_behind_nul nul units i within clean present is = record {
+pub stops_after_nul : (nul : Bool) (units : List ℕ) (i : ℕ) → i < length units → IsFaultless nul (take i units)
+    → nul ≡ true → is_text_byte (get_or units i 0) ≡ true → StopsAfterNul units
+stops_after_nul nul units i within clean present is = record {
   front = take i units;
   nuls = clean.nuls - 1;
   unit = get_or units i 0;
@@ -112,7 +112,7 @@ no_nul_is_text nul units clean absent =
 pub text_unit : (unit : ℕ) → unit ≤ LAST_ASCII → unit ≢ NUL → is_text_byte unit ≡ true
 text_unit unit below other = grind (arith, nat_tests)
 
--- what stands at a place of a text is a text byte
+-- what is at a place of a text is a text byte
 text_at : (front : List ℕ) (unit : ℕ) (rest : List ℕ) → list_all is_text_byte (front ++ unit ∷ rest) ≡ true → is_text_byte unit ≡ true
 text_at front unit rest all =
     let both = and_parts (list_all is_text_byte front) (list_all is_text_byte (unit ∷ rest)) (sym (list_all-append is_text_byte front (unit ∷ rest)) ∙ all) in

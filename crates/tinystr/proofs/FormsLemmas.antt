@@ -31,7 +31,7 @@ forms_cons n form more all is e forms = record {
   joined = e ∙ ap (λ l. l ++ more) is.rest ∙ ap (λ l. padded n (text_of form) ++ l) forms.joined;
 }
 
--- the first form, and those behind it
+-- the first form, and those after it
 pub record Uncons (n : ℕ) (bytes : List ℕ) : Type 0 where
   pub first : IsForm n (take n bytes)
   pub more : AreForms n (drop n bytes)
@@ -72,8 +72,8 @@ whole_behind n k room whole =
     sym (add-mod_left n (k - n)) ∙ ap (λ j. j % n) sum ∙ whole
 
 -- bytes whose first form is taken off are forms exactly where the rest are
-pub forms_behind : (n : ℕ) (bytes : List ℕ) → 0 < n → n ≤ length bytes → AreForms n bytes → AreForms n (drop n bytes)
-forms_behind n bytes some room forms = (forms_uncons n bytes some room forms).more
+pub forms_after : (n : ℕ) (bytes : List ℕ) → 0 < n → n ≤ length bytes → AreForms n bytes → AreForms n (drop n bytes)
+forms_after n bytes some room forms = (forms_uncons n bytes some room forms).more
 
 pub forms_before : (n : ℕ) (bytes : List ℕ) → IsForm n (take n bytes) → AreForms n (drop n bytes) → AreForms n bytes
 forms_before n bytes form more = forms_cons n (take n bytes) (drop n bytes) bytes form (sym (take-append-drop n bytes)) more

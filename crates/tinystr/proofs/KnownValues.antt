@@ -31,11 +31,11 @@ hello_is_too_long = (lit≤ tt, refl, refl)
 a_nul : IsClean 1 (97 ∷ 0 ∷ [])
 a_nul = record { text = codes "a"; ascii = refl; whole = refl }
 
-behind_a_nul : IsFault true 4 (97 ∷ 0 ∷ 98 ∷ []) ContainsNull
-behind_a_nul = (lit≤ tt, inl (record { front = 97 ∷ 0 ∷ []; nuls = 0; unit = 98; rest = []; clean = a_nul; whole = refl; behind = refl }))
+after_a_nul : IsFault true 4 (97 ∷ 0 ∷ 98 ∷ []) ContainsNull
+after_a_nul = (lit≤ tt, inl (record { front = 97 ∷ 0 ∷ []; nuls = 0; unit = 98; rest = []; clean = a_nul; whole = refl; behind = refl }))
 
-above_behind_a_nul : IsFault true 4 (97 ∷ 0 ∷ 200 ∷ []) NonAscii
-above_behind_a_nul = (lit≤ tt, record { front = 97 ∷ 0 ∷ []; nuls = 1; unit = 200; rest = []; clean = a_nul; whole = refl; above = lit≤ tt })
+above_after_a_nul : IsFault true 4 (97 ∷ 0 ∷ 200 ∷ []) NonAscii
+above_after_a_nul = (lit≤ tt, record { front = 97 ∷ 0 ∷ []; nuls = 1; unit = 200; rest = []; clean = a_nul; whole = refl; above = lit≤ tt })
 
 ends_in_a_nul : IsFault true 4 (97 ∷ 0 ∷ []) ContainsNull
 ends_in_a_nul = (lit≤ tt, inr (refl, record { nuls = 0; clean = a_nul }))

@@ -12,13 +12,13 @@ use Rattle.std.proofs.lemmas.List.{append_assoc, take-map, take-take}
 use Rattle.std.proofs.lemmas.Str.Ascii.{lowercase-lowercase, uppercase-uppercase, lowercase-uppercase}
 use Rattle.tinystr.specs.SmallText.{LAST_ASCII, is_text_byte, IsSmall, padded, text_of}
 use Rattle.tinystr.specs.declared.error.ParseError.TheVariants.{TooLong, ContainsNull, NonAscii}
-use Rattle.tinystr.specs.Faults.{StopsAtNonAscii, StopsBehindNul, IsFault}
+use Rattle.tinystr.specs.Faults.{StopsAtNonAscii, StopsAfterNul, IsFault}
 use Rattle.tinystr.specs.Case.{lowercase, titlecase}
 use Rattle.tinystr.specs.Laws.{OneForm, EqualTexts, NicheIsNoForm, OneFault, TextsHaveNoFault, CaseSettles, CaseMeetsCut, JoinsAlike}
 use Rattle.tinystr.proofs.SmallTextLemmas.{text_of-cons, text_of-padded}
 use Rattle.tinystr.proofs.CaseLemmas.{length-titlecase}
 use Rattle.tinystr.proofs.FaultsLemmas.{fault_refuses, above_is_no_text}
-use Rattle.tinystr.proofs.RawLemmas.{clean_refuses_high, clean_refuses_behind}
+use Rattle.tinystr.proofs.RawLemmas.{clean_refuses_high, clean_refuses_after}
 
 pub one_form_law : OneForm
 one_form_law n one other first second e =
@@ -77,7 +77,7 @@ two_places (a ∷ front) (b ∷ bs) u v more rest e =
 high_and_text : (u v : ℕ) → LAST_ASCII < u → is_text_byte v ≡ true → u ≡ v → ⊥
 high_and_text u v above is e = above_is_no_text u above (ap is_text_byte e ∙ is)
 
-not_both_stops : (units : List ℕ) → StopsAtNonAscii units → StopsBehindNul units → ⊥
+not_both_stops : (units : List ℕ) → StopsAtNonAscii units → StopsAfterNul units → ⊥
 not_both_stops units high behind =
     elim (two_places high.front behind.front high.unit behind.unit high.rest behind.rest (sym high.whole ∙ behind.whole)) [
       | inl e ↦ high_and_text high.unit behind.unit high.above behind.behind e
@@ -91,7 +91,7 @@ not_both_stops units high behind =
           whole = lies.whole;
           above = high.above;
         })
-        | inr lies ↦ clean_refuses_behind high.nuls high.front high.clean (record {
+        | inr lies ↦ clean_refuses_after high.nuls high.front high.clean (record {
           front = behind.front;
           nuls = behind.nuls;
           unit = behind.unit;

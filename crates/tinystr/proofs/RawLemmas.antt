@@ -10,7 +10,7 @@ use Rattle.std.proofs.lemmas.List.Folds.{list_all-append}
 use Rattle.tinystr.specs.SmallText.{NUL, LAST_ASCII, is_nul, is_text_byte, IsForm, padded, text_of}
 use Rattle.tinystr.specs.declared.error.ParseError.{ParseError}
 use Rattle.tinystr.specs.declared.error.ParseError.TheVariants.{TooLong, ContainsNull, NonAscii}
-use Rattle.tinystr.specs.Faults.{IsClean, StopsAtNonAscii, StopsBehindNul, IsFault}
+use Rattle.tinystr.specs.Faults.{IsClean, StopsAtNonAscii, StopsAfterNul, IsFault}
 use Rattle.tinystr.proofs.SmallTextLemmas.{IsForm-of}
 
 -- a text and NULs, n bytes in all, are a form
@@ -48,7 +48,7 @@ high_is_not_low : (unit : ℕ) → LAST_ASCII < unit → is_low unit ≡ true �
 unfolding is_low
 high_is_not_low unit above low = grind (arith, nat_tests)
 
--- what stands at a place meets what all meet
+-- what is at a place meets what all meet
 all_at : (test : ℕ → Bool) (front : List ℕ) (unit : ℕ) (rest : List ℕ) → list_all test (front ++ unit ∷ rest) ≡ true → test unit ≡ true
 all_at test front unit rest all =
     let both = and_parts (list_all test front) (list_all test (unit ∷ rest)) (sym (list_all-append test front (unit ∷ rest)) ∙ all) in
@@ -65,21 +65,21 @@ text_byte_and_nul unit is nul = grind (arith, nat_tests)
 nul_is_no_text_byte : (b : ℕ) → is_text_byte b ≡ true → b ≡ NUL → ⊥
 nul_is_no_text_byte b is e = grind (arith, nat_tests)
 
--- behind the NUL of a text and NULs no text byte stands
-pub no_text_behind : (text front : List ℕ) (k nuls unit : ℕ) (rest : List ℕ)
+-- after the NUL of a text and NULs no text byte is
+pub no_text_after : (text front : List ℕ) (k nuls unit : ℕ) (rest : List ℕ)
     → list_all is_text_byte text ≡ true → list_all is_text_byte front ≡ true → is_text_byte unit ≡ true
     → text ++ replicate k NUL ≡ front ++ (replicate (suc nuls) NUL ++ unit ∷ rest) → ⊥
-no_text_behind [] front k nuls unit rest one two is e =
+no_text_after [] front k nuls unit rest one two is e =
     let all : list_all is_nul ((front ++ replicate (suc nuls) NUL) ++ unit ∷ rest) ≡ true =
     ap (list_all is_nul) (append_assoc front (replicate (suc nuls) NUL) (unit ∷ rest) ∙ sym e) ∙ nuls_are_nul k in
     text_byte_and_nul unit is (all_at is_nul (front ++ replicate (suc nuls) NUL) unit rest all)
-no_text_behind (b ∷ bs) [] k nuls unit rest one two is e =
+no_text_after (b ∷ bs) [] k nuls unit rest one two is e =
     let both = and_parts (is_text_byte b) (list_all is_text_byte bs) one in
     nul_is_no_text_byte b both.0 (head-eq_of_cons-eq e)
-no_text_behind (b ∷ bs) (d ∷ ds) k nuls unit rest one two is e =
+no_text_after (b ∷ bs) (d ∷ ds) k nuls unit rest one two is e =
     let both = and_parts (is_text_byte b) (list_all is_text_byte bs) one in
     let other = and_parts (is_text_byte d) (list_all is_text_byte ds) two in
-    no_text_behind bs ds k nuls unit rest both.1 other.1 is
+    no_text_after bs ds k nuls unit rest both.1 other.1 is
     (tail-eq_of_cons-eq e)
 
 -- what is a text and NULs has no fault but NULs at the end
@@ -90,9 +90,9 @@ clean_refuses_high k units clean stop =
     let all : list_all is_low (stop.front ++ stop.unit ∷ stop.rest) ≡ true = ap (list_all is_low) (sym stop.whole ∙ clean.whole) ∙ low in
     high_is_not_low stop.unit stop.above (all_at is_low stop.front stop.unit stop.rest all)
 
-pub clean_refuses_behind : (k : ℕ) (units : List ℕ) → IsClean k units → StopsBehindNul units → ⊥
-clean_refuses_behind k units clean stop =
-    no_text_behind clean.text stop.clean.text k stop.nuls stop.unit stop.rest clean.ascii stop.clean.ascii stop.behind
+pub clean_refuses_after : (k : ℕ) (units : List ℕ) → IsClean k units → StopsAfterNul units → ⊥
+clean_refuses_after k units clean stop =
+    no_text_after clean.text stop.clean.text k stop.nuls stop.unit stop.rest clean.ascii stop.clean.ascii stop.behind
     (sym clean.whole ∙ stop.whole ∙ ap (λ l. l ++ stop.unit ∷ stop.rest) stop.clean.whole
     ∙ append_assoc stop.clean.text (replicate (suc stop.nuls) NUL) (stop.unit ∷ stop.rest))
 
@@ -105,6 +105,6 @@ pub fault_is_no_form : (n : ℕ) (units : List ℕ) (e : ParseError) → length 
 fault_is_no_form n units (TooLong max len) short fault form = omega (arith, fault.0)
 fault_is_no_form n units NonAscii short fault form = clean_refuses_high (n - length (text_of units)) units (form_is_clean n units form) fault.1
 fault_is_no_form n units ContainsNull short fault form = elim fault.1 [
-  | inl stop ↦ clean_refuses_behind (n - length (text_of units)) units (form_is_clean n units form) stop
+  | inl stop ↦ clean_refuses_after (n - length (text_of units)) units (form_is_clean n units form) stop
   | inr ends ↦ let e : false ≡ true = ends.0 in cc
 ]

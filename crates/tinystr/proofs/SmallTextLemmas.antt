@@ -1,4 +1,4 @@
--- Texts and their forms: what stands before the first NUL of a text and NULs is the text.
+-- Texts and their forms: what is before the first NUL of a text and NULs is the text.
 use Rattle.std.proofs.Common.{◌≡◌, ℕ, suc, zero, ◌+◌, ◌-◌, ◌<◌, ◌≤◌, min, true, false, not, List, [], ◌∷◌, ◌++◌, length, take, drop, replicate, refl, sym, ap, arith, one-add, ◌∙◌}
 use Rattle.std.specs.List.{list_all, position_or_len}
 use Rattle.std.specs.Str.{IsAscii}
@@ -63,7 +63,7 @@ IsAscii-text (b ∷ bs) ascii =
     let below : b < 128 = grind (arith, nat_tests, both.0) in
     IsAscii-cons b bs below (IsAscii-text bs both.1)
 
--- a text that is written over NULs behind another text gives the form of both joined
+-- a text that is written over NULs after another text gives the form of both joined
 pub put_gives_form : (n : ℕ) (front text bytes : List ℕ) → length front + length text ≤ n
     → bytes ≡ take (length front) (padded n front) ++ (text ++ drop (length front + length text) (padded n front))
     → bytes ≡ padded n (front ++ text)

@@ -7,7 +7,7 @@ use Rattle.tinystr.specs.SmallText.{NUL, LAST_ASCII, is_text_byte}
 use Rattle.tinystr.specs.declared.error.ParseError.{ParseError}
 use Rattle.tinystr.specs.declared.error.ParseError.TheVariants.{TooLong, ContainsNull, NonAscii}
 
--- units with nothing wrong so far: a text, and behind it `nuls` NULs
+-- units with nothing wrong so far: a text, and after it `nuls` NULs
 pub record IsClean (nuls : ℕ) (units : List ℕ) : Type 0 where
   pub text : List ℕ
   pub ascii : list_all is_text_byte text ≡ true
@@ -23,8 +23,8 @@ pub record StopsAtNonAscii (units : List ℕ) : Type 0 where
   pub whole : units ≡ front ++ unit ∷ rest
   pub above : LAST_ASCII < unit
 
--- the least wrong place holds a text byte behind a NUL
-pub record StopsBehindNul (units : List ℕ) : Type 0 where
+-- the least wrong place holds a text byte after a NUL
+pub record StopsAfterNul (units : List ℕ) : Type 0 where
   pub front : List ℕ
   pub nuls : ℕ
   pub unit : ℕ
@@ -48,5 +48,5 @@ pub record IsFaultless (ends_in_nul : Bool) (units : List ℕ) : Type 0 where
 abbrev pub IsFault : Bool → ℕ → List ℕ → ParseError → Type 0
 IsFault strict capacity units (TooLong max len) = (capacity < length units) × (max ≡ capacity) × (len ≡ length units)
 IsFault strict capacity units ContainsNull =
-    (length units ≤ capacity) × (StopsBehindNul units ⊎ ((strict ≡ true) × EndsInNul units))
+    (length units ≤ capacity) × (StopsAfterNul units ⊎ ((strict ≡ true) × EndsInNul units))
 IsFault strict capacity units NonAscii = (length units ≤ capacity) × StopsAtNonAscii units

@@ -5,7 +5,7 @@ use Rattle.std.specs.Prelude.{◌≡◌, ℕ, ◌-◌, ◌≤◌, Bool, true, Li
 use Rattle.std.specs.List.{list_all, before_first}
 use Rattle.std.specs.Int.{is_in_range}
 
--- the byte that fills a form behind its text
+-- the byte that fills a form after its text
 abbrev pub NUL : ℕ
 NUL = 0
 

@@ -25,7 +25,7 @@ impl<const N: usize> TinyAsciiStr<N> {
     /// The text of these bytes: `[97, 98]` is `ab`.
     ///
     /// More than N bytes are `TooLong`. Then the least place that is wrong decides: a byte above 127 is `NonAscii`,
-    /// another byte behind a NUL `ContainsNull`. Last, a NUL at the end is `ContainsNull`. It does not allocate.
+    /// another byte after a NUL `ContainsNull`. Last, a NUL at the end is `ContainsNull`. It does not allocate.
     pub fn try_from_utf8(code_units: &[u8]) -> Result<Self, ParseError>
         ensures succeeds { IsOk result ↔ IsSmall N code_units.now }
         ensures value { IfOk result (λ text. text ≡ code_units.now) }

@@ -1,14 +1,14 @@
-//! Arguments: the words of a line behind its call and capacity.
+//! Arguments: the words of a line after its call and capacity.
 
 use rows::{Stop, filled, units};
 use std::alloc::{AllocError, Global};
 use std::str;
 use tinystr::TinyAsciiStr;
 
-/// An argument, with or without quotes round it.
+/// An argument, with or without quotes around it.
 #[derive(Drop)]
 pub struct Argument<'a> {
-    /// The word as it stands in the line.
+    /// The word as it is in the line.
     pub word: &'a str,
     /// The units that it stands for: each byte, and each escape as one.
     pub units: Vec<u16>,

@@ -77,7 +77,7 @@ fn insert_all(set: &mut BTreeSet<TinyStr4>, texts: &[Argument<'_>]) -> Result<()
     Ok(())
 }
 
-// Writes the texts of a set in their order, a comma behind each.
+// Writes the texts of a set in their order, a comma after each.
 fn put_all(set: &BTreeSet<TinyStr4>, out: &mut String) -> Result<(), Stop> {
     for text in set.iter() {
         out.push_str(text.as_str())?;

@@ -1,6 +1,6 @@
 //! Answers lines that each name a call of `tinystr`, a capacity and the call's arguments.
 //!
-//! A line is repeated, with a tab and its answer behind it: what is written reads as a table.
+//! A line is repeated, with a tab and its answer after it: what is written reads as a table.
 
 #![tactic(auto)]
 

@@ -10,7 +10,7 @@ use tinystr::TinyAsciiStr;
 // The bytes beside and at the ends of the classes, and the ends of a text's bytes.
 const EDGES: [u8; 14] = [1, 47, 48, 57, 58, 64, 65, 90, 91, 96, 97, 122, 123, 127];
 
-// What stands in the other places: a letter in each case, and a digit.
+// What is in the other places: a letter in each case, and a digit.
 const FILLERS: [u8; 3] = [b'm', b'M', b'5'];
 
 /// How many texts at N answer as the loops do; the first that does not ends the count. The condition is that N is at
@@ -83,7 +83,7 @@ fn byte_answers(bytes: &[u8]) -> u16 {
     bits
 }
 
-// What the nine questions ask of a byte, which is the first one or stands behind it.
+// What the nine questions ask of a byte, which is the first one or is after it.
 fn asked(byte: u8, is_first: bool) -> [bool; 9] {
     let is_lower = byte.is_ascii_lowercase();
     let is_upper = byte.is_ascii_uppercase();
@@ -117,7 +117,7 @@ fn are_changes_alike<const N: usize>(text: TinyAsciiStr<N>, bytes: &[u8]) -> boo
         && is_changed(text.to_ascii_titlecase().as_utf8(), bytes, [true, false])
 }
 
-// Whether bytes were changed to the upper case or the lower: the first one, and those behind it.
+// Whether bytes were changed to the upper case or the lower: the first one, and those after it.
 fn is_changed(changed: &[u8], bytes: &[u8], [first, rest]: [bool; 2]) -> bool {
     let mut is_upper = first;
     for (new, old) in changed.iter().zip(bytes) {

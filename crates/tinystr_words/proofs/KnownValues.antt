@@ -21,8 +21,8 @@ two_bytes_of_text = refl
 nul_before_a_letter : nuls_last (97 ∷ 0 ∷ 98 ∷ []) ≡ false
 nul_before_a_letter = refl
 
-nul_behind_letters : nuls_last (97 ∷ 98 ∷ 0 ∷ []) ≡ true
-nul_behind_letters = refl
+nul_after_letters : nuls_last (97 ∷ 98 ∷ 0 ∷ []) ≡ true
+nul_after_letters = refl
 
 first_letter_raised : map_first to_ascii_uppercase to_ascii_lowercase (97 ∷ 66 ∷ 98 ∷ []) ≡ 65 ∷ 98 ∷ 98 ∷ []
 first_letter_raised = refl

@@ -82,7 +82,7 @@ front_titled f g front eight new is e =
     let long : 0 + length (take (length front) eight) ≡ length front = omega (arith, ap length text, length-map_first f g front) in
     e ∙ (λ i. text i ++ drop (long i) front) ∙ ap (λ l. map_first f g front ++ l) (drop_all (length front) front (omega arith)) ∙ append-nil (map_first f g front)
 
--- a front that is empty only where all is, and what is behind it
+-- a front that is empty only where all is, and what is after it
 pub title_cut : (f g : ℕ → ℕ) (all front rest : List ℕ) → all ≡ front ++ rest → (length front ≡ 0 → length rest ≡ 0)
     → map_first f g front ++ map g rest ≡ map_first f g all
 title_cut f g all (b ∷ front) rest e some = ap (λ l. f b ∷ l) (sym (map-append g front rest)) ∙ ap (map_first f g) (sym e)

@@ -39,7 +39,7 @@ pub(crate) fn flags_within(word: u64, low: u8, high: u8) -> u64
 // Twice the flags of the bytes that are at least `low`, in a word of at most seven bytes.
 //
 // It sums the doubled word. A word of a few bytes is put together by a sum, and the compiler would
-// make that sum anew for each bound, but doubles it once.
+// make that sum again for each bound, but doubles it once.
 pub(crate) fn twice_from(word: u64, low: u8) -> u64
     requires low { low ≤ 128 }
     requires fits { 2 ≤ low }

@@ -8,7 +8,7 @@ use Rattle.writeable.specs.ListedParts.{FitTogether, IsCutOut}
 use Rattle.writeable.specs.declared.part.Part.{Part}
 use Rattle.writeable.specs.declared.parts_sink.OpenPart.{OpenPart}
 
--- where a character of a text begins, one still does with a text behind it
+-- where a character of a text begins, one still does with a text after it
 boundary_stays : (text more : List ℕ) (i : ℕ) → IsUtf8 text → IsUtf8 more → IsCharBoundary text i → IsCharBoundary (text ++ more) i
 boundary_stays text more i one two cut =
     IsCharBoundary-from_drop (text ++ more) i (rw (length-append text more) (omega (arith, cut.0)))

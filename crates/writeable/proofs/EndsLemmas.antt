@@ -87,7 +87,7 @@ end_of_closed_at : (k before inside end : ℕ) (found : ℕ → Option ℕ) → 
 end_of_closed_at k zero inside end found ends none same = absurd (omega arith)
 end_of_closed_at k (suc before) inside end found ends none same = ends (suc k) none (omega arith)
 
--- a part that goes on past these events ends with the closing behind them, if no part is open inside
+-- a part that goes on past these events ends with the closing after them, if no part is open inside
 pub end_of_closed : (n k : ℕ) (es : List Event) → unclosed es ≡ 0 → strays es ≡ k
     → end_of n k (es ++ closed ∷ []) ≡ Some (n + length (text_of es))
 end_of_closed n zero [] none same = ap Some (omega arith)
@@ -99,7 +99,7 @@ end_of_closed n k (opened p ∷ es) none same =
 end_of_closed n zero (closed ∷ es) none same = absurd (omega arith)
 end_of_closed n (suc k) (closed ∷ es) none same = end_of_closed n k es none (omega arith)
 
--- what a closing behind these events does to a part that opens before them
+-- what a closing after these events does to a part that opens before them
 pub data Fate (n : ℕ) (es : List Event) : Type 0 where
   ended : (m : ℕ) → end_of n 0 es ≡ Some m → end_of n 0 (es ++ closed ∷ []) ≡ Some m → Fate n es
   ends : unclosed es ≡ 0 → end_of n 0 es ≡ None → end_of n 0 (es ++ closed ∷ []) ≡ Some (n + length (text_of es)) → Fate n es

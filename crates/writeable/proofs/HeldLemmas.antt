@@ -27,7 +27,7 @@ open_bytes before (b ∷ text) =
     ap (open_from 0 0) (sym (append_assoc before (byte b ∷ []) (bytes text)))
     ∙ open_bytes (before ++ byte b ∷ []) text ∙ open_byte 0 0 before b
 
--- bytes go behind the text
+-- bytes go after the text
 pub holds_bytes : (s t : Held) (before : List Event) (text : List ℕ) → s ≡ held_after before
     → t.text ≡ s.text ++ text → t.parts ≡ s.parts → t.open_parts ≡ s.open_parts → t ≡ held_after (before ++ bytes text)
 holds_bytes s t before text is one two three = same_held t _ _ _

@@ -6,7 +6,7 @@ use Rattle.writeable.specs.HeldParts.{OpenInterval, if_open, open_from}
 use Rattle.writeable.specs.PartName.{PartName}
 use Rattle.writeable.proofs.EndsLemmas.{end_of_byte, end_of_opened, unclosed, Fate, ended, ends, goes_on, fate, length-open_from}
 
--- a byte behind changes no part
+-- a byte after changes no part
 pub intervals_byte : (n : ℕ) (es : List Event) (b : ℕ) → intervals_from n (es ++ byte b ∷ []) ≡ intervals_from n es
 intervals_byte n [] b = refl
 intervals_byte n (byte c ∷ es) b = intervals_byte (n + 1) es b
@@ -24,7 +24,7 @@ open_byte n k (opened p ∷ es) b =
     ∙ ap (if_open n k p (end_of n 0 es) (open_from n k es)) (open_byte n (k + 1) es b)
 open_byte n k (closed ∷ es) b = open_byte n k es b
 
--- a part that opens behind is listed nowhere yet
+-- a part that opens after is listed nowhere yet
 pub intervals_opened : (n : ℕ) (es : List Event) (q : PartName) → intervals_from n (es ++ opened q ∷ []) ≡ intervals_from n es
 intervals_opened n [] q = refl
 intervals_opened n (byte c ∷ es) q = intervals_opened (n + 1) es q
@@ -46,7 +46,7 @@ if_open_push n k e p q (Some m) unlisted after_listed unlisted_now after_listed_
     elim (eqb n m) as (λ b. cond b unlisted_now after_listed_now ≡ cond b unlisted after_listed ++ open_at e (k + length (cond b later (record { start = n; end = m; part = p } ∷ later))) q)
     [ true ↦ one | false ↦ two ∙ ap (λ place. after_listed ++ open_at e place q) (omega arith) ]
 
--- a part that opens behind is the last that is open
+-- a part that opens after is the last that is open
 pub open_opened : (n k : ℕ) (es : List Event) (q : PartName)
     → open_from n k (es ++ opened q ∷ []) ≡ open_from n k es ++ open_at (n + length (text_of es)) (k + length (intervals_from n es)) q
 open_opened n k [] q = ap (λ e. open_at e k q) (omega arith) ∙ ap (λ place. open_at (n + 0) place q) (omega arith)
@@ -104,7 +104,7 @@ open_closed_at n k p es (goes_on some before after) one two =
     rw (before, after) (ap (λ parts. record { start = n; place = k; part = p } ∷ parts) one
     ∙ sym (outer_stays (record { start = n; place = k; part = p }) (open_from n k es) (some_open n k es some)))
 
--- a closing behind ends the last open part
+-- a closing after ends the last open part
 pub open_closed : (n k : ℕ) (es : List Event) → open_from n k (es ++ closed ∷ []) ≡ all_but_last (open_from n k es)
 open_closed n k [] = refl
 open_closed n k (byte c ∷ es) = open_closed (n + 1) k es
@@ -150,7 +150,7 @@ intervals_closed_at before n e p es at_end (goes_on some was is) one two =
     rw (was, is) (one ∙ sym (outer_waits e (before ++ intervals_from n es) (record { start = n; place = length before; part = p })
     (open_from n (length before) es) (some_open n (length before) es some)))
 
--- a closing behind lists the last open part at its place, unless it has no bytes
+-- a closing after lists the last open part at its place, unless it has no bytes
 pub intervals_closed : (before : List Interval) (n e : ℕ) (es : List Event) → e ≡ n + length (text_of es)
     → before ++ intervals_from n (es ++ closed ∷ []) ≡ with_last_listed e (before ++ intervals_from n es) (open_from n (length before) es)
 intervals_closed before n e [] at_end = refl

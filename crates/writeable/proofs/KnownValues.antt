@@ -27,7 +27,7 @@ texts_of_two_parts : part_texts (codes "a,b") (record { start = 0; end = 3; part
     ≡ record { part = outer; text = codes "a,b" } ∷ record { part = inner; text = codes "," } ∷ []
 texts_of_two_parts = refl
 
--- the euro sign, three bytes, before `5` as the part A, and ` net` behind it: A from 3 to 4
+-- the euro sign, three bytes, before `5` as the part A, and ` net` after it: A from 3 to 4
 between_texts : annotated (affixed (λ part. opening part ++ (bytes (codes "5") ++ closing)) (record { before = 226 ∷ 130 ∷ 172 ∷ []; value = outer; behind = codes " net" }))
     ≡ record { text = 226 ∷ 130 ∷ 172 ∷ codes "5 net"; parts = record { start = 3; end = 4; part = outer } ∷ [] }
 unfolding bytes opening closing

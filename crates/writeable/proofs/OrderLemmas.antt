@@ -22,6 +22,6 @@ pub alike_front : (piece more rest : List ℕ) → byte_order (piece ++ more) (p
 alike_front [] more rest = refl
 alike_front (x ∷ piece) more rest = ap (λ o. ordering_then o (byte_order (piece ++ more) (piece ++ rest))) (same_first x) ∙ alike_front piece more rest
 
--- so a comparison goes on behind it
+-- so a comparison goes on after it
 pub alike_goes_on : (so_far : Ordering) (piece whole rest more : List ℕ) → whole ≡ piece ++ rest → order_given so_far rest more ≡ order_given so_far whole (piece ++ more)
 alike_goes_on so_far piece whole rest more is = rw is (rw (alike_front piece more rest) refl)

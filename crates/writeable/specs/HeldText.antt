@@ -9,7 +9,7 @@ pub record HeldText : Type 0 where
   pub text : List ℕ
   pub refused : Bool
 
--- these events put their text behind the text held
+-- these events put their text after the text held
 abbrev pub HoldsMore : HeldText → List Event → HeldText → Type 0
 HoldsMore before events after = after.text ≡ before.text ++ text_of events
 

@@ -12,7 +12,7 @@ use Rattle.writeable.specs.Taking.{HasBegun}
 abbrev pub shifted : ℕ → Interval → Interval
 shifted n i = record { start = i.start + n; end = i.end + n; part = i.part }
 
--- one annotated text behind another
+-- one annotated text after another
 abbrev pub joined : AnnotatedText → AnnotatedText → AnnotatedText
 joined front back = record {
   text = front.text ++ back.text;
@@ -28,7 +28,7 @@ pub record IsBalanced (es : List Event) : Type 0 where
   pub closed : IsClosed es
   pub own : end_of 0 0 es ≡ None
 
--- joining: after events that leave nothing open, more events write their annotated text behind
+-- joining: after events that leave nothing open, more events write their annotated text after
 abbrev pub Joining : Type 0
 Joining = (first second : List Event) → IsClosed first → annotated (first ++ second) ≡ joined (annotated first) (annotated second)
 

@@ -95,7 +95,7 @@ compared_joins s t u first second begun ended more =
     ∙ ap (λ text. order_given s.so_far s.rest text)
     (sym (append_assoc (text_of first) (text_of second) more) ∙ ap (λ text. text ++ more) (sym (text_of_joined first second)))
 
--- a count that would pass the limit, and more behind it
+-- a count that would pass the limit, and more after it
 pub passes_more : (s : HeldCount) (first second : List Event) → PassesLimit s first → PassesLimit s (first ++ second)
 passes_more s first second passes =
     rw (text_of_joined first second, length-append (text_of first) (text_of second)) (omega arith)
@@ -112,7 +112,7 @@ counts_joined s t u first second begun ended = record {
   fits = λ fitting. ended.fits (begun.fits fitting);
 }
 
--- events that need room, and more behind them
+-- events that need room, and more after them
 pub needs_more_room : (s : HeldParts) (first second : List Event) → NeedsRoom s first → NeedsRoom s (first ++ second)
 needs_more_room s [] second needs = absurd needs
 needs_more_room s (byte b ∷ es) second needs = needs

@@ -19,7 +19,7 @@ without_joined (opened part ∷ es) second = without_joined es second
 without_joined (closed ∷ es) second = without_joined es second
 
 module _ {S : Type 0} (takes : S → List Event → S → Type 0) where
-  -- bytes that do not fit do not fit with more behind them
+  -- bytes that do not fit do not fit with more after them
   pub text_lacks_more : (lacks_room : S → List Event → Type 0) → ((s : S) (first second : List Event) → lacks_room s first → lacks_room s (first ++ second))
       → (s : S) (first second : List Event) → lacks_room s (without_parts first) → lacks_room s (without_parts (first ++ second))
   text_lacks_more lacks_room lacks_more s first second lacks =

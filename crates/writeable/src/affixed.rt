@@ -1,4 +1,4 @@
-//! A value with a text before it and one behind it.
+//! A value with a text before it and one after it.
 
 use crate::error::Error;
 use crate::format_sink::display;
@@ -8,7 +8,7 @@ use crate::write::Writeable;
 use std::fmt;
 use std::marker::Model;
 
-/// A value between two texts, which may be empty: `€` before `5`, and ` net` behind it, are `€5 net`.
+/// A value between two texts, which may be empty: `€` before `5`, and ` net` after it, are `€5 net`.
 ///
 /// The two texts are borrowed, and are not parts; the value keeps its own parts.
 #[derive(Clone, Debug, Drop)]
@@ -17,7 +17,7 @@ pub struct Affixed<'a, T> {
     pub before: &'a str,
     /// The value: `5` of `€5 net`.
     pub value: T,
-    /// What is written behind the value: ` net` of `€5 net`.
+    /// What is written after the value: ` net` of `€5 net`.
     pub behind: &'a str,
 }
 
@@ -29,7 +29,7 @@ impl<'a, T> Model for Affixed<'a, T> {
     ghost view = { λ s. record { before = s.before.now; value = s.value; behind = s.behind.now } };
 }
 
-/// The text before, the value with its parts, the text behind: `€5 net`.
+/// The text before, the value with its parts, the text after: `€5 net`.
 ///
 /// `Error`, only where the sink refused: it has taken a beginning. Writing allocates only what the sink and the value
 /// do. The hint is the value's, with the lengths of the two texts added to its ends; so it is at least these, 7 of

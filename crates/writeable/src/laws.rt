@@ -2,7 +2,7 @@
 //! function that does nothing.
 ghost use Rattle.writeable.specs.Laws.{Joining, TextAlone, TextsJoin, CountAlone, PartAround, Balanced, PartsWithin};
 
-/// Joining: after events that leave no part open, more events write their annotated text behind.
+/// Joining: after events that leave no part open, more events write their annotated text after.
 /// `a` as the part A, and then `,b` as the part B, are `a,b` with (0, 1, A), (1, 3, B).
 pub fn joining()
     ensures { Joining }

@@ -71,7 +71,7 @@ pub trait Sink {
         ensures refused { refused self.new ≡ is_err result }
         ensures begun { OnErr result (HasBegun takes lacks_room self.old closing self.new) };
 
-    // what does not fit does not fit with more behind it
+    // what does not fit does not fit with more after it
     ghost lacks_more: { (s : Self) (first second : List Event) → lacks_room s first
         → lacks_room s (first ++ second) };
 

@@ -55,7 +55,7 @@ impl TextSink {
         Ok(Self::from_string(String::with_capacity(alloc, capacity)?))
     }
 
-    /// A sink that goes on behind what a text holds: behind `a,` it holds `a,b` after `write_char('b')`. The text is
+    /// A sink that goes on after what a text holds: after `a,` it holds `a,b` after `write_char('b')`. The text is
     /// moved, and keeps its capacity. It does not allocate.
     pub fn from_string(text: String) -> Self
         ensures text { result.text ≡ string_bytes text }
@@ -67,7 +67,7 @@ impl TextSink {
         }
     }
 
-    /// Writes `text` behind what the sink holds: `a,` and then `b` are `a,b`.
+    /// Writes `text` after what the sink holds: `a,` and then `b` are `a,b`.
     ///
     /// `AllocError`: out of memory; the sink is as it was. It allocates only where the text outgrows its capacity; the
     /// empty text is never refused.

@@ -21,9 +21,9 @@ pub trait Writeable {
     // what the value writes
     ghost events: { Self → List Event };
 
-    /// Writes the value into `sink`: `a,b` behind `x` is `xa,b`. The condition is that the sink has not refused yet.
+    /// Writes the value into `sink`: `a,b` after `x` is `xa,b`. The condition is that the sink has not refused yet.
     ///
-    /// `Ok`: the sink took the whole value behind what it held. [`Error`], only where the sink refused: it has taken a
+    /// `Ok`: the sink took the whole value after what it held. [`Error`], only where the sink refused: it has taken a
     /// beginning. It allocates only what the sink does.
     fn write_to<S: Sink>(&self, sink: &mut S) -> Result<(), Error>
         requires { S.refused sink.old ≡ false }
@@ -31,10 +31,10 @@ pub trait Writeable {
         ensures refused { S.refused sink.new ≡ is_err result }
         ensures begun { OnErr result (HasBegun S.takes S.lacks_room sink.old (events self.now) sink.new) };
 
-    /// Writes the text of the value into `sink`, without its parts: `a,b` with parts behind `x` is `xa,b` with no part
+    /// Writes the text of the value into `sink`, without its parts: `a,b` with parts after `x` is `xa,b` with no part
     /// more. The condition is that the sink has not refused yet.
     ///
-    /// `Ok`: the sink took the whole text behind what it held. [`Error`], only where the sink refused: it has taken a
+    /// `Ok`: the sink took the whole text after what it held. [`Error`], only where the sink refused: it has taken a
     /// beginning. It allocates only what the sink does.
     fn write_text<S: Sink>(&self, sink: &mut S) -> Result<(), Error>
         requires { S.refused sink.old ≡ false }

@@ -9,11 +9,11 @@ over_more = refl
 over_fewer : laid_from 0 (codes "a,b") (codes "..") ≡ codes "a,"
 over_fewer = refl
 
-behind_another : laid_from 2 (codes "b") (codes "a,..") ≡ codes "a,b."
-behind_another = refl
+after_another : laid_from 2 (codes "b") (codes "a,..") ≡ codes "a,b."
+after_another = refl
 
-behind_the_end : laid_from 3 (codes "b") (codes "a,.") ≡ codes "a,."
-behind_the_end = refl
+after_the_end : laid_from 3 (codes "b") (codes "a,.") ≡ codes "a,."
+after_the_end = refl
 
 no_text : laid_from 1 [] (codes "..") ≡ codes ".."
 no_text = refl

@@ -1,4 +1,4 @@
--- What a sink over bytes of the caller's takes: their text is laid over the bytes, behind what lies there.
+-- What a sink over bytes of the caller's takes: their text is laid over the bytes, after what lies there.
 -- Defined in docs/annotated-text.md, "Bytes of the caller's".
 -- Cited by `BytesSink`; the laws serve its impl of `Sink`.
 use Rattle.std.proofs.Common.{◌≡◌, ℕ, zero, suc, ◌+◌, ◌≤◌, ◌^◌, List, [], ◌∷◌, ◌++◌, length, Option, None, Some, arith, refl, sym, ap, ◌∙◌}
@@ -8,13 +8,13 @@ use Rattle.writeable.specs.AnnotatedText.{Event, text_of}
 use Rattle.writeable.specs.SinkLaws.{text_of_joined}
 use Rattle.writeable_bytes.specs.Laid.{laid_from}
 
--- bytes under a text of n bytes, and the same under these events behind it
+-- bytes under a text of n bytes, and the same under these events after it
 pub record LaysText (s : MutBor (List ℕ)) (n : ℕ) (es : List Event) (t : MutBor (List ℕ)) (m : ℕ) : Type 0 where
   pub same : t.ghost_name ≡ s.ghost_name
   pub length : m ≡ n + length (text_of es)
   pub bytes : t.now ≡ laid_from n (text_of es) s.now
 
--- no `usize` holds the length of a text of n bytes with these events behind it
+-- no `usize` holds the length of a text of n bytes with these events after it
 abbrev pub PassesLength : ℕ → List Event → Type 0
 PassesLength n es = 2 ^ 64 ≤ n + length (text_of es)
 
@@ -31,7 +31,7 @@ laid_nothing (suc n) (b ∷ out) = ap (λ rest. b ∷ rest) (laid_nothing n out)
 pub lays_nothing : (s : MutBor (List ℕ)) (n : ℕ) → LaysText s n [] s n
 lays_nothing s n = record { same = refl; length = omega arith; bytes = sym (laid_nothing n s.now) }
 
--- a text behind another is laid where that ends
+-- a text after another is laid where that ends
 pub laid_joined : (n m : ℕ) (first second out : List ℕ) → m ≡ n + length first
     → laid_from m second (laid_from n first out) ≡ laid_from n (first ++ second) out
 laid_joined n m first second [] ends = refl

@@ -8,7 +8,7 @@ use writeable::{Error, Part, Sink};
 /// A sink that lays the text over borrowed bytes, from the first on, and leaves out the parts: `a,b` over `....` gives
 /// `a,b.`, and over `..` gives `a,`.
 ///
-/// Behind the end of the bytes it only counts. A call is refused exactly where the length of the text would pass the
+/// After the end of the bytes it only counts. A call is refused exactly where the length of the text would pass the
 /// greatest `usize`. It does not allocate.
 #[derive(Drop)]
 pub struct BytesSink<'b> {

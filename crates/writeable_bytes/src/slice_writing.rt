@@ -12,7 +12,7 @@ use writeable::Writeable;
 /// Writes the text of a value to the front of bytes, and returns its length: `a,b` to `....` leaves `a,b.` and returns
 /// 3.
 ///
-/// Bytes behind the text stay as they were. `TooSmall`: the text is longer than the bytes, which are then its first
+/// Bytes after the text stay as they were. `TooSmall`: the text is longer than the bytes, which are then its first
 /// ones; it says how many the text needs, as 3 of `a,b` to two bytes. It allocates only what the value does.
 #[tactic(auto, using(crate::proofs::LaidLemmas::laid_whole, crate::proofs::LaidLemmas::laid_cut))]
 pub fn write_to_slice<T: Writeable>(value: &T, out: &mut [u8]) -> Result<usize, TooSmall>
@@ -40,7 +40,7 @@ pub fn write_to_slice<T: Writeable>(value: &T, out: &mut [u8]) -> Result<usize, 
 
 /// Copies a text to the front of bytes, and returns its length: `a,b` to `....` leaves `a,b.` and returns 3.
 ///
-/// Bytes behind the text stay as they were. `TooSmall`: the text is longer than the bytes, which are then its first
+/// Bytes after the text stay as they were. `TooSmall`: the text is longer than the bytes, which are then its first
 /// ones; it says how many the text needs, as 3 of `a,b` to two bytes. It does not allocate.
 #[tactic(auto, using(crate::proofs::LaidLemmas::laid_whole, crate::proofs::LaidLemmas::laid_cut))]
 pub fn copy_to_slice(text: &[u8], out: &mut [u8]) -> Result<usize, TooSmall>

@@ -19,7 +19,7 @@ impl fmt::Display for Shown {
     }
 }
 
-// A value with the euro sign before it, of three bytes, and ` net` behind it.
+// A value with the euro sign before it, of three bytes, and ` net` after it.
 fn net<T>(value: T) -> Affixed<'static, T> {
     Affixed {
         before: "€",

@@ -29,7 +29,7 @@ fn written(alloc: Global, script: &str) -> Result<PartsSink, Error> {
     Ok(sink)
 }
 
-// The parts as `start-end value`, each behind a blank.
+// The parts as `start-end value`, each after a blank.
 fn listing(alloc: Global, sink: &PartsSink) -> Result<String, AllocError> {
     let mut text = String::new(alloc);
     for (start, end, part) in sink.parts() {
@@ -38,7 +38,7 @@ fn listing(alloc: Global, sink: &PartsSink) -> Result<String, AllocError> {
     Ok(text)
 }
 
-// The parts with their texts as `value=text`, each behind a blank.
+// The parts with their texts as `value=text`, each after a blank.
 fn texts(alloc: Global, sink: &PartsSink) -> Result<String, AllocError> {
     let mut listed = String::new(alloc);
     for (part, text) in sink.part_texts() {
@@ -118,8 +118,8 @@ fn parts_of<T: Writeable>(alloc: Global, value: &T) -> Result<PartsSink, Error> 
     Ok(sink)
 }
 
-// `x` as a part, and only the text of a value behind it.
-fn text_behind<T: Writeable>(alloc: Global, value: &T) -> Result<PartsSink, Error> {
+// `x` as a part, and only the text of a value after it.
+fn text_after<T: Writeable>(alloc: Global, value: &T) -> Result<PartsSink, Error> {
     let mut sink = PartsSink::new(alloc);
     sink.open_part(OUTER)?;
     sink.write_str("x")?;
@@ -144,9 +144,9 @@ fn lists_the_parts_of_a_value(rt: HostRuntime) -> Result<(), Fail> {
     assert_eq!(rt; sink.parts(), [(3, 6, OUTER), (4, 5, INNER)].as_slice());
     assert_eq!(rt; texts(rt.alloc(), &sink)?.as_str(), " A=a,b B=,");
     // only the text: no parts
-    let alone = text_behind(rt.alloc(), &Pair)?;
+    let alone = text_after(rt.alloc(), &Pair)?;
     assert_eq!(rt; alone.text(), "xa,b");
     assert_eq!(rt; alone.parts(), [(0, 1, OUTER)].as_slice());
-    assert_eq!(rt; text_behind(rt.alloc(), &"a,b")?.text(), "xa,b");
+    assert_eq!(rt; text_after(rt.alloc(), &"a,b")?.text(), "xa,b");
     Ok(())
 }

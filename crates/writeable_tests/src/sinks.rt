@@ -7,7 +7,7 @@ use std::process::Abort;
 use std::test::Fail;
 use writeable::{CountSink, Error, Sink, TextSink, Writeable};
 
-// Writes `a,b` as a part, and a character behind it.
+// Writes `a,b` as a part, and a character after it.
 fn write_call_by_call<S: Sink>(sink: &mut S) -> Result<(), Error>
     requires { S.refused sink.old ≡ false }
 {
@@ -24,15 +24,15 @@ fn text_call_by_call(alloc: Global) -> Result<TextSink, Error> {
     Ok(sink)
 }
 
-fn pair_behind(alloc: Global, front: &str) -> Result<TextSink, Error> {
+fn pair_after(alloc: Global, front: &str) -> Result<TextSink, Error> {
     let mut sink = TextSink::new(alloc);
     sink.write_str(front)?;
     Pair.write_to(&mut sink)?;
     Ok(sink)
 }
 
-// The text with that of the pair behind it, moved through a sink.
-fn moved_behind(text: String) -> Result<String, Error> {
+// The text with that of the pair after it, moved through a sink.
+fn moved_after(text: String) -> Result<String, Error> {
     let mut sink = TextSink::from_string(text);
     Pair.write_text(&mut sink)?;
     Ok(sink.into_string())
@@ -56,9 +56,9 @@ fn texts_of_a_sink(rt: HostRuntime) -> Result<(), Fail> {
     let sink = pushed(rt.alloc())?;
     assert_eq!(rt; sink.text(), "a,b");
     assert!(rt; !sink.has_refused());
-    assert_eq!(rt; pair_behind(rt.alloc(), "x")?.text(), "xa,b");
+    assert_eq!(rt; pair_after(rt.alloc(), "x")?.text(), "xa,b");
     let text = String::from_str(rt.alloc(), "x")?;
-    assert_eq!(rt; moved_behind(text)?.as_str(), "xa,b");
+    assert_eq!(rt; moved_after(text)?.as_str(), "xa,b");
     Ok(())
 }
 

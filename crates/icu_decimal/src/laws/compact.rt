@@ -16,7 +16,7 @@ use crate::compact_formatter::CompactDecimalFormatter;
 use crate::formatter::DecimalFormatter;
 use icu_decimal_compact_value::CompactEntry;
 
-/// The affixes that `write_sign` writes, round what `write_unsigned` writes for a number without its sign, are what
+/// The affixes that `write_sign` writes, around what `write_unsigned` writes for a number without its sign, are what
 /// `format` writes for the number with it, and their text is that of `format_to_string`: of -999500 in English a
 /// compact formatter writes `-` before `1M`, which is `-1M`.
 pub fn sign_round_unsigned()
@@ -38,8 +38,8 @@ pub fn sign_round_unsigned()
         (λ f d. compact_decimal_text (compact_tables_of f) d) }
 {}
 
-/// With a text before what `format_unsigned` returns and one behind it, `format_sign` writes the affixes of the sign
-/// round all three: of `€`, -1234.5 and no text behind in English a plain formatter writes `-€1,234.5`, and a compact
+/// With a text before what `format_unsigned` returns and one after it, `format_sign` writes the affixes of the sign
+/// around all three: of `€`, -1234.5 and no text after in English a plain formatter writes `-€1,234.5`, and a compact
 /// one `-€1.2K`.
 pub fn sign_round_unit()
     ensures plain { WritesUnit

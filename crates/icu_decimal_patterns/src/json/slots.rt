@@ -130,7 +130,7 @@ fn has_named(slots: &[Value], name: &str) -> bool
     false
 }
 
-// Whether the first slot's name stands in the others too.
+// Whether the first slot's name is in the others too.
 fn is_repeated(first: &Value, others: &[Value]) -> bool
     ensures { result
         ≡ option_map_or (λ name. list_any (is_named name) (map view others.now)) (slot_name (view first.now)) false }
@@ -141,7 +141,7 @@ fn is_repeated(first: &Value, others: &[Value]) -> bool
     }
 }
 
-// Whether a name stands twice.
+// Whether a name is twice.
 fn repeats_name(slots: &[Value]) -> bool
     ensures { result ≡ repeats_name (map view slots.now) }
 {
@@ -167,7 +167,7 @@ fn pattern_named<'a>(slots: &'a [Value], name: &str) -> Option<BorrowedPattern<'
     None
 }
 
-// The pattern of `other`, where the items are slots of known names and none stands twice.
+// The pattern of `other`, where the items are slots of known names and none is twice.
 fn other_in(slots: &[Value]) -> Option<BorrowedPattern<'_>>
     ensures { option_map (elements_with (map view slots.now)) result ≡ elements_in (map view slots.now) }
 {
@@ -205,7 +205,7 @@ pub(crate) fn slots_of(value: &Value) -> Option<PluralElements<BorrowedPattern<'
 
 impl PluralElements<Pattern> {
     /// The patterns that a JSON value says: an array of a slot's name and its pattern each, which is an array of one
-    /// text, or of the two texts round a placeholder. `[["one",["","K"]],["other",["","Ks"]]]` is the pattern `{0}K`
+    /// text, or of the two texts around a placeholder. `[["one",["","K"]],["other",["","Ks"]]]` is the pattern `{0}K`
     /// for the category `one`, and `{0}Ks` for others.
     ///
     /// The names are `0`, `1`, `zero`, `one`, `two`, `few`, `many` and `other`, which must be there. `Custom`: any

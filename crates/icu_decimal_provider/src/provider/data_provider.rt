@@ -15,7 +15,7 @@ pub trait DataProvider<M: DataMarker> {
     ghost use Rattle.icu_decimal_symbols.specs.declared.error.DataError.{DataError};
     ghost use Rattle.icu_decimal_provider.specs.Identifiers.{Identifier};
 
-    // what stands under each identifier
+    // what is under each identifier
     ghost table: { Self → Identifier → Result M.DataStruct DataError };
 
     /// The table under the identifier, borrowed from the provider: of the sample book under `thai` the digits `๐` to

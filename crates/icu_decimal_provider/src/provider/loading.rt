@@ -15,7 +15,7 @@ use crate::provider::markers::{DecimalDigitsV1, DecimalSymbolsV1};
 use crate::provider::parents::ParentProvider;
 use icu_decimal_symbols::{DataError, DataMarker, DecimalSymbols};
 
-// The first table of one identifier or none, and of another behind it.
+// The first table of one identifier or none, and of another after it.
 fn load_one_or<'p, M: DataMarker, P: DataProvider<M>>(
     provider: &'p P,
     first: Option<DataIdentifier>,
@@ -30,7 +30,7 @@ fn load_one_or<'p, M: DataMarker, P: DataProvider<M>>(
     }
 }
 
-/// The first table that the preferences ask for, of a kind that stands where symbols do: along the chain of their
+/// The first table that the preferences ask for, of a kind that is where symbols do: along the chain of their
 /// locale, each with their numbering system, where they have one, then each without.
 ///
 /// With the sample book `en-u-nu-wxyz` gets the symbols of `en`. The locale is the form with the language first. Errors

@@ -1,6 +1,6 @@
 //! Providers of units: the tables that formatters of percents and amounts borrow, and which of them are taken.
 //!
-//! Patterns stand under a locale and a numbering system, a code or nothing, symbols of currencies under a locale and a
+//! Patterns are under a locale and a numbering system, a code or nothing, symbols of currencies under a locale and a
 //! code, and digits of currencies only under a code.
 
 mod amounts;

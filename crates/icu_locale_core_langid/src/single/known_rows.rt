@@ -46,7 +46,7 @@ pub fn locale_refused_rows()
     ensures transform { HasSingleFaultInMode Locale (pieces (codes "en-t-de")) InvalidExtension }
     // an attribute
     ensures attribute { HasSingleFaultInMode Locale (pieces (codes "en-u-foo")) InvalidExtension }
-    // the end behind `u`
+    // the end after `u`
     ensures empty_extension { HasSingleFaultInMode Locale (pieces (codes "en-u")) InvalidExtension }
     // the empty text
     ensures nothing { HasSingleFaultInMode Locale (pieces (codes "")) InvalidLanguage }

@@ -77,7 +77,7 @@ fn read_language(from: SubtagIterator<'_>) -> Result<OneVariantParts, ParseError
 /// `true` is left out. `InvalidLanguage`: the first piece is no language, or there is none; in mode `Partial` there is
 /// no other fault. `InvalidSubtag`: a later piece does not fit, or is a second variant, as in `de-1996-fonipa`; in mode
 /// `LanguageIdentifier` a singleton too. `InvalidExtension`, only in mode `Locale`: the singleton of an extension that
-/// is not `u`, an attribute, a second key, a second piece of the value, or the end right behind `u`. Source: UTS 35,
+/// is not `u`, an attribute, a second key, a second piece of the value, or the end right after `u`. Source: UTS 35,
 /// section 3.2; the modes are ICU4X's.
 pub fn parse_locale_with_single_variant_single_keyword_unicode_extension_from_iter(
     iter: SubtagIterator<'_>,

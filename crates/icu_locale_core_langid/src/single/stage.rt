@@ -2,7 +2,7 @@
 
 ghost use Rattle.std.specs.Prelude.{◌≡◌, Some, None, MatchResult, option_map};
 ghost use Rattle.icu_locale_core_grammar.specs.Subtags.{is_true};
-ghost use Rattle.icu_locale_core_grammar.specs.SingleVariant.{InLanguage, BehindUnicode, BehindKey, single_ends, single_fault};
+ghost use Rattle.icu_locale_core_grammar.specs.SingleVariant.{InLanguage, AfterUnicode, AfterKey, single_ends, single_fault};
 ghost use Rattle.icu_locale_core_langid.specs.OneVariant.{parts_id, one_variant_after};
 ghost use Rattle.icu_locale_core_langid.specs.SingleModes.{single};
 ghost use Rattle.icu_locale_core_langid.specs.SingleStageView.{stage_view, GoesOn};
@@ -18,12 +18,12 @@ use icu_locale_core_subtags::{Subtag, is_letter, is_one_character, value_subtag}
 pub(crate) enum Stage {
     // In the language part, `None` before its first piece.
     InLanguage(Option<OneVariantParts>),
-    // Behind `u`.
-    BehindUnicode(OneVariantParts),
-    // Behind the key.
-    BehindKey(OneVariantParts, Key),
-    // Behind a piece of the value, `None` where it is `true`.
-    BehindValue(OneVariantParts, Key, Option<Subtag>),
+    // After `u`.
+    AfterUnicode(OneVariantParts),
+    // After the key.
+    AfterKey(OneVariantParts, Key),
+    // After a piece of the value, `None` where it is `true`.
+    AfterValue(OneVariantParts, Key, Option<Subtag>),
 }
 
 // Whether the piece is `true`, in any case.
@@ -33,14 +33,14 @@ fn says_true(piece: &[u8]) -> bool
     piece.eq_ignore_ascii_case(b"true")
 }
 
-// Behind a language part that does not go on with the piece: `u`.
+// After a language part that does not go on with the piece: `u`.
 #[tactic(auto, using(crate::proofs::SingleStageLemmas::unicode_opened, crate::proofs::SingleStageLemmas::nothing_opened))]
 fn behind_language(parts: OneVariantParts, piece: &[u8]) -> Result<Stage, ParseError>
     ensures { one_variant_after (Some (parts_id parts)) piece.now ≡ None
         → GoesOn (InLanguage (Some (parts_id parts))) piece.now result }
 {
     if is_letter(piece, b'u') {
-        Ok(Stage::BehindUnicode(parts))
+        Ok(Stage::AfterUnicode(parts))
     } else if is_one_character(piece) {
         Err(ParseError::InvalidExtension)
     } else {
@@ -62,26 +62,26 @@ fn in_language(front: Option<OneVariantParts>, piece: &[u8]) -> Result<Stage, Pa
     }
 }
 
-// Behind `u`: a key.
+// After `u`: a key.
 #[tactic(auto, unfolding(icu_locale_core_grammar::specs::SingleVariant::single_after))]
 fn after_unicode(parts: OneVariantParts, piece: &[u8]) -> Result<Stage, ParseError>
-    ensures { GoesOn (BehindUnicode (parts_id parts)) piece.now result }
+    ensures { GoesOn (AfterUnicode (parts_id parts)) piece.now result }
 {
     match Key::try_from_utf8(piece) {
-        Ok(key) => Ok(Stage::BehindKey(parts, key)),
+        Ok(key) => Ok(Stage::AfterKey(parts, key)),
         Err(_) => Err(ParseError::InvalidExtension),
     }
 }
 
-// Behind a key: a piece of its value, of which `true` is left out.
+// After a key: a piece of its value, of which `true` is left out.
 #[tactic(auto, unfolding(icu_locale_core_grammar::specs::SingleVariant::single_after))]
 fn after_key(parts: OneVariantParts, key: Key, piece: &[u8]) -> Result<Stage, ParseError>
-    ensures { GoesOn (BehindKey (parts_id parts) key) piece.now result }
+    ensures { GoesOn (AfterKey (parts_id parts) key) piece.now result }
 {
     match value_subtag(piece) {
         None => Err(ParseError::InvalidExtension),
-        Some(_) if says_true(piece) => Ok(Stage::BehindValue(parts, key, None)),
-        Some(subtag) => Ok(Stage::BehindValue(parts, key, Some(subtag))),
+        Some(_) if says_true(piece) => Ok(Stage::AfterValue(parts, key, None)),
+        Some(subtag) => Ok(Stage::AfterValue(parts, key, Some(subtag))),
     }
 }
 
@@ -92,9 +92,9 @@ pub(crate) fn stage_after(stage: Stage, piece: &[u8]) -> Result<Stage, ParseErro
 {
     match stage {
         Stage::InLanguage(front) => in_language(front, piece),
-        Stage::BehindUnicode(parts) => after_unicode(parts, piece),
-        Stage::BehindKey(parts, key) => after_key(parts, key, piece),
-        Stage::BehindValue(_, _, _) => Err(ParseError::InvalidExtension),
+        Stage::AfterUnicode(parts) => after_unicode(parts, piece),
+        Stage::AfterKey(parts, key) => after_key(parts, key, piece),
+        Stage::AfterValue(_, _, _) => Err(ParseError::InvalidExtension),
     }
 }
 
@@ -106,8 +106,8 @@ pub(crate) fn parts_at_end(stage: Stage) -> Result<SingleParts, ParseError>
     match stage {
         Stage::InLanguage(None) => Err(ParseError::InvalidLanguage),
         Stage::InLanguage(Some(parts)) => Ok(joined_parts(parts, None)),
-        Stage::BehindUnicode(_) => Err(ParseError::InvalidExtension),
-        Stage::BehindKey(parts, key) => Ok(joined_parts(parts, Some((key, None)))),
-        Stage::BehindValue(parts, key, value) => Ok(joined_parts(parts, Some((key, value)))),
+        Stage::AfterUnicode(_) => Err(ParseError::InvalidExtension),
+        Stage::AfterKey(parts, key) => Ok(joined_parts(parts, Some((key, None)))),
+        Stage::AfterValue(parts, key, value) => Ok(joined_parts(parts, Some((key, value)))),
     }
 }

@@ -38,7 +38,7 @@ impl Singletons {
         }
     }
 
-    // Adds one behind the others; below 36 it does not allocate.
+    // Adds one after the others; below 36 it does not allocate.
     pub(crate) fn push(&mut self, singleton: u8) -> Result<(), AllocError>
         ensures ok { OnOk result (self.new ≡ self.old ++ singleton ∷ []) }
         ensures room { length self.old < 36 → IsOk result }

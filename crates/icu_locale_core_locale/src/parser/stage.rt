@@ -35,7 +35,7 @@ pub struct ExtensionStage {
     pub extensions: Extensions,
     /// The pieces so far.
     pub body: BodyStage,
-    /// Whether there is a piece behind the singleton.
+    /// Whether there is a piece after the singleton.
     pub filled: bool,
 }
 
@@ -46,11 +46,11 @@ pub enum LocaleStage {
     InLanguage(Option<LanguageStage>),
     /// In an extension.
     InExtension(ExtensionStage),
-    /// Behind `x`, the private subtags by themselves.
+    /// After `x`, the private subtags by themselves.
     InPrivate(LanguageIdentifier, Extensions, Private),
 }
 
-// Behind a part that may end: `x`, or a singleton that has not come yet.
+// After a part that may end: `x`, or a singleton that has not come yet.
 fn stage_after_part(
     alloc: Global,
     id: LanguageIdentifier,
@@ -84,7 +84,7 @@ fn stage_after_part(
     }
 }
 
-// Behind a language identifier that does not take the piece.
+// After a language identifier that does not take the piece.
 #[tactic(auto, unfolding(icu_locale_core_grammar::specs::Stepping::whole_after))]
 fn after_identifier(alloc: Global, id: LanguageIdentifier, piece: &[u8]) -> Attempt<LocaleStage>
     ensures { language_stage_after (Some id) piece.now ≡ None → GoesOn (InFront (Some id)) piece.now result }
@@ -101,7 +101,7 @@ fn after_identifier(alloc: Global, id: LanguageIdentifier, piece: &[u8]) -> Atte
     }
 }
 
-// In the language part: one more piece of it, or what comes behind it.
+// In the language part: one more piece of it, or what comes after it.
 #[tactic(auto, unfolding(icu_locale_core_grammar::specs::Stepping::whole_after))]
 fn after_language(
     alloc: Global,
@@ -118,7 +118,7 @@ fn after_language(
     }
 }
 
-// Puts an extension that ends, and its singleton, behind those before it; false where it may not end.
+// Puts an extension that ends, and its singleton, after those before it; false where it may not end.
 fn end_body(
     alloc: Global,
     seen: &mut Singletons,
@@ -140,7 +140,7 @@ fn end_body(
     Ok(true)
 }
 
-// Behind an extension that does not take the piece, which is at fault where it is no single character.
+// After an extension that does not take the piece, which is at fault where it is no single character.
 #[tactic(auto, unfolding(icu_locale_core_grammar::specs::Stepping::whole_after))]
 fn after_ended(
     alloc: Global,
@@ -180,7 +180,7 @@ fn after_ended(
     }
 }
 
-// In an extension: one more piece of it, or what comes behind it.
+// In an extension: one more piece of it, or what comes after it.
 #[tactic(auto, unfolding(icu_locale_core_grammar::specs::Stepping::whole_after))]
 fn after_extension(
     alloc: Global,
@@ -225,7 +225,7 @@ fn after_extension(
     }
 }
 
-// Behind `x`: one more private subtag.
+// After `x`: one more private subtag.
 #[tactic(auto, unfolding(icu_locale_core_grammar::specs::Stepping::whole_after))]
 fn after_private(
     id: LanguageIdentifier,

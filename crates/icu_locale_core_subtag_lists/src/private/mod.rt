@@ -10,7 +10,7 @@ ghost use Rattle.icu_locale_core_grammar.specs.Subtags.{is_private, is_private_p
 ghost use Rattle.icu_locale_core_grammar.specs.Pieces.{pieces};
 ghost use Rattle.icu_locale_core_grammar.specs.PartReaders.{MeansOwn, ReadsPrivate};
 ghost use Rattle.icu_locale_core_grammar.specs.WellFormed.{AreLower};
-ghost use Rattle.icu_locale_core_subtag_lists.specs.Reading.{IsRefused, begins, begins_behind};
+ghost use Rattle.icu_locale_core_subtag_lists.specs.Reading.{IsRefused, begins, begins_after};
 
 mod comparing;
 mod printing;
@@ -23,7 +23,7 @@ use std::alloc::{AllocError, Global};
 use std::marker::Model;
 use std::slice;
 
-/// The private subtags of a tag, those behind `x`, in the order written: `foo`, `a` of `x-foo-a`.
+/// The private subtags of a tag, those after `x`, in the order written: `foo`, `a` of `x-foo-a`.
 #[derive(Drop)]
 pub struct Private {
     items: Vec<Subtag>,
@@ -65,11 +65,11 @@ impl Private {
     ///
     /// `X-Foo-a` has `foo`, `a`. `InvalidExtension` where the text has another form, as `foo`, `x` and
     /// `x-toolongpiece`. `Memory`: out of memory. It does not allocate where the first piece is not `x`, or no private
-    /// subtag is right behind it. Source: UTS 35, section 3.2.
+    /// subtag is right after it. Source: UTS 35, section 3.2.
     pub fn try_from_str(alloc: Global, s: &str) -> Result<Self, ParseError>
         ensures value { IfOk result (ReadsPrivate s.now) }
         ensures fault { IfErr result (IsRefused (ReadsPrivate s.now)) }
-        ensures room { begins_behind is_private is_private_piece (pieces s.now) ≡ false
+        ensures room { begins_after is_private is_private_piece (pieces s.now) ≡ false
             → ¬ (IsErrOf result ParseError.Memory) }
     {
         Private::try_from_utf8(alloc, s.as_bytes())
@@ -80,7 +80,7 @@ impl Private {
     pub fn try_from_utf8(alloc: Global, code_units: &[u8]) -> Result<Self, ParseError>
         ensures value { IfOk result (ReadsPrivate code_units.now) }
         ensures fault { IfErr result (IsRefused (ReadsPrivate code_units.now)) }
-        ensures room { begins_behind is_private is_private_piece (pieces code_units.now) ≡ false
+        ensures room { begins_after is_private is_private_piece (pieces code_units.now) ≡ false
             → ¬ (IsErrOf result ParseError.Memory) }
     {
         let (rest, first) = SubtagIterator::new(code_units).next_const();
@@ -119,7 +119,7 @@ impl Private {
         Ok(private)
     }
 
-    /// Puts one more private subtag behind the others: `a` behind `foo` gives `foo`, `a`.
+    /// Puts one more private subtag after the others: `a` after `foo` gives `foo`, `a`.
     ///
     /// `AllocError`: out of memory; the list is then as before.
     pub fn push(&mut self, subtag: Subtag) -> Result<(), AllocError>

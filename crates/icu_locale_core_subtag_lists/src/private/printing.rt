@@ -24,8 +24,8 @@ fn text_length(private: &Private) -> Option<usize>
     pieces_length(private.as_slice())?.checked_add(1)
 }
 
-// Writes `x`, and the pieces behind it.
-fn write_behind_singleton<S: Sink>(pieces: &[Subtag], sink: &mut S) -> Result<(), Error>
+// Writes `x`, and the pieces after it.
+fn write_after_singleton<S: Sink>(pieces: &[Subtag], sink: &mut S) -> Result<(), Error>
     requires { S.refused sink.old ≡ false }
     ensures ok { OnOk result (S.takes sink.old (bytes private_text ++ bytes (flat_map hyphened pieces.now)) sink.new) }
     ensures refused { S.refused sink.new ≡ is_err result }
@@ -51,7 +51,7 @@ impl Writeable for Private {
         if self.is_empty() {
             return Ok(());
         }
-        write_behind_singleton(self.as_slice(), sink)
+        write_after_singleton(self.as_slice(), sink)
     }
 
     #[tactic(auto, using(writeable::proofs::AnnotatedTextLemmas::text_of_bytes))]

@@ -81,7 +81,7 @@ fn add_parent(alloc: Global, parents: &mut Parents, entry: Value) -> Result<(), 
     }
 }
 
-// The parents that the entries of an array make; each entry is let go once it is read.
+// The parents that the entries of an array make; each entry is dropped once it is read.
 fn parents_of(alloc: Global, entries: Vec<Value>) -> Result<Parents, BookError>
     ensures value { IfOk result (λ parents. all_of parent_entry (items_view entries.items) ≡ Some parents) }
     ensures sound { OnOk result (parents_faults [] (items_view entries.items) ≡ None) }

@@ -41,8 +41,8 @@ put_front-len-requires c =
       tens = c.block_of-block.ensures.tens;
     }
 
-pub put_behind-requires : goal.put_behind-requires
-put_behind-requires c =
+pub put_after-requires : goal.put_after-requires
+put_after-requires c =
     let t = borrowed_tables c.args.tables.now in
     let v = c.args.number.now in
     let count = c.highest-count.result + 1 in
@@ -80,7 +80,7 @@ returns-clause-text c =
     let shown = front_shown ds block count (omega (arith, long, value)) c.block_of-block.ensures.front in
     let part = part_shown ds block first count (omega (arith, split)) shown in
     let rest = rest_shown ds block first count (omega (arith, split)) (omega (arith, long, value)) shown in
-    whole_put first count separator t.digits ds block others (take c.put_front-len.result c.put_front-len.new.text) (take c.in_ok-end.end c.put_behind.new.text)
+    whole_put first count separator t.digits ds block others (take c.put_front-len.result c.put_front-len.new.text) (take c.in_ok-end.end c.put_after.new.text)
     part rest c.put_front-len.ensures.text c.in_ok-end.ensures.text
     ∙ sym (grouped_text t v count first c.of-sizes.result others ds (drop first ds) separator c.next.result (omega (arith, value)) cut c.next.ensures.steps c.unwrap_or-first.ensures c.whole_digits-digits.ensures refl c.requires.separator.is)
 
@@ -103,7 +103,7 @@ returns-clause-utf8 c =
     let part = part_shown ds block first count (omega (arith, split)) shown in
     let rest = rest_shown ds block first count (omega (arith, split)) (omega (arith, long, value)) shown in
     let tens = subst (AllBelowBase 10) (sym c.whole_digits-digits.ensures) (tens_down v.count 32768 (v.high - 32767)) in
-    let text = whole_put first count separator t.digits ds block others (take c.put_front-len.result c.put_front-len.new.text) (take c.in_ok-end.end c.put_behind.new.text)
+    let text = whole_put first count separator t.digits ds block others (take c.put_front-len.result c.put_front-len.new.text) (take c.in_ok-end.end c.put_after.new.text)
     part rest c.put_front-len.ensures.text c.in_ok-end.ensures.text in
     let fine = subst IsUtf8 (sym c.requires.separator.is) (IsUtf8-had _ c.requires.separator.utf8) in
     ∣ rw text (IsUtf8-append _ _ (utf8_digits t.digits (take first ds) (λ d below. IsUtf8-had _ (table.held d below).utf8) (below_take first ds tens))

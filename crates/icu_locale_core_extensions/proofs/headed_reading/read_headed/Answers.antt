@@ -5,7 +5,7 @@ use Rattle.icu_locale_core_keywords_fields.specs.HeadedView.{ends_anywhere}
 use Rattle.icu_locale_core_keywords_fields.specs.Allocation.{grows_at, keeps_last}
 use Rattle.icu_locale_core_keywords_fields.proofs.ReadingLemmas.{reading_begins}
 use Rattle.icu_locale_core_extensions.specs.HeadedReading.{EndsAs}
-use Rattle.icu_locale_core_extensions.proofs.HeadedLemmas.{behind_goes_on, behind_read, behind_refused, behind_cut, next_grows_not, end_grows_not}
+use Rattle.icu_locale_core_extensions.proofs.HeadedLemmas.{after_goes_on, after_read, after_refused, after_cut, next_grows_not, end_grows_not}
 use Rattle.icu_locale_core_extensions.proofs.OpeningLemmas.{opened}
 use Rattle.icu_locale_core_extensions.proofs.headed_reading.read_headed.Goals as goal
 
@@ -19,22 +19,22 @@ loop-piece-init g c = record { body = c.in-Some.body; opens = c.in-Some.ensures;
 
 pub loop-piece-preserved : goal.loop-piece-preserved
 loop-piece-preserved g c =
-    behind_goes_on _ _ _ _ _ _ _ _ _ c.in-Some-piece.ensures.steps c.loop-piece.invariant (rw c.in-Ok-Taken.field-0-is at c.in-Ok-Taken.ensures.step)
+    after_goes_on _ _ _ _ _ _ _ _ _ c.in-Some-piece.ensures.steps c.loop-piece.invariant (rw c.in-Ok-Taken.field-0-is at c.in-Ok-Taken.ensures.step)
 
 pub returns-in-Ok-Refused-clause-fault : goal.returns-in-Ok-Refused-clause-fault
 returns-in-Ok-Refused-clause-fault g c =
     let refused = rw c.in-Ok-Refused.field-0-is at c.in-Ok-Refused.ensures.step in
-    inr (refl, behind_refused _ _ _ (headed_ends ends_anywhere) _ _ _ _ _ c.in-Some-piece.ensures.steps c.loop-piece.invariant refused.0)
+    inr (refl, after_refused _ _ _ (headed_ends ends_anywhere) _ _ _ _ _ c.in-Some-piece.ensures.steps c.loop-piece.invariant refused.0)
 
 pub returns-in-Ok-Some-clause-value : goal.returns-in-Ok-Some-clause-value
 returns-in-Ok-Some-clause-value g c =
     let ended = rw c.in-Ok-Some.field-0-is at c.in-Ok-Some.ensures.value in
-    behind_read _ _ _ (headed_ends ends_anywhere) _ _ _ _ c.in-None.ensures.steps.0 c.loop-piece.invariant ended
+    after_read _ _ _ (headed_ends ends_anywhere) _ _ _ _ c.in-None.ensures.steps.0 c.loop-piece.invariant ended
 
 pub returns-in-Ok-None-clause-fault : goal.returns-in-Ok-None-clause-fault
 returns-in-Ok-None-clause-fault g c =
     let ended = rw c.in-Ok-None.field-0-is at c.in-Ok-None.ensures.value in
-    inr (refl, behind_cut _ _ _ (headed_ends ends_anywhere) _ _ _ c.in-None.ensures.steps.0 c.loop-piece.invariant ended)
+    inr (refl, after_cut _ _ _ (headed_ends ends_anywhere) _ _ _ c.in-None.ensures.steps.0 c.loop-piece.invariant ended)
 
 pub returns-in-Err-clause-room : goal.returns-in-Err-clause-room
 returns-in-Err-clause-room g c = λ none wanted.

@@ -1,5 +1,5 @@
-use Rattle.icu_locale_core_grammar.proofs.PartReaders.{keywords_behind, keywords_alone, fields_behind, fields_alone}
+use Rattle.icu_locale_core_grammar.proofs.PartReaders.{keywords_after, keywords_alone, fields_after, fields_alone}
 use Rattle.icu_locale_core_grammar.proofs.part_laws.entries_stand_alone.Goals as goal
 
 pub returns : goal.returns
-returns c = record { keywords = λ ps es. (keywords_behind ps es, keywords_alone ps es); fields = λ ps es. (fields_behind ps es, fields_alone ps es) }
+returns c = record { keywords = λ ps es. (keywords_after ps es, keywords_alone ps es); fields = λ ps es. (fields_after ps es, fields_alone ps es) }

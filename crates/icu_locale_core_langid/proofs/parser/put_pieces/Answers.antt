@@ -3,14 +3,14 @@ use Rattle.icu_locale_core_grammar.specs.TagStages.{language_after}
 use Rattle.icu_locale_core_langid.specs.Allocation.{grows_at}
 use Rattle.icu_locale_core_langid.specs.LanguageStep.{PutsPiece}
 use Rattle.icu_locale_core_langid.proofs.AllocationLemmas.{no_growth}
-use Rattle.icu_locale_core_langid.proofs.SteppingLemmas.{one_more_behind}
+use Rattle.icu_locale_core_langid.proofs.SteppingLemmas.{one_more_after}
 use Rattle.icu_locale_core_langid.proofs.parser.put_pieces.Goals as goal
 
 pub loop-piece-preserved : goal.loop-piece-preserved
 loop-piece-preserved c =
     let piece = c.in-Some.piece.now in
     let put = subst (PutsPiece c.loop-piece.id piece c.put_piece.new.id) c.if-not-branch.false c.in_ok-put_piece.ensures.step in
-    one_more_behind c.args.id.now c.loop-piece.id c.put_piece.new.id c.args.from c.loop-piece.rest c.in-Some.behind piece c.loop-piece.invariant c.in-Some.ensures put
+    one_more_after c.args.id.now c.loop-piece.id c.put_piece.new.id c.args.from c.loop-piece.rest c.in-Some.behind piece c.loop-piece.invariant c.in-Some.ensures put
 
 pub returns-in_err-put_piece-clause-room : goal.returns-in_err-put_piece-clause-room
 returns-in_err-put_piece-clause-room c = λ none.

@@ -13,13 +13,13 @@ pub returns-in-Ok : goal.returns-in-Ok
 returns-in-Ok c =
     let fits : SFits w32 c.answer.result = search rules in
     record {
-      outcome = c.put_behind.result;
+      outcome = c.put_after.result;
       number = to_z-of_z w32 c.answer.result fits ∙ c.answer.ensures;
       held = opening_by book_in _ _ _
           (λ x is. subst (SaysBook c.args.json.now) (sym is)
           (record { value = c.in-Ok.ensures.value.0; reads = c.in-Ok.ensures.value.1; is_book = c.in-Ok.ensures.value.2 }))
           (λ error is. record { fault = Memory; refused = tt; told = is })
-          c.put_behind.ensures;
+          c.put_after.ensures;
     }
 
 pub returns-in-Err : goal.returns-in-Err

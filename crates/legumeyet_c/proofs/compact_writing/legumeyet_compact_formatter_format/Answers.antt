@@ -11,8 +11,8 @@ use Rattle.legumeyet_c.specs.Views.{compact_open}
 use Rattle.legumeyet_c.proofs.WritingLemmas.{value_fault, value_says}
 use Rattle.legumeyet_c.proofs.compact_writing.legumeyet_compact_formatter_format.Goals as goal
 
-pub write_behind-requires : goal.write_behind-requires
-write_behind-requires c =
+pub write_after-requires : goal.write_after-requires
+write_after-requires c =
     other_fault c.number_of_text-number.result (c.number_of_text-number.ensures.fault)
     (λ error caused. number_fault_other (choices_of c.args.options.now) c.args.number.now error caused)
 
@@ -26,10 +26,10 @@ returns-clause-told c =
     let given = c.number_of_text-number.ensures.value in
     let caused = c.number_of_text-number.ensures.fault in
     record {
-      outcome = c.write_behind.result;
+      outcome = c.write_after.result;
       number = to_z-of_z w32 c.answer.result fits ∙ c.answer.ensures;
       held = put_by _ _ _ _ _
           (value_says IsCompactText open_tables is_given number given)
           (value_fault IsCompactFault open_tables is_given (IsChangeFault choices (ReadsSigned c.args.number.now) (IsNumberFault c.args.number.now)) number given caused)
-          c.write_behind.ensures.told;
+          c.write_after.ensures.told;
     }

@@ -10,8 +10,8 @@ use Rattle.legumeyet_c.specs.Views.{decimal_open}
 use Rattle.legumeyet_c.proofs.WritingLemmas.{value_fault, value_says}
 use Rattle.legumeyet_c.proofs.decimal_formatter.legumeyet_decimal_formatter_format_i64.Goals as goal
 
-pub write_behind-requires : goal.write_behind-requires
-write_behind-requires c =
+pub write_after-requires : goal.write_after-requires
+write_after-requires c =
     let mantissa = to_z-of_z w64 c.args.mantissa c.ranges.mantissa in
     let exponent = to_z-of_z w16 c.args.exponent c.ranges.exponent in
     other_fault c.number_of_i64-number.result (simp (mantissa, exponent) at c.number_of_i64-number.ensures.fault)
@@ -29,10 +29,10 @@ returns-clause-told c =
     let given = simp (mantissa, exponent) at c.number_of_i64-number.ensures.value in
     let caused = simp (mantissa, exponent) at c.number_of_i64-number.ensures.fault in
     record {
-      outcome = c.write_behind.result;
+      outcome = c.write_after.result;
       number = to_z-of_z w32 c.answer.result fits ∙ c.answer.ensures;
       held = put_by _ _ _ _ _
           (value_says IsDecimalText open_tables is_given number given)
           (value_fault HasNoFault open_tables is_given (IsChangeFault choices (IsScaled c.args.mantissa c.args.exponent) (IsScaledFault c.args.mantissa c.args.exponent)) number given caused)
-          c.write_behind.ensures.told;
+          c.write_after.ensures.told;
     }

@@ -6,4 +6,4 @@ use Rattle.legumeyet_c.proofs.keeping.legumeyet_book_keep.Goals as goal
 pub returns-clause-told : goal.returns-clause-told
 returns-clause-told c =
     let fits : SFits w32 c.answer.result = search rules in
-    record { outcome = c.keep_behind.result; number = to_z-of_z w32 c.answer.result fits ∙ c.answer.ensures; held = c.keep_behind.ensures.told }
+    record { outcome = c.keep_after.result; number = to_z-of_z w32 c.answer.result fits ∙ c.answer.ensures; held = c.keep_after.ensures.told }

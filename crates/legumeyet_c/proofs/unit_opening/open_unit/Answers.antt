@@ -13,7 +13,7 @@ returns-in-Ok-clause-told g c =
     opening_by unit_in _ _ _
     (λ x is. subst (λ (h : HeldUnit). FindsUnit g.A.AskedUnit.found book kept c.args.asked c.args.tag.now h) (sym is) c.in-Ok.ensures.value)
     (unit_memory_misses g.A.AskedUnit.found book kept c.args.asked c.args.tag.now c.in-Ok.held c.in-Ok.ensures.value)
-    c.put_behind.ensures
+    c.put_after.ensures
 
 pub returns-in-Err-clause-told : goal.returns-in-Err-clause-told
 returns-in-Err-clause-told g c = opening_refused unit_in _ _ c.args.handle.now.pointer.value _ c.in-Err.ensures.fault

@@ -10,8 +10,8 @@ use Rattle.legumeyet_c.specs.Views.{unit_open}
 use Rattle.legumeyet_c.proofs.UnitLemmas.{unit_fault, unit_says}
 use Rattle.legumeyet_c.proofs.unit_writing.legumeyet_unit_formatter_format_double.Goals as goal
 
-pub write_behind-requires : goal.write_behind-requires
-write_behind-requires c =
+pub write_after-requires : goal.write_after-requires
+write_after-requires c =
     other_fault c.read_double-number.result c.read_double-number.ensures.fault (λ error caused. λ same. subst (λ (e : CallError). IsDoubleFault c.args.number e) same caused)
 
 pub returns-clause-told : goal.returns-clause-told
@@ -20,10 +20,10 @@ returns-clause-told c =
     let units = unit_open c.args.formatter.now in
     let number = c.read_double-number.result in
     record {
-      outcome = c.write_behind.result;
+      outcome = c.write_after.result;
       number = to_z-of_z w32 c.answer.result fits ∙ c.answer.ensures;
       held = put_by _ _ _ _ _
           (unit_says IsUnitText units c.args.options.now (IsOfDouble c.args.number) number c.read_double-number.ensures.value)
           (unit_fault units c.args.options.now (IsOfDouble c.args.number) (IsDoubleFault c.args.number) number c.read_double-number.ensures.value c.read_double-number.ensures.fault)
-          c.write_behind.ensures.told;
+          c.write_after.ensures.told;
     }

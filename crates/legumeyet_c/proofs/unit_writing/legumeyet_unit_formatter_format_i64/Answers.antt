@@ -10,8 +10,8 @@ use Rattle.legumeyet_c.specs.Views.{unit_open}
 use Rattle.legumeyet_c.proofs.UnitLemmas.{unit_fault, unit_says}
 use Rattle.legumeyet_c.proofs.unit_writing.legumeyet_unit_formatter_format_i64.Goals as goal
 
-pub write_behind-requires : goal.write_behind-requires
-write_behind-requires c =
+pub write_after-requires : goal.write_after-requires
+write_after-requires c =
     let mantissa = to_z-of_z w64 c.args.mantissa c.ranges.mantissa in
     let exponent = to_z-of_z w16 c.args.exponent c.ranges.exponent in
     other_fault c.scaled-number.result (simp (mantissa, exponent) at c.scaled-number.ensures.fault) (λ error caused. λ same. subst (λ (e : CallError). IsScaledFault c.args.mantissa c.args.exponent e) same caused)
@@ -24,10 +24,10 @@ returns-clause-told c =
     let units = unit_open c.args.formatter.now in
     let number = c.scaled-number.result in
     record {
-      outcome = c.write_behind.result;
+      outcome = c.write_after.result;
       number = to_z-of_z w32 c.answer.result fits ∙ c.answer.ensures;
       held = put_by _ _ _ _ _
           (unit_says IsUnitText units c.args.options.now (IsScaled c.args.mantissa c.args.exponent) number (simp (mantissa, exponent) at c.scaled-number.ensures.value))
           (unit_fault units c.args.options.now (IsScaled c.args.mantissa c.args.exponent) (IsScaledFault c.args.mantissa c.args.exponent) number (simp (mantissa, exponent) at c.scaled-number.ensures.value) (simp (mantissa, exponent) at c.scaled-number.ensures.fault))
-          c.write_behind.ensures.told;
+          c.write_after.ensures.told;
     }

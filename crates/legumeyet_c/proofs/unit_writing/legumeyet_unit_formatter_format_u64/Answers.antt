@@ -11,8 +11,8 @@ use Rattle.legumeyet_c.specs.Views.{unit_open}
 use Rattle.legumeyet_c.proofs.UnitLemmas.{unit_fault, unit_says}
 use Rattle.legumeyet_c.proofs.unit_writing.legumeyet_unit_formatter_format_u64.Goals as goal
 
-pub write_behind-requires : goal.write_behind-requires
-write_behind-requires c =
+pub write_after-requires : goal.write_after-requires
+write_after-requires c =
     let exponent = to_z-of_z w16 c.args.exponent c.ranges.exponent in
     other_fault c.scaled_unsigned-number.result (simp exponent at c.scaled_unsigned-number.ensures.fault) (λ error caused. λ same. subst (λ (e : CallError). IsScaledFault (pos c.args.mantissa) c.args.exponent e) same caused)
 
@@ -23,10 +23,10 @@ returns-clause-told c =
     let units = unit_open c.args.formatter.now in
     let number = c.scaled_unsigned-number.result in
     record {
-      outcome = c.write_behind.result;
+      outcome = c.write_after.result;
       number = to_z-of_z w32 c.answer.result fits ∙ c.answer.ensures;
       held = put_by _ _ _ _ _
           (unit_says IsUnitText units c.args.options.now (IsScaled (pos c.args.mantissa) c.args.exponent) number (simp exponent at c.scaled_unsigned-number.ensures.value))
           (unit_fault units c.args.options.now (IsScaled (pos c.args.mantissa) c.args.exponent) (IsScaledFault (pos c.args.mantissa) c.args.exponent) number (simp exponent at c.scaled_unsigned-number.ensures.value) (simp exponent at c.scaled_unsigned-number.ensures.fault))
-          c.write_behind.ensures.told;
+          c.write_after.ensures.told;
     }

@@ -11,8 +11,8 @@ use Rattle.legumeyet_c.specs.Views.{compact_open}
 use Rattle.legumeyet_c.proofs.WritingLemmas.{value_fault, value_says}
 use Rattle.legumeyet_c.proofs.unsigned.legumeyet_compact_formatter_format_u64.Goals as goal
 
-pub write_behind-requires : goal.write_behind-requires
-write_behind-requires c =
+pub write_after-requires : goal.write_after-requires
+write_after-requires c =
     let exponent = to_z-of_z w16 c.args.exponent c.ranges.exponent in
     other_fault c.number_of_u64-number.result (simp exponent at c.number_of_u64-number.ensures.fault)
     (λ error caused. scaled_fault_other (choices_of c.args.options.now) (pos c.args.mantissa) c.args.exponent error caused)
@@ -28,10 +28,10 @@ returns-clause-told c =
     let given = simp exponent at c.number_of_u64-number.ensures.value in
     let caused = simp exponent at c.number_of_u64-number.ensures.fault in
     record {
-      outcome = c.write_behind.result;
+      outcome = c.write_after.result;
       number = to_z-of_z w32 c.answer.result fits ∙ c.answer.ensures;
       held = put_by _ _ _ _ _
           (value_says IsCompactText open_tables is_given number given)
           (value_fault IsCompactFault open_tables is_given (IsChangeFault choices (IsScaled (pos c.args.mantissa) c.args.exponent) (IsScaledFault (pos c.args.mantissa) c.args.exponent)) number given caused)
-          c.write_behind.ensures.told;
+          c.write_after.ensures.told;
     }

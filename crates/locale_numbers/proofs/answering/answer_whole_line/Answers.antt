@@ -2,23 +2,23 @@ use Rattle.std.proofs.Common.{◌++◌, Some, refl, sym, ap, ◌∙◌, subst}
 use Rattle.std.specs.Prelude.{string_bytes}
 use Rattle.std.proofs.lemmas.Bool.{false≢true}
 use Rattle.locale_numbers_answers.specs.AnswerSink.{HasRoom}
-use Rattle.locale_numbers.specs.Front.{MayTakeBehind, answer_behind, front_asked}
+use Rattle.locale_numbers.specs.Front.{MayTakeAfter, answer_after, front_asked}
 use Rattle.locale_numbers.proofs.AnsweringLemmas.{grows_by_none, on_ok_by}
 use Rattle.locale_numbers.proofs.FrontLemmas.{answer_of_line, fits_form}
-use Rattle.locale_numbers.proofs.LineMemoryLemmas.{formatter_behind, front_of_request, text_behind}
+use Rattle.locale_numbers.proofs.LineMemoryLemmas.{formatter_after, front_of_request, text_after}
 use Rattle.locale_numbers.proofs.answering.answer_whole_line.Goals as goal
 
-pub answer_behind_front-requires : goal.answer_behind_front-requires
-answer_behind_front-requires g c κs = ((refl, tt {0}), (c.requires, (fits_form c.in_ok-front.front c.cut_text.result.0.now c.in_ok-front.ensures.value, λ held. absurd (false≢true held))))
+pub answer_after_front-requires : goal.answer_after_front-requires
+answer_after_front-requires g c κs = ((refl, tt {0}), (c.requires, (fits_form c.in_ok-front.front c.cut_text.result.0.now c.in_ok-front.ensures.value, λ held. absurd (false≢true held))))
 
 pub returns-clause-text : goal.returns-clause-text
 returns-clause-text g c =
     let book = g.F.Formatters.book c.args.formatters.now in
-    on_ok_by c.answer_behind_front.result
+    on_ok_by c.answer_after_front.result
     (λ p. p ∙ ap (λ answer. string_bytes c.args.out.now ++ answer)
-    (ap (λ front. answer_behind book front c.cut_text.result.1.now) c.in_ok-front.ensures.value
+    (ap (λ front. answer_after book front c.cut_text.result.1.now) c.in_ok-front.ensures.value
     ∙ sym (answer_of_line c.args.line.now c.cut_text.result.0.now c.cut_text.result.1.now c.cut_text.ensures.asks book)))
-    c.answer_behind_front.ensures.text
+    c.answer_after_front.ensures.text
 
 pub returns-in_err-front-clause-err : goal.returns-in_err-front-clause-err
 returns-in_err-front-clause-err g c = grows_by_none c.from_residual.result (string_bytes c.args.out.now)
@@ -31,10 +31,10 @@ pub returns-clause-room : goal.returns-clause-room
 returns-clause-room g c = λ asked is room tag takes.
     let book = g.F.Formatters.book c.args.formatters.now in
     let whole = front_of_request c.args.line.now c.cut_text.result.0.now c.cut_text.result.1.now asked c.cut_text.ensures.asks is in
-    c.answer_behind_front.ensures.room
+    c.answer_after_front.ensures.room
     (subst (λ answer. HasRoom c.args.out.now answer)
     (answer_of_line c.args.line.now c.cut_text.result.0.now c.cut_text.result.1.now c.cut_text.ensures.asks book
-    ∙ ap (λ front. answer_behind book front c.cut_text.result.1.now) (sym c.in_ok-front.ensures.value)) room)
-    (formatter_behind (g.F.Formatters.may_take_memory c.args.formatters.now) c.in_ok-front.front c.cut_text.result.0.now c.cut_text.result.1.now asked c.in_ok-front.ensures.value whole takes.formatter)
-    (text_behind book c.zero-value.result c.in_ok-front.front c.cut_text.result.0.now c.cut_text.result.1.now asked c.in_ok-front.ensures.value whole
-    (subst (λ before. ¬ (MayTakeBehind book (front_asked (Some asked)) asked.text before)) (sym c.zero-value.ensures) takes.text))
+    ∙ ap (λ front. answer_after book front c.cut_text.result.1.now) (sym c.in_ok-front.ensures.value)) room)
+    (formatter_after (g.F.Formatters.may_take_memory c.args.formatters.now) c.in_ok-front.front c.cut_text.result.0.now c.cut_text.result.1.now asked c.in_ok-front.ensures.value whole takes.formatter)
+    (text_after book c.zero-value.result c.in_ok-front.front c.cut_text.result.0.now c.cut_text.result.1.now asked c.in_ok-front.ensures.value whole
+    (subst (λ before. ¬ (MayTakeAfter book (front_asked (Some asked)) asked.text before)) (sym c.zero-value.ensures) takes.text))

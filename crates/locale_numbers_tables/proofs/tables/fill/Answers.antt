@@ -4,7 +4,7 @@ use Rattle.serde_json.specs.Data.{item}
 use Rattle.serde_json.specs.View.{items_view, view}
 use Rattle.locale_numbers_tables.specs.Entries.{all_of}
 use Rattle.locale_numbers_tables.specs.Allocation.{begins_with}
-use Rattle.locale_numbers_tables.proofs.AddLemmas.{faults_behind, one_more_said, passed, still_once}
+use Rattle.locale_numbers_tables.proofs.AddLemmas.{faults_after, one_more_said, passed, still_once}
 use Rattle.locale_numbers_tables.proofs.tables.fill.Goals as goal
 
 pub loop-entry-preserved : goal.loop-entry-preserved
@@ -19,7 +19,7 @@ loop-entry-preserved g c =
     record {
       all = one_more_said g.V.Key.PartialEq.eq g.V.Entry.meaning g.V.Entry.key_in g.V.Entry.fault_in _ entry rest _ _ adds read;
       once = still_once g.V.Key.PartialEq.eq g.V.Entry.meaning g.V.Entry.key_in g.V.Entry.fault_in entry _ _ g.met.V.Key.Eq.laws.symm adds c.loop-entry.invariant.once;
-      left = sym passes ∙ sym (ap (faults_behind g.V.Key.PartialEq.eq g.V.Entry.key_in g.V.Entry.fault_in before) step) ∙ c.loop-entry.invariant.left;
+      left = sym passes ∙ sym (ap (faults_after g.V.Key.PartialEq.eq g.V.Entry.key_in g.V.Entry.fault_in before) step) ∙ c.loop-entry.invariant.left;
       seeded = c.in-Ok.ensures.seeded ∙ c.loop-entry.invariant.seeded;
       first = λ h. c.loop-entry.invariant.first (ap (begins_with g.V.Entry.may_grow) step ∙ c.in-Ok.ensures.grows);
     }

@@ -2,7 +2,7 @@ use Rattle.std.proofs.Common.{◌≡◌, ℕ, ◌+◌, ◌≤◌, ◌<◌, ◌++
 use Rattle.std.specs.Fmt.{decimal}
 use Rattle.tinystr.proofs.decimal.put_digits.Given as goal
 
--- the digits of what is left, and behind them those that stand already, are the number's
+-- the digits of what is left, and after them those that are there already, are the number's
 pub record Left (number rest start : ℕ) (digits : List ℕ) : Type 0 where
   pub small : rest < 2 ^ 32
   pub within : start < 10

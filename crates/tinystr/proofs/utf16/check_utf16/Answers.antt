@@ -1,5 +1,5 @@
 use Rattle.std.proofs.Common.{arith, inl}
-use Rattle.tinystr.proofs.FaultsLemmas.{faultless_nul, faultless_text, stops_at_non_ascii, stops_behind_nul, text_unit}
+use Rattle.tinystr.proofs.FaultsLemmas.{faultless_nul, faultless_text, stops_at_non_ascii, stops_after_nul, text_unit}
 use Rattle.tinystr.proofs.utf16.check_utf16.Goals as goal
 use Rattle.tinystr.proofs.utf16.check_utf16.Goals.{then-unit-eq0, else-unit-eq0+else-nul_seen}
 
@@ -10,7 +10,7 @@ returns-then-unit-gt127 c =
 pub returns-then-nul_seen : goal.returns-then-nul_seen
 returns-then-nul_seen c = (
   omega arith,
-  inl (stops_behind_nul c.loop-unit.nul_seen c.args.units.now c.loop-unit.unit-index c.loop-unit-test.true c.loop-unit.invariant
+  inl (stops_after_nul c.loop-unit.nul_seen c.args.units.now c.loop-unit.unit-index c.loop-unit-test.true c.loop-unit.invariant
       c.if-nul_seen.true (text_unit _ c.if-unit-gt127.false c.if-unit-eq0.false)),
 )
 

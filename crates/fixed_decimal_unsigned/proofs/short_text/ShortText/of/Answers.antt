@@ -1,6 +1,6 @@
 use Rattle.std.proofs.Common.{◌-◌, ◌∙◌, length, sym, arith}
 use Rattle.fixed_decimal_digits.proofs.WordLemmas.{power_positive}
-use Rattle.fixed_decimal_unsigned.proofs.ShortTextLemmas.{short_whole, short_both, room_behind}
+use Rattle.fixed_decimal_unsigned.proofs.ShortTextLemmas.{short_whole, short_both, room_after}
 use Rattle.fixed_decimal_unsigned.proofs.short_text.ShortText.of.Goals as goal
 
 pub word_behind-whole-requires-clause-room : goal.word_behind-whole-requires-clause-room
@@ -14,7 +14,7 @@ returns-then-above-text c =
 pub word_behind-word-requires-clause-room : goal.word_behind-word-requires-clause-room
 word_behind-word-requires-clause-room c =
     let whole = c.word_behind-whole in
-    room_behind c.args.text.now c.in_ok-point.fraction.now c.in_ok-point.point.now whole.result.0 whole.result.1 (omega (arith, c.if-text-gt-WORD_DIGITS.false)) whole.ensures.within
+    room_after c.args.text.now c.in_ok-point.fraction.now c.in_ok-point.point.now whole.result.0 whole.result.1 (omega (arith, c.if-text-gt-WORD_DIGITS.false)) whole.ensures.within
     (sym c.split_at.ensures.back ∙ c.in_ok-point.ensures.cases.0) whole.ensures.digits whole.ensures.word
 
 pub returns : goal.returns

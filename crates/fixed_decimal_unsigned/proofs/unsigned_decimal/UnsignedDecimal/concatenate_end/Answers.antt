@@ -16,14 +16,14 @@ pub invariant_of-self-in-Ok : goal.invariant_of-self-in-Ok
 invariant_of-self-in-Ok c =
     let i = c.self.inside in let o = c.other.inside in
     kept_stored i.digits.items o.digits.items i.top o.top i.low i.high o.low o.high c.self.invariant c.other.invariant c.args.self.now c.args.other c.self.view_is c.other.view_is
-    c.if-is_zero.ensures c.if-is_zero-2.ensures c.push_behind.new.digits.items c.in-Some.zeros c.min-self-inside-in-Ok.result c.max-self-inside-in-Ok.result
+    c.if-is_zero.ensures c.if-is_zero-2.ensures c.push_after.new.digits.items c.in-Some.zeros c.min-self-inside-in-Ok.result c.max-self-inside-in-Ok.result
     c.in-Ok.ensures.ok c.in-Some.ensures.some c.min-self-inside-in-Ok.ensures c.max-self-inside-in-Ok.ensures
 
 pub invariant_of-self-in-Ok-2 : goal.invariant_of-self-in-Ok-2
 invariant_of-self-in-Ok-2 c =
     let i = c.self.inside in let o = c.other.inside in
     kept_stored i.digits.items o.digits.items i.top o.top i.low i.high o.low o.high c.self.invariant c.other.invariant c.args.self.now c.args.other c.self.view_is c.other.view_is
-    c.if-is_zero.ensures c.if-is_zero-2.ensures c.push_behind.new.digits.items c.in-Some.zeros c.min-self-inside-in-Ok.result c.max-self-inside-in-Ok.result
+    c.if-is_zero.ensures c.if-is_zero-2.ensures c.push_after.new.digits.items c.in-Some.zeros c.min-self-inside-in-Ok.result c.max-self-inside-in-Ok.result
     c.in-Ok.ensures.ok c.in-Some.ensures.some c.min-self-inside-in-Ok.ensures c.max-self-inside-in-Ok.ensures
 
 pub returns-in-Ok-clause-value : goal.returns-in-Ok-clause-value
@@ -31,7 +31,7 @@ returns-in-Ok-clause-value c =
     let i = c.self.inside in let o = c.other.inside in
     let sum =
     kept_sum i.digits.items o.digits.items i.top o.top i.low i.high o.low o.high c.self.invariant c.other.invariant c.args.self.now c.args.other c.self.view_is c.other.view_is
-    c.if-is_zero.ensures c.if-is_zero-2.ensures c.push_behind.new.digits.items c.in-Some.zeros c.min-self-inside-in-Ok.result c.max-self-inside-in-Ok.result
+    c.if-is_zero.ensures c.if-is_zero-2.ensures c.push_after.new.digits.items c.in-Some.zeros c.min-self-inside-in-Ok.result c.max-self-inside-in-Ok.result
     c.in-Ok.ensures.ok c.in-Some.ensures.some c.min-self-inside-in-Ok.ensures c.max-self-inside-in-Ok.ensures in
     elim c.match-other-2.branch [
       | in-Heap-3 w ↦ subst (Concatenates c.args.self.now c.args.other) (sym w.self-is) sum

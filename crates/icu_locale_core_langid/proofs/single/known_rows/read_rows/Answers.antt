@@ -1,6 +1,6 @@
 use Rattle.std.proofs.Common.{[], ◌∷◌, None, Some, codes, refl}
 use Rattle.icu_locale_core_grammar.specs.Pieces.{pieces}
-use Rattle.icu_locale_core_grammar.specs.SingleVariant.{BehindKey, BehindValue}
+use Rattle.icu_locale_core_grammar.specs.SingleVariant.{AfterKey, AfterValue}
 use Rattle.icu_locale_core_grammar.proofs.SingleReader.{single_reader}
 use Rattle.icu_locale_core_langid.proofs.OneVariantReader.{one_variant_reader}
 use Rattle.icu_locale_core_langid.specs.SingleModes.{single}
@@ -11,11 +11,11 @@ use Rattle.icu_locale_core_langid.proofs.single.known_rows.read_rows.Goals as go
 pub returns : goal.returns
 returns c = record {
   keyword =
-      single_reader.found (pieces (codes "EN-us-u-NU-Thai")) (BehindValue Rows.american (codes "nu") (Some (codes "thai")))
+      single_reader.found (pieces (codes "EN-us-u-NU-Thai")) (AfterValue Rows.american (codes "nu") (Some (codes "thai")))
       (single (codes "en", None, Some (codes "US"), None, Some (codes "nu", Some (codes "thai")))) Rows.keyword refl;
   true_is_no_value =
-      single_reader.found (pieces (codes "en-u-nu-true")) (BehindValue Rows.english (codes "nu") None) (single (codes "en", None, None, None, Some (codes "nu", None))) Rows.true_is_no_value refl;
-  key_alone = single_reader.found (pieces (codes "en-u-nu")) (BehindKey Rows.english (codes "nu")) (single (codes "en", None, None, None, Some (codes "nu", None))) Rows.key_alone refl;
+      single_reader.found (pieces (codes "en-u-nu-true")) (AfterValue Rows.english (codes "nu") None) (single (codes "en", None, None, None, Some (codes "nu", None))) Rows.true_is_no_value refl;
+  key_alone = single_reader.found (pieces (codes "en-u-nu")) (AfterKey Rows.english (codes "nu")) (single (codes "en", None, None, None, Some (codes "nu", None))) Rows.key_alone refl;
   whole = (one_variant_reader.found (pieces (codes "EN-latn-us-FONIPA")) (Some Rows.phonetic) Rows.phonetic Rows.whole_part refl, refl);
   keyword_left = (
     (

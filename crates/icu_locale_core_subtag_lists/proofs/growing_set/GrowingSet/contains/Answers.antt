@@ -4,7 +4,7 @@ use Rattle.std.specs.BTreeMap.{is_at}
 use Rattle.icu_locale_core_grammar.specs.Subtags.{same_text}
 use Rattle.icu_locale_core_grammar.specs.Collections.{contains_text, text_cmp}
 use Rattle.icu_locale_core_subtag_lists.specs.Growing.{few}
-use Rattle.icu_locale_core_subtag_lists.proofs.GrowingLemmas.{found_in_few, found_in_front, found_behind}
+use Rattle.icu_locale_core_subtag_lists.proofs.GrowingLemmas.{found_in_few, found_in_front, found_after}
 use Rattle.icu_locale_core_subtag_lists.proofs.growing_set.GrowingSet.contains.Goals as goal
 
 pub returns-then-items-le-FEW : goal.returns-then-items-le-FEW
@@ -23,7 +23,7 @@ pub returns-else-contains : goal.returns-else-contains
 returns-else-contains g c =
     let t = c.args.subtag.now in
     let known = c.self.inside.known.keys in
-    found_behind t c.self.inside.items.items known c.contains-else-items-le-FEW.result c.contains-else-contains.result c.self.invariant.searched
+    found_after t c.self.inside.items.items known c.contains-else-items-le-FEW.result c.contains-else-contains.result c.self.invariant.searched
     (c.contains-else-items-le-FEW.ensures.value ∙ ap (λ l. list_any (λ u. same_text u t) (take few l)) c.as_slice-items.ensures.value) c.if-contains.false
     (c.contains-else-contains.ensures ∙ ap (λ u. list_any (is_at (text_cmp u)) known) c.to_tinystr.ensures)
     ∙ ap (contains_text t) c.self.view_is

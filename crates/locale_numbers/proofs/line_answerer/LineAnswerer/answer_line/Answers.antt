@@ -6,16 +6,16 @@ use Rattle.locale_numbers_cache.specs.Cached.{IsLatest, recent_of}
 use Rattle.locale_numbers_cache.specs.Recent.{has}
 use Rattle.locale_numbers.specs.FormatterKeys.{key_of}
 use Rattle.locale_numbers.specs.KeptFormatters.{IsKeptFor}
-use Rattle.locale_numbers.specs.Front.{answer_behind, key_behind}
+use Rattle.locale_numbers.specs.Front.{answer_after, key_after}
 use Rattle.locale_numbers.specs.LineMemory.{IsRemembered}
 use Rattle.locale_numbers.specs.contracts.formatter_key.FormatterKeyPartialEq.TheImpl as keys
 use Rattle.locale_numbers.proofs.AnsweringLemmas.{grows_by_none, on_ok_by, one_of}
 use Rattle.locale_numbers.proofs.FrontLemmas.{answer_of_line, fits_form, key_of_line, still_held}
-use Rattle.locale_numbers.proofs.LineMemoryLemmas.{formatter_behind, front_is_before, front_of_request, text_behind}
+use Rattle.locale_numbers.proofs.LineMemoryLemmas.{formatter_after, front_is_before, front_of_request, text_after}
 use Rattle.locale_numbers.proofs.line_answerer.LineAnswerer.answer_line.Goals as goal
 
-pub answer_behind_front-requires : goal.answer_behind_front-requires
-answer_behind_front-requires g c κs =
+pub answer_after_front-requires : goal.answer_after_front-requires
+answer_after_front-requires g c κs =
     let book = g.T.Tables.book c.args.self.now.kept.maker.tables.now in (
       (refl, tt {0}),
       (
@@ -31,20 +31,20 @@ answer_behind_front-requires g c κs =
 pub returns-clause-text : goal.returns-clause-text
 returns-clause-text g c =
     let book = g.T.Tables.book c.args.self.now.kept.maker.tables.now in
-    on_ok_by c.answer_behind_front.result
+    on_ok_by c.answer_after_front.result
     (λ p. p ∙ ap (λ answer. string_bytes c.args.out.now ++ answer)
-    (ap (λ front. answer_behind book front c.cut_text.result.1.now) (one_of _ _ _ c.latest.ensures c.in_ok-same.ensures.value)
+    (ap (λ front. answer_after book front c.cut_text.result.1.now) (one_of _ _ _ c.latest.ensures c.in_ok-same.ensures.value)
     ∙ sym (answer_of_line c.args.line.now c.cut_text.result.0.now c.cut_text.result.1.now c.cut_text.ensures.asks book)))
-    c.answer_behind_front.ensures.text
+    c.answer_after_front.ensures.text
 
 pub returns-clause-made : goal.returns-clause-made
 returns-clause-made g c =
-    let key : key_of c.args.line.now ≡ key_behind c.latest.result.now c.cut_text.result.1.now =
+    let key : key_of c.args.line.now ≡ key_after c.latest.result.now c.cut_text.result.1.now =
     key_of_line c.args.line.now c.cut_text.result.0.now c.cut_text.result.1.now c.cut_text.ensures.asks
-    ∙ ap (λ front. key_behind front c.cut_text.result.1.now) (sym (one_of _ _ _ c.latest.ensures c.in_ok-same.ensures.value)) in
-    on_ok_by c.answer_behind_front.result
+    ∙ ap (λ front. key_after front c.cut_text.result.1.now) (sym (one_of _ _ _ c.latest.ensures c.in_ok-same.ensures.value)) in
+    on_ok_by c.answer_after_front.result
     (λ counted more. rw key (counted (map key_of more)))
-    c.answer_behind_front.ensures.counted
+    c.answer_after_front.ensures.counted
 
 pub returns-in_err-same-clause-err : goal.returns-in_err-same-clause-err
 returns-in_err-same-clause-err g c = grows_by_none c.from_residual.result (string_bytes c.args.out.now)
@@ -60,9 +60,9 @@ returns-clause-room g c = λ asked is room remembered takes.
     let book = g.T.Tables.book c.args.self.now.kept.maker.tables.now in
     let whole = front_of_request c.args.line.now c.cut_text.result.0.now c.cut_text.result.1.now asked c.cut_text.ensures.asks is in
     let read = one_of _ _ _ c.latest.ensures c.in_ok-same.ensures.value in
-    c.answer_behind_front.ensures.room
+    c.answer_after_front.ensures.room
     (subst (λ answer. HasRoom c.args.out.now answer)
     (answer_of_line c.args.line.now c.cut_text.result.0.now c.cut_text.result.1.now c.cut_text.ensures.asks book
-    ∙ ap (λ front. answer_behind book front c.cut_text.result.1.now) (sym read)) room)
-    (formatter_behind (λ key. ¬ (IsTrue (has keys.ghosts.eq key (recent_of c.args.self.now.kept.formatters)))) c.latest.result.now c.cut_text.result.0.now c.cut_text.result.1.now asked read whole takes.formatter)
-    (text_behind book c.args.self.now.value c.latest.result.now c.cut_text.result.0.now c.cut_text.result.1.now asked read whole takes.text)
+    ∙ ap (λ front. answer_after book front c.cut_text.result.1.now) (sym read)) room)
+    (formatter_after (λ key. ¬ (IsTrue (has keys.ghosts.eq key (recent_of c.args.self.now.kept.formatters)))) c.latest.result.now c.cut_text.result.0.now c.cut_text.result.1.now asked read whole takes.formatter)
+    (text_after book c.args.self.now.value c.latest.result.now c.cut_text.result.0.now c.cut_text.result.1.now asked read whole takes.text)

@@ -4,7 +4,7 @@ use Rattle.tinystr.specs.SmallText.{IsForm, IsSmall, padded}
 use Rattle.tinystr.proofs.SmallTextLemmas.{IsForm-of, text_of-of, put_gives_form, IsSmall-append, list_all-take, take-joined}
 use Rattle.tinystr.proofs.ascii.TinyAsciiStr.concat.Goals as goal
 
--- what is written behind the front is what fits of the other text
+-- what is written after the front is what fits of the other text
 record Joined (q : ℕ) (one other bytes : List ℕ) : Type 0 where
   small : IsSmall q (take q (one ++ other))
   form : bytes ≡ padded q (take q (one ++ other))

@@ -2,7 +2,7 @@ use Rattle.std.proofs.Common.{◌≡◌, ℕ, ◌-◌, ◌<◌, ◌≤◌, Bool,
 use Rattle.std.proofs.lemmas.List.{length-drop}
 use Rattle.tinystr.specs.SmallText.{IsForm}
 use Rattle.tinystr.specs.Forms.{AreForms}
-use Rattle.tinystr.proofs.FormsLemmas.{forms_whole, forms_uncons, forms_behind, forms_before, room_for_one, whole_behind}
+use Rattle.tinystr.proofs.FormsLemmas.{forms_whole, forms_uncons, forms_after, forms_before, room_for_one, whole_behind}
 use Rattle.tinystr.proofs.ascii.TinyAsciiStr.validate_bytes.Invariants.{Left}
 use Rattle.tinystr.proofs.ascii.TinyAsciiStr.validate_bytes.Goals as goal
 
@@ -53,7 +53,7 @@ stepped n all rest front more some room is behind long form left =
     record {
       whole = rw (behind, count) (whole_behind n (length rest) room left.whole);
       back = λ forms. left.back (forms_before n rest first (rw behind at forms));
-      on = λ forms. rw behind (forms_behind n rest some room (left.on forms));
+      on = λ forms. rw behind (forms_after n rest some room (left.on forms));
     }
 
 pub loop-rest-preserved : goal.loop-rest-preserved

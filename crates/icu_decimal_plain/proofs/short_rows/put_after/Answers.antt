@@ -2,7 +2,7 @@ use Rattle.std.proofs.Common.{◌≡◌, ◌-◌, ◌++◌, ◌∙◌, IfSome, a
 use Rattle.fixed_decimal.proofs.DigitsLemmas.{below_drop, below_take}
 use Rattle.icu_decimal_plain.proofs.RowLemmas.{threes_ahead}
 use Rattle.icu_decimal_plain.proofs.ShortRowLemmas.{words_row}
-use Rattle.icu_decimal_plain.proofs.short_rows.put_behind.Goals as goal
+use Rattle.icu_decimal_plain.proofs.short_rows.put_after.Goals as goal
 
 pub returns-in-Some-threes-clause-text : goal.returns-in-Some-threes-clause-text
 returns-in-Some-threes-clause-text c =

@@ -1,7 +1,7 @@
 use Rattle.std.proofs.Common.{refl, ap, ◌∙◌, Option, Some}
 use Rattle.legumeyet_c.specs.Kinds.{is_kept}
 use Rattle.legumeyet_c.specs.declared.content.Content.{Content}
-use Rattle.legumeyet_c.proofs.opening.put_behind.Goals as goal
+use Rattle.legumeyet_c.proofs.opening.put_after.Goals as goal
 
 pub returns-in-Ok : goal.returns-in-Ok
 returns-in-Ok g c = record {

@@ -1,6 +1,6 @@
 use Rattle.std.proofs.Common.{rules}
 use Rattle.legumeyet_c.proofs.WritingLemmas.{closed_put, open_put}
-use Rattle.legumeyet_c.proofs.writing.write_behind.Goals as goal
+use Rattle.legumeyet_c.proofs.writing.write_after.Goals as goal
 
 pub returns-in_default-clause-told : goal.returns-in_default-clause-told
 returns-in_default-clause-told g c =
