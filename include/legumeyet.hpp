@@ -808,7 +808,6 @@ class Answers : inner::Owned<legumeyet_answers, legumeyet_answers_close> {
 #ifdef __cpp_exceptions
     explicit Answers(std::size_t capacity) : Answers(try_open(capacity).value()) {}
     explicit Answers(Book &book, std::size_t capacity = CAPACITY) : Answers(try_open(book, capacity).value()) {}
-    static Answers of_world() { return Answers(CAPACITY); }
     std::size_t answer(std::string_view lines, std::string &out) { return try_answer(lines, out).value(); }
 #endif
 };

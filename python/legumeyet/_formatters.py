@@ -438,6 +438,8 @@ class Answers(Open, _core.Answers):
         """
         begun: List[AnyStr] = []
         for piece in pieces_of(lines):
+            if not isinstance(piece, (str, bytes)):
+                raise TypeError(f"a piece is a str or bytes, and not {type(piece).__name__}")
             end = piece.rfind(b"\n" if isinstance(piece, bytes) else "\n") + 1
             begun.append(piece[:end] if end else piece)
             if end:
