@@ -439,7 +439,7 @@ class Calls(unittest.TestCase):
 
     def test_calls_beside_a_column(self):
         """Who waits for a column waits for a part of it at most, and other threads run meanwhile, also where the numbers are a list."""
-        for numbers in (array.array("q", range(1_000_000)), list(range(1_000_000)), [str(it) for it in range(300_000)]):
+        for numbers in (array.array("q", range(300_000)), list(range(300_000)), [str(it) for it in range(200_000)]):
             ended = threading.Event()
 
             def column(numbers=numbers, ended=ended):
