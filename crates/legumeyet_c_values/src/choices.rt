@@ -9,6 +9,7 @@ use fixed_decimal::{
     UnsignedRoundingMode,
 };
 use icu_decimal_symbols::options::GroupingStrategy;
+use locale_numbers_requests::PatternLength;
 
 /// What is made of a number before it is written, by numbers: `legumeyet_options`.
 #[repr(C)]
@@ -60,15 +61,6 @@ pub enum TrailingZeros {
     Trim,
 }
 
-/// Which patterns compact numbers are written in.
-#[derive(Clone, Copy, Drop)]
-pub enum Width {
-    /// `1.6K`.
-    Short,
-    /// `1.6 thousand`.
-    Long,
-}
-
 // The sign of a number.
 fn sign_by(number: u32) -> Option<Option<SignDisplay>>
     ensures { result ≡ sign_of number }
@@ -117,19 +109,19 @@ pub fn grouping_by(number: u32) -> Option<GroupingStrategy>
     }
 }
 
-// The width of a number.
-fn width_by(number: u32) -> Option<Width>
+// The length of patterns of a number.
+fn width_by(number: u32) -> Option<PatternLength>
     ensures { result ≡ width_of number }
 {
     match number {
-        0 => Some(Width::Short),
-        1 => Some(Width::Long),
+        0 => Some(PatternLength::Short),
+        1 => Some(PatternLength::Long),
         _ => None,
     }
 }
 
-/// The width and the strategy of two numbers, where both are known.
-pub fn choice_by(width: u32, grouping: u32) -> Option<(Width, GroupingStrategy)>
+/// The length of patterns and the strategy of two numbers, where both are known.
+pub fn choice_by(width: u32, grouping: u32) -> Option<(PatternLength, GroupingStrategy)>
     ensures { result ≡ choice_of width grouping }
 {
     let width = width_by(width)?;

@@ -21,7 +21,7 @@ mod putting;
 mod units;
 
 pub use call_error::{CallError, answer, error_of};
-pub use choices::{Choices, Options, TrailingZeros, Width, choice_by, grouping_by};
+pub use choices::{Choices, Options, TrailingZeros, choice_by, grouping_by};
 pub use intervals::Interval;
 pub use numbers::{
     compact_of_text, number_of_f64, number_of_i64, number_of_text, number_of_u64, read_double,
