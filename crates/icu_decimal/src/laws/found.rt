@@ -3,7 +3,7 @@
 ghost use Rattle.std.specs.Prelude.{◌≡◌, ◌↔◌, IsTrue};
 ghost use Rattle.icu_decimal.specs.FoundLaws.{FindTheSameTables};
 
-use crate::laws::same_preferences;
+use crate::laws::tables::same_preferences;
 use crate::preferences::DecimalFormatterPreferences;
 
 /// A law: true exactly of equal preferences, which find the same tables of every provider, with the same options. It is
