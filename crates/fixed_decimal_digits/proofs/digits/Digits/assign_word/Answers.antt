@@ -1,8 +1,8 @@
 use Rattle.std.proofs.Common.{◌≡◌, ◌%◌, ◌≤◌, ◌∙◌, ap, arith}
 use Rattle.fixed_decimal_digit_words.proofs.WordLemmas.{word_fits}
 use Rattle.fixed_decimal_digits.proofs.WordBytesLemmas.{even_word, odd_word}
-use Rattle.fixed_decimal_digits.proofs.digits.Digits.put_word.Goals as goal
-use Rattle.fixed_decimal_digits.proofs.digits.Digits.put_word.Goals.{then-count-eq0, else-count-eq0}
+use Rattle.fixed_decimal_digits.proofs.digits.Digits.assign_word.Goals as goal
+use Rattle.fixed_decimal_digits.proofs.digits.Digits.assign_word.Goals.{then-count-eq0, else-count-eq0}
 
 pub overflow_mul-word : goal.overflow_mul-word
 overflow_mul-word c =
@@ -32,9 +32,9 @@ returns c =
     elim c.if-count-eq0.branch [
       | then-count-eq0 w ↦
           let items = ap (λ d. d.kept.items) w.self-inside-is ∙ w.assign_bytes.ensures.items in
-          record { items = (even_word inside.kept.items c.args.word c.args.count c.requires.tens w.if-count-eq0.true items).1 }
+          (even_word inside.kept.items c.args.word c.args.count c.requires.tens w.if-count-eq0.true items).1
       | else-count-eq0 w ↦
           let items = ap (λ d. d.kept.items) w.self-inside-is ∙ w.assign_bytes-else-count-eq0.ensures.items in
           let odd : c.args.count % 2 ≡ 1 = grind (arith, w.if-count-eq0.false) in
-          record { items = (odd_word inside.kept.items c.args.word c.args.count c.requires.tens odd items).1 }
+          (odd_word inside.kept.items c.args.word c.args.count c.requires.tens odd items).1
     ]
