@@ -53,7 +53,7 @@ pub fn push_after(digits: &mut Digits, zeros: usize, other: &Digits) -> Result<(
     ensures err { OnErr result (digits.new ≡ digits.old) }
     ensures room { OnErr result (inline_digits < length digits.old.items + (zeros + length other.now.items)) }
 {
-    let _inline = digits.len();
+    let _inline = digits.len(); // for the proof
     digits.reserve(zeros + other.len())?;
     push_zeros(digits, zeros);
     push_all(digits, other);

@@ -108,7 +108,7 @@ impl<'l> DigitRun<'l> {
         ensures tens { AllBelowBase 10 result }
         ensures rest { self.new ≡ drop 48 self.old }
     {
-        let _left = self.len();
+        let _left = self.len(); // for the proof
         let chunk = self.digits.chunk_from(self.next);
         self.next += CHUNK;
         self.left -= CHUNK;

@@ -78,7 +78,7 @@ impl Digits {
         ensures fits { result ≤ self.now.capacity }
         ensures inline { inline_digits ≤ self.now.capacity }
     {
-        let _bytes = self.kept.len();
+        let _bytes = self.kept.len(); // for the proof
         self.count
     }
 
@@ -109,7 +109,7 @@ impl Digits {
         ensures { IsTrue result
             ↔ ((slice_index self.now.items index ≡ digit) × (slice_index self.now.items (index + 1) ≡ digit)) }
     {
-        let _count = self.len();
+        let _count = self.len(); // for the proof
         if index % 2 == 0 {
             self.kept.as_slice()[index / 2] == digit * 17
         } else {

@@ -70,7 +70,7 @@ impl GivenDigits {
         ensures err { OnErr result (self.new ≡ self.old) }
         ensures room { OnErr result (IsLong (self.old.mantissa * 10 + digit)) }
     {
-        let _inline = self.kept.len();
+        let _inline = self.kept.len(); // for the proof
         self.kept.reserve(self.zeros + 1)?;
         push_zeros(&mut self.kept, self.zeros);
         self.kept.push_reserved(digit);

@@ -161,7 +161,7 @@ fn gather(digits: &mut Digits, integer: &[u8], fraction: &[u8]) -> Result<(), Al
     ensures room { OnErr result (10 ^ inline_digits ≤ spelled (integer.now ++ fraction.now)) }
     ensures kept { OnErr result (10 ^ length digits.old.items ≤ spelled (integer.now ++ fraction.now)) }
 {
-    let _room = digits.len();
+    let _room = digits.len(); // for the proof
     let (whole, rest) = without_leading_zeros(integer, fraction);
     assign_texts(digits, whole, rest)?;
     Ok(())

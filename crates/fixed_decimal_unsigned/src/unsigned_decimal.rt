@@ -99,7 +99,7 @@ impl UnsignedDecimal {
         ensures room { OnErr result (IsLong self.now.count) }
         ensures number { IsNumber self.now }
     {
-        let _number = self.magnitude_range();
+        let _number = self.magnitude_range(); // for the proof
         let digits = self.digits.try_clone()?;
         Ok(UnsignedDecimal {
             digits,
