@@ -332,7 +332,7 @@ int32_t legumeyet_decimal_formatter_close(legumeyet_decimal_formatter *formatter
  * With the rounding LEGUMEYET_ROUND_HALF_EVEN at -1 and the sign LEGUMEYET_SIGN_ALWAYS `9.75` is written `+9.8`.
  *
  * Returns 0; LEGUMEYET_CLOSED; LEGUMEYET_OPTION, of the options; LEGUMEYET_NUMBER; LEGUMEYET_LIMIT; LEGUMEYET_MEMORY, which a number of
- * eight digits at most takes only where an increment of 25 gives it a ninth; LEGUMEYET_TOO_SMALL.
+ * sixteen digits at most takes only where an increment of 25 gives it a seventeenth; LEGUMEYET_TOO_SMALL.
  */
 int32_t legumeyet_decimal_formatter_format(legumeyet_decimal_formatter *formatter, const uint8_t *number, size_t number_length,
                                            const legumeyet_options *options, uint8_t *out, size_t room, size_t *length);
@@ -381,8 +381,8 @@ int32_t legumeyet_decimal_formatter_format_parts(legumeyet_decimal_formatter *fo
 /*
  * Reads a text back as the one number that the formatter writes so, and writes it as digits: `-1,234.50` of English as `-1234.50`.
  *
- * Returns 0; LEGUMEYET_CLOSED; LEGUMEYET_UTF8; LEGUMEYET_UNREADABLE; LEGUMEYET_NOT_WRITTEN; LEGUMEYET_MEMORY, which a text with eight
- * digits at most never takes; LEGUMEYET_TOO_SMALL.
+ * Returns 0; LEGUMEYET_CLOSED; LEGUMEYET_UTF8; LEGUMEYET_UNREADABLE; LEGUMEYET_NOT_WRITTEN; LEGUMEYET_MEMORY, which a text with
+ * sixteen digits at most never takes; LEGUMEYET_TOO_SMALL.
  */
 int32_t legumeyet_decimal_formatter_read(legumeyet_decimal_formatter *formatter, const uint8_t *text, size_t text_length, uint8_t *out,
                                          size_t room, size_t *length);
@@ -426,7 +426,8 @@ int32_t legumeyet_compact_formatter_close(legumeyet_compact_formatter *formatter
  * has no zeros at the end of its fraction, so a least count of fraction digits does nothing.
  *
  * Returns 0; LEGUMEYET_CLOSED; LEGUMEYET_OPTION, of the options; LEGUMEYET_NUMBER; LEGUMEYET_LIMIT; LEGUMEYET_RANGE;
- * LEGUMEYET_MEMORY, which a number of eight digits at most takes only where an increment of 25 gives it a ninth; LEGUMEYET_TOO_SMALL.
+ * LEGUMEYET_MEMORY, which a number of sixteen digits at most takes only where an increment of 25 gives it a seventeenth;
+ * LEGUMEYET_TOO_SMALL.
  */
 int32_t legumeyet_compact_formatter_format(legumeyet_compact_formatter *formatter, const uint8_t *number, size_t number_length,
                                            const legumeyet_options *options, uint8_t *out, size_t room, size_t *length);
@@ -468,7 +469,7 @@ int32_t legumeyet_compact_formatter_format_parts(legumeyet_compact_formatter *fo
  * Writes the value that the text of a number shows, so that a chart can place its label: of `-1172700` in short English `-1.2c6`, which
  * is -1.2 times ten to the power 6. Where the exponent is 0 it is only the number: `950`.
  *
- * Returns as legumeyet_compact_formatter_format; LEGUMEYET_MEMORY also where what is shown has more than eight digits.
+ * Returns as legumeyet_compact_formatter_format; LEGUMEYET_MEMORY also where what is shown has more than sixteen digits.
  */
 int32_t legumeyet_compact_formatter_shown(legumeyet_compact_formatter *formatter, const uint8_t *number, size_t number_length,
                                           const legumeyet_options *options, uint8_t *out, size_t room, size_t *length);
@@ -479,8 +480,8 @@ int32_t legumeyet_compact_formatter_shown(legumeyet_compact_formatter *formatter
  * What legumeyet_compact_formatter_shown writes is such a text. The options change the significand: rounded at -1 it is `-1.2M`.
  *
  * Returns 0; LEGUMEYET_CLOSED; LEGUMEYET_OPTION, of the options; LEGUMEYET_NUMBER, where the text is no compact number, as `1.2e6`;
- * LEGUMEYET_LIMIT, also of an exponent above 255; LEGUMEYET_MEMORY, which a significand of eight digits at most takes only where an
- * increment of 25 gives it a ninth; LEGUMEYET_RANGE, where the magnitude of both together is above 32767; LEGUMEYET_EXPONENT;
+ * LEGUMEYET_LIMIT, also of an exponent above 255; LEGUMEYET_MEMORY, which a significand of sixteen digits at most takes only where an
+ * increment of 25 gives it a seventeenth; LEGUMEYET_RANGE, where the magnitude of both together is above 32767; LEGUMEYET_EXPONENT;
  * LEGUMEYET_TOO_SMALL.
  */
 int32_t legumeyet_compact_formatter_format_exact(legumeyet_compact_formatter *formatter, const uint8_t *number, size_t number_length,
@@ -525,7 +526,7 @@ int32_t legumeyet_unit_formatter_close(legumeyet_unit_formatter *formatter);
  * number is. What comes after the rounding is that of any number: LEGUMEYET_TRAILING_ZEROS_TRIM writes 5 dollars as `$5`.
  *
  * Returns 0; LEGUMEYET_CLOSED; LEGUMEYET_OPTION, of the options; LEGUMEYET_NUMBER; LEGUMEYET_LIMIT; LEGUMEYET_MEMORY, which a number of
- * eight digits at most takes only where it is rounded to multiples of 25; LEGUMEYET_TOO_SMALL.
+ * sixteen digits at most takes only where it is rounded to multiples of 25; LEGUMEYET_TOO_SMALL.
  */
 int32_t legumeyet_unit_formatter_format(legumeyet_unit_formatter *formatter, const uint8_t *number, size_t number_length,
                                         const legumeyet_options *options, uint8_t *out, size_t room, size_t *length);
