@@ -99,7 +99,7 @@ impl FixedInteger {
     pub(crate) fn is_whole_number(&self)
         ensures { IsWholeNumber self.now }
     {
-        let _number = self.decimal.absolute.magnitude_range();
+        let _number = self.decimal.absolute.magnitude_range(); // for the proof
     }
 
     // The number of bytes of the text.
