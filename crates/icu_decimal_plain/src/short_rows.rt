@@ -124,7 +124,8 @@ fn put_words(
 }
 
 // Puts the digits after the first group, each group with the separator before it, after the first `len` bytes, and
-// returns how many bytes there are then. `None`: a group has more digits than are put at once.
+// returns how many bytes there are then. `None`: a group has more digits than are put at once. The sizes are lent on only
+// where they are read one by one, so that they need no memory where each is three.
 #[inline(always)]
 fn put_after(
     text: &mut [u8; SHORT],
@@ -133,24 +134,25 @@ fn put_after(
     digits: &[u8; 16],
     first: usize,
     count: usize,
-    sizes: &mut GroupSizes,
+    sizes: GroupSizes,
     table: &DigitTable<'_>,
 ) -> Option<usize>
-    requires room { len + 4 * (count - first + length sizes.old) ≤ 192 }
+    requires room { len + 4 * (count - first + length sizes) ≤ 192 }
     requires within { count ≤ 16 }
-    requires whole { first + sum sizes.old ≡ count }
+    requires whole { first + sum sizes ≡ count }
     requires long { length separator.bytes ≡ 4 }
     requires short { separator.len ≤ 4 }
     requires tens { AllBelowBase 10 digits.now }
     ensures text { IfSome result (λ end. take end text.new
         ≡ take len text.old
-        ++ groups_ahead (take separator.len separator.bytes) (digit_text table.now.chars.now) sizes.old
+        ++ groups_ahead (take separator.len separator.bytes) (digit_text table.now.chars.now) sizes
         (take (count - first) (drop first digits.now))) }
-    ensures room { IfSome result (λ end. end ≤ len + 4 * (count - first + length sizes.old)) }
+    ensures room { IfSome result (λ end. end ≤ len + 4 * (count - first + length sizes)) }
 {
     let behind = &digits[first..count];
     let Some(nought) = table.nought else {
-        return Some(put_any_groups(text, len, separator, behind, sizes, table));
+        let mut groups = sizes;
+        return Some(put_any_groups(text, len, separator, behind, &mut groups, table));
     };
     if separator.len == 1 {
         if let Some(groups) = sizes.threes() {
@@ -158,7 +160,8 @@ fn put_after(
         }
     }
     let words = row_words(digits, nought);
-    put_words(text, len, separator, &words, first, sizes)
+    let mut groups = sizes;
+    put_words(text, len, separator, &words, first, &mut groups)
 }
 
 // Puts the integer digits in their groups to the front, and returns how many bytes they have. `None`: a group after the
@@ -192,7 +195,7 @@ fn put_whole(
         &block,
         first,
         count as usize,
-        &mut sizes,
+        sizes,
         table,
     )?;
     Some(end)

@@ -13,12 +13,12 @@ returns-in-Some-threes-clause-text c =
     let tens = below_take (c.args.count - c.args.first) (drop c.args.first ds) (below_drop c.args.first ds c.requires.tens) in
     c.put_threes.ensures.text
     ∙ ap (λ text. take c.args.len c.args.text.now ++ text)
-    (threes_ahead c.in-Some.nought c.in-Some-threes.groups c.args.separator.len c.args.separator.bytes table.chars.now c.args.sizes.now behind row tens c.requires.long c.if-separator-eq1.true c.in-Some-threes.ensures)
+    (threes_ahead c.in-Some.nought c.in-Some-threes.groups c.args.separator.len c.args.separator.bytes table.chars.now c.args.sizes behind row tens c.requires.long c.if-separator-eq1.true c.in-Some-threes.ensures)
 
 pub returns-clause-text : goal.returns-clause-text
 returns-clause-text c =
     let table = c.args.table.now in
     let row = table.in_row c.in-Some.nought c.in-Some.is in
     subst (λ text. IfSome c.put_words.result (λ end. take end c.put_words.new.text ≡ take c.args.len c.args.text.now ++ text))
-    (words_row c.in-Some.nought c.args.first c.args.count (take c.args.separator.len c.args.separator.bytes) table.chars.now c.row_words-words.result c.args.digits.now c.args.sizes.now row c.requires.tens c.requires.whole c.requires.within c.row_words-words.ensures)
+    (words_row c.in-Some.nought c.args.first c.args.count (take c.args.separator.len c.args.separator.bytes) table.chars.now c.row_words-words.result c.args.digits.now c.args.sizes row c.requires.tens c.requires.whole c.requires.within c.row_words-words.ensures)
     c.put_words.ensures.text
