@@ -155,7 +155,7 @@ fn divide(rounded: &mut UnsignedDecimal, exponent: u8)
     requires { exponent ≤ rounded.old.low }
     ensures { IsDivided exponent rounded.old rounded.new }
 {
-    let _number = rounded.magnitude_range();
+    let _number = rounded.magnitude_range(); // for the proof
     rounded.multiply_pow10(division_by(exponent));
     rounded.trim_end();
 }
