@@ -2,7 +2,7 @@
 -- Defined in docs/compact-text.md, "Compact formatters", and docs/formatters.md, "Choosing tables".
 -- Cited by the two makers of `CompactDecimalFormatter`.
 use Rattle.std.specs.Prelude.{ℕ, List, Option, None, Result, Ok, Err}
-use Rattle.icu_decimal.specs.TagPreferences.{DataLocaleMeaning, Preferences, language_priority}
+use Rattle.icu_locale_core.specs.TagPreferences.{DataLocaleMeaning, Preferences, language_priority}
 use Rattle.icu_decimal_patterns.specs.KeptEntries.{CompactTable}
 use Rattle.icu_decimal_plurals.specs.Rules.{Rules}
 use Rattle.icu_decimal_symbols.specs.declared.error.DataError.{DataError}

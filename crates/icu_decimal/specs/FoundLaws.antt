@@ -3,7 +3,7 @@
 -- Cited by `laws::same_tables`.
 use Rattle.std.specs.Prelude.{◌≡◌, ℕ, List, Option, Result}
 use Rattle.icu_decimal.specs.Identifiers.{Identifier}
-use Rattle.icu_decimal.specs.TagPreferences.{DataLocaleMeaning, Preferences}
+use Rattle.icu_locale_core.specs.TagPreferences.{DataLocaleMeaning, Preferences}
 use Rattle.icu_decimal_symbols.specs.Symbols.{Symbols}
 use Rattle.icu_decimal_symbols.specs.declared.error.DataError.{DataError}
 use Rattle.icu_decimal_symbols.specs.declared.options.GroupingStrategy.{GroupingStrategy}

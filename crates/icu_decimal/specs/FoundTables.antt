@@ -2,7 +2,7 @@
 -- Defined in docs/formatters.md, "Choosing tables" and "Options".
 -- Cited by `DecimalFormatter::try_new_unstable`.
 use Rattle.std.specs.Prelude.{ℕ, List, Option, Result, Ok, Err}
-use Rattle.icu_decimal.specs.TagPreferences.{DataLocaleMeaning, Preferences}
+use Rattle.icu_locale_core.specs.TagPreferences.{DataLocaleMeaning, Preferences}
 use Rattle.icu_decimal_symbols.specs.declared.error.DataError.{DataError}
 use Rattle.icu_decimal_symbols.specs.declared.options.GroupingStrategy.{GroupingStrategy}
 use Rattle.icu_decimal.specs.Choice.{first_found}

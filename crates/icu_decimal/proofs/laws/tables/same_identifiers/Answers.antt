@@ -1,6 +1,6 @@
 use Rattle.std.proofs.Common.{sym, ◌∙◌}
 use Rattle.icu_decimal.proofs.SameLemmas.{identifiers_decide}
-use Rattle.icu_decimal.proofs.laws.same_identifiers.Goals as goal
+use Rattle.icu_decimal.proofs.laws.tables.same_identifiers.Goals as goal
 
 pub returns : goal.returns
 returns c =

@@ -1,7 +1,7 @@
 use Rattle.std.proofs.Common.{sym, ap, refl, ◌∙◌}
 use Rattle.icu_decimal.specs.Identifiers.{symbols_identifiers, digits_identifiers}
 use Rattle.icu_decimal.proofs.SameLemmas.{preferences_decide}
-use Rattle.icu_decimal.proofs.laws.same_preferences.Goals as goal
+use Rattle.icu_decimal.proofs.laws.tables.same_preferences.Goals as goal
 
 pub returns : goal.returns
 returns c =
