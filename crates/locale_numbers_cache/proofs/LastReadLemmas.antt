@@ -1,5 +1,5 @@
 -- Pairs of places that remember nothing: one more of them, and that what they keep is right; and bytes that came last.
-use Rattle.std.proofs.Common.{◌≡◌, ℕ, ◌<◌, true, List, [], ◌∷◌, ◌++◌, length, Option, Some, None, IfSome, All, get_or, set, slice_get, refl, sym, ap, ◌∙◌, subst}
+use Rattle.std.proofs.Common.{◌≡◌, ℕ, ◌<◌, ◌||◌, true, List, [], ◌∷◌, ◌++◌, length, Option, Some, None, IfSome, All, get_or, set, slice_get, refl, sym, ap, ◌∙◌, subst}
 use Rattle.std.proofs.lemmas.List.{get_or-set_same, length-set}
 use Rattle.std.proofs.lemmas.List.Elements.{All-get_or, All-push, All-same, All-weaker}
 use Rattle.std.proofs.lemmas.Bool.{false≢true}
@@ -63,6 +63,16 @@ module _ {K : Type 0} where
       let uses : Uses bytes (key_of bytes) last.pair last.pair = record { last = last.last ∙ ap (λ key. Some (bytes, key)) read; other = λ not. absurd (false≢true (sym not ∙ there)) } in
       subst (λ found. IfSome found (λ old. IfSome found (λ new. Uses bytes (key_of bytes) old new))) (sym last.at) uses
 
+  -- the place that was used last by bytes remembers them
+  used_remembers : (bytes : List ℕ) (key : K) (pair : Place K × Place K) → pair.0 ≡ Some (bytes, key) → either_remembers bytes pair ≡ true
+  used_remembers bytes key pair last =
+      ap (λ place. remembers bytes place || remembers bytes pair.1) last ∙ ap (λ b. b || remembers bytes pair.1) ((bytes_eq-Decides bytes bytes).1 refl)
+
+  pub used_is_kept : (bytes : List ℕ) (key : K) (pair : Place K × Place K) (pairs : List (Place K × Place K)) → slice_get pairs (pair_at bytes) ≡ Some pair → pair.0 ≡ Some (bytes, key)
+      → IfSome (slice_get pairs (pair_at bytes)) (λ pair. either_remembers bytes pair ≡ true)
+  used_is_kept bytes key pair pairs at last =
+      subst (λ found. IfSome found (λ pair. either_remembers bytes pair ≡ true)) (sym at) (used_remembers bytes key pair last)
+
   -- after a use the pair of the bytes is the last one
   pub used_last : (pairs : List (Place K × Place K)) (bytes : List ℕ) (key : K) (at : ℕ) (old new : Place K × Place K) → slice_get pairs at ≡ Some new → at ≡ pair_at bytes
       → Uses bytes key old new → IsLastAt at pairs
@@ -104,3 +114,7 @@ module _ {K : Type 0} where
 
         pub now_latest : (long : Option K) → latest_at at (set items at new) long ≡ Some key
         now_latest long = ap (λ found. latest_in found long) is_there ∙ ap key_at used.last
+
+        -- where the bytes are remembered
+        pub now_kept : IfSome (slice_get (set items at new) (pair_at bytes)) (λ pair. either_remembers bytes pair ≡ true)
+        now_kept = used_is_kept bytes key new (set items at new) (ap (slice_get (set items at new)) (sym here) ∙ is_there) used.last

@@ -91,6 +91,8 @@ impl<K: Copy> ReadKeys<K> {
             IfSome (slice_get self.old.pairs (pair_at bytes.now)) (λ old.
             IfSome (slice_get self.new.pairs (pair_at bytes.now))
             (λ new. Uses bytes.now (R.key_of reader.now bytes.now) old new))) }
+        ensures kept { OnOk result (length bytes.now ≤ 256 →
+            IfSome (slice_get self.new.pairs (pair_at bytes.now)) (λ pair. either_remembers bytes.now pair ≡ true)) }
         ensures sound { All (AreRead (R.key_of reader.now)) self.new.pairs }
         ensures err { OnErr result (self.new ≡ self.old) }
         ensures room { length bytes.now ≤ 256 →
@@ -127,6 +129,8 @@ impl<K: Copy> ReadKeys<K> {
             IfSome (slice_get self.old.pairs (pair_at bytes.now)) (λ old.
             IfSome (slice_get self.new.pairs (pair_at bytes.now))
             (λ new. Uses bytes.now (R.key_of reader.now bytes.now) old new))) }
+        ensures kept { OnOk result (length bytes.now ≤ 256 →
+            IfSome (slice_get self.new.pairs (pair_at bytes.now)) (λ pair. either_remembers bytes.now pair ≡ true)) }
         ensures sound { All (AreRead (R.key_of reader.now)) self.new.pairs }
         ensures err { OnErr result (self.new ≡ self.old) }
         ensures room { length bytes.now ≤ 256 →

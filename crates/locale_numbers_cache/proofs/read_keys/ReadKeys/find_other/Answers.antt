@@ -1,7 +1,7 @@
 use Rattle.std.proofs.Common.{◌≡◌, All, IfSome, set, slice_get, true, sym, subst}
 use Rattle.std.proofs.lemmas.List.Elements.{All-set}
 use Rattle.locale_numbers_cache.specs.LastRead.{AreRead, Remembered, Uses, either_remembers, pair_at}
-use Rattle.locale_numbers_cache.proofs.LastReadLemmas.{both_used, now_last, now_latest, old_read, old_remembers}
+use Rattle.locale_numbers_cache.proofs.LastReadLemmas.{both_used, now_kept, now_last, now_latest, old_read, old_remembers}
 use Rattle.locale_numbers_cache.proofs.read_keys.ReadKeys.find_other.Goals as goal
 
 pub returns-then-bytes-gt-LONGEST-clause-sound : goal.returns-then-bytes-gt-LONGEST-clause-sound
@@ -46,3 +46,8 @@ pub returns-in-Ok-clause-value : goal.returns-in-Ok-clause-value
 returns-in-Ok-clause-value g c =
     now_latest c.self.inside.pairs.items c.pair_of-pair.result c.index_mut.result.now c.self.invariant.0 c.pair_of-pair.ensures.within c.index_mut.ensures.value
     c.args.bytes.now c.pair_of-pair.ensures.value c.find.new.self (g.R.KeyReader.key_of c.args.reader.now c.args.bytes.now) c.in-Ok.ensures.used c.self.inside.long
+
+pub returns-in-Ok-clause-kept : goal.returns-in-Ok-clause-kept
+returns-in-Ok-clause-kept g c = λ little.
+    now_kept c.self.inside.pairs.items c.pair_of-pair.result c.index_mut.result.now c.self.invariant.0 c.pair_of-pair.ensures.within c.index_mut.ensures.value
+    c.args.bytes.now c.pair_of-pair.ensures.value c.find.new.self (g.R.KeyReader.key_of c.args.reader.now c.args.bytes.now) c.in-Ok.ensures.used
