@@ -179,12 +179,12 @@ fn are_texts(
     ensures { AreReaderTexts (reader_of decimals.now none.now minus.now plus.now) }
 {
     icu_decimal_reading::are_tables(decimals);
-    let _none_before = none.before.as_str();
-    let _none_after = none.after.as_str();
-    let _minus_before = minus.before.as_str();
-    let _minus_after = minus.after.as_str();
-    let _plus_before = plus.before.as_str();
-    let _plus_after = plus.after.as_str();
+    let _none_before = none.before.as_str(); // for the proof
+    let _none_after = none.after.as_str(); // for the proof
+    let _minus_before = minus.before.as_str(); // for the proof
+    let _minus_after = minus.after.as_str(); // for the proof
+    let _plus_before = plus.before.as_str(); // for the proof
+    let _plus_after = plus.after.as_str(); // for the proof
 }
 
 /// Whether no digit of a table is in the affixes: none of ASCII is in `-€` and the empty text. It does not allocate.
