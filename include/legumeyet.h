@@ -67,7 +67,7 @@ extern "C" {
 #define LEGUMEYET_VERSION 1
 
 /* The minor version, which rises when a function or a number is added. */
-#define LEGUMEYET_MINOR 3
+#define LEGUMEYET_MINOR 4
 
 /* The two arguments that a text with a NUL at its end is given by. */
 #define LEGUMEYET_TEXT(text) (const uint8_t *)(text), strlen(text)
@@ -201,6 +201,12 @@ typedef struct {
     bool is_open;
 } legumeyet_unit_formatter;
 
+/* Answers to request lines, with the formatters that were used last. */
+typedef struct {
+    void *content;
+    bool is_open;
+} legumeyet_answers;
+
 /*
  * What is made of a number before it is written: it is rounded, then trimmed, then padded, and then its sign is chosen. Zeroed, the
  * number stays as it is, and an amount has the digits of its currency. Of LEGUMEYET_ROUND_KEEP, LEGUMEYET_ROUND_CASH and
@@ -311,6 +317,41 @@ int32_t legumeyet_book_locale(legumeyet_book *book, size_t index, uint8_t *out, 
  * Returns 0; LEGUMEYET_CLOSED; LEGUMEYET_MEMORY; LEGUMEYET_TOO_SMALL.
  */
 int32_t legumeyet_book_answer(legumeyet_book *book, const uint8_t *line, size_t line_length, uint8_t *out, size_t room, size_t *length);
+
+/*
+ * Opens answers to request lines by a book, with the `capacity` formatters that were used last: who has many lines of few tags does not
+ * make a formatter for each, as legumeyet_book_answer does.
+ *
+ * The book is kept, as by legumeyet_book_keep, and may be closed before the answers. What `answers` had open is closed, where the call
+ * returns 0. A formatter that is kept changes no answer.
+ *
+ * Returns 0; LEGUMEYET_CLOSED, of the book; LEGUMEYET_UNKEPT; LEGUMEYET_OPTION, of a capacity of 0; LEGUMEYET_MEMORY.
+ */
+int32_t legumeyet_answers_open(legumeyet_book *book, size_t capacity, legumeyet_answers *answers);
+
+/* Closes answers, and gives their memory back. Returns 0; LEGUMEYET_CLOSED, where they were closed already. */
+int32_t legumeyet_answers_close(legumeyet_answers *answers);
+
+/*
+ * Answers request lines, each ended by a line feed, in order: the text is their answers, as legumeyet_book_answer has them, each ended by
+ * a line feed. What is after the last line feed of `lines` waits for the next call; at the end of all a caller adds a line feed to a line
+ * that has none.
+ *
+ * `read` is how many bytes of `lines` were answered, and `written` how many of `out` were written; those after them stay as they were.
+ * `needs` is 0, but where the call returns LEGUMEYET_TOO_SMALL: then it is how much room the answer to the next line takes with its line
+ * feed, which is more than is left. A caller takes what is written, and goes on from `read`:
+ *
+ *     while (legumeyet_answers_answer(&answers, lines + at, length - at, out, sizeof out, &read, &written, &needs)
+ *            == LEGUMEYET_TOO_SMALL && needs <= sizeof out) {
+ *         fwrite(out, 1, written, stdout);
+ *         at += read;
+ *     }
+ *
+ * Returns 0, where all lines that end were answered; LEGUMEYET_CLOSED, and then the three counts are 0; LEGUMEYET_MEMORY;
+ * LEGUMEYET_TOO_SMALL.
+ */
+int32_t legumeyet_answers_answer(legumeyet_answers *answers, const uint8_t *lines, size_t lines_length, uint8_t *out, size_t room,
+                                 size_t *read, size_t *written, size_t *needs);
 
 /*
  * Opens the formatter of plain numbers for a locale tag: that of `en` writes -1234.5 as `-1,234.5`, that of `ar-EG` as `-١٬٢٣٤٫٥`.
@@ -591,6 +632,83 @@ int32_t legumeyet_unit_formatter_read_lenient(legumeyet_unit_formatter *formatte
                                               size_t room, size_t *length);
 
 /*
+ * Columns: many numbers in one call. Their texts are written to the front of `out`, one after the other and nothing between:
+ *
+ *     double numbers[3] = {1234.5, -7, 0.25};
+ *     size_t ends[3], count = 0;
+ *     legumeyet_decimal_formatter_format_doubles(&english, numbers, 3, &as_given, out, sizeof out, ends, 3, &count);
+ *     // `1,234.5-70.25`, and the ends 7, 9 and 13
+ *
+ * `count` is how many numbers were written, from the first on. The text at `at` ends at `ends[at]` of `out`, and begins where the one
+ * before it ends, the first at 0. Each text is the one that the call for one number writes, with the same options.
+ *
+ * The call returns 0 where all were written. Else it returns why the next number, that at `count`, was not: LEGUMEYET_TOO_SMALL where
+ * `count` is `ends_room`, or where its text has not room in `out` after the others; or what the call for one number returns, as
+ * LEGUMEYET_NUMBER. A caller takes what is written, and goes on from the number at `count`, with what has room again, or from the one
+ * after it. Where `count` is 0 and the call returns LEGUMEYET_TOO_SMALL, one text is longer than `room`, or `ends_room` is 0.
+ *
+ * LEGUMEYET_CLOSED and LEGUMEYET_OPTION come before all numbers, also where there is none: `count` is 0, and `out` is as it was. The ends
+ * from `count` on stay as they were in each case, and so do the bytes of `out` after the last text, but where the call returns
+ * LEGUMEYET_TOO_SMALL: then these may be the first ones of the next text.
+ *
+ * A column of texts has one number a line. A line ends at a line feed; what is after the last one is a line too, where it is not empty.
+ */
+
+/* Writes doubles, each as legumeyet_decimal_formatter_format_double does. */
+int32_t legumeyet_decimal_formatter_format_doubles(legumeyet_decimal_formatter *formatter, const double *numbers, size_t number_count,
+                                                   const legumeyet_options *options, uint8_t *out, size_t room, size_t *ends,
+                                                   size_t ends_room, size_t *count);
+
+/* Writes each mantissa times ten to the power `exponent`, as legumeyet_decimal_formatter_format_i64 does. */
+int32_t legumeyet_decimal_formatter_format_integers(legumeyet_decimal_formatter *formatter, const int64_t *mantissas, size_t mantissa_count,
+                                                    int16_t exponent, const legumeyet_options *options, uint8_t *out, size_t room,
+                                                    size_t *ends, size_t ends_room, size_t *count);
+
+/*
+ * Writes the numbers that lines are, each as legumeyet_decimal_formatter_format does: of `1234.5`, a line feed and `-7` `1,234.5` and `-7` in
+ * English.
+ */
+int32_t legumeyet_decimal_formatter_format_texts(legumeyet_decimal_formatter *formatter, const uint8_t *numbers, size_t numbers_length,
+                                                 const legumeyet_options *options, uint8_t *out, size_t room, size_t *ends,
+                                                 size_t ends_room, size_t *count);
+
+/* Writes doubles, each as legumeyet_compact_formatter_format_double does. */
+int32_t legumeyet_compact_formatter_format_doubles(legumeyet_compact_formatter *formatter, const double *numbers, size_t number_count,
+                                                   const legumeyet_options *options, uint8_t *out, size_t room, size_t *ends,
+                                                   size_t ends_room, size_t *count);
+
+/* Writes each mantissa times ten to the power `exponent`, as legumeyet_compact_formatter_format_i64 does. */
+int32_t legumeyet_compact_formatter_format_integers(legumeyet_compact_formatter *formatter, const int64_t *mantissas, size_t mantissa_count,
+                                                    int16_t exponent, const legumeyet_options *options, uint8_t *out, size_t room,
+                                                    size_t *ends, size_t ends_room, size_t *count);
+
+/*
+ * Writes the numbers that lines are, each as legumeyet_compact_formatter_format does: of `1234.5`, a line feed and `-7` `1.2K` and `-7` in
+ * short English.
+ */
+int32_t legumeyet_compact_formatter_format_texts(legumeyet_compact_formatter *formatter, const uint8_t *numbers, size_t numbers_length,
+                                                 const legumeyet_options *options, uint8_t *out, size_t room, size_t *ends,
+                                                 size_t ends_room, size_t *count);
+
+/* Writes doubles, each as legumeyet_unit_formatter_format_double does. */
+int32_t legumeyet_unit_formatter_format_doubles(legumeyet_unit_formatter *formatter, const double *numbers, size_t number_count,
+                                                const legumeyet_options *options, uint8_t *out, size_t room, size_t *ends, size_t ends_room,
+                                                size_t *count);
+
+/* Writes each mantissa times ten to the power `exponent`, as legumeyet_unit_formatter_format_i64 does. */
+int32_t legumeyet_unit_formatter_format_integers(legumeyet_unit_formatter *formatter, const int64_t *mantissas, size_t mantissa_count,
+                                                 int16_t exponent, const legumeyet_options *options, uint8_t *out, size_t room,
+                                                 size_t *ends, size_t ends_room, size_t *count);
+
+/*
+ * Writes the numbers that lines are, each as legumeyet_unit_formatter_format does: of `1234.5`, a line feed and `-7` `€1,234.50` and `-€7.00`
+ * in English with euros.
+ */
+int32_t legumeyet_unit_formatter_format_texts(legumeyet_unit_formatter *formatter, const uint8_t *numbers, size_t numbers_length,
+                                              const legumeyet_options *options, uint8_t *out, size_t room, size_t *ends, size_t ends_room,
+                                              size_t *count);
+
+/*
  * Shared formatters: one formatter for any number of threads at once. It is opened as any other, and then shared:
  *
  *     static legumeyet_shared_decimal_formatter german;
@@ -662,6 +780,15 @@ int32_t legumeyet_shared_decimal_formatter_read(const legumeyet_shared_decimal_f
                                                 size_t text_length, uint8_t *out, size_t room, size_t *length);
 int32_t legumeyet_shared_decimal_formatter_read_lenient(const legumeyet_shared_decimal_formatter *formatter, const uint8_t *text,
                                                         size_t text_length, uint8_t *out, size_t room, size_t *length);
+int32_t legumeyet_shared_decimal_formatter_format_doubles(const legumeyet_shared_decimal_formatter *formatter, const double *numbers,
+                                                          size_t number_count, const legumeyet_options *options, uint8_t *out, size_t room,
+                                                          size_t *ends, size_t ends_room, size_t *count);
+int32_t legumeyet_shared_decimal_formatter_format_integers(const legumeyet_shared_decimal_formatter *formatter, const int64_t *mantissas,
+                                                           size_t mantissa_count, int16_t exponent, const legumeyet_options *options,
+                                                           uint8_t *out, size_t room, size_t *ends, size_t ends_room, size_t *count);
+int32_t legumeyet_shared_decimal_formatter_format_texts(const legumeyet_shared_decimal_formatter *formatter, const uint8_t *numbers,
+                                                        size_t numbers_length, const legumeyet_options *options, uint8_t *out, size_t room,
+                                                        size_t *ends, size_t ends_room, size_t *count);
 
 /* Of compact numbers: each as the call of legumeyet_compact_formatter of its name. */
 int32_t legumeyet_shared_compact_formatter_format(const legumeyet_shared_compact_formatter *formatter, const uint8_t *number,
@@ -685,6 +812,15 @@ int32_t legumeyet_shared_compact_formatter_shown(const legumeyet_shared_compact_
 int32_t legumeyet_shared_compact_formatter_format_exact(const legumeyet_shared_compact_formatter *formatter, const uint8_t *number,
                                                         size_t number_length, const legumeyet_options *options, uint8_t *out, size_t room,
                                                         size_t *length);
+int32_t legumeyet_shared_compact_formatter_format_doubles(const legumeyet_shared_compact_formatter *formatter, const double *numbers,
+                                                          size_t number_count, const legumeyet_options *options, uint8_t *out, size_t room,
+                                                          size_t *ends, size_t ends_room, size_t *count);
+int32_t legumeyet_shared_compact_formatter_format_integers(const legumeyet_shared_compact_formatter *formatter, const int64_t *mantissas,
+                                                           size_t mantissa_count, int16_t exponent, const legumeyet_options *options,
+                                                           uint8_t *out, size_t room, size_t *ends, size_t ends_room, size_t *count);
+int32_t legumeyet_shared_compact_formatter_format_texts(const legumeyet_shared_compact_formatter *formatter, const uint8_t *numbers,
+                                                        size_t numbers_length, const legumeyet_options *options, uint8_t *out, size_t room,
+                                                        size_t *ends, size_t ends_room, size_t *count);
 
 /* Of percents and amounts: each as the call of legumeyet_unit_formatter of its name. */
 int32_t legumeyet_shared_unit_formatter_format(const legumeyet_shared_unit_formatter *formatter, const uint8_t *number,
@@ -703,6 +839,15 @@ int32_t legumeyet_shared_unit_formatter_read(const legumeyet_shared_unit_formatt
                                              uint8_t *out, size_t room, size_t *length);
 int32_t legumeyet_shared_unit_formatter_read_lenient(const legumeyet_shared_unit_formatter *formatter, const uint8_t *text,
                                                      size_t text_length, uint8_t *out, size_t room, size_t *length);
+int32_t legumeyet_shared_unit_formatter_format_doubles(const legumeyet_shared_unit_formatter *formatter, const double *numbers,
+                                                       size_t number_count, const legumeyet_options *options, uint8_t *out, size_t room,
+                                                       size_t *ends, size_t ends_room, size_t *count);
+int32_t legumeyet_shared_unit_formatter_format_integers(const legumeyet_shared_unit_formatter *formatter, const int64_t *mantissas,
+                                                        size_t mantissa_count, int16_t exponent, const legumeyet_options *options,
+                                                        uint8_t *out, size_t room, size_t *ends, size_t ends_room, size_t *count);
+int32_t legumeyet_shared_unit_formatter_format_texts(const legumeyet_shared_unit_formatter *formatter, const uint8_t *numbers,
+                                                     size_t numbers_length, const legumeyet_options *options, uint8_t *out, size_t room,
+                                                     size_t *ends, size_t ends_room, size_t *count);
 
 /*
  * Writes what a number of these calls means, in English: of LEGUMEYET_TAG `no locale tag`.

@@ -179,8 +179,8 @@ impl Options {
             && self.reserved[1] == 0
     }
 
-    // What the numbers stand for, where each is known.
-    pub(crate) fn choices(&self) -> Option<Choices>
+    /// What the numbers stand for, where each is known: a sign of 3 is `Always`, and one of 6 gives none.
+    pub fn choices(&self) -> Option<Choices>
         ensures { result ≡ choices_of self.now }
     {
         if self.reserved[0] != 0 || self.reserved[1] != 0 {
@@ -258,9 +258,9 @@ fn sign(value: &mut Decimal, sign: Option<SignDisplay>)
 }
 
 impl Choices {
-    // The number rounded, then trimmed, then padded, and then with the sign that is chosen by what that left: 9.75 at -1
-    // to the even one, with `Always`, is `+9.8`. `Memory`: out of memory, which only multiples of 25 take.
-    pub(crate) fn changed(self, mut value: Decimal) -> Result<Decimal, CallError>
+    /// The number rounded, then trimmed, then padded, and then with the sign that is chosen by what that left: 9.75 at -1
+    /// to the even one, with `Always`, is `+9.8`. `Memory`: out of memory, which only multiples of 25 take.
+    pub fn changed(self, mut value: Decimal) -> Result<Decimal, CallError>
         ensures value { IfOk result (λ changed. Changes self value changed) }
         ensures fault { IfErr result (λ error. IsChangeRefused self value error) }
     {
