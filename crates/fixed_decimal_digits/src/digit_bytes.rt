@@ -8,6 +8,26 @@ use crate::digits::INLINE;
 use smallvec::SmallVec;
 use std::alloc::Global;
 
+// The first `count` of eight bytes, inline. Each count has an arm of its own, so that the compiler knows which bytes are
+// cleared.
+fn first_of(alloc: Global, bytes: [u8; 8], count: usize) -> SmallVec<u8, INLINE>
+    requires { count ≤ 8 }
+    ensures items { result.items ≡ take count bytes }
+    ensures capacity { result.capacity ≡ 8 }
+{
+    match count {
+        0 => SmallVec::from_buf_and_len(alloc, bytes, 0),
+        1 => SmallVec::from_buf_and_len(alloc, bytes, 1),
+        2 => SmallVec::from_buf_and_len(alloc, bytes, 2),
+        3 => SmallVec::from_buf_and_len(alloc, bytes, 3),
+        4 => SmallVec::from_buf_and_len(alloc, bytes, 4),
+        5 => SmallVec::from_buf_and_len(alloc, bytes, 5),
+        6 => SmallVec::from_buf_and_len(alloc, bytes, 6),
+        7 => SmallVec::from_buf_and_len(alloc, bytes, 7),
+        _ => SmallVec::from_buf_and_len(alloc, bytes, 8),
+    }
+}
+
 // The lowest `count` bytes of a word, at most as many as lie inline, the highest of them first.
 #[tactic(auto, using(crate::proofs::WordBytesLemmas::first_bytes))]
 fn inline_bytes(alloc: Global, word: u64, count: usize) -> SmallVec<u8, INLINE>
@@ -19,7 +39,7 @@ fn inline_bytes(alloc: Global, word: u64, count: usize) -> SmallVec<u8, INLINE>
         return SmallVec::new(alloc);
     }
     let first = word << (64 - 8 * count as u32);
-    SmallVec::from_buf_and_len(alloc, first.to_be_bytes(), count)
+    first_of(alloc, first.to_be_bytes(), count)
 }
 
 // Replaces the bytes by the lowest `count` bytes of a word, the highest of them first. The memory stays.
