@@ -230,7 +230,7 @@ impl<'b> CompactDecimalFormatter<'b> {
 
     /// The decimal as this formatter writes it: -1172700 as `-1.2M` in English.
     ///
-    /// The condition is `can_format`. It allocates where the number has more than eight digits, from the first to the
+    /// The condition is `can_format`. It allocates where the number has more than sixteen digits, from the first to the
     /// last one that is not zero. `AllocError`: out of memory, only there.
     pub fn format<'l>(
         &'l self,
