@@ -131,7 +131,7 @@ impl Fraction {
         requires { number.now.low ≡ last_place self }
         ensures { IsTrue result ↔ IsMultiple (step self) number.now.count }
     {
-        let _number = number.magnitude_range();
+        let _number = number.magnitude_range(); // for the proof
         let last = number.digit_at(self.last_magnitude());
         let before = number.digit_at(self.magnitude_before());
         (10 * before + last) % self.increment.number() == 0
