@@ -18,8 +18,8 @@
  *     legumeyet_book_close(&world);
  *
  * Texts are UTF-8, a pointer and a length in bytes; no NUL is written after one. A text may have a NUL inside, where a symbol of its
- * book has one: U+0000 in a book is a character as any other. A pointer to a text of length 0, or to a room of 0, may be NULL, so
- * `NULL, 0` asks how much room a text needs. No other pointer may be NULL, but where a call says so.
+ * book has one: U+0000 in a book is a character as any other. A pointer to a text of length 0, to no numbers, or to a room of 0, may be
+ * NULL, so `NULL, 0` asks how much room a text needs. No other pointer may be NULL, but where a call says so.
  *
  * A handle is memory of the caller's. Zeroed memory is a closed handle. A handle is not copied, and its fields are not for callers. A
  * second close returns LEGUMEYET_CLOSED. Handles are free of each other: a formatter has the tables that it needs, so its book may be
@@ -665,8 +665,8 @@ int32_t legumeyet_decimal_formatter_format_integers(legumeyet_decimal_formatter 
                                                     size_t *ends, size_t ends_room, size_t *count);
 
 /*
- * Writes the numbers that lines are, each as legumeyet_decimal_formatter_format does: of `1234.5`, a line feed and `-7` `1,234.5` and `-7` in
- * English.
+ * Writes the numbers that lines are, each as legumeyet_decimal_formatter_format does: of `1234.5`, a line feed and `-7` `1,234.5` and
+ * `-7` in English.
  */
 int32_t legumeyet_decimal_formatter_format_texts(legumeyet_decimal_formatter *formatter, const uint8_t *numbers, size_t numbers_length,
                                                  const legumeyet_options *options, uint8_t *out, size_t room, size_t *ends,
@@ -701,8 +701,8 @@ int32_t legumeyet_unit_formatter_format_integers(legumeyet_unit_formatter *forma
                                                  size_t *ends, size_t ends_room, size_t *count);
 
 /*
- * Writes the numbers that lines are, each as legumeyet_unit_formatter_format does: of `1234.5`, a line feed and `-7` `€1,234.50` and `-€7.00`
- * in English with euros.
+ * Writes the numbers that lines are, each as legumeyet_unit_formatter_format does: of `1234.5`, a line feed and `-7` `€1,234.50` and
+ * `-€7.00` in English with euros.
  */
 int32_t legumeyet_unit_formatter_format_texts(legumeyet_unit_formatter *formatter, const uint8_t *numbers, size_t numbers_length,
                                               const legumeyet_options *options, uint8_t *out, size_t room, size_t *ends, size_t ends_room,
