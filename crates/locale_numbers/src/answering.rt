@@ -96,7 +96,6 @@ pub(crate) fn answer_after_front<'a, F: Formatters<'a>>(
             answer_lenient(alloc, formatters, key, is_held, text, out)
         }
         Form::Unit(_) => answer_unit(
-            alloc,
             value,
             formatters,
             key,

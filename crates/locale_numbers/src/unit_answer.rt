@@ -29,7 +29,6 @@ use std::alloc::{AllocError, Global};
 // Writes the answer to a number with a unit, by the formatter of a key, after what `out` holds; or the word `table`,
 // where it has none.
 fn write_unit_of_key<'a, F: Formatters<'a>>(
-    alloc: Global,
     formatters: &mut F,
     key: &Hashed<FormatterKey>,
     is_held: &mut bool,
@@ -63,7 +62,7 @@ fn write_unit_of_key<'a, F: Formatters<'a>>(
     }
     match formatters.found(key) {
         KeptFormatter::Units(made) => {
-            write_unit_answer(alloc, made.numbers.parts(), value, rounding, sign, out)
+            write_unit_answer(made.parts(), value, rounding, sign, out)
         }
         KeptFormatter::Plain(_)
         | KeptFormatter::Compact(_)
@@ -78,7 +77,6 @@ fn write_unit_of_key<'a, F: Formatters<'a>>(
 // `is_held` says whether the formatter that was found last is the one of the key. `AllocError`: out of memory; a part
 // of the answer may then be there.
 pub(crate) fn answer_unit<'a, F: Formatters<'a>>(
-    alloc: Global,
     value: &mut Decimal,
     formatters: &mut F,
     key: &Hashed<FormatterKey>,
@@ -114,7 +112,7 @@ pub(crate) fn answer_unit<'a, F: Formatters<'a>>(
     ensures ready { F.is_ready formatters.new }
 {
     match read_number(value, text) {
-        Ok(()) => write_unit_of_key(alloc, formatters, key, is_held, value, sign, rounding, out),
+        Ok(()) => write_unit_of_key(formatters, key, is_held, value, sign, rounding, out),
         Err(ParseError::Syntax) => write_refusal_or_shape(out, text, Refusal::Number),
         Err(ParseError::Limit) => write_refusal(out, Refusal::Limit),
         Err(ParseError::Memory) => Err(AllocError),
