@@ -1,7 +1,6 @@
 //! A number with its unit as one text, between affixes that were put together with the unit.
 
 ghost use Rattle.std.specs.Prelude.{◌≡◌, ◌++◌, false, is_err, string_bytes, IsOk, OnOk, OnErr};
-ghost use Rattle.writeable.specs.AnnotatedText.{bytes};
 ghost use Rattle.writeable.specs.Taking.{HasBegun};
 ghost use Rattle.icu_dimension_affixes.specs.HeldReaders.{pair_of};
 ghost use Rattle.icu_dimension_affixes.specs.HeldUnits.{settings_of};
@@ -39,19 +38,6 @@ impl<'l> Model for JoinedUnit<'l> {
     ghost view = { λ s. record { number = s.number; affixes = pair_of s.affixes.now } };
 }
 
-// Writes an affix. Most have none on one of their sides, so the empty one is not given to the sink.
-fn write_affix<S: Sink>(affix: &str, sink: &mut S) -> Result<(), Error>
-    requires { S.refused sink.old ≡ false }
-    ensures ok { OnOk result (S.takes sink.old (bytes affix.now) sink.new) }
-    ensures refused { S.refused sink.new ≡ is_err result }
-    ensures begun { OnErr result (HasBegun S.takes S.lacks_room sink.old (bytes affix.now) sink.new) }
-{
-    if affix.is_empty() {
-        return Ok(());
-    }
-    sink.write_str(affix)
-}
-
 // Writes a number without its sign between affixes.
 fn write_joined<S: Sink>(
     affixes: &SignAffixes,
@@ -65,9 +51,9 @@ fn write_joined<S: Sink>(
     ensures begun { OnErr result (HasBegun S.takes S.lacks_room sink.old
         (joined_events (record { number = number.now; affixes = pair_of affixes.now })) sink.new) }
 {
-    write_affix(affixes.before.as_str(), sink)?;
+    sink.write_str(affixes.before.as_str())?;
     number.write_text(sink)?;
-    write_affix(affixes.after.as_str(), sink)
+    sink.write_str(affixes.after.as_str())
 }
 
 impl<'l> Writeable for JoinedUnit<'l> {
