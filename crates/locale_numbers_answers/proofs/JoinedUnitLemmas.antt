@@ -53,3 +53,13 @@ joined_is_unit s reader v tables number pair known law same is between =
     ∙ ap (λ p. text_of (joined_events (record { number = whole; affixes = p }))) pair_is
     ∙ joined_is_read r v
     ∙ law s v
+
+-- a number that is seen through its value
+pub number_viewed : (inside v : SignedValue Number) (tables : Tables) {number : PlainNumber} → inside ≡ v
+    → number ≡ record { number = inside.absolute; tables = tables } → number ≡ record { number = v.absolute; tables = tables }
+number_viewed inside v tables viewed is = is ∙ ap (λ (w : SignedValue Number). record { number = w.absolute; tables = tables }) viewed
+
+-- and the affixes of its sign
+pub pair_viewed : (reader : ReaderTexts) (inside v : SignedValue Number) {pair : AffixPair} → inside ≡ v
+    → pair ≡ pair_for reader.pairs inside.sign → pair ≡ pair_for reader.pairs v.sign
+pair_viewed reader inside v viewed is = is ∙ ap (λ (w : SignedValue Number). pair_for reader.pairs w.sign) viewed
