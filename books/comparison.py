@@ -35,6 +35,19 @@ def words_of(doc, numbers=60):
     return words
 
 
+def locales_of(path):
+    """The locales that a file lists."""
+    try:
+        with open(path, encoding="utf-8") as given:
+            tags = given.read().split()
+    except (OSError, ValueError) as fault:
+        raise Fault(f"{path} can't be read: {fault}") from None
+    unread = [tag for tag in tags if locale_of(tag) is None]
+    if unread or not tags:
+        raise Fault(f"{path}: {unread[0]!r} is no locale" if unread else f"{path} has no locale")
+    return tags
+
+
 def number(rng):
     """A number without a zero that could be left out; one of five is negative, one of six about to carry."""
     size = rng.randint(1, 16)

@@ -41,15 +41,45 @@ def answers_here(book, lines):
     return [answer(book, line) for line in lines]
 
 
+class Asked:
+    """Lines that are asked of a program, each given with the answer of the definition; of none where there is no program. Many are asked
+    at a time, and then only those are kept that are answered otherwise."""
+
+    AT_A_TIME = 200_000
+
+    def __init__(self, command):
+        self.command, self.lines, self.count, self.other = command, [], 0, []
+
+    def add(self, line, said):
+        """Asks for one more line, now or with later ones."""
+        if self.command:
+            self.lines.append((line, said))
+            if len(self.lines) == self.AT_A_TIME:
+                self.ask()
+
+    def ask(self):
+        """Asks for the lines that wait."""
+        found = answers(self.command, [line for line, _ in self.lines])
+        self.count += len(found)
+        self.other += [(line, a, b) for (line, b), a in zip(self.lines, found) if a != b]
+        self.lines = []
+
+    def say(self, shown):
+        """Prints how many were answered otherwise, and the first of them; answers whether there is none."""
+        self.ask()
+        print(f"{self.count} lines are asked of the program; {len(self.other)} are answered otherwise than by the definition")
+        for line, a, b in self.other[:shown]:
+            print(f"line {line!r}\n  program    {a!r}\n  definition {b!r}")
+        return not self.other
+
+
 def say_otherwise(program, defined, shown):
     """Asks the program for lines, each given with the answer of the definition, prints how many it answers otherwise, and the first of
     them; answers whether there is none."""
-    found = answers(program, [line for line, _ in defined])
-    other = [(line, a, b) for (line, b), a in zip(defined, found) if a != b]
-    print(f"{len(defined)} lines are asked of the program; {len(other)} are answered otherwise than by the definition")
-    for line, a, b in other[:shown]:
-        print(f"line {line!r}\n  program    {a!r}\n  definition {b!r}")
-    return not other
+    asked = Asked(program)
+    for line, said in defined:
+        asked.add(line, said)
+    return asked.say(shown)
 
 
 def spaced(pattern):

@@ -101,6 +101,55 @@ en | percent | keep | - | 1,5 | err number
 """.splitlines()
 ]
 
+# The same, of what people type, by docs/units.md, "Lenient reading": tag, form, text, and the number that is read, or a word.
+TYPED = [
+    tuple(row.split(" | "))
+    for row in """\
+en | currency-EUR | €1,234.50 | 1234.50
+en | currency-EUR | 1234.5 | 1234.5
+en | currency-EUR | 5 € | 5
+en | currency-EUR | 5€ | 5
+en | currency-EUR | € 5 | 5
+en | currency-EUR | EUR 5 | 5
+en | currency-EUR | 5EUR | 5
+en | currency-EUR | -€5 | -5
+en | currency-EUR | €-5 | -5
+en | currency-EUR | -5 € | -5
+en | currency-EUR | - € 5 | -5
+en | currency-EUR | €1234.5 | 1234.5
+en | currency-EUR | €.5 | 0.5
+en | currency-EUR | .5 € | not-written
+en | currency-EUR | €1,23 | not-written
+en | currency-EUR | $5 | not-written
+en | currency-EUR | 5 USD | not-written
+en | currency-EUR | €5€ | not-written
+en | currency-EUR | €5 EUR | not-written
+en | currency-EUR | 5€5 | not-written
+en | currency-EUR | € | not-written
+de | currency-EUR | €1,23 | 1.23
+de | currency-EUR | €1234,5 | 1234.5
+de | currency-EUR | €1234.5 | not-written
+de | currency-EUR | .5 € | not-written
+en | accounting-USD | ($5) | -5
+en | accounting-USD | ($1234.5) | -1234.5
+en | accounting-USD | -$5 | -5
+en | accounting-USD | $-5 | -5
+en | accounting-USD | ($5 | not-written
+en | accounting-USD | $5) | not-written
+en | accounting-USD | (5) | not-written
+de | percent | 12,5 % | 12.5
+de | percent | 12,5 | 12.5
+mr | percent | १,२३४,५६७.५% | 1234567.5
+mr | percent | 1234567.5% | 1234567.5
+mr | currency-EUR | EUR 1,234,567.8 | 1234567.8
+mr | currency-EUR | 12,34,567.8 € | not-written
+ar-u-nu-arab | percent | 5% | 5
+he | currency-ILS | -5.00 ₪ | -5.00
+eu | currency-EUR | -1.234,50 € | -1234.50
+xx | percent | 5 | table
+""".splitlines()
+]
+
 # Lines that another formatter writes otherwise under the same data, what it writes, and the causes that are named.
 CAUSES = [
     tuple(row.split(" | "))

@@ -185,11 +185,11 @@ def is_readable(form):
 def numbers_written(form, text, grouping):
     """The numbers that are written so. A number has the digits of its text, in their order, and a point at one of the
     decimal separators or none; so each of these is tried."""
+    separator, characters = form.symbols.decimal, {*form.digits, *form.symbols.decimal, *form.symbols.grouping}
     for sign, (before, after) in form.affixes.items():
         inner = text[len(before) : len(text) - len(after)]
-        if before + inner + after != text:
+        if before + inner + after != text or not characters.issuperset(inner):
             continue
-        separator = form.symbols.decimal
         places = [place for place in range(len(inner)) if separator and inner.startswith(separator, place)]
         for place in (None, *places):
             parts = (inner, "") if place is None else (inner[:place], inner[place + len(separator) :])

@@ -229,7 +229,7 @@ static void increments(void) {
     expect_text("of 5", format("1.23", increments_of(5)), "1.25");
     expect_text("of 25", format("-1.37", increments_of(25)), "-1.25");
     expect_text("of 25", format("1234567.88", increments_of(25)), "1,234,568.00");
-    expect_text("a ninth digit", format("1234567.8", increments_of(25)), "1,234,567.75");
+    expect_text("one more digit", format("1234567.8", increments_of(25)), "1,234,567.75");
     expect_text("not rounded", format("1.235", kept), "1.235");
     expect_text("of a compact number", format_short("1370", increments_of(5)), "1.4K");
     expect_error("of 3", format("1", third), LEGUMEYET_OPTION);

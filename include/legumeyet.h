@@ -18,8 +18,8 @@
  *     legumeyet_book_close(&world);
  *
  * Texts are UTF-8, a pointer and a length in bytes; no NUL is written after one. A text may have a NUL inside, where a symbol of its
- * book has one: U+0000 in a book is a character as any other. A pointer to a text of length 0, or to a room of 0, may be NULL, so
- * `NULL, 0` asks how much room a text needs. No other pointer may be NULL, but where a call says so.
+ * book has one: U+0000 in a book is a character as any other. A pointer to a text of length 0, to no numbers, or to a room of 0, may be
+ * NULL, so `NULL, 0` asks how much room a text needs. No other pointer may be NULL, but where a call says so.
  *
  * A handle is memory of the caller's. Zeroed memory is a closed handle. A handle is not copied, and its fields are not for callers. A
  * second close returns LEGUMEYET_CLOSED. Handles are free of each other: a formatter has the tables that it needs, so its book may be
@@ -373,7 +373,7 @@ int32_t legumeyet_decimal_formatter_close(legumeyet_decimal_formatter *formatter
  * With the rounding LEGUMEYET_ROUND_HALF_EVEN at -1 and the sign LEGUMEYET_SIGN_ALWAYS `9.75` is written `+9.8`.
  *
  * Returns 0; LEGUMEYET_CLOSED; LEGUMEYET_OPTION, of the options; LEGUMEYET_NUMBER; LEGUMEYET_LIMIT; LEGUMEYET_MEMORY, which a number of
- * eight digits at most takes only where an increment of 25 gives it a ninth; LEGUMEYET_TOO_SMALL.
+ * sixteen digits at most takes only where an increment of 25 gives it a seventeenth; LEGUMEYET_TOO_SMALL.
  */
 int32_t legumeyet_decimal_formatter_format(legumeyet_decimal_formatter *formatter, const uint8_t *number, size_t number_length,
                                            const legumeyet_options *options, uint8_t *out, size_t room, size_t *length);
@@ -422,8 +422,8 @@ int32_t legumeyet_decimal_formatter_format_parts(legumeyet_decimal_formatter *fo
 /*
  * Reads a text back as the one number that the formatter writes so, and writes it as digits: `-1,234.50` of English as `-1234.50`.
  *
- * Returns 0; LEGUMEYET_CLOSED; LEGUMEYET_UTF8; LEGUMEYET_UNREADABLE; LEGUMEYET_NOT_WRITTEN; LEGUMEYET_MEMORY, which a text with eight
- * digits at most never takes; LEGUMEYET_TOO_SMALL.
+ * Returns 0; LEGUMEYET_CLOSED; LEGUMEYET_UTF8; LEGUMEYET_UNREADABLE; LEGUMEYET_NOT_WRITTEN; LEGUMEYET_MEMORY, which a text with
+ * sixteen digits at most never takes; LEGUMEYET_TOO_SMALL.
  */
 int32_t legumeyet_decimal_formatter_read(legumeyet_decimal_formatter *formatter, const uint8_t *text, size_t text_length, uint8_t *out,
                                          size_t room, size_t *length);
@@ -467,7 +467,8 @@ int32_t legumeyet_compact_formatter_close(legumeyet_compact_formatter *formatter
  * has no zeros at the end of its fraction, so a least count of fraction digits does nothing.
  *
  * Returns 0; LEGUMEYET_CLOSED; LEGUMEYET_OPTION, of the options; LEGUMEYET_NUMBER; LEGUMEYET_LIMIT; LEGUMEYET_RANGE;
- * LEGUMEYET_MEMORY, which a number of eight digits at most takes only where an increment of 25 gives it a ninth; LEGUMEYET_TOO_SMALL.
+ * LEGUMEYET_MEMORY, which a number of sixteen digits at most takes only where an increment of 25 gives it a seventeenth;
+ * LEGUMEYET_TOO_SMALL.
  */
 int32_t legumeyet_compact_formatter_format(legumeyet_compact_formatter *formatter, const uint8_t *number, size_t number_length,
                                            const legumeyet_options *options, uint8_t *out, size_t room, size_t *length);
@@ -509,7 +510,7 @@ int32_t legumeyet_compact_formatter_format_parts(legumeyet_compact_formatter *fo
  * Writes the value that the text of a number shows, so that a chart can place its label: of `-1172700` in short English `-1.2c6`, which
  * is -1.2 times ten to the power 6. Where the exponent is 0 it is only the number: `950`.
  *
- * Returns as legumeyet_compact_formatter_format; LEGUMEYET_MEMORY also where what is shown has more than eight digits.
+ * Returns as legumeyet_compact_formatter_format; LEGUMEYET_MEMORY also where what is shown has more than sixteen digits.
  */
 int32_t legumeyet_compact_formatter_shown(legumeyet_compact_formatter *formatter, const uint8_t *number, size_t number_length,
                                           const legumeyet_options *options, uint8_t *out, size_t room, size_t *length);
@@ -520,8 +521,8 @@ int32_t legumeyet_compact_formatter_shown(legumeyet_compact_formatter *formatter
  * What legumeyet_compact_formatter_shown writes is such a text. The options change the significand: rounded at -1 it is `-1.2M`.
  *
  * Returns 0; LEGUMEYET_CLOSED; LEGUMEYET_OPTION, of the options; LEGUMEYET_NUMBER, where the text is no compact number, as `1.2e6`;
- * LEGUMEYET_LIMIT, also of an exponent above 255; LEGUMEYET_MEMORY, which a significand of eight digits at most takes only where an
- * increment of 25 gives it a ninth; LEGUMEYET_RANGE, where the magnitude of both together is above 32767; LEGUMEYET_EXPONENT;
+ * LEGUMEYET_LIMIT, also of an exponent above 255; LEGUMEYET_MEMORY, which a significand of sixteen digits at most takes only where an
+ * increment of 25 gives it a seventeenth; LEGUMEYET_RANGE, where the magnitude of both together is above 32767; LEGUMEYET_EXPONENT;
  * LEGUMEYET_TOO_SMALL.
  */
 int32_t legumeyet_compact_formatter_format_exact(legumeyet_compact_formatter *formatter, const uint8_t *number, size_t number_length,
@@ -566,7 +567,7 @@ int32_t legumeyet_unit_formatter_close(legumeyet_unit_formatter *formatter);
  * number is. What comes after the rounding is that of any number: LEGUMEYET_TRAILING_ZEROS_TRIM writes 5 dollars as `$5`.
  *
  * Returns 0; LEGUMEYET_CLOSED; LEGUMEYET_OPTION, of the options; LEGUMEYET_NUMBER; LEGUMEYET_LIMIT; LEGUMEYET_MEMORY, which a number of
- * eight digits at most takes only where it is rounded to multiples of 25; LEGUMEYET_TOO_SMALL.
+ * sixteen digits at most takes only where it is rounded to multiples of 25; LEGUMEYET_TOO_SMALL.
  */
 int32_t legumeyet_unit_formatter_format(legumeyet_unit_formatter *formatter, const uint8_t *number, size_t number_length,
                                         const legumeyet_options *options, uint8_t *out, size_t room, size_t *length);
@@ -664,8 +665,8 @@ int32_t legumeyet_decimal_formatter_format_integers(legumeyet_decimal_formatter 
                                                     size_t *ends, size_t ends_room, size_t *count);
 
 /*
- * Writes the numbers that lines are, each as legumeyet_decimal_formatter_format does: of `1234.5`, a line feed and `-7` `1,234.5` and `-7` in
- * English.
+ * Writes the numbers that lines are, each as legumeyet_decimal_formatter_format does: of `1234.5`, a line feed and `-7` `1,234.5` and
+ * `-7` in English.
  */
 int32_t legumeyet_decimal_formatter_format_texts(legumeyet_decimal_formatter *formatter, const uint8_t *numbers, size_t numbers_length,
                                                  const legumeyet_options *options, uint8_t *out, size_t room, size_t *ends,
@@ -700,8 +701,8 @@ int32_t legumeyet_unit_formatter_format_integers(legumeyet_unit_formatter *forma
                                                  size_t *ends, size_t ends_room, size_t *count);
 
 /*
- * Writes the numbers that lines are, each as legumeyet_unit_formatter_format does: of `1234.5`, a line feed and `-7` `€1,234.50` and `-€7.00`
- * in English with euros.
+ * Writes the numbers that lines are, each as legumeyet_unit_formatter_format does: of `1234.5`, a line feed and `-7` `€1,234.50` and
+ * `-€7.00` in English with euros.
  */
 int32_t legumeyet_unit_formatter_format_texts(legumeyet_unit_formatter *formatter, const uint8_t *numbers, size_t numbers_length,
                                               const legumeyet_options *options, uint8_t *out, size_t room, size_t *ends, size_t ends_room,

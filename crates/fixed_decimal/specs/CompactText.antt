@@ -53,7 +53,7 @@ pub record IsBeyondCompact (text : List ℕ) : Type 0 where
   pub spells : SpellsCompact text front digits
   pub beyond : IsBeyondSigned front ⊎ PassesExponent front digits
 
--- the text is of this form, and its number has more than eight digits
+-- the text is of this form, and its number has more digits than lie inline
 pub record ReadsLongCompact (text : List ℕ) : Type 0 where
   pub front : List ℕ
   pub digits : List ℕ

@@ -19,6 +19,7 @@ pub use Rattle.fixed_decimal_signed.specs.DigitCount
 pub use Rattle.fixed_decimal_signed.specs.Equality
 pub use Rattle.fixed_decimal_signed.specs.ErrorNumbers
 pub use Rattle.fixed_decimal_signed.specs.GivenDigits
+pub use Rattle.fixed_decimal_signed.specs.InlineDigits
 pub use Rattle.fixed_decimal_signed.specs.Integers
 pub use Rattle.fixed_decimal_signed.specs.Laws
 pub use Rattle.fixed_decimal_signed.specs.NonzeroPlaces

@@ -28,7 +28,7 @@ pub record ReadsScientific (text : List ℕ) (v : ScientificValue) : Type 0 wher
   pub significand : ReadsSigned left v.significand
   pub exponent : ReadsInteger right v.exponent
 
--- the text is of this form, and a side of it spells a number of more than eight digits
+-- the text is of this form, and a side of it spells a number of more digits than lie inline
 pub record ReadsLongScientific (text : List ℕ) : Type 0 where
   pub left : List ℕ
   pub right : List ℕ

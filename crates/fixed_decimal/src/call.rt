@@ -41,7 +41,7 @@ pub enum CallsError {
     /// The sink refused, as one with room for two bytes refuses `+12.34`; it has taken a beginning of the text.
     #[error("The sink refused")]
     Write,
-    /// Out of memory: the nine digits of `123456789` allocate, eight do not; nothing was written.
+    /// Out of memory: the seventeen digits of `12345678901234567` allocate, sixteen do not; nothing was written.
     #[error("Memory for the digits was refused")]
     Memory,
 }

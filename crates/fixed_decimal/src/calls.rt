@@ -66,8 +66,8 @@ fn read_start(alloc: Global, start: &[u8]) -> Result<Decimal, CallsError>
 /// `12.345` with `Round` at -2 by `HalfEven`, and then `ApplySignDisplay(Always)`, writes `+12.34`. The condition is
 /// that the sink has not refused yet. `Parse` exactly where the text spells no decimal within the limits (`5.`,
 /// `1e32768`). `Write` exactly where the sink refused; it has taken a beginning of the text. `Memory`: out of memory;
-/// only reading more than eight digits and a rounding to multiples of 25 allocate. After `Parse` and `Memory` the sink
-/// is as it was.
+/// only reading more than sixteen digits and a rounding to multiples of 25 allocate. After `Parse` and `Memory` the
+/// sink is as it was.
 pub fn run_calls<S: Sink>(
     alloc: Global,
     start: &[u8],

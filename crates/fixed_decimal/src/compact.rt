@@ -132,8 +132,8 @@ impl CompactDecimal {
 
     /// A copy: of `1.2c6` it is `1.2c6`.
     ///
-    /// It allocates where the significand has more than eight digits, from the first to the last one that is not zero.
-    /// `AllocError`: out of memory, only there.
+    /// It allocates where the significand has more than sixteen digits, from the first to the last one that is not
+    /// zero. `AllocError`: out of memory, only there.
     pub fn try_clone(&self) -> Result<CompactDecimal, AllocError>
         ensures value { IfOk result (λ v. v ≡ self.now) }
         ensures room { OnErr result (IsLong self.now.significand.absolute.count) }
@@ -151,7 +151,7 @@ impl CompactDecimal {
     ///
     /// `Syntax` where the text is not of this form (`1c`, `1c0`, `1c06`, `1e3`). `Limit` where the number is beyond the
     /// limits of a decimal or the exponent above 255 (`1c256`). `Memory`: out of memory, only where there are more than
-    /// eight digits, from the first to the last one that is not zero.
+    /// sixteen digits, from the first to the last one that is not zero.
     pub fn try_from_str(alloc: Global, text: &str) -> Result<CompactDecimal, ParseError>
         ensures syntax { IsErrOf result ParseError.Syntax → IsNoCompactText text.now }
         ensures limit { IsErrOf result ParseError.Limit → IsBeyondCompact text.now }

@@ -57,7 +57,7 @@ impl FixedInteger {
     /// The whole number that a text spells: `1e1` is `10`.
     ///
     /// `Syntax` where the text spells no decimal. `Limit` where it spells one beyond the limits or one that shows a
-    /// digit after the point (`1.0`, `10e-1`). `Memory`: out of memory, only where there are more than eight digits,
+    /// digit after the point (`1.0`, `10e-1`). `Memory`: out of memory, only where there are more than sixteen digits,
     /// from the first to the last one that is not zero.
     pub fn try_from_utf8(alloc: Global, code_units: &[u8]) -> Result<FixedInteger, ParseError>
         ensures syntax { IsErrOf result ParseError.Syntax → IsNoSignedText code_units.now }
@@ -99,7 +99,7 @@ impl FixedInteger {
     pub(crate) fn is_whole_number(&self)
         ensures { IsWholeNumber self.now }
     {
-        let _number = self.decimal.absolute.magnitude_range();
+        let _number = self.decimal.absolute.magnitude_range(); // for the proof
     }
 
     // The number of bytes of the text.
@@ -112,7 +112,7 @@ impl FixedInteger {
 
     /// A copy: of `-012` it is `-012`.
     ///
-    /// It allocates where the number has more than eight digits, from the first to the last one that is not zero.
+    /// It allocates where the number has more than sixteen digits, from the first to the last one that is not zero.
     /// `AllocError`: out of memory, only there.
     pub fn try_clone(&self) -> Result<FixedInteger, AllocError>
         ensures value { IfOk result (λ v. v ≡ self.now) }
@@ -144,8 +144,8 @@ impl FixedInteger {
 
     /// The whole number `integer`, without a sign: 250 is shown as `250`.
     ///
-    /// It allocates where it has more than eight digits without the zeros at its end. `AllocError`: out of memory, only
-    /// there.
+    /// It allocates where it has more than sixteen digits without the zeros at its end. `AllocError`: out of memory,
+    /// only there.
     pub fn from_u32(alloc: Global, integer: u32) -> Result<FixedInteger, AllocError>
         ensures value { IfOk result (λ v. IsWhole integer v) }
         ensures room { OnErr result (IsLong integer) }
@@ -156,8 +156,8 @@ impl FixedInteger {
 
     /// The whole number `integer`, without a sign: 250 is shown as `250`.
     ///
-    /// It allocates where it has more than eight digits without the zeros at its end. `AllocError`: out of memory, only
-    /// there.
+    /// It allocates where it has more than sixteen digits without the zeros at its end. `AllocError`: out of memory,
+    /// only there.
     pub fn from_u64(alloc: Global, integer: u64) -> Result<FixedInteger, AllocError>
         ensures value { IfOk result (λ v. IsWhole integer v) }
         ensures room { OnErr result (IsLong integer) }
@@ -168,8 +168,8 @@ impl FixedInteger {
 
     /// The whole number `integer`, without a sign: 250 is shown as `250`.
     ///
-    /// It allocates where it has more than eight digits without the zeros at its end. `AllocError`: out of memory, only
-    /// there.
+    /// It allocates where it has more than sixteen digits without the zeros at its end. `AllocError`: out of memory,
+    /// only there.
     pub fn from_usize(alloc: Global, integer: usize) -> Result<FixedInteger, AllocError>
         ensures value { IfOk result (λ v. IsWhole integer v) }
         ensures room { OnErr result (IsLong integer) }
@@ -180,8 +180,8 @@ impl FixedInteger {
 
     /// The whole number `integer`, without a sign: 250 is shown as `250`.
     ///
-    /// It allocates where it has more than eight digits without the zeros at its end. `AllocError`: out of memory, only
-    /// there.
+    /// It allocates where it has more than sixteen digits without the zeros at its end. `AllocError`: out of memory,
+    /// only there.
     pub fn from_u128(alloc: Global, integer: u128) -> Result<FixedInteger, AllocError>
         ensures value { IfOk result (λ v. IsWhole integer v) }
         ensures room { OnErr result (IsLong integer) }
@@ -212,8 +212,8 @@ impl FixedInteger {
 
     /// The whole number `integer`, with a minus below zero: -25 is shown as `-25`.
     ///
-    /// It allocates where it has more than eight digits without the zeros at its end. `AllocError`: out of memory, only
-    /// there.
+    /// It allocates where it has more than sixteen digits without the zeros at its end. `AllocError`: out of memory,
+    /// only there.
     pub fn from_i32(alloc: Global, integer: i32) -> Result<FixedInteger, AllocError>
         ensures value { IfOk result (λ v. IsSignedWhole integer v) }
         ensures room { OnErr result (IsLong (size_of integer)) }
@@ -224,8 +224,8 @@ impl FixedInteger {
 
     /// The whole number `integer`, with a minus below zero: -25 is shown as `-25`.
     ///
-    /// It allocates where it has more than eight digits without the zeros at its end. `AllocError`: out of memory, only
-    /// there.
+    /// It allocates where it has more than sixteen digits without the zeros at its end. `AllocError`: out of memory,
+    /// only there.
     pub fn from_i64(alloc: Global, integer: i64) -> Result<FixedInteger, AllocError>
         ensures value { IfOk result (λ v. IsSignedWhole integer v) }
         ensures room { OnErr result (IsLong (size_of integer)) }
@@ -236,8 +236,8 @@ impl FixedInteger {
 
     /// The whole number `integer`, with a minus below zero: -25 is shown as `-25`.
     ///
-    /// It allocates where it has more than eight digits without the zeros at its end. `AllocError`: out of memory, only
-    /// there.
+    /// It allocates where it has more than sixteen digits without the zeros at its end. `AllocError`: out of memory,
+    /// only there.
     pub fn from_isize(alloc: Global, integer: isize) -> Result<FixedInteger, AllocError>
         ensures value { IfOk result (λ v. IsSignedWhole integer v) }
         ensures room { OnErr result (IsLong (size_of integer)) }
@@ -248,8 +248,8 @@ impl FixedInteger {
 
     /// The whole number `integer`, with a minus below zero: -25 is shown as `-25`.
     ///
-    /// It allocates where it has more than eight digits without the zeros at its end. `AllocError`: out of memory, only
-    /// there.
+    /// It allocates where it has more than sixteen digits without the zeros at its end. `AllocError`: out of memory,
+    /// only there.
     pub fn from_i128(alloc: Global, integer: i128) -> Result<FixedInteger, AllocError>
         ensures value { IfOk result (λ v. IsSignedWhole integer v) }
         ensures room { OnErr result (IsLong (size_of integer)) }

@@ -81,8 +81,8 @@ impl ScientificDecimal {
     /// The number that a text spells, with its exponent: 1.2 and -6 of `1.2e-6`.
     ///
     /// `Syntax` where the text has no `e`, another mark beside it, or a side that does not read or is beyond its limits
-    /// (`1.2`, `1E3`, `1e2e3`, `1e0.5`); never `Limit`. `Memory`: out of memory, only where a side has more than eight
-    /// digits, from the first to the last one that is not zero.
+    /// (`1.2`, `1E3`, `1e2e3`, `1e0.5`); never `Limit`. `Memory`: out of memory, only where a side has more than
+    /// sixteen digits, from the first to the last one that is not zero.
     pub fn try_from_utf8(alloc: Global, code_units: &[u8]) -> Result<ScientificDecimal, ParseError>
         ensures syntax { IsErrOf result ParseError.Syntax → IsNoScientificText code_units.now }
         ensures limit { ¬ (IsErrOf result ParseError.Limit) }
@@ -115,7 +115,7 @@ impl ScientificDecimal {
 
     /// A copy: of `1.2e-6` it is `1.2e-6`.
     ///
-    /// It allocates where a part of it has more than eight digits, from the first to the last one that is not zero.
+    /// It allocates where a part of it has more than sixteen digits, from the first to the last one that is not zero.
     /// `AllocError`: out of memory, only there.
     pub fn try_clone(&self) -> Result<ScientificDecimal, AllocError>
         ensures value { IfOk result (λ v. v ≡ self.now) }

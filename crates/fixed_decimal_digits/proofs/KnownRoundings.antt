@@ -33,16 +33,16 @@ no_tie_to_three h =
 tie_by_twenty_five : IsRounded HalfEven (increment_number MultiplesOf25 * 10) 375 500
 tie_by_twenty_five = record { multiple = (2, refl); nearest = λ other m. let is = m.1 in omega arith; tied = λ other m ne e. (1, refl) }
 
--- by 25, 110000010 is rounded up to an odd count of 25, 110000025, and down to an even one, 110000000
-pub up_to_an_odd_count : TakesOdd Expand 25 110000010
+-- by 25, 11000000000000010 is rounded up to an odd count of 25, 11000000000000025, and down to an even one, 11000000000000000
+pub up_to_an_odd_count : TakesOdd Expand 25 11000000000000010
 up_to_an_odd_count = record {
-  multiple = 110000025;
-  rounded = record { multiple = (4400001, refl); over = lit≤ tt; least = λ other m over. let is = m.1 in omega arith };
+  multiple = 11000000000000025;
+  rounded = record { multiple = (440000000000001, refl); over = lit≤ tt; least = λ other m over. let is = m.1 in omega arith };
   odd = λ m. let is = m.1 in omega arith;
 }
 
-pub down_to_an_even_count : ¬ (TakesOdd Trunc 25 110000010)
+pub down_to_an_even_count : ¬ (TakesOdd Trunc 25 11000000000000010)
 down_to_an_even_count h =
-    let is = h.rounded.multiple.1 in let under = h.rounded.under in let reach = h.rounded.greatest 110000000 (4400000, refl) (lit≤ tt) in
-    let same : h.multiple ≡ 2200000 * 50 = omega arith in
-    h.odd (2200000, same)
+    let is = h.rounded.multiple.1 in let under = h.rounded.under in let reach = h.rounded.greatest 11000000000000000 (440000000000000, refl) (lit≤ tt) in
+    let same : h.multiple ≡ 220000000000000 * 50 = omega arith in
+    h.odd (220000000000000, same)

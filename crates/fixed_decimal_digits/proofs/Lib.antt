@@ -1,5 +1,6 @@
 pub mod AppendLemmas
 pub mod BlockLemmas
+pub mod ChunkLemmas
 pub mod CutLemmas
 pub mod SameCountLemmas
 pub mod HalvesLemmas

@@ -35,14 +35,6 @@ number_of_first w k n s c =
     let once : number_from_digits 10 (word_digits w k) ≡ number_from_digits 10 (word_digits w k) * 10 ^ 0 = omega arith in
     once ∙ sym c.value ∙ s.value
 
--- more than eight digits
-pub first_reaches : (w k n : ℕ) → SpellsNumber w 16 n → IsCutWord w w k 0 → 8 < k → 10 ^ 8 ≤ n
-first_reaches w k n s c l =
-    let long = word_length k w in
-    let reach = number_reaches (word_digits w k) (omega (arith, long, l)) (c.first (omega (arith, l))) in
-    let up = tens_apart 8 (length (word_digits w k) - 1) (omega (arith, long, l)) in
-    omega (arith, reach, up, number_of_first w k n s c)
-
 -- no digit of a zero
 pub none_of_zero : (w k : ℕ) → IsCutWord w w k 0 → number_from_digits 10 (word_digits w k) ≡ 0 → word_digits w k ≡ []
 none_of_zero w k c z = ⊎_elim

@@ -19,11 +19,11 @@ odd_pair MultiplesOf25 h pair t k some lower only e =
     omega (arith, same, lower)
 
 -- where there is no room for what a pair adds, these are two digits, and the last one before stood right above the place
-pub two_added : (top place len capacity kept added more : ℕ) → kept ≡ top + 1 - (place + 2) → more ≡ kept + added - len → top < place + len + 1 → len ≤ capacity → 8 ≤ capacity → added ≤ 2
+pub two_added : (top place len capacity kept added more : ℕ) → kept ≡ top + 1 - (place + 2) → more ≡ kept + added - len → top < place + len + 1 → len ≤ capacity → 16 ≤ capacity → added ≤ 2
     → (len + more ≤ capacity → ⊥) → 2 ≤ added
 two_added top place len capacity kept added more k m deep fits inline most full = ⊎_elim (λ less. absurd (full (omega arith))) (λ two. two) (cases_lt added 2)
 
-pub not_deeper : (top place len capacity kept added more : ℕ) → kept ≡ top + 1 - (place + 2) → more ≡ kept + added - len → len ≤ capacity → 8 ≤ capacity → added ≤ 2
+pub not_deeper : (top place len capacity kept added more : ℕ) → kept ≡ top + 1 - (place + 2) → more ≡ kept + added - len → len ≤ capacity → 16 ≤ capacity → added ≤ 2
     → (len + more ≤ capacity → ⊥) → top < place + len → ⊥
 not_deeper top place len capacity kept added more k m fits inline most full deeper = full (omega arith)
 

@@ -1,5 +1,5 @@
 -- The bytes of a word hold its digits.
-use Rattle.std.proofs.Common.{◌≡◌, ℕ, zero, suc, ◌+◌, ◌-◌, ◌*◌, ◌/◌, ◌%◌, ◌≤◌, List, [], ◌∷◌, ◌++◌, drop, refl, sym, ap, ◌∙◌, arith, w64}
+use Rattle.std.proofs.Common.{◌≡◌, ℕ, zero, suc, ◌+◌, ◌-◌, ◌*◌, ◌/◌, ◌%◌, ◌^◌, ◌<◌, ◌≤◌, List, [], ◌∷◌, ◌++◌, drop, take, refl, sym, ap, ◌∙◌, arith, w64}
 use Rattle.std.proofs.lemmas.List.{append_assoc}
 use Rattle.std.specs.Int.{bytes_high_first, to_be_bytes}
 use Rattle.std.specs.Int.Digits.{AllBelowBase}
@@ -65,3 +65,22 @@ high_last (suc (suc (suc (suc (suc (suc (suc (suc (suc n))))))))) w h = absurd (
 -- the lowest bytes of a word are the last of all eight
 pub last_bytes : (n w : ℕ) → n ≤ 8 → drop (8 - n) (to_be_bytes w64 w) ≡ word_bytes w n
 last_bytes n w h = high_last n w h ∙ high_word n w
+
+cons : {b c : ℕ} {bs cs : List ℕ} → b ≡ c → bs ≡ cs → b ∷ bs ≡ c ∷ cs
+cons {b} {c} {bs} {cs} e es = ap (λ x. x ∷ bs) e ∙ ap (λ xs. c ∷ xs) es
+
+moved_up : (n w : ℕ) → 0 < n → n ≤ 8 → take n (bytes_high_first 8 (w * 2 ^ (64 - 8 * n) % 2 ^ 64)) ≡ bytes_high_first n w
+moved_up zero w some h = absurd (omega arith)
+moved_up (suc zero) w some h = cons (omega arith) refl
+moved_up (suc (suc zero)) w some h = cons (omega arith) (cons (omega arith) refl)
+moved_up (suc (suc (suc zero))) w some h = cons (omega arith) (cons (omega arith) (cons (omega arith) refl))
+moved_up (suc (suc (suc (suc zero)))) w some h = cons (omega arith) (cons (omega arith) (cons (omega arith) (cons (omega arith) refl)))
+moved_up (suc (suc (suc (suc (suc zero))))) w some h = cons (omega arith) (cons (omega arith) (cons (omega arith) (cons (omega arith) (cons (omega arith) refl))))
+moved_up (suc (suc (suc (suc (suc (suc zero)))))) w some h = cons (omega arith) (cons (omega arith) (cons (omega arith) (cons (omega arith) (cons (omega arith) (cons (omega arith) refl)))))
+moved_up (suc (suc (suc (suc (suc (suc (suc zero))))))) w some h = cons (omega arith) (cons (omega arith) (cons (omega arith) (cons (omega arith) (cons (omega arith) (cons (omega arith) (cons (omega arith) refl))))))
+moved_up (suc (suc (suc (suc (suc (suc (suc (suc zero)))))))) w some h = cons (omega arith) (cons (omega arith) (cons (omega arith) (cons (omega arith) (cons (omega arith) (cons (omega arith) (cons (omega arith) (cons (omega arith) refl)))))))
+moved_up (suc (suc (suc (suc (suc (suc (suc (suc (suc n))))))))) w some h = absurd (omega arith)
+
+-- the lowest bytes of a word that is moved up are the first of all eight
+pub first_bytes : (n w : ℕ) → 0 < n → n ≤ 8 → take n (to_be_bytes w64 (w * 2 ^ (64 - 8 * n) % 2 ^ 64)) ≡ word_bytes w n
+first_bytes n w some h = moved_up n w some h ∙ high_word n w

@@ -1,6 +1,7 @@
 //! Digits after other digits, with zeros between them.
 
 ghost use Rattle.std.specs.Prelude.{◌≡◌, ◌+◌, ◌<◌, ◌≤◌, ◌++◌, length, replicate, OnOk, OnErr, IfSome};
+ghost use Rattle.fixed_decimal_digits.specs.InlineDigits.{inline_digits};
 
 use crate::digits::Digits;
 use std::alloc::AllocError;
@@ -44,15 +45,15 @@ fn push_all(digits: &mut Digits, other: &Digits)
 
 /// Adds `zeros` zeros and then the digits of another list: one zero and 3 after 1, 2 make 1, 2, 0, 3.
 ///
-/// The condition is that these are at most 65536. It allocates where all together are more than eight. `AllocError`:
+/// The condition is that these are at most 65536. It allocates where all together are more than sixteen. `AllocError`:
 /// out of memory, only there; then nothing is added.
 pub fn push_after(digits: &mut Digits, zeros: usize, other: &Digits) -> Result<(), AllocError>
     requires { zeros + length other.now.items ≤ 65536 }
     ensures ok { OnOk result (digits.new.items ≡ digits.old.items ++ (replicate zeros 0 ++ other.now.items)) }
     ensures err { OnErr result (digits.new ≡ digits.old) }
-    ensures room { OnErr result (8 < length digits.old.items + (zeros + length other.now.items)) }
+    ensures room { OnErr result (inline_digits < length digits.old.items + (zeros + length other.now.items)) }
 {
-    let _inline = digits.len();
+    let _inline = digits.len(); // for the proof
     digits.reserve(zeros + other.len())?;
     push_zeros(digits, zeros);
     push_all(digits, other);

@@ -8,32 +8,49 @@ use crate::digits::INLINE;
 use smallvec::SmallVec;
 use std::alloc::Global;
 
-// The lowest `count` bytes of a word, at most as many as lie inline, the highest of them first.
-fn inline_bytes(alloc: Global, word: u64, count: usize) -> SmallVec<u8, INLINE>
-    requires { count ≤ 4 }
-    ensures items { result.items ≡ word_bytes word count }
-    ensures capacity { result.capacity ≡ 4 }
+// The first `count` of eight bytes, inline. Each count has an arm of its own, so that the compiler knows which bytes are
+// cleared.
+fn first_of(alloc: Global, bytes: [u8; 8], count: usize) -> SmallVec<u8, INLINE>
+    requires { count ≤ 8 }
+    ensures items { result.items ≡ take count bytes }
+    ensures capacity { result.capacity ≡ 8 }
 {
-    let [_, _, _, _, first, second, third, last] = word.to_be_bytes();
     match count {
-        0 => SmallVec::new(alloc),
-        1 => SmallVec::from_buf_and_len(alloc, [last, 0, 0, 0], 1),
-        2 => SmallVec::from_buf_and_len(alloc, [third, last, 0, 0], 2),
-        3 => SmallVec::from_buf_and_len(alloc, [second, third, last, 0], 3),
-        _ => SmallVec::from_buf(alloc, [first, second, third, last]),
+        0 => SmallVec::from_buf_and_len(alloc, bytes, 0),
+        1 => SmallVec::from_buf_and_len(alloc, bytes, 1),
+        2 => SmallVec::from_buf_and_len(alloc, bytes, 2),
+        3 => SmallVec::from_buf_and_len(alloc, bytes, 3),
+        4 => SmallVec::from_buf_and_len(alloc, bytes, 4),
+        5 => SmallVec::from_buf_and_len(alloc, bytes, 5),
+        6 => SmallVec::from_buf_and_len(alloc, bytes, 6),
+        7 => SmallVec::from_buf_and_len(alloc, bytes, 7),
+        _ => SmallVec::from_buf_and_len(alloc, bytes, 8),
     }
+}
+
+// The lowest `count` bytes of a word, at most as many as lie inline, the highest of them first.
+#[tactic(auto, using(crate::proofs::WordBytesLemmas::first_bytes))]
+fn inline_bytes(alloc: Global, word: u64, count: usize) -> SmallVec<u8, INLINE>
+    requires { count ≤ 8 }
+    ensures items { result.items ≡ word_bytes word count }
+    ensures capacity { result.capacity ≡ 8 }
+{
+    if count == 0 {
+        return SmallVec::new(alloc);
+    }
+    let first = word << (64 - 8 * count as u32);
+    first_of(alloc, first.to_be_bytes(), count)
 }
 
 // Replaces the bytes by the lowest `count` bytes of a word, the highest of them first. The memory stays.
 #[tactic(auto, using(crate::proofs::WordBytesLemmas::last_bytes))]
 pub fn assign_bytes(kept: &mut SmallVec<u8, INLINE>, word: u64, count: usize)
     requires few { count ≤ 8 }
-    requires inline { 4 ≤ kept.old.capacity }
-    requires room { count ≤ kept.old.capacity }
+    requires inline { 8 ≤ kept.old.capacity }
     ensures items { kept.new.items ≡ word_bytes word count }
     ensures capacity { kept.old.capacity ≤ kept.new.capacity }
 {
-    if count > INLINE || kept.spilled() {
+    if kept.spilled() {
         let bytes = word.to_be_bytes();
         let (_, lowest) = bytes.split_at(8 - count);
         kept.clear();

@@ -5,9 +5,10 @@ ghost use Rattle.std.specs.Char.{digit_value};
 ghost use Rattle.std.specs.Int.Digits.{AllBelowBase};
 ghost use Rattle.fixed_decimal_digit_words.specs.DigitText.{AreDigits};
 ghost use Rattle.fixed_decimal_digit_words.specs.DigitWord.{word_digits};
+ghost use Rattle.fixed_decimal_digits.specs.InlineDigits.{inline_digits};
 
 use crate::digit_bytes::{assign_bytes, copy_bytes, drop_bytes, push_bytes, set_byte, shift_half};
-use crate::digits::{Digits, INLINE_DIGITS};
+use crate::digits::Digits;
 use fixed_decimal_digit_words::bytes_of_block;
 use std::alloc::AllocError;
 
@@ -43,13 +44,15 @@ impl Digits {
         self.reserve(more)
     }
 
-    // Replaces the digits by the lowest `count` digits of a word, four bits each: there is room for them.
-    fn put_word(&mut self, word: u64, count: usize)
-        requires few { count ≤ 16 }
+    /// Replaces the digits by the lowest `count` digits of a word, four bits each: 9, 0, 5 of 0x905 and 3.
+    ///
+    /// The condition is that these are digits, at most sixteen, and all of the word. The memory stays. It does not
+    /// allocate.
+    pub fn assign_word(&mut self, word: u64, count: usize)
+        requires few { count ≤ inline_digits }
         requires fits { word < 16 ^ count }
         requires tens { AllBelowBase 10 (word_digits word count) }
-        requires room { count ≤ self.old.capacity }
-        ensures items { self.new.items ≡ word_digits word count }
+        ensures { self.new.items ≡ word_digits word count }
     {
         if count % 2 == 0 {
             assign_bytes(&mut self.kept, word, count / 2);
@@ -57,27 +60,6 @@ impl Digits {
             assign_bytes(&mut self.kept, word * 16, count / 2 + 1);
         }
         self.count = count;
-    }
-
-    /// Replaces the digits by the lowest `count` digits of a word, four bits each: 9, 0, 5 of 0x905 and 3.
-    ///
-    /// The condition is that these are digits, at most sixteen, and all of the word. The call reuses the memory of the
-    /// digits, and allocates where that has no room for these. `AllocError`: out of memory, only there; the digits are
-    /// then as before.
-    pub fn assign_word(&mut self, word: u64, count: usize) -> Result<(), AllocError>
-        requires few { count ≤ 16 }
-        requires fits { word < 16 ^ count }
-        requires tens { AllBelowBase 10 (word_digits word count) }
-        ensures items { OnOk result (self.new.items ≡ word_digits word count) }
-        ensures err { OnErr result (self.new ≡ self.old) }
-        ensures room { OnErr result (self.old.capacity < count) }
-    {
-        let _inline = self.len();
-        if count > INLINE_DIGITS {
-            self.make_room(count)?;
-        }
-        self.put_word(word, count);
-        Ok(())
     }
 
     // Adds the sixteen digits of a word, for which there is room, after an even count.
@@ -227,7 +209,7 @@ impl Digits {
     pub fn clear(&mut self)
         ensures items { self.new.items ≡ [] }
         ensures capacity { self.new.capacity ≡ self.old.capacity }
-        ensures inline { 8 ≤ self.new.capacity }
+        ensures inline { inline_digits ≤ self.new.capacity }
     {
         self.kept.clear();
         self.count = 0;

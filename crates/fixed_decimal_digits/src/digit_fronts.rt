@@ -1,6 +1,7 @@
 //! The first digits of a list, kept.
 
 ghost use Rattle.std.specs.Prelude.{◌≡◌, ◌+◌, ◌-◌, ◌%◌, ◌<◌, ◌≤◌, [], ◌∷◌, ◌++◌, length, slice_index, take};
+ghost use Rattle.fixed_decimal_digits.specs.InlineDigits.{inline_digits};
 
 use crate::digit_bytes::set_byte;
 use crate::digits::Digits;
@@ -36,7 +37,7 @@ impl Digits {
         ensures items { self.new.items ≡ take len self.old.items }
         ensures capacity { self.new.capacity ≡ self.old.capacity }
         ensures fits { length self.old.items ≤ self.old.capacity }
-        ensures inline { 8 ≤ self.new.capacity }
+        ensures inline { inline_digits ≤ self.new.capacity }
     {
         if len < self.len() {
             if len % 2 == 0 {

@@ -1,10 +1,11 @@
-//! Some of the digits of a list, one after another, or up to sixteen at once.
+//! Some of the digits of a list, one after another, or sixteen or forty-eight at once.
 
 ghost use Rattle.std.specs.Prelude.{◌≡◌, ◌+◌, ◌^◌, ◌<◌, ◌≤◌, length, min, take, drop};
 ghost use Rattle.std.specs.Int.Digits.{AllBelowBase};
 ghost use Rattle.std.specs.Iterator.{YieldsFirst, item_count};
 
-use crate::digits::{Digits, STEP};
+use crate::digit_chunks::{chunk_between, chunk_within};
+use crate::digits::{CHUNK, Digits, STEP};
 use fixed_decimal_digit_words::{digits_between, digits_within};
 use std::iter::FusedIterator;
 use std::marker::Model;
@@ -59,6 +60,21 @@ impl Digits {
             digits_between(rest)
         }
     }
+
+    // The forty-eight digits from an index on.
+    #[tactic(auto, using(crate::proofs::PackedChanges::bytes_length))]
+    fn chunk_from(&self, index: usize) -> [u8; 48]
+        requires within { index + 48 ≤ length self.now.items }
+        ensures taken { result ≡ take 48 (drop index self.now.items) }
+        ensures tens { AllBelowBase 10 result }
+    {
+        let (_, rest) = self.kept.as_slice().split_at(index / 2);
+        if index % 2 == 0 {
+            chunk_within(rest)
+        } else {
+            chunk_between(rest)
+        }
+    }
 }
 
 impl<'l> DigitRun<'l> {
@@ -83,6 +99,20 @@ impl<'l> DigitRun<'l> {
         self.next += count;
         self.left -= count;
         count
+    }
+
+    // The next forty-eight digits. The condition is that so many are left.
+    pub fn next_chunk(&mut self) -> [u8; 48]
+        requires { 48 ≤ length self.old }
+        ensures taken { result ≡ take 48 self.old }
+        ensures tens { AllBelowBase 10 result }
+        ensures rest { self.new ≡ drop 48 self.old }
+    {
+        let _left = self.len(); // for the proof
+        let chunk = self.digits.chunk_from(self.next);
+        self.next += CHUNK;
+        self.left -= CHUNK;
+        chunk
     }
 }
 

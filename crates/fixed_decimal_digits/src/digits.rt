@@ -3,17 +3,15 @@
 ghost use Rattle.std.specs.Prelude.{◌≡◌, ◌==◌, ◌+◌, ◌%◌, ◌<◌, ◌≤◌, ◌↔◌, [], length, slice_index, take, drop, map, IsTrue, IfOk, OnErr};
 ghost use Rattle.std.specs.Bool.{Decides};
 ghost use Rattle.fixed_decimal_digit_words.specs.DigitText.{character};
+ghost use Rattle.fixed_decimal_digits.specs.InlineDigits.{inline_digits};
 
 use fixed_decimal_digit_words::text_of_block;
 use smallvec::SmallVec;
 use std::alloc::{AllocError, Global};
 use std::marker::Model;
 
-// How many bytes lie inline.
-pub const INLINE: usize = 4;
-
-// How many digits lie inline, without an allocation.
-pub const INLINE_DIGITS: usize = 8;
+// How many bytes lie inline: those of sixteen digits.
+pub const INLINE: usize = 8;
 
 /// How many digits one step reads or writes: those of thirty-two bytes.
 pub const BLOCK: usize = 64;
@@ -21,9 +19,12 @@ pub const BLOCK: usize = 64;
 // How many digits one step returns: those of eight bytes.
 pub const STEP: usize = 16;
 
+// How many digits are returned at once: those of twenty-four bytes.
+pub const CHUNK: usize = 48;
+
 /// A list of digits from 0 to 9, two to a byte, the higher one in the upper half: 9, 0, 5.
 ///
-/// Up to eight digits do not allocate.
+/// Up to sixteen digits do not allocate.
 #[derive(Debug, Drop)]
 pub struct Digits {
     pub(crate) kept: SmallVec<u8, INLINE>,
@@ -42,14 +43,14 @@ impl Model for Digits {
       capacity = min (2 * a.kept.capacity) (2 ^ 64 - 1);
     } };
 
-    ghost invariant = { λ a. IsPacked a.kept.items a.count × (4 ≤ a.kept.capacity) };
+    ghost invariant = { λ a. IsPacked a.kept.items a.count × (8 ≤ a.kept.capacity) };
 }
 
 impl Digits {
     /// No digits, of which there are 0. It does not allocate.
     pub fn new(alloc: Global) -> Digits
         ensures items { result.items ≡ [] }
-        ensures capacity { 8 ≤ result.capacity }
+        ensures capacity { inline_digits ≤ result.capacity }
     {
         Digits {
             kept: SmallVec::new(alloc),
@@ -59,11 +60,11 @@ impl Digits {
 
     /// No digits, with room for `count`: with room for 12, pushing twelve does not allocate.
     ///
-    /// It allocates where that is more than eight. `AllocError`: out of memory, only there.
+    /// It allocates where that is more than sixteen. `AllocError`: out of memory, only there.
     pub fn with_room(alloc: Global, count: usize) -> Result<Digits, AllocError>
         ensures items { IfOk result (λ d. d.items ≡ []) }
         ensures capacity { IfOk result (λ d. count ≤ d.capacity) }
-        ensures room { OnErr result (8 < count) }
+        ensures room { OnErr result (inline_digits < count) }
     {
         let mut digits = Digits::new(alloc);
         digits.reserve(count)?;
@@ -75,9 +76,9 @@ impl Digits {
     pub fn len(&self) -> usize
         ensures value { result ≡ length self.now.items }
         ensures fits { result ≤ self.now.capacity }
-        ensures inline { 8 ≤ self.now.capacity }
+        ensures inline { inline_digits ≤ self.now.capacity }
     {
-        let _bytes = self.kept.len();
+        let _bytes = self.kept.len(); // for the proof
         self.count
     }
 
@@ -108,7 +109,7 @@ impl Digits {
         ensures { IsTrue result
             ↔ ((slice_index self.now.items index ≡ digit) × (slice_index self.now.items (index + 1) ≡ digit)) }
     {
-        let _count = self.len();
+        let _count = self.len(); // for the proof
         if index % 2 == 0 {
             self.kept.as_slice()[index / 2] == digit * 17
         } else {
@@ -139,10 +140,10 @@ impl Digits {
 
     /// A copy: of 9, 0, 5 it is 9, 0, 5.
     ///
-    /// It allocates where there are more than eight. `AllocError`: out of memory, only there.
+    /// It allocates where there are more than sixteen. `AllocError`: out of memory, only there.
     pub fn try_clone(&self) -> Result<Digits, AllocError>
         ensures value { IfOk result (λ d. d.items ≡ self.now.items) }
-        ensures room { OnErr result (8 < length self.now.items) }
+        ensures room { OnErr result (inline_digits < length self.now.items) }
     {
         let kept = SmallVec::from_slice(*self.kept.allocator(), self.kept.as_slice())?;
         Ok(Digits {

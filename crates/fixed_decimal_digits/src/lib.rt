@@ -11,6 +11,7 @@ mod concatenation;
 mod cutting;
 mod digit_bytes;
 mod digit_changes;
+mod digit_chunks;
 mod digit_fronts;
 mod digit_run;
 mod digit_text;

@@ -4,6 +4,7 @@ ghost use Rattle.std.specs.Prelude.{◌≡◌, ◌≢◌, ℕ, ◌+◌, ◌-◌,
 ghost use Rattle.std.specs.Bool.{MatchBool};
 ghost use Rattle.std.specs.Int.Digits.{number_from_digits, AllBelowBase};
 ghost use Rattle.fixed_decimal_digits.specs.DigitList.{count_of, IsTight, IsTrimmed};
+ghost use Rattle.fixed_decimal_digits.specs.InlineDigits.{inline_digits};
 ghost use Rattle.fixed_decimal_digits.specs.Rounding.{IsRounded, TakesOdd, increment_number};
 ghost use Rattle.fixed_decimal_digits.specs.RoundingSteps.{IsAppended, takes_upper_of};
 
@@ -164,7 +165,7 @@ fn round_by_pair<L: Ledger>(
         (count_of digits.new.items t)) }
     ensures same { OnErr result (digits.new ≡ digits.old) }
     ensures succeeds { increment ≢ RoundingIncrement.MultiplesOf25 → IsOk result }
-    ensures room { OnErr result (place + 8 ≤ top) }
+    ensures room { OnErr result (place + inline_digits ≤ top) }
     ensures last { OnErr result (place + length digits.old.items ≡ top) }
     ensures odd { OnErr result
         (TakesOdd mode (increment_number increment * 10 ^ place) (count_of digits.old.items top)) }
@@ -185,7 +186,7 @@ fn round_by_pair<L: Ledger>(
 ///
 /// It returns the new place of the first digit, which may be past the last place. The condition is that the digits
 /// neither begin with a zero nor end in one, which then holds of the new ones. It allocates only for a multiple that
-/// ends in 25 or 75 and a last digit right above the place, the first at least eight above it. `AllocError`: out of
+/// ends in 25 or 75 and a last digit right above the place, the first at least sixteen above it. `AllocError`: out of
 /// memory, only there; the digits are then as before.
 pub fn round_digits<L: Ledger>(
     digits: &mut Digits,
@@ -204,7 +205,7 @@ pub fn round_digits<L: Ledger>(
         (count_of digits.new.items t)) }
     ensures same { OnErr result (digits.new ≡ digits.old) }
     ensures succeeds { increment ≢ RoundingIncrement.MultiplesOf25 → IsOk result }
-    ensures room { OnErr result (place + 8 ≤ top) }
+    ensures room { OnErr result (place + inline_digits ≤ top) }
     ensures last { OnErr result (place + length digits.old.items ≡ top) }
     ensures odd { OnErr result
         (TakesOdd mode (increment_number increment * 10 ^ place) (count_of digits.old.items top)) }

@@ -7,7 +7,7 @@ ghost use Rattle.fixed_decimal_digits.specs.CountDigits.{digits_down};
 ghost use Rattle.fixed_decimal_digits.specs.DigitList.{count_of};
 
 use crate::digit_run::DigitRun;
-use crate::digits::{Digits, STEP};
+use crate::digits::{CHUNK, Digits, STEP};
 use std::iter::{ExactSizeIterator, FusedIterator};
 use std::marker::Model;
 
@@ -70,6 +70,22 @@ impl<'l> ShownDigits<'l> {
             return self.inside.next_block(block);
         }
         self.next_few(block)
+    }
+
+    /// The next forty-eight digits, where as many are kept before the zeros after them. `None`, and none is taken: they
+    /// are not, or there are zeros before them.
+    ///
+    /// Of forty-eight ones before the point the first call returns these, the next `None`. It does not allocate.
+    pub fn next_chunk(&mut self) -> Option<[u8; 48]>
+        ensures taken { IfSome result (λ chunk. chunk ≡ take 48 self.old) }
+        ensures tens { IfSome result (λ chunk. AllBelowBase 10 chunk) }
+        ensures rest { IfSome result (λ _. self.new ≡ drop 48 self.old) }
+        ensures none { result ≡ None → self.new ≡ self.old }
+    {
+        if self.zeros_before > 0 || self.inside.len() < CHUNK {
+            return None;
+        }
+        Some(self.inside.next_chunk())
     }
 
     // Does what `next_block` does, digit by digit, zeros before and after with them.

@@ -10,6 +10,7 @@ pub use Rattle.fixed_decimal_unsigned.specs.DigitCount
 pub use Rattle.fixed_decimal_unsigned.specs.Equality
 pub use Rattle.fixed_decimal_unsigned.specs.ErrorNumbers
 pub use Rattle.fixed_decimal_unsigned.specs.GivenDigits
+pub use Rattle.fixed_decimal_unsigned.specs.InlineDigits
 pub use Rattle.fixed_decimal_unsigned.specs.Integers
 pub use Rattle.fixed_decimal_unsigned.specs.Laws
 pub use Rattle.fixed_decimal_unsigned.specs.NonzeroPlaces

@@ -32,7 +32,7 @@ pub record IsBeyondSigned (text : List ℕ) : Type 0 where
   pub whole : text ≡ sign_text sign ++ rest
   pub beyond : IsBeyond rest
 
--- the text spells a number of more than eight digits, from the first to the last one that is not zero
+-- the text spells a number of more digits than lie inline, from the first to the last one that is not zero
 pub record ReadsLongSigned (text : List ℕ) : Type 0 where
   pub number : SignedValue Number
   pub reads : ReadsSigned text number

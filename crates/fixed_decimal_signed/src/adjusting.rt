@@ -81,7 +81,7 @@ impl Signed<UnsignedDecimal> {
     ///
     /// `Overlap`, with both numbers, where neither is zero and the last digit of this number that is not zero is not
     /// above the first one of `other`. `Memory`, with both: out of memory. It allocates only where the sum has more
-    /// than eight digits and neither number is zero.
+    /// than sixteen digits and neither number is zero.
     pub fn concatenated_end(
         mut self,
         other: UnsignedDecimal,

@@ -56,7 +56,7 @@ impl Signed<UnsignedDecimal> {
 
     /// A copy: of `-012.30` it is `-012.30`.
     ///
-    /// It allocates where the number has more than eight digits, from the first to the last one that is not zero.
+    /// It allocates where the number has more than sixteen digits, from the first to the last one that is not zero.
     /// `AllocError`: out of memory, only there.
     pub fn try_clone(&self) -> Result<Decimal, AllocError>
         ensures value { IfOk result (λ v. v ≡ self.now) }
@@ -70,7 +70,7 @@ impl Signed<UnsignedDecimal> {
     /// The number that a text spells, with its sign: `-12.30` is -12.3, shown from magnitude 1 down to -2.
     ///
     /// `Syntax` where the text spells no number (`5.`, `--5`). `Limit` where it spells one that passes magnitudes
-    /// -32768 to 32767 (`1e32768`). `Memory`: out of memory, only where there are more than eight digits, from the
+    /// -32768 to 32767 (`1e32768`). `Memory`: out of memory, only where there are more than sixteen digits, from the
     /// first to the last one that is not zero.
     pub fn try_from_utf8(alloc: Global, code_units: &[u8]) -> Result<Decimal, ParseError>
         ensures syntax { IsErrOf result ParseError.Syntax → IsNoSignedText code_units.now }
@@ -89,7 +89,7 @@ impl Signed<UnsignedDecimal> {
     /// shown from magnitude 1 down to -2.
     ///
     /// The errors are those of `try_from_utf8`; after each the number is as before. The call reuses the memory of the
-    /// number. It allocates only where the text spells a number of more than eight digits, from the first to the last
+    /// number. It allocates only where the text spells a number of more than sixteen digits, from the first to the last
     /// one that is not zero, and of more digits than this number.
     pub fn assign_from_utf8(&mut self, code_units: &[u8]) -> Result<(), ParseError>
         ensures syntax { IsErrOf result ParseError.Syntax → IsNoSignedText code_units.now }

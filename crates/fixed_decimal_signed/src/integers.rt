@@ -57,8 +57,8 @@ impl Signed<UnsignedDecimal> {
 
     /// The whole number `integer`, without a sign: 250 is shown as `250`.
     ///
-    /// It allocates where it has more than eight digits without the zeros at its end. `AllocError`: out of memory, only
-    /// there.
+    /// It allocates where it has more than sixteen digits without the zeros at its end. `AllocError`: out of memory,
+    /// only there.
     pub fn from_u32(alloc: Global, integer: u32) -> Result<Decimal, AllocError>
         ensures value { IfOk result (λ v. IsWhole integer v) }
         ensures room { OnErr result (IsLong integer) }
@@ -68,8 +68,8 @@ impl Signed<UnsignedDecimal> {
 
     /// The whole number `integer`, without a sign: 250 is shown as `250`.
     ///
-    /// It allocates where it has more than eight digits without the zeros at its end. `AllocError`: out of memory, only
-    /// there.
+    /// It allocates where it has more than sixteen digits without the zeros at its end. `AllocError`: out of memory,
+    /// only there.
     pub fn from_u64(alloc: Global, integer: u64) -> Result<Decimal, AllocError>
         ensures value { IfOk result (λ v. IsWhole integer v) }
         ensures room { OnErr result (IsLong integer) }
@@ -79,8 +79,8 @@ impl Signed<UnsignedDecimal> {
 
     /// The whole number `integer`, without a sign: 250 is shown as `250`.
     ///
-    /// It allocates where it has more than eight digits without the zeros at its end. `AllocError`: out of memory, only
-    /// there.
+    /// It allocates where it has more than sixteen digits without the zeros at its end. `AllocError`: out of memory,
+    /// only there.
     pub fn from_usize(alloc: Global, integer: usize) -> Result<Decimal, AllocError>
         ensures value { IfOk result (λ v. IsWhole integer v) }
         ensures room { OnErr result (IsLong integer) }
@@ -90,8 +90,8 @@ impl Signed<UnsignedDecimal> {
 
     /// The whole number `integer`, without a sign: 250 is shown as `250`.
     ///
-    /// It allocates where it has more than eight digits without the zeros at its end. `AllocError`: out of memory, only
-    /// there.
+    /// It allocates where it has more than sixteen digits without the zeros at its end. `AllocError`: out of memory,
+    /// only there.
     pub fn from_u128(alloc: Global, integer: u128) -> Result<Decimal, AllocError>
         ensures value { IfOk result (λ v. IsWhole integer v) }
         ensures room { OnErr result (IsLong integer) }
@@ -123,8 +123,8 @@ impl Signed<UnsignedDecimal> {
 
     /// The whole number `integer`, with a minus below zero: -25 is shown as `-25`.
     ///
-    /// It allocates where it has more than eight digits without the zeros at its end. `AllocError`: out of memory, only
-    /// there.
+    /// It allocates where it has more than sixteen digits without the zeros at its end. `AllocError`: out of memory,
+    /// only there.
     pub fn from_i32(alloc: Global, integer: i32) -> Result<Decimal, AllocError>
         ensures value { IfOk result (λ v. IsSignedWhole integer v) }
         ensures room { OnErr result (IsLong (size_of integer)) }
@@ -134,8 +134,8 @@ impl Signed<UnsignedDecimal> {
 
     /// The whole number `integer`, with a minus below zero: -25 is shown as `-25`.
     ///
-    /// It allocates where it has more than eight digits without the zeros at its end. `AllocError`: out of memory, only
-    /// there.
+    /// It allocates where it has more than sixteen digits without the zeros at its end. `AllocError`: out of memory,
+    /// only there.
     pub fn from_i64(alloc: Global, integer: i64) -> Result<Decimal, AllocError>
         ensures value { IfOk result (λ v. IsSignedWhole integer v) }
         ensures room { OnErr result (IsLong (size_of integer)) }
@@ -145,8 +145,8 @@ impl Signed<UnsignedDecimal> {
 
     /// The whole number `integer`, with a minus below zero: -25 is shown as `-25`.
     ///
-    /// It allocates where it has more than eight digits without the zeros at its end. `AllocError`: out of memory, only
-    /// there.
+    /// It allocates where it has more than sixteen digits without the zeros at its end. `AllocError`: out of memory,
+    /// only there.
     pub fn from_isize(alloc: Global, integer: isize) -> Result<Decimal, AllocError>
         ensures value { IfOk result (λ v. IsSignedWhole integer v) }
         ensures room { OnErr result (IsLong (size_of integer)) }
@@ -156,8 +156,8 @@ impl Signed<UnsignedDecimal> {
 
     /// The whole number `integer`, with a minus below zero: -25 is shown as `-25`.
     ///
-    /// It allocates where it has more than eight digits without the zeros at its end. `AllocError`: out of memory, only
-    /// there.
+    /// It allocates where it has more than sixteen digits without the zeros at its end. `AllocError`: out of memory,
+    /// only there.
     pub fn from_i128(alloc: Global, integer: i128) -> Result<Decimal, AllocError>
         ensures value { IfOk result (λ v. IsSignedWhole integer v) }
         ensures room { OnErr result (IsLong (size_of integer)) }

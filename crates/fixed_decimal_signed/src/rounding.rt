@@ -42,7 +42,7 @@ impl Signed<UnsignedDecimal> {
     /// Rounds to a multiple of the increment at a position: `-7.3` at -2 by `Ceil` to 25 is `-7.25`.
     ///
     /// A multiple whose size reaches ten to the power 32768 becomes zero; the sign is kept. It allocates only where the
-    /// multiple ends in 25 or 75 at the position, and the number has eight digits or more, of which the last one that
+    /// multiple ends in 25 or 75 at the position, and the number has sixteen digits or more, of which the last one that
     /// is not zero is right above it. `AllocError`: out of memory; the number is then as it was.
     pub fn round_with_mode_and_increment(
         &mut self,

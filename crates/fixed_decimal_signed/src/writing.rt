@@ -60,7 +60,7 @@ pub fn text_length(decimal: &Decimal) -> usize
     ensures value { result ≡ length (signed_text_of decimal.now) }
     ensures few { result ≤ 65538 }
 {
-    let _in_range = decimal.absolute.magnitude_range();
+    let _in_range = decimal.absolute.magnitude_range(); // for the proof
     let digits = decimal.absolute.writeable_length_hint().low;
     text_of_sign(decimal.sign).len() + digits
 }

@@ -154,13 +154,13 @@ module _ (ds es : List ℕ) (top u low high lo hi : ℕ) (s : IsStored ds top lo
     high = eh ∙ ap (λ v. max v.high hi) ea ∙ ap (λ v. max a.high v.high) eb;
   }
 
-  pub kept_memory : (gap : ℕ) → u + 1 + gap + length ds ≡ top + 1 → 8 < length ds + (gap + length es) → MayWantMemory a b
+  pub kept_memory : (gap : ℕ) → u + 1 + gap + length ds ≡ top + 1 → 16 < length ds + (gap + length es) → MayWantMemory a b
   kept_memory gap at long = record {
     front = pa;
     behind = pb;
     long = λ place holds.
-        let few = holds_length (joined ds gap es) top place 8 (joined_trimmed ds es top u gap front behind some some_after at)
-        (subst (λ n. HoldsDigits n place 8) (sym (sum_counts gap at)) holds) in
+        let few = holds_length (joined ds gap es) top place 16 (joined_trimmed ds es top u gap front behind some some_after at)
+        (subst (λ n. HoldsDigits n place 16) (sym (sum_counts gap at)) holds) in
         let len = joined_length ds es gap in
         absurd (omega arith);
   }

@@ -68,8 +68,8 @@ other_kept ds new zeros count d k e some ten few = record {
   few = omega arith;
 }
 
--- where the digits need more room than for eight, the number has more than eight from its first to its last
-pub other_long : (ds : List ℕ) (zeros count d : ℕ) → IsKept ds zeros count → 0 < d → d < 10 → 8 < length ds + (zeros + 1) → IsLong (number_from_digits 10 ds * 10 ^ zeros * 10 + d)
+-- where the digits need more room than lies inline, so do those of the number from its first to its last
+pub other_long : (ds : List ℕ) (zeros count d : ℕ) → IsKept ds zeros count → 0 < d → d < 10 → 16 < length ds + (zeros + 1) → IsLong (number_from_digits 10 ds * 10 ^ zeros * 10 + d)
 other_long ds zeros count d k some ten many =
     let new = joined ds zeros (d ∷ []) in
     let n = number_from_digits 10 ds * 10 ^ zeros * 10 + d in
@@ -77,7 +77,7 @@ other_long ds zeros count d k some ten many =
     let long : length new ≡ length ds + (zeros + 1) = joined_length ds (d ∷ []) zeros in
     let digit : n % 10 ≡ d = mod-mul-add (number_from_digits 10 ds * 10 ^ zeros) 10 d ten in
     let reach : 10 ^ (length new - 1) ≤ number_from_digits 10 new = number_reaches new (omega (arith, long)) (first_joined ds zeros d k.tight.first k.none some) in
-    let up : 10 ^ 8 ≤ 10 ^ (length new - 1) = tens_apart 8 (length new - 1) (omega (arith, long)) in
+    let up : 10 ^ 16 ≤ 10 ^ (length new - 1) = tens_apart 16 (length new - 1) (omega (arith, long)) in
     long_count n 0 n (omega arith) (omega (arith, digit)) (omega (arith, reach, up, value))
 
 abbrev given_so : ℕ → ℕ → DigitsGiven

@@ -14,15 +14,15 @@ use Rattle.fixed_decimal_digits.specs.Rounding.{IsLimited, count_limit}
 use Rattle.fixed_decimal_unsigned.proofs.LongLemmas.{last_above, long_count, not_long}
 use Rattle.fixed_decimal_unsigned.proofs.RangeLemmas.{below_limit}
 
--- eight digits need no memory, nine may, and zeros at the end do not count
+-- sixteen digits need no memory, seventeen may, and zeros at the end do not count
 
-eight_are_short : ¬ (IsLong 12345678)
-eight_are_short = not_long 12345678 (lit≤ tt)
+sixteen_are_short : ¬ (IsLong 1234567890123456)
+sixteen_are_short = not_long 1234567890123456 (lit≤ tt)
 
-nine_are_long : IsLong 123456789
-nine_are_long = long_count 123456789 0 123456789 refl (lit≤ tt) (lit≤ tt)
+seventeen_are_long : IsLong 12345678901234567
+seventeen_are_long = long_count 12345678901234567 0 12345678901234567 refl (lit≤ tt) (lit≤ tt)
 
-zeros_do_not_count : ¬ (IsLong 1234567800)
+zeros_do_not_count : ¬ (IsLong 123456789012345600)
 zeros_do_not_count long = long 2 (record { whole = refl; below = lit≤ tt })
 
 -- a count below the limit stays, the limit itself does not

@@ -1,4 +1,4 @@
--- Counts of more than eight digits: where memory for digits may be wanted.
+-- Counts of more digits than lie inline: where memory for digits may be wanted.
 use Rattle.std.proofs.Common.{◌≡◌, ℕ, suc, ◌+◌, ◌-◌, ◌*◌, ◌/◌, ◌%◌, ◌^◌, ◌<◌, ◌≤◌, List, [], ◌∷◌, ◌++◌, length, length-append, get_or, Result, Ok, Err, IsOk, OnErr, refl, sym, ap, ◌∙◌, subst, arith, ⊎_elim, map}
 use Rattle.std.proofs.Math.Nat.{div-add-mod', mul-div_cancel, mul-le-mul_right, mul-lt-mul_of_pos_right, mul-mod_left, mul_assoc, mod-one, eq-zero-or-pos}
 use Rattle.std.proofs.lemmas.Bool.{cases_lt}
@@ -32,12 +32,12 @@ more_count places n e count h last many = λ low holds.
     let below = holds.below in
     absurd (omega arith)
 
-pub long_count : (n e count : ℕ) → count ≡ n * 10 ^ e → 0 < n % 10 → 10 ^ 8 ≤ n → IsLong count
-long_count n e count h last many = more_count 8 n e count h last many
+pub long_count : (n e count : ℕ) → count ≡ n * 10 ^ e → 0 < n % 10 → 10 ^ 16 ≤ n → IsLong count
+long_count n e count h last many = more_count 16 n e count h last many
 
 -- of a number as it is kept
-pub long_kept : (ds : List ℕ) (top low high : ℕ) → IsStored ds top low high → 8 < length ds → IsLong (count_of ds top)
-long_kept ds top low high s many = λ place holds. let few = holds_length ds top place 8 (trimmed_of ds top low high s) holds in absurd (omega arith)
+pub long_kept : (ds : List ℕ) (top low high : ℕ) → IsStored ds top low high → 16 < length ds → IsLong (count_of ds top)
+long_kept ds top low high s many = λ place holds. let few = holds_length ds top place 16 (trimmed_of ds top low high s) holds in absurd (omega arith)
 
 -- and its digits are held by so many places as they are
 pub kept_holds : (ds : List ℕ) (top low high : ℕ) → IsStored ds top low high → HoldsDigits (count_of ds top) (top + 1 - length ds) (length ds)
@@ -51,8 +51,8 @@ kept_holds ds top low high s =
       below = subst (λ m. n * 10 ^ e < m) (sym split) (mul-lt-mul_of_pos_right (number_lt 10 ds s.tight.tens) (tens_positive e));
     }
 
--- a whole number of at most eight digits is not long
-pub not_long : (n : ℕ) → n < 10 ^ 8 → ¬ (IsLong n)
+-- a whole number of at most sixteen digits is not long
+pub not_long : (n : ℕ) → n < 10 ^ 16 → ¬ (IsLong n)
 not_long n h long = long 0 (record { whole = mod-one n; below = h })
 
 pub ok_unless : {T E : Type 0} {P : Type 0} (r : Result T E) → OnErr r P → ¬ P → IsOk r

@@ -60,13 +60,13 @@ last_is : (p n top : ℕ) → p + n ≡ top → top + 1 - n ≡ p + 1
 last_is p n top e = omega arith
 
 -- where a rounding to multiples of 25 asks for more room
-grows_at : (ds : List ℕ) (top low high : ℕ) → IsStored ds top low high → (old : Number) → number_made (count_of ds top) low high ≡ old → (p q : ℕ) → p ≡ q → p + 8 ≤ top → p + length ds ≡ top → MayGrowAt q old.count
+grows_at : (ds : List ℕ) (top low high : ℕ) → IsStored ds top low high → (old : Number) → number_made (count_of ds top) low high ≡ old → (p q : ℕ) → p ≡ q → p + 16 ≤ top → p + length ds ≡ top → MayGrowAt q old.count
 grows_at ds top low high s old e p q at far end =
     let kept : IsTrimmed ds top = trimmed_of ds top low high s in
     let some : 0 < length ds = omega arith in
     subst (λ x. MayGrowAt x old.count) at (subst (λ v. MayGrowAt p v.count) e (record {
       first =
-          let up : 10 ^ (p + 8) ≤ 10 ^ top = tens_apart (p + 8) top far in
+          let up : 10 ^ (p + 16) ≤ 10 ^ top = tens_apart (p + 16) top far in
           let reach : 10 ^ top ≤ count_of ds top = count_reaches ds top some (kept.tight.first some) kept.room in
           omega arith;
       last = subst (IsLastPlace (count_of ds top)) (last_is p (length ds) top end) (last_place ds top kept some);
@@ -80,7 +80,7 @@ only_twenty_five MultiplesOf25 h = refl
 
 -- where a rounding asks for more room
 pub may_grow : (mode : UnsignedRoundingMode) (increment : RoundingIncrement) (ds : List ℕ) (top low high : ℕ) → IsStored ds top low high → (old : Number) → number_made (count_of ds top) low high ≡ old
-    → (p q : ℕ) → p ≡ q → ¬ (¬ (increment ≡ MultiplesOf25)) → p + 8 ≤ top → p + length ds ≡ top → TakesOdd mode (increment_number increment * 10 ^ p) (count_of ds top) → MayGrow mode increment q old.count
+    → (p q : ℕ) → p ≡ q → ¬ (¬ (increment ≡ MultiplesOf25)) → p + 16 ≤ top → p + length ds ≡ top → TakesOdd mode (increment_number increment * 10 ^ p) (count_of ds top) → MayGrow mode increment q old.count
 may_grow mode increment ds top low high s old e p q at named far end odd = record {
   twenty_five = only_twenty_five increment named;
   at = grows_at ds top low high s old e p q at far end;

@@ -1,18 +1,15 @@
 -- A short text: its digits in a word, and the number that they make.
-use Rattle.std.proofs.Common.{◌≡◌, ℕ, suc, ◌+◌, ◌-◌, ◌*◌, ◌%◌, ◌^◌, ◌<◌, ◌≤◌, Bool, true, false, cond, ◌==◌, ◌||◌, List, [], ◌∷◌, ◌++◌, length, length-append, length-drop, take, drop, inl, refl, sym, ap, ◌∙◌, subst, arith}
+use Rattle.std.proofs.Common.{◌≡◌, ℕ, suc, ◌+◌, ◌-◌, ◌*◌, ◌^◌, ◌<◌, ◌≤◌, Bool, true, false, cond, ◌==◌, ◌||◌, List, [], ◌∷◌, ◌++◌, length, length-append, length-drop, take, drop, inl, refl, sym, ap, ◌∙◌, subst, arith}
 use Rattle.std.proofs.lemmas.List.{append-nil, length-take-le, take_all, take-append-drop}
 use Rattle.std.specs.Char.{digit_value}
 use Rattle.std.specs.Int.Digits.{number_from_digits}
 use Rattle.std.specs.Str.Parse.{digits_value_after}
 use Rattle.fixed_decimal_digits.specs.DigitWord.{word_digits, SpellsNumber, IsCutWord}
-use Rattle.fixed_decimal_digits.proofs.CutWordLemmas.{cut_reaches}
 use Rattle.fixed_decimal_digits.proofs.NumberWordLemmas.{text_spells, spells_wide}
 use Rattle.fixed_decimal_digits.proofs.WordLemmas.{digits_joined, power_positive, powers_rise, value_below}
 use Rattle.fixed_decimal_unsigned.specs.Number.{Number}
 use Rattle.fixed_decimal_unsigned.specs.NumberText.{AreDigits, spelled, point, after_point, Parts, Spells, AreEndsIn, IsWithin, number_at, number_of, mantissa_of, up_of, down_of, Reads}
-use Rattle.fixed_decimal_unsigned.specs.DigitCount.{HoldsDigits}
 use Rattle.fixed_decimal_unsigned.specs.ShortText.{SpellsShort}
-use Rattle.fixed_decimal_unsigned.proofs.LongLemmas.{more_mantissa}
 
 plain_spelled : (text integer fraction : List ℕ) → text ≡ integer ++ after_point fraction → AreDigits integer → AreDigits fraction → 0 < length integer + length fraction → Spells text (record { integer = integer; fraction = fraction; negative = false; exponent = [] })
 plain_spelled text integer fraction e h k some = record {
@@ -122,9 +119,3 @@ cut_value word left count below n few s c =
     let whole : (16 - n) + n ≡ 16 = omega arith in
     let wide = spells_wide (16 - n) word n (number_from_digits 10 (word_digits word n)) s in
     sym wide.value ∙ ap (λ k. number_from_digits 10 (word_digits word k)) whole ∙ c.value
-
--- more digits left than there are places
-pub cut_long : (word left count zeros places mantissa e : ℕ) → IsCutWord word left count zeros → mantissa ≡ number_from_digits 10 (word_digits left count) * 10 ^ zeros
-    → (0 < count → 0 < number_from_digits 10 (word_digits left count) % 10) → places < count → (low : ℕ) → ¬ (HoldsDigits (mantissa * 10 ^ e) low places)
-cut_long word left count zeros places mantissa e c value last more =
-    more_mantissa places (number_from_digits 10 (word_digits left count)) zeros count mantissa e value last (λ none. absurd (omega (arith, none, more))) (cut_reaches word left count zeros places c more)

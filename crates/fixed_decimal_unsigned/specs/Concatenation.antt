@@ -22,7 +22,7 @@ pub record Concatenates (a b new : Number) : Type 0 where
   pub low : new.low ≡ min a.low b.low
   pub high : new.high ≡ max a.high b.high
 
--- neither is zero, and the sum has more than eight digits from its first to its last one that is not zero
+-- neither is zero, and the sum has more digits than lie inline, from its first to its last one that is not zero
 pub record MayWantMemory (a b : Number) : Type 0 where
   pub front : 0 < a.count
   pub behind : 0 < b.count

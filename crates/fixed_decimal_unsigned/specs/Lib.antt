@@ -16,4 +16,5 @@ pub mod Shifts
 pub mod ShortText
 pub mod Stored
 pub mod TextParts
+pub use Rattle.fixed_decimal_digits.specs.InlineDigits
 pub use Rattle.fixed_decimal_digits.specs.Rounding

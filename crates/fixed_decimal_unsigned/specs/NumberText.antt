@@ -109,7 +109,7 @@ pub record IsBeyond (text : List ℕ) : Type 0 where
   pub spells : Spells text parts
   pub beyond : ¬ (IsWithin parts)
 
--- the text spells a number of more than eight digits
+-- the text spells a number of more digits than lie inline
 pub record ReadsLong (text : List ℕ) : Type 0 where
   pub number : Number
   pub reads : Reads text number

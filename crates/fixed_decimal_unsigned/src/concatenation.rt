@@ -12,8 +12,8 @@ impl UnsignedDecimal {
     ///
     /// The number becomes the sum, shown with every magnitude that one of the two shows. `Overlap`, with `other`, where
     /// neither is zero and the last digit of this number that is not zero is not above the first one of `other`: `12.3`
-    /// and `0.3`. `Memory`, with `other`: out of memory. It allocates only where the sum has more than eight digits and
-    /// neither number is zero. After an error the number is as before.
+    /// and `0.3`. `Memory`, with `other`: out of memory. It allocates only where the sum has more than sixteen digits
+    /// and neither number is zero. After an error the number is as before.
     pub fn concatenate_end(
         &mut self,
         other: UnsignedDecimal,
@@ -52,7 +52,7 @@ impl UnsignedDecimal {
     /// The number with another one after it: `12` and `0.3` give `12.3`.
     ///
     /// The errors are those of `concatenate_end`, each with both numbers. It allocates only where the sum has more than
-    /// eight digits and neither number is zero.
+    /// sixteen digits and neither number is zero.
     pub fn concatenated_end(
         mut self,
         other: UnsignedDecimal,

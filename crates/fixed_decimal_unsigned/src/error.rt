@@ -16,7 +16,7 @@ pub enum ParseError {
     /// The text spells no number, as `5.`.
     #[error("Failed to parse the input string")]
     Syntax,
-    /// Out of memory: the nine digits of `123456789` allocate, eight do not.
+    /// Out of memory: the seventeen digits of `12345678901234567` allocate, sixteen do not.
     #[error("Memory for the digits was refused")]
     Memory,
 }
@@ -50,7 +50,7 @@ pub enum ConcatenateError<T> {
     /// after `12.3`, or `12` after `1`.
     #[error("The digits of the two numbers overlap")]
     Overlap(T),
-    /// Out of memory: the nine digits of `6789` after `123450000` allocate.
+    /// Out of memory: the seventeen digits of `4567` after `12345678901230000` allocate.
     #[error("Memory for the digits was refused")]
     Memory(T),
 }

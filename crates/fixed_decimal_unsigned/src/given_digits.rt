@@ -3,6 +3,7 @@ ghost use Rattle.std.specs.Prelude.{◌≡◌, ◌+◌, ◌-◌, ◌*◌, ◌^�
 ghost use Rattle.fixed_decimal_unsigned.specs.GivenDigits.{with_digit};
 ghost use Rattle.fixed_decimal_unsigned.specs.NumberText.{AreEndsIn, number_at};
 ghost use Rattle.fixed_decimal_unsigned.specs.DigitCount.{IsLong};
+ghost use Rattle.fixed_decimal_digits.specs.InlineDigits.{inline_digits};
 
 use crate::reading::{assembled, moved_ends};
 use crate::unsigned_decimal::UnsignedDecimal;
@@ -35,10 +36,10 @@ impl Model for GivenDigits {
 impl GivenDigits {
     /// No digits yet, with room for `room` digits from the first to the last one that is not 0: 3 for `0125.00`.
     ///
-    /// It allocates where that is more than eight. `AllocError`: out of memory, only there.
+    /// It allocates where that is more than sixteen. `AllocError`: out of memory, only there.
     pub fn with_room(alloc: Global, room: usize) -> Result<GivenDigits, AllocError>
         ensures value { IfOk result (λ d. d ≡ record { mantissa = 0; count = 0 }) }
-        ensures room { OnErr result (8 < room) }
+        ensures room { OnErr result (inline_digits < room) }
     {
         let kept = Digits::with_room(alloc, room)?;
         Ok(GivenDigits {
@@ -69,7 +70,7 @@ impl GivenDigits {
         ensures err { OnErr result (self.new ≡ self.old) }
         ensures room { OnErr result (IsLong (self.old.mantissa * 10 + digit)) }
     {
-        let _inline = self.kept.len();
+        let _inline = self.kept.len(); // for the proof
         self.kept.reserve(self.zeros + 1)?;
         push_zeros(&mut self.kept, self.zeros);
         self.kept.push_reserved(digit);
@@ -81,7 +82,7 @@ impl GivenDigits {
     /// Adds a digit after the others: 3 after 1, 2 makes 123 of 12.
     ///
     /// The condition is that the digit is 0 to 9, and that fewer than 2^63 were given. It allocates where there are
-    /// more than eight digits from the first to the last one that is not 0, and these have no room yet. `AllocError`:
+    /// more than sixteen digits from the first to the last one that is not 0, and these have no room yet. `AllocError`:
     /// out of memory, only there; then nothing is added.
     pub fn push(&mut self, digit: u8) -> Result<(), AllocError>
         requires ten { digit < 10 }

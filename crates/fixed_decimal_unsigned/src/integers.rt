@@ -12,20 +12,19 @@ use fixed_decimal_digits::{
 use std::alloc::{AllocError, Global};
 
 // The whole number as a decimal: it is not 0, and its digits fit in a word.
-fn from_word(alloc: Global, number: u64) -> Result<UnsignedDecimal, AllocError>
+fn from_word(alloc: Global, number: u64) -> UnsignedDecimal
     requires some { 0 < number }
     requires fits { number < 10 ^ 16 }
-    ensures value { IfOk result (λ v. IsInteger number v) }
-    ensures room { OnErr result (IsLong number) }
+    ensures { IsInteger number result }
 {
     let cut = cut_word(word_of_number(number));
     let mut digits = Digits::new(alloc);
-    digits.assign_word(cut.word, cut.count)?;
+    digits.assign_word(cut.word, cut.count);
     let ends = Ends {
         first: (ONES as usize + cut.zeros + cut.count - 1) as u16,
         last: ONES,
     };
-    Ok(assembled(digits, cut.zeros, ends))
+    assembled(digits, cut.zeros, ends)
 }
 
 // The whole number as a decimal: it is not 0.
@@ -53,7 +52,7 @@ fn from_whole(alloc: Global, number: u128) -> Result<UnsignedDecimal, AllocError
         return Ok(UnsignedDecimal::zero(alloc));
     }
     if number < WORD_LIMIT {
-        return from_word(alloc, number as u64);
+        return Ok(from_word(alloc, number as u64));
     }
     from_long(alloc, number)
 }
@@ -77,7 +76,7 @@ impl UnsignedDecimal {
 
     /// The whole number `integer`: 100000 is shown as `100000`.
     ///
-    /// It allocates where it has more than eight digits without the zeros at its end. `AllocError`: out of memory.
+    /// It allocates where it has more than sixteen digits without the zeros at its end. `AllocError`: out of memory.
     pub fn from_u32(alloc: Global, integer: u32) -> Result<UnsignedDecimal, AllocError>
         ensures value { IfOk result (λ v. IsInteger integer v) }
         ensures room { OnErr result (IsLong integer) }
@@ -87,7 +86,7 @@ impl UnsignedDecimal {
 
     /// The whole number `integer`: 1729 is shown as `1729`.
     ///
-    /// It allocates where it has more than eight digits without the zeros at its end. `AllocError`: out of memory.
+    /// It allocates where it has more than sixteen digits without the zeros at its end. `AllocError`: out of memory.
     pub fn from_u64(alloc: Global, integer: u64) -> Result<UnsignedDecimal, AllocError>
         ensures value { IfOk result (λ v. IsInteger integer v) }
         ensures room { OnErr result (IsLong integer) }
@@ -97,7 +96,7 @@ impl UnsignedDecimal {
 
     /// The whole number `integer`: 1729 is shown as `1729`.
     ///
-    /// It allocates where it has more than eight digits without the zeros at its end. `AllocError`: out of memory.
+    /// It allocates where it has more than sixteen digits without the zeros at its end. `AllocError`: out of memory.
     pub fn from_usize(alloc: Global, integer: usize) -> Result<UnsignedDecimal, AllocError>
         ensures value { IfOk result (λ v. IsInteger integer v) }
         ensures room { OnErr result (IsLong integer) }
@@ -107,7 +106,7 @@ impl UnsignedDecimal {
 
     /// The whole number `integer`: 1729 is shown as `1729`.
     ///
-    /// It allocates where it has more than eight digits without the zeros at its end. `AllocError`: out of memory.
+    /// It allocates where it has more than sixteen digits without the zeros at its end. `AllocError`: out of memory.
     pub fn from_u128(alloc: Global, integer: u128) -> Result<UnsignedDecimal, AllocError>
         ensures value { IfOk result (λ v. IsInteger integer v) }
         ensures room { OnErr result (IsLong integer) }

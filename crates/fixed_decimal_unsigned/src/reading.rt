@@ -8,6 +8,7 @@ ghost use Rattle.fixed_decimal_unsigned.specs.BorrowedParts.{parts_of};
 ghost use Rattle.fixed_decimal_unsigned.specs.DigitCount.{HoldsDigits, IsLong};
 ghost use Rattle.fixed_decimal_unsigned.specs.Stored.{IsStored};
 ghost use Rattle.fixed_decimal_digits.specs.DigitList.{IsTight, count_of};
+ghost use Rattle.fixed_decimal_digits.specs.InlineDigits.{inline_digits};
 
 use crate::error::ParseError;
 use crate::short_text::{ShortText, read_short};
@@ -157,10 +158,10 @@ fn gather(digits: &mut Digits, integer: &[u8], fraction: &[u8]) -> Result<(), Al
     ensures first { OnOk result (0 < length digits.new.items → 0 < slice_index digits.new.items 0) }
     ensures length { OnOk result (length digits.new.items ≤ length integer.now + length fraction.now) }
     ensures err { OnErr result (digits.new ≡ digits.old) }
-    ensures room { OnErr result (10 ^ 8 ≤ spelled (integer.now ++ fraction.now)) }
+    ensures room { OnErr result (10 ^ inline_digits ≤ spelled (integer.now ++ fraction.now)) }
     ensures kept { OnErr result (10 ^ length digits.old.items ≤ spelled (integer.now ++ fraction.now)) }
 {
-    let _room = digits.len();
+    let _room = digits.len(); // for the proof
     let (whole, rest) = without_leading_zeros(integer, fraction);
     assign_texts(digits, whole, rest)?;
     Ok(())
@@ -275,10 +276,7 @@ fn read_text(digits: &mut Digits, text: &[u8]) -> Result<Places, ParseError>
         → ReadsLonger text.now other }
 {
     if let Some(short) = ShortText::of(text) {
-        return match read_short(digits, short) {
-            Ok(places) => Ok(places),
-            Err(_) => Err(ParseError::Memory),
-        };
+        return Ok(read_short(digits, short));
     }
     let Some(parts) = TextParts::of(text) else {
         return Err(ParseError::Syntax);
@@ -290,7 +288,7 @@ impl UnsignedDecimal {
     /// The number that a text spells: `12.30` is 12.3, shown from magnitude 1 down to -2.
     ///
     /// `Syntax` where the text spells no number (`5.`). `Limit` where it spells one that passes magnitudes -32768 to
-    /// 32767 (`1e32768`). `Memory`: out of memory, only where there are more than eight digits, from the first to the
+    /// 32767 (`1e32768`). `Memory`: out of memory, only where there are more than sixteen digits, from the first to the
     /// last one that is not zero.
     pub fn try_from_utf8(alloc: Global, code_units: &[u8]) -> Result<UnsignedDecimal, ParseError>
         ensures syntax { IsErrOf result ParseError.Syntax → IsNoText code_units.now }
@@ -313,7 +311,7 @@ impl UnsignedDecimal {
     /// Replaces this number by the one that a text spells: 5 and `12.30` give `12.30`.
     ///
     /// The errors are those of `try_from_utf8`; after each the number is as before. The call reuses the memory of the
-    /// number. It allocates only where the text spells a number of more than eight digits, from the first to the last
+    /// number. It allocates only where the text spells a number of more than sixteen digits, from the first to the last
     /// one that is not zero, and of more digits than this number.
     pub fn assign_from_utf8(&mut self, code_units: &[u8]) -> Result<(), ParseError>
         ensures syntax { IsErrOf result ParseError.Syntax → IsNoText code_units.now }

@@ -35,7 +35,7 @@ impl UnsignedDecimal {
     /// Rounds to a multiple of the increment at a position: `37.5` at 0 by `HalfEven` to 25 is `50`.
     ///
     /// A multiple that reaches ten to the power 32768 becomes zero. It allocates only where the multiple ends in 25 or
-    /// 75 at the position, and the number has eight digits or more, of which the last one that is not zero is right
+    /// 75 at the position, and the number has sixteen digits or more, of which the last one that is not zero is right
     /// above it. `AllocError`: out of memory; the number is then as it was.
     pub fn round_with_mode_and_increment(
         &mut self,

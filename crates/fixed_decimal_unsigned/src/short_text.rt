@@ -1,17 +1,15 @@
 //! Reading a text of sixteen characters at most: its digits are folded into a word as they are looked at.
 
-ghost use Rattle.std.specs.Prelude.{ℕ, ◌≡◌, ◌+◌, ◌^◌, ◌<◌, ◌≤◌, length, IfOk, IfSome, OnErr};
+ghost use Rattle.std.specs.Prelude.{◌≡◌, ◌+◌, ◌^◌, ◌<◌, ◌≤◌, IfSome};
 ghost use Rattle.std.specs.Int.Digits.{number_from_digits, AllBelowBase};
 ghost use Rattle.fixed_decimal_digits.specs.DigitList.{count_of};
 ghost use Rattle.fixed_decimal_digits.specs.DigitWord.{word_digits};
 ghost use Rattle.fixed_decimal_unsigned.specs.NumberText.{number_at};
-ghost use Rattle.fixed_decimal_unsigned.specs.DigitCount.{HoldsDigits, IsLong};
 ghost use Rattle.fixed_decimal_unsigned.specs.ShortText.{SpellsShort};
 ghost use Rattle.fixed_decimal_unsigned.specs.Stored.{IsStored};
 
 use crate::reading::{Ends, Places, places_of};
 use fixed_decimal_digits::{Digits, ONES, WORD_DIGITS, cut_word, word_behind};
-use std::alloc::AllocError;
 
 // The digits of a short text in a word, and how many of them are above and below the point.
 #[derive(Clone, Copy)]
@@ -55,33 +53,21 @@ impl ShortText {
 }
 
 // Replaces the digits by those of a short text, and returns their places.
-pub fn read_short(digits: &mut Digits, short: ShortText) -> Result<Places, AllocError>
+pub fn read_short(digits: &mut Digits, short: ShortText) -> Places
     requires some { 0 < short.above + short.below }
     requires few { short.above + short.below ≤ 16 }
     requires fits { short.word < 16 ^ (short.above + short.below) }
     requires tens { AllBelowBase 10 (word_digits short.word (short.above + short.below)) }
-    ensures stored { IfOk result (λ p. IsStored digits.new.items p.top p.low p.high) }
-    ensures value { IfOk result
-        (λ p. record { count = count_of digits.new.items p.top; low = p.low; high = p.high }
+    ensures stored { IsStored digits.new.items result.top result.low result.high }
+    ensures value { record { count = count_of digits.new.items result.top; low = result.low; high = result.high }
         ≡ number_at (number_from_digits 10 (word_digits short.word (short.above + short.below))) short.above
-        short.below 0 0) }
-    ensures err { OnErr result (digits.new ≡ digits.old) }
-    ensures memory { OnErr result
-        (IsLong
-        (number_at (number_from_digits 10 (word_digits short.word (short.above + short.below))) short.above
-        short.below 0 0).count) }
-    ensures kept { OnErr result
-        ((low : ℕ)
-        → ¬ (HoldsDigits
-        (number_at (number_from_digits 10 (word_digits short.word (short.above + short.below))) short.above
-        short.below 0 0).count low (length digits.old.items))) }
+        short.below 0 0 }
 {
     let cut = cut_word(short.word);
-    let _room = digits.len();
-    digits.assign_word(cut.word, cut.count)?;
+    digits.assign_word(cut.word, cut.count);
     let ends = Ends {
         first: ONES - 1 + short.above as u16,
         last: ONES - short.below as u16,
     };
-    Ok(places_of(digits, cut.zeros, ends))
+    places_of(digits, cut.zeros, ends)
 }

@@ -15,7 +15,7 @@ use std::ops::RangeInclusive;
 /// A decimal number without a sign, with the range of magnitudes that its text shows.
 ///
 /// Magnitudes are -32768 to 32767, and the range always holds 0, so `0.50` and `0.5` are two values of one number. Up
-/// to eight digits, from the first to the last one that is not zero, do not allocate.
+/// to sixteen digits, from the first to the last one that is not zero, do not allocate.
 #[derive(Debug, Drop)]
 pub struct UnsignedDecimal {
     pub(crate) digits: Digits,
@@ -92,14 +92,14 @@ impl UnsignedDecimal {
 
     /// A copy: of `012.30` it is `012.30`.
     ///
-    /// It allocates where the number has more than eight digits, from the first to the last one that is not zero.
+    /// It allocates where the number has more than sixteen digits, from the first to the last one that is not zero.
     /// `AllocError`: out of memory, only there.
     pub fn try_clone(&self) -> Result<UnsignedDecimal, AllocError>
         ensures value { IfOk result (λ v. v ≡ self.now) }
         ensures room { OnErr result (IsLong self.now.count) }
         ensures number { IsNumber self.now }
     {
-        let _number = self.magnitude_range();
+        let _number = self.magnitude_range(); // for the proof
         let digits = self.digits.try_clone()?;
         Ok(UnsignedDecimal {
             digits,

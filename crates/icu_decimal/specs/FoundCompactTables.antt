@@ -2,13 +2,13 @@
 -- Defined in docs/compact-text.md, "Compact formatters", and docs/formatters.md, "Choosing tables".
 -- Cited by the two makers of `CompactDecimalFormatter`.
 use Rattle.std.specs.Prelude.{ℕ, List, Option, None, Result, Ok, Err}
-use Rattle.icu_decimal_provider.specs.TagPreferences.{DataLocaleMeaning, Preferences, language_priority}
+use Rattle.icu_locale_core.specs.TagPreferences.{DataLocaleMeaning, Preferences, language_priority}
 use Rattle.icu_decimal_patterns.specs.KeptEntries.{CompactTable}
 use Rattle.icu_decimal_plurals.specs.Rules.{Rules}
 use Rattle.icu_decimal_symbols.specs.declared.error.DataError.{DataError}
 use Rattle.icu_decimal_symbols.specs.declared.options.GroupingStrategy.{GroupingStrategy}
-use Rattle.icu_decimal_provider.specs.Choice.{first_found}
-use Rattle.icu_decimal_provider.specs.Identifiers.{Identifier, identifiers_along, symbols_identifiers}
+use Rattle.icu_decimal.specs.Choice.{first_found}
+use Rattle.icu_decimal.specs.Identifiers.{Identifier, identifiers_along, symbols_identifiers}
 use Rattle.icu_decimal_symbols.specs.Symbols.{Symbols}
 use Rattle.icu_decimal.specs.FoundTables.{found_tables}
 use Rattle.icu_decimal_plain.specs.PlainText.{Tables}

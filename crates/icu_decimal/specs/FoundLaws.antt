@@ -2,8 +2,8 @@
 -- Defined in docs/formatters.md, "Formatters".
 -- Cited by `laws::same_tables`.
 use Rattle.std.specs.Prelude.{◌≡◌, ℕ, List, Option, Result}
-use Rattle.icu_decimal_provider.specs.Identifiers.{Identifier}
-use Rattle.icu_decimal_provider.specs.TagPreferences.{DataLocaleMeaning, Preferences}
+use Rattle.icu_decimal.specs.Identifiers.{Identifier}
+use Rattle.icu_locale_core.specs.TagPreferences.{DataLocaleMeaning, Preferences}
 use Rattle.icu_decimal_symbols.specs.Symbols.{Symbols}
 use Rattle.icu_decimal_symbols.specs.declared.error.DataError.{DataError}
 use Rattle.icu_decimal_symbols.specs.declared.options.GroupingStrategy.{GroupingStrategy}

@@ -2,11 +2,11 @@
 -- Defined in docs/formatters.md, "Choosing tables" and "Options".
 -- Cited by `DecimalFormatter::try_new_unstable`.
 use Rattle.std.specs.Prelude.{ℕ, List, Option, Result, Ok, Err}
-use Rattle.icu_decimal_provider.specs.TagPreferences.{DataLocaleMeaning, Preferences}
+use Rattle.icu_locale_core.specs.TagPreferences.{DataLocaleMeaning, Preferences}
 use Rattle.icu_decimal_symbols.specs.declared.error.DataError.{DataError}
 use Rattle.icu_decimal_symbols.specs.declared.options.GroupingStrategy.{GroupingStrategy}
-use Rattle.icu_decimal_provider.specs.Choice.{first_found}
-use Rattle.icu_decimal_provider.specs.Identifiers.{Identifier, symbols_identifiers, digits_identifiers}
+use Rattle.icu_decimal.specs.Choice.{first_found}
+use Rattle.icu_decimal.specs.Identifiers.{Identifier, symbols_identifiers, digits_identifiers}
 use Rattle.icu_decimal_symbols.specs.Options.{strategy_in}
 use Rattle.icu_decimal_symbols.specs.Symbols.{Symbols}
 use Rattle.icu_decimal_plain.specs.PlainText.{Tables}

@@ -1,4 +1,7 @@
--- What a reader must believe: which tables a formatter has, and what it writes.
+-- What a reader must believe: what preferences ask for, which tables a formatter has, and what it writes.
+pub mod Preferences
+pub mod Identifiers
+pub mod Choice
 pub mod FoundTables
 pub mod CompactTables
 pub mod FoundCompactTables
@@ -13,6 +16,7 @@ pub mod HeldCompact
 -- Steps.
 pub mod PatternAt
 -- Statements of laws.
+pub mod Laws
 pub mod FoundLaws
 pub mod AbstractLaws
 pub mod CompactLaws
@@ -33,12 +37,9 @@ pub use Rattle.icu_decimal_plurals.specs.Operands
 pub use Rattle.icu_decimal_plurals.specs.Reading
 pub use Rattle.icu_decimal_plurals.specs.Rules
 pub use Rattle.icu_decimal_plurals.specs.Tokens
-pub use Rattle.icu_decimal_provider.specs.Choice
 pub use Rattle.icu_decimal_symbols.specs.Cow
 pub use Rattle.icu_decimal_symbols.specs.DataErrors
-pub use Rattle.icu_decimal_provider.specs.Identifiers
 pub use Rattle.icu_decimal_symbols.specs.Options
-pub use Rattle.icu_decimal_provider.specs.Preferences
 pub use Rattle.icu_decimal_symbols.specs.Symbols
 pub use Rattle.icu_decimal_reading.specs.DecimalOfText
 pub use Rattle.icu_decimal_reading.specs.PlainReading
@@ -77,7 +78,6 @@ pub use Rattle.icu_decimal_lenient.specs.LenientLaws
 pub use Rattle.icu_decimal_compact_value.specs.ExactLaws
 pub use Rattle.icu_decimal_compact_value.specs.ShownLaws
 pub use Rattle.icu_decimal_compact_value.specs.UnderTableLaws
-pub use Rattle.icu_decimal_provider.specs.Laws
 pub use Rattle.icu_decimal_symbols.specs.SameSymbolsLaws
 pub use Rattle.icu_decimal_grouping.specs.GroupLaws
 pub use Rattle.icu_decimal_plain.specs.PartLaws

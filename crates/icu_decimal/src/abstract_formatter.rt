@@ -44,7 +44,7 @@ pub trait AbstractFormatter: private::Sealed {
     // writing the number may allocate
     ghost takes_memory: { Self → Number → Type 0 };
 
-    // only for one of more than eight digits
+    // only for one of more than sixteen digits
     ghost takes_memory_if_long: { (f : Self) (number : Number) → takes_memory f number → IsLong number.count };
 
     // a number without a sign, with what it is written with
@@ -70,7 +70,7 @@ pub trait AbstractFormatter: private::Sealed {
     /// formatter.
     ///
     /// The condition is `can_write`. A plain formatter borrows the number and does not allocate. A compact one
-    /// allocates where the number has more than eight digits, from the first to the last one that is not zero.
+    /// allocates where the number has more than sixteen digits, from the first to the last one that is not zero.
     /// `AllocError`: out of memory, only there.
     fn format_unsigned<'l>(
         &'l self,

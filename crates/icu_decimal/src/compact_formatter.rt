@@ -18,6 +18,10 @@ ghost use Rattle.icu_decimal.specs.PatternAt.{pattern_at, patterns_beside};
 use crate::formatted_compact::FormattedUnsignedCompactDecimal;
 use crate::formatter::DecimalFormatter;
 use crate::loading::{load_plain, load_rules};
+use crate::preferences::CompactDecimalFormatterPreferences;
+use crate::provider::{
+    DataProvider, DecimalDigitsV1, DecimalSymbolsV1, ParentProvider, load_by_locale,
+};
 use fixed_decimal::{Decimal, UnsignedDecimal};
 use icu_decimal_compact_value::{can_show, exponent_for_magnitude, show};
 use icu_decimal_patterns::pattern::Pattern;
@@ -26,10 +30,6 @@ use icu_decimal_patterns::{
 };
 use icu_decimal_plain::FormattedSign;
 use icu_decimal_plurals::{PluralOperands, PluralRules, PluralsCardinalV1};
-use icu_decimal_provider::preferences::CompactDecimalFormatterPreferences;
-use icu_decimal_provider::provider::{
-    DataProvider, DecimalDigitsV1, DecimalSymbolsV1, ParentProvider, load_by_locale,
-};
 use icu_decimal_symbols::DataError;
 use icu_decimal_symbols::options::CompactDecimalFormatterOptions;
 use std::alloc::{AllocError, Global};
@@ -230,7 +230,7 @@ impl<'b> CompactDecimalFormatter<'b> {
 
     /// The decimal as this formatter writes it: -1172700 as `-1.2M` in English.
     ///
-    /// The condition is `can_format`. It allocates where the number has more than eight digits, from the first to the
+    /// The condition is `can_format`. It allocates where the number has more than sixteen digits, from the first to the
     /// last one that is not zero. `AllocError`: out of memory, only there.
     pub fn format<'l>(
         &'l self,

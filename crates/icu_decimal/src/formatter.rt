@@ -9,12 +9,12 @@ ghost use Rattle.icu_decimal_symbols.specs.Options.{strategy_in};
 ghost use Rattle.icu_decimal.specs.FoundTables.{found_tables};
 ghost use Rattle.icu_decimal.specs.HeldTables.{tables_of};
 
-use fixed_decimal::{Decimal, UnsignedDecimal};
-use icu_decimal_plain::{DecimalTables, FormattedDecimal, FormattedUnsignedDecimal};
-use icu_decimal_provider::preferences::DecimalFormatterPreferences;
-use icu_decimal_provider::provider::{
+use crate::preferences::DecimalFormatterPreferences;
+use crate::provider::{
     DataProvider, DecimalDigitsV1, DecimalSymbolsV1, ParentProvider, load_digits, load_symbols,
 };
+use fixed_decimal::{Decimal, UnsignedDecimal};
+use icu_decimal_plain::{DecimalTables, FormattedDecimal, FormattedUnsignedDecimal};
 use icu_decimal_symbols::options::{DecimalFormatterOptions, strategy_of};
 use icu_decimal_symbols::{DataError, DecimalSymbols};
 use std::alloc::{AllocError, Global};

@@ -24,7 +24,7 @@ pub fn is_leniently_readable(formatter: &DecimalFormatter<'_>) -> bool
 ///
 /// Sign, digits and visible range are those of the text. `Unreadable` where `is_readable` is false, or where
 /// `is_leniently_readable` is and the formatter writes no decimal so; `NotWritten` where it is a text of no decimal,
-/// folded or not; `Memory`: out of memory. It allocates where the text has more than eight digits, and where the
+/// folded or not; `Memory`: out of memory. It allocates where the text has more than sixteen digits, and where the
 /// formatter writes no decimal so. A form field keeps `LenientTables` of `formatter.tables()`, which are made once.
 pub fn read_lenient(
     alloc: Global,

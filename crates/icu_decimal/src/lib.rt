@@ -31,6 +31,7 @@ mod lent;
 mod loading;
 pub mod pattern;
 pub mod plurals;
+pub mod preferences;
 pub mod provider;
 mod reading;
 mod text_alone;
@@ -47,8 +48,7 @@ pub use icu_decimal_lenient::LenientTables;
 pub use icu_decimal_plain::{
     DecimalTables, FormattedDecimal, FormattedSign, FormattedUnsignedDecimal,
 };
-pub use icu_decimal_provider::preferences;
-pub use icu_decimal_provider::preferences::DecimalFormatterPreferences;
 pub use icu_decimal_symbols::{Cow, options, parts};
 pub use lenient::{is_leniently_readable, read_lenient};
+pub use preferences::DecimalFormatterPreferences;
 pub use reading::{is_readable, read_plain, read_readable};

@@ -3,17 +3,17 @@
 ghost use Rattle.std.specs.Prelude.{◌≡◌};
 ghost use Rattle.std.specs.Result.{result_map_both};
 ghost use Rattle.icu_decimal_chains.specs.Chains.{chain};
-ghost use Rattle.icu_decimal_provider.specs.Choice.{first_found};
+ghost use Rattle.icu_decimal.specs.Choice.{first_found};
 ghost use Rattle.icu_decimal.specs.FoundTables.{found_tables};
 ghost use Rattle.icu_decimal.specs.HeldTables.{tables_of};
 ghost use Rattle.icu_decimal.specs.FoundCompactTables.{rules_identifiers};
 
 use crate::formatter::DecimalFormatter;
-use icu_decimal_plurals::{PluralRules, PluralsCardinalV1};
-use icu_decimal_provider::preferences::CompactDecimalFormatterPreferences;
-use icu_decimal_provider::provider::{
+use crate::preferences::CompactDecimalFormatterPreferences;
+use crate::provider::{
     DataProvider, DecimalDigitsV1, DecimalSymbolsV1, ParentProvider, load_by_chain,
 };
+use icu_decimal_plurals::{PluralRules, PluralsCardinalV1};
 use icu_decimal_symbols::DataError;
 use icu_decimal_symbols::options::{CompactDecimalFormatterOptions, DecimalFormatterOptions};
 

@@ -28,7 +28,7 @@ pub fn is_readable(formatter: &DecimalFormatter<'_>) -> bool
 ///
 /// Sign, digits and visible range are those of the one decimal that the formatter writes so. `Unreadable` where
 /// `is_readable` is false; `NotWritten` where the formatter writes no decimal so, as `98,7654` or `1234` in English;
-/// `Memory`: out of memory. It allocates where the text has more than eight digits.
+/// `Memory`: out of memory. It allocates where the text has more than sixteen digits.
 pub fn read_plain(
     alloc: Global,
     formatter: &DecimalFormatter<'_>,
@@ -47,7 +47,7 @@ pub fn read_plain(
 ///
 /// The condition is `is_readable`, which looks through all symbols: a caller who reads many texts with one formatter
 /// makes the test once. `NotWritten` where the formatter writes no decimal so; `Memory`: out of memory. It allocates
-/// where the text has more than eight digits.
+/// where the text has more than sixteen digits.
 pub fn read_readable(
     alloc: Global,
     formatter: &DecimalFormatter<'_>,

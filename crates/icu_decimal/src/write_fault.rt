@@ -13,7 +13,7 @@ pub enum WriteFault {
     /// The sink refused, as one with room for two bytes refuses `1.6K`; it has taken a beginning.
     #[error("the sink refused")]
     Sink,
-    /// Out of memory: the number has more than eight digits, as 123456789. Nothing was written.
+    /// Out of memory: the number has more than sixteen digits, as 12345678901234567. Nothing was written.
     #[error("out of memory")]
     Memory,
 }

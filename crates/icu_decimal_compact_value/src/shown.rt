@@ -155,7 +155,7 @@ fn divide(rounded: &mut UnsignedDecimal, exponent: u8)
     requires { exponent ≤ rounded.old.low }
     ensures { IsDivided exponent rounded.old rounded.new }
 {
-    let _number = rounded.magnitude_range();
+    let _number = rounded.magnitude_range(); // for the proof
     rounded.multiply_pow10(division_by(exponent));
     rounded.trim_end();
 }
@@ -196,8 +196,8 @@ pub fn show_in_place(number: &mut UnsignedDecimal, entries: &[CompactEntry]) -> 
 /// What a number is shown as under the entries of a table: what `show_in_place` makes of it, in a value of its own.
 ///
 /// Of 1650 it is 1.6, the exponent 3 and the first entry, under entries of the types 3 and 6 with the exponents 3 and
-/// 6. The condition is `can_show`. It allocates where the number has more than eight digits, from the first to the last
-/// one that is not zero. `AllocError`: out of memory, only there.
+/// 6. The condition is `can_show`. It allocates where the number has more than sixteen digits, from the first to the
+/// last one that is not zero. `AllocError`: out of memory, only there.
 pub fn show(number: &UnsignedDecimal, entries: &[CompactEntry]) -> Result<Shown, AllocError>
     requires { CanShow entries.now number.now.count }
     ensures value { IfOk result (Shows entries.now number.now) }

@@ -121,6 +121,6 @@ pub record AreKept (t : Tables) (folded : Symbols) : Type 0 where
 abbrev pub IsUnreadable : Tables → List ℕ → Type 0
 IsUnreadable t text = (is_readable_by t ≡ false) ⊎ ((is_leniently_readable_by t ≡ false) × (plain_reading t text ≡ not_written))
 
--- memory is asked for where the text shows more than eight digits, or is folded
+-- memory is asked for where the text shows more than sixteen digits, or is folded
 abbrev pub MayAllocate : Tables → List ℕ → Type 0
 MayAllocate t text = HasManyDigits t text ⊎ ((is_leniently_readable_by t ≡ true) × (plain_reading t text ≡ not_written))

@@ -131,7 +131,7 @@ impl FoldedSymbols {
     ///
     /// `Unreadable`: `is_readable` of `icu_decimal_reading` is false of the tables, or `is_leniently_readable` is and the
     /// text is not the formatter's own. `NotWritten`: it is a text of no decimal, folded or not. `Memory`: out of memory.
-    /// Allocates where the text has more than eight digits, or is folded.
+    /// Allocates where the text has more than sixteen digits, or is folded.
     pub fn read(
         &self,
         alloc: Global,

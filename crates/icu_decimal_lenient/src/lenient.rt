@@ -90,7 +90,7 @@ impl<'b> LenientTables<'b> {
     ///
     /// Sign, digits and visible range are those of the text. `NotWritten`: it is a text of no decimal, folded or not.
     /// `Memory`: out of memory. What the formatter writes is read in one pass, and allocates where it has more than
-    /// eight digits; any other text is folded, which allocates.
+    /// sixteen digits; any other text is folded, which allocates.
     pub fn read(&self, alloc: Global, text: &str) -> Result<Decimal, ReadError>
         ensures unreadable { ¬ (IsErrOf result ReadError.Unreadable) }
         ensures not_written { IsErrOf result ReadError.NotWritten → HasNoTyped self.now text.now }
@@ -170,7 +170,7 @@ fn answer(alloc: Global, tables: &DecimalTables<'_>, text: &str) -> Result<Decim
 /// The symbols are folded only where the text is not the formatter's own. `Unreadable`: `is_readable` of
 /// `icu_decimal_reading` is false, or `is_leniently_readable` is and the text is not the formatter's own.
 /// `NotWritten`: it is a text of no decimal, folded or not. `Memory`: out of memory. Allocates where the text has more
-/// than eight digits, or is folded.
+/// than sixteen digits, or is folded.
 pub fn read_lenient(
     alloc: Global,
     tables: &DecimalTables<'_>,

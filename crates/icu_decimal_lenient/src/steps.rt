@@ -44,7 +44,7 @@ impl<'b> LenientTables<'b> {
     /// A folded text, as it is, without groups or with all of them: in English `1234.5` and `1,234.5` are 1234.5, `.5` is
     /// not one.
     ///
-    /// `NotWritten`: it is no number so. `Memory`: out of memory. Allocates where more than eight digits are in it.
+    /// `NotWritten`: it is no number so. `Memory`: out of memory. Allocates where more than sixteen digits are in it.
     pub fn read_folded_text(&self, alloc: Global, text: &str) -> Result<Decimal, ReadError>
         ensures unreadable { ¬ (IsErrOf result ReadError.Unreadable) }
         ensures reading { IsAnswered result (read_either (folded_symbols self.now) text.now) }

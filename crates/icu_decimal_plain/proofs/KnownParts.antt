@@ -18,16 +18,16 @@ tenths_shown : Sign → ℕ → SignedValue Number
 tenths_shown sign tenths = record { sign = sign; absolute = record { count = tenths * 10 ^ 32767; low = 32767; high = 32771 } }
 
 -- `-1,234.5`
-minus_row : decimal_annotated english (tenths_shown Negative 12345)
+minus_run : decimal_annotated english (tenths_shown Negative 12345)
     ≡ record { text = codes "-1,234.5"; parts = part_at 0 1 (codes "minusSign") ∷ part_at 1 6 (codes "integer") ∷ part_at 2 3 (codes "group") ∷ part_at 6 7 (codes "decimal") ∷ part_at 7 8 (codes "fraction") ∷ [] }
 unfolding tenths_shown lib.Utf8.encode
-minus_row = refl
+minus_run = refl
 
 -- `0,000.5`: zeros in front are digits like others
-zeros_row : decimal_annotated english (tenths_shown NoSign 5)
+zeros_run : decimal_annotated english (tenths_shown NoSign 5)
     ≡ record { text = codes "0,000.5"; parts = part_at 0 5 (codes "integer") ∷ part_at 1 2 (codes "group") ∷ part_at 5 6 (codes "decimal") ∷ part_at 6 7 (codes "fraction") ∷ [] }
 unfolding tenths_shown lib.Utf8.encode
-zeros_row = refl
+zeros_run = refl
 
 -- separators without bytes are no parts
 abbrev bare : Tables
@@ -48,19 +48,19 @@ bare = record {
   strategy = Auto;
 }
 
-bare_row : decimal_annotated bare (tenths_shown Negative 12345)
+bare_run : decimal_annotated bare (tenths_shown Negative 12345)
     ≡ record { text = codes "(12345)"; parts = part_at 0 1 (codes "minusSign") ∷ part_at 1 5 (codes "integer") ∷ part_at 5 6 (codes "fraction") ∷ part_at 6 7 (codes "minusSign") ∷ [] }
 unfolding tenths_shown lib.Utf8.encode
-bare_row = refl
+bare_run = refl
 
 -- a suffix alone
-suffix_row : decimal_annotated bare (tenths_shown Positive 12345)
+suffix_run : decimal_annotated bare (tenths_shown Positive 12345)
     ≡ record { text = codes "12345+"; parts = part_at 0 4 (codes "integer") ∷ part_at 4 5 (codes "fraction") ∷ part_at 5 6 (codes "plusSign") ∷ [] }
 unfolding tenths_shown lib.Utf8.encode
-suffix_row = refl
+suffix_run = refl
 
 -- Bengali digits, of three bytes each, in threes and twos: two digits, a comma, two digits, a comma, three digits
-bengali_row : integer_parts 0 (record { symbols = record { strings = english_strings; grouping_sizes = sizes_of 3 2 1 }; digits = range_with_len 2534 10; strategy = Auto }) (1 ∷ 0 ∷ 0 ∷ 0 ∷ 0 ∷ 0 ∷ 7 ∷ [])
+bengali_run : integer_parts 0 (record { symbols = record { strings = english_strings; grouping_sizes = sizes_of 3 2 1 }; digits = range_with_len 2534 10; strategy = Auto }) (1 ∷ 0 ∷ 0 ∷ 0 ∷ 0 ∷ 0 ∷ 7 ∷ [])
     ≡ part_at 0 23 (codes "integer") ∷ part_at 6 7 (codes "group") ∷ part_at 13 14 (codes "group") ∷ []
 unfolding lib.Utf8.encode
-bengali_row = refl
+bengali_run = refl

@@ -7,9 +7,9 @@ pub mod KnownValues
 pub mod PartLemmas
 pub mod PieceLemmas
 pub mod PlainTextLemmas
-pub mod RowLemmas
+pub mod RunLemmas
 pub mod SeparatorLemmas
-pub mod ShortRowLemmas
+pub mod ShortRunLemmas
 pub mod TextLemmas
 -- Lemmas on groups, for the crates above.
 pub use Rattle.icu_decimal_grouping.proofs.GrouperLemmas

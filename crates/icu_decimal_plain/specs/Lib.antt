@@ -6,7 +6,7 @@ pub mod PartIntervals
 pub mod PartLaws
 pub mod Pieces
 pub mod PlainText
-pub mod Rows
+pub mod Runs
 pub mod SameAffixes
 pub mod SamePlain
 pub mod TextLaws

@@ -5,7 +5,7 @@ ghost use Rattle.std.specs.Str.{bytes_eq};
 ghost use Rattle.icu_decimal_plain.specs.BorrowedTables.{borrowed_tables};
 ghost use Rattle.icu_decimal_plain.specs.PlainText.{decimal_text};
 
-use crate::short_rows::{SHORT, put_short};
+use crate::short_runs::{SHORT, put_short};
 use crate::tables::DecimalTables;
 use fixed_decimal::{Decimal, Sign};
 use writeable::strict_cmp;

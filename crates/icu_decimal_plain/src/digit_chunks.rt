@@ -59,6 +59,19 @@ pub(crate) fn few_digits(digits: &mut ShownDigits<'_>, count: usize) -> [u8; CHU
     chunk
 }
 
+// Takes the next forty-eight digits.
+fn next_digits(digits: &mut ShownDigits<'_>) -> [u8; CHUNK]
+    requires { 48 ≤ length digits.old }
+    ensures long { length result ≡ 48 }
+    ensures chunk { take 48 result ≡ take 48 digits.old }
+    ensures digits { digits.new ≡ drop 48 digits.old }
+{
+    match digits.next_chunk() {
+        Some(chunk) => chunk,
+        None => few_digits(digits, CHUNK),
+    }
+}
+
 // Writes the first `len` bytes of `waiting`.
 pub(crate) fn write_waiting<S: Sink>(waiting: &[u8], len: usize, sink: &mut S) -> Result<(), Error>
     requires fine { S.refused sink.old ≡ false }
@@ -97,7 +110,7 @@ pub(crate) fn write_chunks<S: Sink>(
         let Some(mut groups) = sizes.next_chunk() else {
             return Ok(());
         };
-        let chunk = few_digits(digits, CHUNK);
+        let chunk = next_digits(digits);
         let len = put_groups(&mut waiting, 0, piece, &chunk, &mut groups, table);
         write_waiting(&waiting, len, sink)?;
     }

@@ -3,9 +3,9 @@
 ghost use Rattle.std.specs.Prelude.{◌≡◌};
 ghost use Rattle.std.specs.Option.{ForSome};
 ghost use Rattle.icu_decimal_plain.specs.Pieces.{HoldSeparators, HoldTable};
-ghost use Rattle.icu_decimal_plain.specs.Rows.{IsRow};
+ghost use Rattle.icu_decimal_plain.specs.Runs.{IsRun};
 
-use crate::rows::row_of;
+use crate::runs::run_of;
 use crate::text_pieces::{Piece, Separators, pieces_of};
 use icu_decimal_symbols::DecimalSymbols;
 
@@ -16,7 +16,7 @@ pub(crate) struct DigitTable<'b> {
     pub pieces: [Piece; 10],
     pub nought: Option<u8>,
     pub ghost held: { HoldTable pieces chars.now },
-    pub ghost in_row: { ForSome nought (λ byte. IsRow byte chars.now) },
+    pub ghost in_run: { ForSome nought (λ byte. IsRun byte chars.now) },
 }
 
 impl<'b> DigitTable<'b> {
@@ -27,7 +27,7 @@ impl<'b> DigitTable<'b> {
         DigitTable {
             chars,
             pieces: pieces_of(chars),
-            nought: row_of(chars),
+            nought: run_of(chars),
         }
     }
 }

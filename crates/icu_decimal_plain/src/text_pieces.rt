@@ -5,10 +5,10 @@ ghost use Rattle.std.specs.Int.Digits.{AllBelowBase};
 ghost use Rattle.icu_decimal_plain.specs.PlainText.{chained, digit_text};
 ghost use Rattle.icu_decimal_plain.specs.LaterGroups.{groups_ahead};
 ghost use Rattle.icu_decimal_plain.specs.Pieces.{Holds, HoldTable};
-ghost use Rattle.icu_decimal_plain.specs.Rows.{row_text};
+ghost use Rattle.icu_decimal_plain.specs.Runs.{run_text};
 
 use crate::piece_tables::DigitTable;
-use crate::rows::{put_many_threes, put_row};
+use crate::runs::{put_many_threes, put_run};
 use icu_decimal_grouping::GroupSizes;
 
 // The bytes that the digits of a chunk may have, with a separator before each.
@@ -113,7 +113,7 @@ pub(crate) fn put_digit_pieces<const N: usize>(
 
 // Puts digits that are single bytes in a row after the first `len` bytes, and returns how many bytes there are then: two
 // or three of them as a word.
-fn put_few_row<const N: usize>(
+fn put_few_run<const N: usize>(
     waiting: &mut [u8; N],
     len: usize,
     digits: &[u8],
@@ -122,7 +122,7 @@ fn put_few_row<const N: usize>(
     requires room { len + 4 * length digits.now ≤ N }
     requires small { nought + 9 < 128 }
     requires tens { AllBelowBase 10 digits.now }
-    ensures text { take result waiting.new ≡ take len waiting.old ++ chained (map (row_text nought) digits.now) }
+    ensures text { take result waiting.new ≡ take len waiting.old ++ chained (map (run_text nought) digits.now) }
     ensures room { result ≤ len + 4 * length digits.now }
 {
     match digits {
@@ -142,7 +142,7 @@ fn put_few_row<const N: usize>(
                 len: 2,
             },
         ),
-        _ => put_row(waiting, len, digits, nought),
+        _ => put_run(waiting, len, digits, nought),
     }
 }
 
@@ -160,7 +160,7 @@ pub(crate) fn put_digits<const N: usize>(
     ensures room { result ≤ len + 4 * length digits.now }
 {
     if let Some(nought) = table.nought {
-        return put_few_row(waiting, len, digits, nought);
+        return put_few_run(waiting, len, digits, nought);
     }
     put_digit_pieces(waiting, len, digits, table)
 }

@@ -11,7 +11,7 @@ ghost use Rattle.icu_decimal_plain.specs.LaterGroups.{groups_ahead};
 
 use crate::digit_chunks::{write_chunks, write_last, write_waiting};
 use crate::piece_tables::DigitTable;
-use crate::short_rows::{SHORT, put_short};
+use crate::short_runs::{SHORT, put_short};
 use crate::short_text::ShortText;
 use crate::tables::DecimalTables;
 use crate::writing::{fraction_len, highest, write_digits, write_fraction_digits};

@@ -29,17 +29,17 @@ more_gathered given new count d is ten e = subst (λ (g : DigitsGiven). IsGather
   below = below_next given.mantissa given.count d is.below ten;
 })
 
-not_long : (n : ℕ) → n < 10 ^ 8 → IsLong n → ⊥
+not_long : (n : ℕ) → n < 10 ^ 16 → IsLong n → ⊥
 not_long n less long = long 0 (record { whole = mod-one n; below = less })
 
--- where the number is long, there were eight digits before
-pub many_gathered : (given : DigitsGiven) (count d : ℕ) → IsGathered given count → d < 10 → IsLong (given.mantissa * 10 + d) → 8 ≤ given.count
-many_gathered given count d is ten long = by (cases_lt given.count 8)
+-- where the number is long, there were as many digits before as lie inline
+pub many_gathered : (given : DigitsGiven) (count d : ℕ) → IsGathered given count → d < 10 → IsLong (given.mantissa * 10 + d) → 16 ≤ given.count
+many_gathered given count d is ten long = by (cases_lt given.count 16)
   where
-    by : (given.count < 8) ⊎ (8 ≤ given.count) → 8 ≤ given.count
+    by : (given.count < 16) ⊎ (16 ≤ given.count) → 16 ≤ given.count
     by (inl few) =
         let next = below_next given.mantissa given.count d is.below ten in
-        let up : 10 ^ (given.count + 1) ≤ 10 ^ 8 = pow-le-pow_right {n = 10} (omega arith) {i = given.count + 1} {j = 8} (omega (arith, few)) in
+        let up : 10 ^ (given.count + 1) ≤ 10 ^ 16 = pow-le-pow_right {n = 10} (omega arith) {i = given.count + 1} {j = 16} (omega (arith, few)) in
         absurd (not_long (given.mantissa * 10 + d) (omega (arith, next, up)) long)
     by (inr many) = many
 
@@ -61,7 +61,7 @@ value_behind : (n : ℕ) (whole fraction : List ℕ) → digits_value_after 10 n
 value_behind n [] fraction = refl
 value_behind n (c ∷ cs) fraction = value_behind (n * 10 + digit_value c) cs fraction
 
-pub many_whole : (ds sep cs : List ℕ) (first : DigitsGiven) → first ≡ record { mantissa = 0; count = 0 } → 8 < first.count + length (whole_in ds sep cs) → 8 < length (filter_map (digit_of ds) cs)
+pub many_whole : (ds sep cs : List ℕ) (first : DigitsGiven) → first ≡ record { mantissa = 0; count = 0 } → 16 < first.count + length (whole_in ds sep cs) → 16 < length (filter_map (digit_of ds) cs)
 many_whole ds sep cs first none many =
     let start : first.count ≡ 0 = ap (λ (g : DigitsGiven). g.count) none in
     omega (arith, start, many, digits_counted ds sep cs)
@@ -125,7 +125,7 @@ module _ (whole fraction : List ℕ) (first before after : DigitsGiven) (none : 
         same_signed v (with_sign NoSign (number_with whole fraction)) sign
         (absolute ∙ at ∙ same ∙ sym (number_by (spelled (whole ++ fraction)) (length whole) (length fraction) 0 0 refl refl (omega (arith, is, some, whole_count)) (omega (arith, last))))
 
-pub many_both : (ds sep cs rest : List ℕ) (first before : DigitsGiven) → first ≡ record { mantissa = 0; count = 0 } → before ≡ with_characters first (whole_in ds sep cs) → digits_of_text ds rest ≡ fraction_in ds sep cs → 8 < before.count + length (digits_of_text ds rest) → 8 < length (filter_map (digit_of ds) cs)
+pub many_both : (ds sep cs rest : List ℕ) (first before : DigitsGiven) → first ≡ record { mantissa = 0; count = 0 } → before ≡ with_characters first (whole_in ds sep cs) → digits_of_text ds rest ≡ fraction_in ds sep cs → 16 < before.count + length (digits_of_text ds rest) → 16 < length (filter_map (digit_of ds) cs)
 many_both ds sep cs rest first before none to_point behind many =
     let size : length (digits_of_text ds rest) ≡ length (fraction_in ds sep cs) = ap length behind in
     omega (arith, whole_count (whole_in ds sep cs) (fraction_in ds sep cs) first before before none to_point, size, many, digits_counted ds sep cs)

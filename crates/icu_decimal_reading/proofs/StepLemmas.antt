@@ -98,8 +98,8 @@ text_other ds cs rest c given whole is none before =
 pub text_end : (ds cs : List ℕ) (given whole : DigitsGiven) → cs ≡ [] → with_characters given (digits_of_text ds cs) ≡ whole → given ≡ whole
 text_end ds cs given whole is before = sym (ap (λ t. with_characters given (digits_of_text ds t)) is) ∙ before
 
--- where a digit after eight is left, there are more than eight
-pub text_many : (ds cs rest text : List ℕ) (c d : ℕ) (given first : DigitsGiven) → cs ≡ c ∷ rest → Some d ≡ digit_of ds c → with_characters given (digits_of_text ds cs) ≡ with_characters first (digits_of_text ds text) → 8 ≤ given.count → 8 < first.count + length (digits_of_text ds text)
+-- where a digit is left after as many as lie inline, there are more than these
+pub text_many : (ds cs rest text : List ℕ) (c d : ℕ) (given first : DigitsGiven) → cs ≡ c ∷ rest → Some d ≡ digit_of ds c → with_characters given (digits_of_text ds cs) ≡ with_characters first (digits_of_text ds text) → 16 ≤ given.count → 16 < first.count + length (digits_of_text ds text)
 text_many ds cs rest text c d given first is found before many =
     let size : length (digits_of_text ds cs) ≡ suc (length (digits_of_text ds rest)) = ap length (text_first ds cs rest c d is found) in
     omega (arith, size, same_count given first (digits_of_text ds cs) (digits_of_text ds text) before, many)
@@ -130,7 +130,7 @@ some_first : (d : ℕ) (b : Bool) (rest : List ℕ) → 0 < length (whole_then (
 some_first d true rest = omega arith
 some_first d false rest = omega arith
 
-pub whole_many : (ds sep cs rest text : List ℕ) (c d : ℕ) (given first : DigitsGiven) → cs ≡ c ∷ rest → Some d ≡ digit_of ds c → with_characters given (whole_in ds sep cs) ≡ with_characters first (whole_in ds sep text) → 8 ≤ given.count → 8 < first.count + length (whole_in ds sep text)
+pub whole_many : (ds sep cs rest text : List ℕ) (c d : ℕ) (given first : DigitsGiven) → cs ≡ c ∷ rest → Some d ≡ digit_of ds c → with_characters given (whole_in ds sep cs) ≡ with_characters first (whole_in ds sep text) → 16 ≤ given.count → 16 < first.count + length (whole_in ds sep text)
 whole_many ds sep cs rest text c d given first is found before many =
     let size : length (whole_in ds sep cs) ≡ length (whole_then (Some d) (begins_fraction ds sep rest) (whole_in ds sep rest)) = ap length (whole_first ds sep cs rest c d (begins_fraction ds sep rest) is found refl) in
     let some = some_first d (begins_fraction ds sep rest) (whole_in ds sep rest) in

@@ -3,6 +3,7 @@
 -- Cited by `read_plain` and `read_readable`, by the laws of reading, and by what answers with a reading.
 use Rattle.std.specs.Prelude.{◌≡◌, ◌≢◌, ℕ, ◌<◌, true, false, List, length, filter_map, Result, Ok, Err}
 use Rattle.std.specs.Str.{chars}
+use Rattle.fixed_decimal.specs.InlineDigits.{inline_digits}
 use Rattle.fixed_decimal.specs.Number.{Number}
 use Rattle.fixed_decimal.specs.SignedValue.{SignedValue}
 use Rattle.fixed_decimal.specs.TextLaws.{IsDecimal}
@@ -43,6 +44,6 @@ IsAnswered (Err Memory) reading = Unit {0}
 abbrev pub digits_in : Tables → List ℕ → List ℕ
 digits_in t text = filter_map (digit_of t.digits) (chars text)
 
--- more than eight of them
+-- more of them than lie inline
 abbrev pub HasManyDigits : Tables → List ℕ → Type 0
-HasManyDigits t text = 8 < length (digits_in t text)
+HasManyDigits t text = inline_digits < length (digits_in t text)

@@ -17,7 +17,7 @@ pub enum ReadError {
     /// The formatter writes no decimal so: `98,7654` in English.
     #[error("not written so")]
     NotWritten,
-    /// Out of memory: the nine digits of `123,456,789` allocate, eight do not.
+    /// Out of memory: the seventeen digits of `12,345,678,901,234,567` allocate, sixteen do not.
     #[error("out of memory")]
     Memory,
 }

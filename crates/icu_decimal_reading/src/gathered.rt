@@ -3,6 +3,7 @@
 ghost use Rattle.std.specs.Prelude.{◌≡◌, ◌-◌, ◌<◌, ◌≤◌, ◌^◌, IfNone, IfOk, IfSome, OnErr, OnOk, OnSome};
 ghost use Rattle.fixed_decimal.specs.GivenDigits.{with_digit};
 ghost use Rattle.fixed_decimal.specs.NumberText.{AreEndsIn, number_at};
+ghost use Rattle.fixed_decimal.specs.InlineDigits.{inline_digits};
 
 use fixed_decimal::{GivenDigits, UnsignedDecimal};
 use std::alloc::{AllocError, Global};
@@ -30,7 +31,7 @@ impl Gathered {
     // No digits yet, with room for so many.
     pub(crate) fn with_room(alloc: Global, room: usize) -> Result<Gathered, AllocError>
         ensures value { IfOk result (λ g. g ≡ record { mantissa = 0; count = 0 }) }
-        ensures room { OnErr result (8 < room) }
+        ensures room { OnErr result (inline_digits < room) }
     {
         let given = GivenDigits::with_room(alloc, room)?;
         Ok(Gathered { given, count: 0 })
@@ -49,7 +50,7 @@ impl Gathered {
         requires ten { digit < 10 }
         requires few { self.old.count < 2 ^ 63 }
         ensures ok { OnOk result (self.new ≡ with_digit self.old digit) }
-        ensures room { OnErr result (8 ≤ self.old.count) }
+        ensures room { OnErr result (inline_digits ≤ self.old.count) }
     {
         self.given.push(digit)?;
         self.count += 1;

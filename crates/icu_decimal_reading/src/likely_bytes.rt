@@ -9,7 +9,7 @@ use std::alloc::{AllocError, Global};
 const BLOCK: usize = 64;
 
 // A text of more than a block is gathered only where more digits are in the first, for which memory may be allocated.
-const FEW: usize = 8;
+const FEW: usize = 16;
 
 // How many bytes a text has at most: 32,768 digits in groups of three, a point, and as many digits after it.
 const LONGEST: usize = 76459;

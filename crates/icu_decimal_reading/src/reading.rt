@@ -96,7 +96,7 @@ fn read_as_defined(
 ///
 /// The condition is `is_readable`, which looks through all symbols: a caller who reads many texts with the same tables
 /// tests it once. `NotWritten`: no decimal is written so. `Memory`: out of memory. Allocates where the text has more
-/// than eight digits.
+/// than sixteen digits.
 #[tactic(auto, using(crate::proofs::LawLemmas::answered_value))]
 pub fn read_readable(
     alloc: Global,
@@ -121,7 +121,7 @@ pub fn read_readable(
 ///
 /// Sign, digits and visible range are those of the one decimal that is written so. `Unreadable`: `is_readable` is
 /// false. `NotWritten`: no decimal is written so, as `98,7654` or `1234` in English. `Memory`: out of memory. Allocates
-/// where the text has more than eight digits.
+/// where the text has more than sixteen digits.
 #[tactic(auto, using(crate::proofs::ReadingLemmas::reading_unreadable))]
 pub fn read_plain(
     alloc: Global,

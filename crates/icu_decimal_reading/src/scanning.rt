@@ -3,6 +3,7 @@
 ghost use Rattle.std.specs.Prelude.{◌≡◌, ◌+◌, ◌^◌, ◌≤◌, ◌<◌, length, filter_map, true, false, IfOk, IsErrOf, OnErr, OnOk};
 ghost use Rattle.std.specs.Str.{chars};
 ghost use Rattle.fixed_decimal.specs.declared.Sign.TheVariants.{None as NoSign};
+ghost use Rattle.fixed_decimal.specs.InlineDigits.{inline_digits};
 ghost use Rattle.icu_decimal_reading.specs.GatheredDigits.{with_characters};
 ghost use Rattle.icu_decimal_reading.specs.PlainReading.{digits_of_text, fraction_in, is_within, number_with, whole_in, with_sign};
 ghost use Rattle.icu_decimal_reading.specs.Readable.{all_differ, digit_of};
@@ -34,7 +35,8 @@ fn gather_all(table: &[char; 10], text: &str, gathered: &mut Gathered) -> Result
     requires few { gathered.old.count + length text.now < 2 ^ 63 }
     ensures value { OnOk result
         (gathered.new ≡ with_characters gathered.old (digits_of_text table.now (chars text.now))) }
-    ensures room { OnErr result (8 < gathered.old.count + length (digits_of_text table.now (chars text.now))) }
+    ensures room { OnErr result
+        (inline_digits < gathered.old.count + length (digits_of_text table.now (chars text.now))) }
 {
     let mut left = text;
     while let Some((character, rest)) = split_character(left) {
@@ -64,7 +66,7 @@ fn gather_whole<'t>(
         ≡ fraction_in table.now (chars separator.now) (chars text.now)) }
     ensures bound { IfOk result (λ rest. gathered.new.count + length rest.now ≤ gathered.old.count + length text.now) }
     ensures room { OnErr result
-        (8 < gathered.old.count + length (whole_in table.now (chars separator.now) (chars text.now))) }
+        (inline_digits < gathered.old.count + length (whole_in table.now (chars separator.now) (chars text.now))) }
 {
     let mut left = text;
     while let Some((character, rest)) = split_character(left) {
@@ -100,7 +102,8 @@ pub(crate) fn number_in(
         → is_within (whole_in table.now (chars separator.now) (chars text.now))
         (fraction_in table.now (chars separator.now) (chars text.now)) ≡ false }
     ensures unreadable { ¬ (IsErrOf result ReadError.Unreadable) }
-    ensures memory { IsErrOf result ReadError.Memory → 8 < length (filter_map (digit_of table.now) (chars text.now)) }
+    ensures memory { IsErrOf result ReadError.Memory
+        → inline_digits < length (filter_map (digit_of table.now) (chars text.now)) }
 {
     let mut gathered = Gathered::with_room(alloc, room_for(table, text))?;
     let fraction = gather_whole(table, separator, text, &mut gathered)?;

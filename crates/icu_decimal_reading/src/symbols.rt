@@ -92,12 +92,12 @@ pub fn are_tables(tables: &DecimalTables<'_>)
 {
     are_characters(ten_digits(tables.digits()));
     let symbols = tables.symbols();
-    let _minus_prefix = symbols.minus_sign_prefix();
-    let _minus_suffix = symbols.minus_sign_suffix();
-    let _plus_prefix = symbols.plus_sign_prefix();
-    let _plus_suffix = symbols.plus_sign_suffix();
-    let _decimal = symbols.decimal_separator();
-    let _grouping = symbols.grouping_separator();
+    let _minus_prefix = symbols.minus_sign_prefix(); // for the proof
+    let _minus_suffix = symbols.minus_sign_suffix(); // for the proof
+    let _plus_prefix = symbols.plus_sign_prefix(); // for the proof
+    let _plus_suffix = symbols.plus_sign_suffix(); // for the proof
+    let _decimal = symbols.decimal_separator(); // for the proof
+    let _grouping = symbols.grouping_separator(); // for the proof
 }
 
 /// Whether texts can be read back under the symbols of these tables: in English they can.

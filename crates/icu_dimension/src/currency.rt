@@ -1,6 +1,6 @@
 //! A formatter of amounts of money.
 
-ghost use Rattle.std.specs.Prelude.{◌≡◌, ◌≢◌, ◌⊎◌, false, true, IfErr, IfOk, IsErrOf, IsOk, OnOk, string_bytes};
+ghost use Rattle.std.specs.Prelude.{◌≡◌, ◌≢◌, ◌⊎◌, false, true, IfErr, IfOk, IsErrOf, IsOk, OnErr, OnOk, string_bytes};
 ghost use Rattle.std.specs.Result.{result_map_both};
 ghost use Rattle.icu_dimension_affixes.specs.HeldUnits.{name_of, settings_of};
 ghost use Rattle.icu_dimension_affixes.specs.UnitReading.{AreReaderTexts, HasNoDecimal, IsUnitText, is_unit_readable_by, reader_texts};
@@ -143,11 +143,24 @@ impl<'b> CurrencyFormatter<'b> {
         self.tables().format_to_string(alloc, value)
     }
 
-    /// The amount rounded to the digits of the currency, half to even, with all its digits: of `CHF` in cash 2.345 is
-    /// `2.35`.
+    /// Rounds the amount to the digits of the currency in its place, half to even, with all its digits: of `CHF` in cash
+    /// 2.345 becomes `2.35`.
     ///
-    /// The sign is kept, of a zero too. It allocates where `Fraction::rounded` does. `AllocFailed`: out of memory; it holds
-    /// the amount.
+    /// The sign is kept, of a zero too. It allocates where `Fraction::round` does. `AllocError`: out of memory; the amount
+    /// is then as it was.
+    pub fn round(&self, amount: &mut Decimal, usage: CurrencyUsage) -> Result<(), AllocError>
+        ensures succeeds { (fraction_for (fractions_of self.now) usage).increment ≢ FractionIncrement.MultiplesOf25
+            → IsOk result }
+        ensures value { OnOk result (RoundsAmount (fraction_for (fractions_of self.now) usage) amount.old amount.new) }
+        ensures same { OnErr result (amount.new ≡ amount.old) }
+    {
+        self.fractions.fraction(usage).round(amount)
+    }
+
+    /// The amount rounded to the digits of the currency, half to even, with all its digits, as `round` leaves it: of
+    /// `CHF` in cash 2.345 is `2.35`.
+    ///
+    /// It allocates where `round` does. `AllocFailed`: out of memory; it holds the amount.
     pub fn rounded(
         &self,
         amount: Decimal,

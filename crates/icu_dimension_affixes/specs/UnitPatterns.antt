@@ -1,7 +1,7 @@
 -- The pattern of a unit: texts around the number and the unit, and such texts for the signs, where it has these.
 -- UTS 35, part 3 (numbers), number patterns: positive and negative subpatterns, prefix and suffix; docs/units.md, "Patterns".
 -- Cited by the calls of `UnitAffixes`, `UnitPattern` and `UnitPatterns`.
-use Rattle.std.specs.Prelude.{ℕ, Bool, cond, List, ◌++◌, Option, None, Some}
+use Rattle.std.specs.Prelude.{◌≡◌, ℕ, Bool, cond, List, [], ◌++◌, IfSome, Option, None, Some}
 use Rattle.fixed_decimal.specs.declared.Sign.{Sign}
 use Rattle.fixed_decimal.specs.declared.Sign.TheVariants.{None as NoSign, Negative, Positive}
 use Rattle.icu_dimension_affixes.specs.declared.affixes.UnitPlace.{UnitPlace}
@@ -54,6 +54,16 @@ pub record PatternTexts : Type 0 where
   pub unsigned : AffixesText
   pub minus : Option AffixesText
   pub plus : Option AffixesText
+
+-- no text of affixes is there, beside the place of the unit
+abbrev pub HasNoText : AffixesText → Type 0
+HasNoText a = (a.first ≡ []) × (a.second ≡ []) × (a.third ≡ [])
+
+-- nor one of any that a pattern has
+pub record HaveNoText (p : PatternTexts) : Type 0 where
+  pub unsigned : HasNoText p.unsigned
+  pub minus : IfSome p.minus HasNoText
+  pub plus : IfSome p.plus HasNoText
 
 -- those that a sign has of its own
 abbrev pub own_affixes : PatternTexts → Sign → Option AffixesText

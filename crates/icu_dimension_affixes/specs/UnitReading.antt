@@ -72,7 +72,7 @@ pub record IsUnitText (r : ReaderTexts) (text : List ℕ) (v : SignedValue Numbe
 abbrev pub HasNoDecimal : ReaderTexts → List ℕ → Type 0
 HasNoDecimal r text = (v : SignedValue Number) → IsDecimal v → text_by r v ≢ text
 
--- what is between these affixes has more than eight digits
+-- what is between these affixes has more than sixteen digits
 pub record HasManyIn (t : Tables) (pair : AffixPair) (text : List ℕ) : Type 0 where
   pub inner : List ℕ
   pub between : text_between pair inner ≡ text

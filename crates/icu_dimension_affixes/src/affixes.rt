@@ -2,7 +2,7 @@
 
 ghost use Rattle.std.specs.Prelude.{◌≡◌, ◌≢◌, ◌↔◌, ◌+◌, ◌<◌, [], ◌++◌, nat_lt, string_bytes, IfNone, IfOk, IfSome, IsErrOf, IsOk};
 ghost use Rattle.icu_dimension_affixes.specs.HeldUnits.{affix_of};
-ghost use Rattle.icu_dimension_affixes.specs.UnitPatterns.{after_in, before_in, pair_with};
+ghost use Rattle.icu_dimension_affixes.specs.UnitPatterns.{HasNoText, after_in, before_in, pair_with};
 ghost use Rattle.icu_dimension_affixes.specs.UnitPlaces.{placeholder, places};
 
 use crate::error::UnitPatternError;
@@ -149,6 +149,17 @@ impl UnitAffixes {
             return UnitAffixes::of_cut(alloc, UnitPlace::After, before, second, third);
         }
         Err(UnitPatternError::NoPlace)
+    }
+
+    /// A copy of the affixes: of `(¤` and `)` others with these texts.
+    ///
+    /// `AllocError`: out of memory. It allocates for each text beside the place that is not empty.
+    pub fn try_clone(&self, alloc: Global) -> Result<Self, AllocError>
+        ensures succeeds { HasNoText self.now → IsOk result }
+        ensures value { IfOk result (λ copy. copy ≡ self.now) }
+    {
+        let (first, second) = (self.first.as_str(), self.second.as_str());
+        UnitAffixes::of_texts(alloc, self.place, first, second, self.third.as_str())
     }
 
     /// On which side of the number the unit is: `Before` of `(¤` and `)`. It does not allocate.

@@ -1,11 +1,12 @@
 //! Patterns of units.
 
-ghost use Rattle.std.specs.Prelude.{◌≡◌};
+ghost use Rattle.std.specs.Prelude.{◌≡◌, IfOk, IfSome, IsOk};
 ghost use Rattle.std.specs.Option.{option_copied};
-ghost use Rattle.icu_dimension_affixes.specs.UnitPatterns.{chosen, is_letter_next, own_affixes};
+ghost use Rattle.icu_dimension_affixes.specs.UnitPatterns.{HasNoText, HaveNoText, chosen, is_letter_next, own_affixes};
 
 use crate::affixes::{UnitAffixes, UnitPlace};
 use fixed_decimal::Sign;
+use std::alloc::{AllocError, Global};
 use std::marker::Model;
 
 /// The pattern of a unit: the affixes of a number without a sign, and those that a minus or a plus sign has of its own.
@@ -25,6 +26,20 @@ impl Model for UnitPattern {
     ghost Value = { PatternTexts };
 
     ghost view = { λ p. record { unsigned = p.unsigned; minus = p.minus; plus = p.plus } };
+}
+
+// A copy of affixes, where there are some.
+fn copied(alloc: Global, affixes: &Option<UnitAffixes>) -> Result<Option<UnitAffixes>, AllocError>
+    ensures succeeds { IfSome affixes.now HasNoText → IsOk result }
+    ensures value { IfOk result (λ copy. copy ≡ affixes.now) }
+{
+    match affixes {
+        Some(affixes) => match affixes.try_clone(alloc) {
+            Ok(copy) => Ok(Some(copy)),
+            Err(refused) => Err(refused),
+        },
+        None => Ok(None),
+    }
 }
 
 impl UnitPattern {
@@ -57,6 +72,19 @@ impl UnitPattern {
             Sign::Negative => self.minus.as_ref(),
             Sign::Positive => self.plus.as_ref(),
         }
+    }
+
+    /// A copy of the pattern: of that of Swiss German another, with `¤-` of its own for a minus sign.
+    ///
+    /// `AllocError`: out of memory. It allocates for each text of the affixes that is not empty.
+    pub fn try_clone(&self, alloc: Global) -> Result<Self, AllocError>
+        ensures succeeds { HaveNoText self.now → IsOk result }
+        ensures value { IfOk result (λ copy. copy ≡ self.now) }
+    {
+        let unsigned = self.unsigned.try_clone(alloc)?;
+        let minus = copied(alloc, &self.minus)?;
+        let plus = copied(alloc, &self.plus)?;
+        Ok(UnitPattern::new(unsigned, minus, plus))
     }
 }
 

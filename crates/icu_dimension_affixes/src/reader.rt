@@ -179,12 +179,12 @@ fn are_texts(
     ensures { AreReaderTexts (reader_of decimals.now none.now minus.now plus.now) }
 {
     icu_decimal_reading::are_tables(decimals);
-    let _none_before = none.before.as_str();
-    let _none_after = none.after.as_str();
-    let _minus_before = minus.before.as_str();
-    let _minus_after = minus.after.as_str();
-    let _plus_before = plus.before.as_str();
-    let _plus_after = plus.after.as_str();
+    let _none_before = none.before.as_str(); // for the proof
+    let _none_after = none.after.as_str(); // for the proof
+    let _minus_before = minus.before.as_str(); // for the proof
+    let _minus_after = minus.after.as_str(); // for the proof
+    let _plus_before = plus.before.as_str(); // for the proof
+    let _plus_after = plus.after.as_str(); // for the proof
 }
 
 /// Whether no digit of a table is in the affixes: none of ASCII is in `-€` and the empty text. It does not allocate.
@@ -276,7 +276,7 @@ impl<'b> UnitReader<'b> {
     /// As `read`, of a reader that is known to be readable: of English and `€`, `-€1,234.50` is -1234.50.
     ///
     /// The condition is `is_readable`, which looks through all texts: a caller who reads many texts tests it once.
-    /// `NotWritten`: no decimal is written so. `Memory`: out of memory. It allocates where more than eight digits are
+    /// `NotWritten`: no decimal is written so. `Memory`: out of memory. It allocates where more than sixteen digits are
     /// between the affixes of a sign.
     pub fn read_readable(&self, alloc: Global, text: &str) -> Result<Decimal, ReadError>
         requires { is_unit_readable_by self.now ≡ true }
@@ -300,7 +300,7 @@ impl<'b> UnitReader<'b> {
     ///
     /// Sign, digits and visible range are those of the one decimal that is written so. `Unreadable`: `is_readable` is
     /// false. `NotWritten`: no decimal is written so, as `$1.00`, `1.00` or `€1234.50`. `Memory`: out of memory. It
-    /// allocates where more than eight digits are between the affixes of a sign.
+    /// allocates where more than sixteen digits are between the affixes of a sign.
     pub fn read(&self, alloc: Global, text: &str) -> Result<Decimal, ReadError>
         ensures unreadable { IsErrOf result ReadError.Unreadable ↔ (is_unit_readable_by self.now ≡ false) }
         ensures not_written { IsErrOf result ReadError.NotWritten → HasNoDecimal self.now text.now }

@@ -48,6 +48,13 @@ impl<'b> UnitTables<'b> {
         self.decimals
     }
 
+    /// The pattern: of English `¤` before the number. It does not allocate.
+    pub fn pattern(&self) -> &'b UnitPattern
+        ensures { result.now ≡ (settings_of self.now).pattern }
+    {
+        self.pattern
+    }
+
     /// The unit: `€`, a currency. It does not allocate.
     pub fn unit(&self) -> Unit<'b>
         ensures { name_of result ≡ (settings_of self.now).unit }

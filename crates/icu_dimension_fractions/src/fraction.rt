@@ -1,14 +1,17 @@
 //! The digits of a currency, and rounding to them.
 
-ghost use Rattle.std.specs.Prelude.{◌≡◌, ◌≢◌, IfErr, IfOk, IsOk};
+ghost use Rattle.std.specs.Prelude.{◌≡◌, ◌≢◌, ◌↔◌, ◌+◌, IfErr, IfOk, IsOk, IsTrue, OnErr, OnOk};
 ghost use Rattle.fixed_decimal.specs.Number.{place};
+ghost use Rattle.fixed_decimal.specs.Rounding.{IsMultiple};
 ghost use Rattle.icu_dimension_fractions.specs.FractionRounding.{RoundsAmount, ShowsAmount};
-ghost use Rattle.icu_dimension_fractions.specs.Fractions.{fraction_for, last_place};
-ghost use Rattle.icu_dimension_fractions.specs.RoundedDigit.{rounded_place};
+ghost use Rattle.icu_dimension_fractions.specs.Fractions.{fraction_for, last_place, step};
+ghost use Rattle.icu_dimension_fractions.specs.RoundedDigit.{TakesMultiple, rounded_place};
 
 use crate::increment::FractionIncrement;
-use fixed_decimal::{Decimal, SignDisplay, SignedRoundingMode, UnsignedRoundingMode};
-use std::alloc::AllocFailed;
+use fixed_decimal::{
+    Decimal, SignDisplay, SignedRoundingMode, UnsignedDecimal, UnsignedRoundingMode,
+};
+use std::alloc::{AllocError, AllocFailed};
 
 /// Whether an amount is paid in cash: Swiss francs in cash are multiples of 5 of the last digit. After ICU's currency
 /// usage.
@@ -70,6 +73,13 @@ impl Fraction {
         0 - self.digits as i16
     }
 
+    // The magnitude of the digit before the last one.
+    fn magnitude_before(self) -> i16
+        ensures { place result ≡ last_place self + 1 }
+    {
+        1 - self.digits as i16
+    }
+
     // The magnitude of the digit that is rounded.
     fn rounded_magnitude(self) -> i16
         ensures { place result ≡ rounded_place self }
@@ -81,26 +91,75 @@ impl Fraction {
         }
     }
 
-    /// The amount rounded to the fraction, half to even, with all its digits: 0.125 by two digits is `0.12`, and 1.25 by
-    /// multiples of 50 of the last of two is `1.00`.
+    // Rounds an amount to a multiple. Where each unit of the last digit is one, and no digit after it is shown, nothing
+    // is done.
+    fn round_to_multiple(self, amount: &mut Decimal) -> Result<(), AllocError>
+        ensures succeeds { self.increment ≢ FractionIncrement.MultiplesOf25 → IsOk result }
+        ensures sign { OnOk result (amount.new.sign ≡ amount.old.sign) }
+        ensures size { OnOk result (TakesMultiple self amount.old.absolute amount.new.absolute) }
+        ensures same { OnErr result (amount.new ≡ amount.old) }
+    {
+        let range = amount.absolute.magnitude_range();
+        if self.increment.is_one() && self.last_magnitude() <= *range.start() {
+            return Ok(());
+        }
+        let mode = SignedRoundingMode::Unsigned(UnsignedRoundingMode::HalfEven);
+        let multiples = self.increment.multiples();
+        amount.round_with_mode_and_increment(self.rounded_magnitude(), mode, multiples)
+    }
+
+    /// Rounds the amount to the fraction in its place, half to even, with all its digits: 0.125 by two digits becomes
+    /// `0.12`, and 1.25 by multiples of 50 of the last of two becomes `1.00`.
     ///
     /// It is shown down to the last digit of the fraction: 5 is `5.00`. The sign is kept, of a zero too. It allocates
-    /// only for some roundings to multiples of 25: those of `Decimal::rounded_with_mode_and_increment`. `AllocFailed`:
-    /// out of memory; it holds the amount.
+    /// only for some roundings to multiples of 25: those of `Decimal::round_with_mode_and_increment`. `AllocError`: out
+    /// of memory; the amount is then as it was.
     ///
     /// Source: UTS 35, part 3 (numbers), supplemental currency data.
-    pub fn rounded(self, amount: Decimal) -> Result<Decimal, AllocFailed<Decimal>>
+    pub fn round(self, amount: &mut Decimal) -> Result<(), AllocError>
+        ensures succeeds { self.increment ≢ FractionIncrement.MultiplesOf25 → IsOk result }
+        ensures value { OnOk result (RoundsAmount self amount.old amount.new) }
+        ensures same { OnErr result (amount.new ≡ amount.old) }
+    {
+        self.round_to_multiple(amount)?;
+        amount.absolute.pad_end(self.last_magnitude());
+        Ok(())
+    }
+
+    // Whether a number whose last digit shown is that of the fraction is a multiple.
+    fn ends_in_multiple(self, number: &UnsignedDecimal) -> bool
+        requires { number.now.low ≡ last_place self }
+        ensures { IsTrue result ↔ IsMultiple (step self) number.now.count }
+    {
+        let _number = number.magnitude_range(); // for the proof
+        let last = number.digit_at(self.last_magnitude());
+        let before = number.digit_at(self.magnitude_before());
+        (10 * before + last) % self.increment.number() == 0
+    }
+
+    /// Whether the amount is what rounding it to the fraction leaves: by two digits `1.50` is, `1.5` and `1.505` are not.
+    /// It does not allocate.
+    pub fn is_rounded(self, amount: &Decimal) -> bool
+        ensures { IsTrue result ↔ RoundsAmount self amount.now amount.now }
+    {
+        let range = amount.absolute.magnitude_range();
+        *range.start() == self.last_magnitude() && self.ends_in_multiple(&amount.absolute)
+    }
+
+    /// The amount rounded to the fraction, half to even, with all its digits, as `round` leaves it: 0.125 by two digits
+    /// is `0.12`.
+    ///
+    /// It allocates where `round` does. `AllocFailed`: out of memory; it holds the amount.
+    ///
+    /// Source: UTS 35, part 3 (numbers), supplemental currency data.
+    pub fn rounded(self, mut amount: Decimal) -> Result<Decimal, AllocFailed<Decimal>>
         ensures succeeds { self.increment ≢ FractionIncrement.MultiplesOf25 → IsOk result }
         ensures value { IfOk result (λ v. RoundsAmount self amount v) }
         ensures same { IfErr result (λ e. e.value ≡ amount) }
     {
-        let _range = amount.absolute.magnitude_range();
-        let mode = SignedRoundingMode::Unsigned(UnsignedRoundingMode::HalfEven);
-        let multiples = self.increment.multiples();
-        let magnitude = self.rounded_magnitude();
-        match amount.rounded_with_mode_and_increment(magnitude, mode, multiples) {
-            Ok(rounded) => Ok(rounded.padded_end(self.last_magnitude())),
-            Err(refused) => Err(refused),
+        match self.round(&mut amount) {
+            Ok(()) => Ok(amount),
+            Err(_) => Err(AllocFailed { value: amount }),
         }
     }
 

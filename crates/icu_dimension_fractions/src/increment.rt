@@ -1,9 +1,10 @@
 //! Which multiples of the last digit are paid.
 
-ghost use Rattle.std.specs.Prelude.{◌≡◌, ◌≢◌, ◌*◌, false, true};
+ghost use Rattle.std.specs.Prelude.{◌≡◌, ◌≢◌, ◌*◌, ◌<◌, false, true, IsTrue};
 ghost use Rattle.fixed_decimal.specs.Rounding.{increment_number};
 ghost use Rattle.icu_dimension_fractions.specs.Fractions.{increment_of};
 ghost use Rattle.icu_dimension_fractions.specs.RoundedDigit.{counts_tens, tens_of};
+ghost use Rattle.icu_dimension_fractions.specs.declared.increment.FractionIncrement.TheVariants.{MultiplesOf1};
 
 use fixed_decimal::RoundingIncrement;
 
@@ -27,6 +28,29 @@ pub enum FractionIncrement {
 }
 
 impl FractionIncrement {
+    // Whether each unit of the last digit is a multiple.
+    pub(crate) fn is_one(self) -> bool
+        ensures { IsTrue result → self ≡ MultiplesOf1 }
+    {
+        matches!(self, FractionIncrement::MultiplesOf1)
+    }
+
+    // How many units of the last digit it is.
+    pub(crate) fn number(self) -> u8
+        ensures value { result ≡ increment_of self }
+        ensures some { 0 < result }
+    {
+        match self {
+            FractionIncrement::MultiplesOf1 => 1,
+            FractionIncrement::MultiplesOf2 => 2,
+            FractionIncrement::MultiplesOf5 => 5,
+            FractionIncrement::MultiplesOf10 => 10,
+            FractionIncrement::MultiplesOf20 => 20,
+            FractionIncrement::MultiplesOf25 => 25,
+            FractionIncrement::MultiplesOf50 => 50,
+        }
+    }
+
     // Whether it is a multiple of ten, so that the digit before the last one is rounded.
     pub(crate) fn is_tens(self) -> bool
         ensures { result ≡ counts_tens self }

@@ -165,7 +165,7 @@ IsUnitAnswer a text (Err Unreadable) = IsLenientUnitReading a text unreadable
 IsUnitAnswer a text (Err NotWritten) = IsLenientUnitReading a text not_written
 IsUnitAnswer a text (Err Memory) = Unit {0}
 
--- memory is asked for where more than eight digits are between the affixes of a sign, or where the formatter does not write the text
+-- memory is asked for where more than sixteen digits are between the affixes of a sign, or where the formatter does not write the text
 abbrev pub MayAllocateUnit : LenientTexts → List ℕ → Type 0
 MayAllocateUnit a text = HasManyBetween a.reader text ⊎ HasNoDecimal a.reader text
 

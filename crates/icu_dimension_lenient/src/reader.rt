@@ -264,7 +264,7 @@ impl<'b> LenientUnitReader<'b> {
     /// `€1234.5`, `1,234.5 €` and `EUR 1,234.5` are 1234.5, and `$5` and `€1,23` are none.
     ///
     /// Sign, digits and visible range are those of the text. `NotWritten`: it is a text of no decimal. `Memory`: out of
-    /// memory. What the formatter writes is read in one pass, and allocates where it has more than eight digits; any
+    /// memory. What the formatter writes is read in one pass, and allocates where it has more than sixteen digits; any
     /// other text is folded, which allocates.
     #[tactic(auto, using(crate::proofs::UnitSteps::exactly_read, crate::proofs::UnitSteps::typed_read))]
     pub fn read(&self, alloc: Global, text: &str) -> Result<Decimal, ReadError>

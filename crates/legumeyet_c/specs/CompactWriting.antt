@@ -30,7 +30,7 @@ pub record IsCompactText (tables : CompactTables) (value : SignedValue Number) (
   pub can : IsShowable tables value
   pub is : text ≡ compact_decimal_text tables value
 
--- memory is wanted only for more than eight digits
+-- memory is wanted only for more than sixteen digits
 abbrev pub IsCompactFault : CompactTables → SignedValue Number → CallError → Type 0
 IsCompactFault tables value Range = ¬ (IsShowable tables value)
 IsCompactFault tables value Memory = IsLong value.absolute.count
@@ -56,7 +56,7 @@ pub record IsShownText (tables : CompactTables) (value : SignedValue Number) (te
   pub can : IsShowable tables value
   pub is : text ≡ compact_text_of (value_shown tables value)
 
--- memory is wanted only for more than eight digits, of the number or of what it is shown as
+-- memory is wanted only for more than sixteen digits, of the number or of what it is shown as
 abbrev pub IsShownFault : CompactTables → SignedValue Number → CallError → Type 0
 IsShownFault tables value Range = ¬ (IsShowable tables value)
 IsShownFault tables value Memory = IsLong value.absolute.count ⊎ IsLong (value_shown tables value).significand.absolute.count

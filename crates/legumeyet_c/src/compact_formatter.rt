@@ -12,9 +12,9 @@ use crate::compact_tables::HeldCompactTables;
 use crate::handles::{BookHandle, CompactHandle};
 use crate::opening::{Found, close, open};
 use icu_decimal::CompactDecimalFormatter;
-use icu_decimal::options::GroupingStrategy;
-use legumeyet_c_values::{CallError, Width, answer, choice_by};
-use locale_numbers::{Book, FormatterError};
+use icu_decimal::options::{CompactDecimalFormatterOptions, GroupingStrategy};
+use legumeyet_c_values::{CallError, answer, choice_by};
+use locale_numbers::{Book, FormatterError, PatternLength};
 use std::alloc::Global;
 
 // The formatter that a book has for a tag in a width.
@@ -22,21 +22,19 @@ fn formatter_in<'b>(
     alloc: Global,
     book: &'b Book,
     tag: &str,
-    width: Width,
+    width: PatternLength,
 ) -> Result<CompactDecimalFormatter<'b>, FormatterError>
     ensures value { IfOk result
         (λ formatter. compact_for_width width book.now tag.now ≡ Ok (compact_tables_of formatter)) }
     ensures fault { IfErr result
         (λ fault. (fault ≡ FormatterError.Memory) ⊎ (compact_for_width width book.now tag.now ≡ Err fault)) }
 {
-    match width {
-        Width::Short => book.short_formatter(alloc, tag),
-        Width::Long => book.long_formatter(alloc, tag),
-    }
+    let options = CompactDecimalFormatterOptions::default();
+    book.compact_formatter(alloc, tag, width, options)
 }
 
 impl Found for HeldCompactTables {
-    type Choice = (Width, GroupingStrategy);
+    type Choice = (PatternLength, GroupingStrategy);
 
     ghost found = { λ book choice tag. compact_for_width choice.0 book tag };
 
@@ -45,7 +43,7 @@ impl Found for HeldCompactTables {
     fn find(
         alloc: Global,
         book: &Book,
-        choice: (Width, GroupingStrategy),
+        choice: (PatternLength, GroupingStrategy),
         tag: &str,
     ) -> Result<HeldCompactTables, FormatterError> {
         let (width, strategy) = choice;
@@ -59,7 +57,7 @@ impl Found for HeldCompactTables {
     fn find_kept(
         alloc: Global,
         book: &'static Book,
-        choice: (Width, GroupingStrategy),
+        choice: (PatternLength, GroupingStrategy),
         tag: &str,
     ) -> Result<HeldCompactTables, FormatterError> {
         let (width, strategy) = choice;

@@ -11,7 +11,7 @@ ghost use Rattle.legumeyet_c.specs.Writing.{IsNumberWritingFault, IsScaledWritin
 
 use crate::compact_tables::HeldCompactTables;
 use crate::handles::CompactHandle;
-use crate::writing::{Form, write_after};
+use crate::writing::{WrittenForm, write_after};
 use fixed_decimal::{CompactDecimal, Decimal};
 use icu_decimal::CompactDecimalFormatter;
 use legumeyet_c_values::{
@@ -22,7 +22,7 @@ use std::alloc::{AllocError, Global};
 // The compact text of a number.
 pub(crate) struct CompactText;
 
-impl Form for CompactText {
+impl WrittenForm for CompactText {
     type Tables = HeldCompactTables;
 
     type Number = Decimal;
@@ -69,7 +69,7 @@ fn shown_by(
 // The value that this text shows.
 pub(crate) struct ShownText;
 
-impl Form for ShownText {
+impl WrittenForm for ShownText {
     type Tables = HeldCompactTables;
 
     type Number = Decimal;
@@ -98,7 +98,7 @@ impl Form for ShownText {
 // The text of a significand with an exponent.
 pub(crate) struct ExactText;
 
-impl Form for ExactText {
+impl WrittenForm for ExactText {
     type Tables = HeldCompactTables;
 
     type Number = CompactDecimal;
@@ -130,7 +130,7 @@ impl Form for ExactText {
 ///
 /// Returns 0; 2, the handle is closed; 4, an option is unknown; 7, the text is no decimal number; 8, one with a digit
 /// beyond the magnitudes -32768 to 32767; 9, what is shown reaches ten to the power 32768; 1, out of memory, which a
-/// number of eight digits at most never takes; 3, the text needs more room.
+/// number of sixteen digits at most never takes; 3, the text needs more room.
 #[unsafe(no_mangle)]
 pub extern "C" fn legumeyet_compact_formatter_format(
     alloc: Global,
@@ -177,7 +177,7 @@ pub extern "C" fn legumeyet_compact_formatter_format_i64(
 /// Writes the value that the text of a number shows: of `-1172700` in short English `-1.2c6`, which is -1.2 times ten
 /// to the power 6.
 ///
-/// Returns as `legumeyet_compact_formatter_format`; 1 also where what is shown has more than eight digits.
+/// Returns as `legumeyet_compact_formatter_format`; 1 also where what is shown has more than sixteen digits.
 #[unsafe(no_mangle)]
 pub extern "C" fn legumeyet_compact_formatter_shown(
     alloc: Global,
@@ -202,7 +202,7 @@ pub extern "C" fn legumeyet_compact_formatter_shown(
 ///
 /// Returns 0; 2, the handle is closed; 4, an option is unknown; 7, the text is no compact number, as `1.2e6`; 8, its
 /// significand has a digit beyond the magnitudes -32768 to 32767, or its exponent is above 255; 1, out of memory, which
-/// a significand of eight digits at most never takes; 9, the magnitude of both together is above 32767; 13, the
+/// a significand of sixteen digits at most never takes; 9, the magnitude of both together is above 32767; 13, the
 /// formatter has another exponent for this magnitude, as for `1.2c5`; 3, the text needs more room.
 #[unsafe(no_mangle)]
 pub extern "C" fn legumeyet_compact_formatter_format_exact(

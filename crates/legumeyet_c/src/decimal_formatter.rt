@@ -13,7 +13,7 @@ ghost use Rattle.legumeyet_c.specs.Writing.{IsNumberWritingFault, IsScaledWritin
 use crate::decimal_tables::DecimalTables;
 use crate::handles::{BookHandle, DecimalHandle};
 use crate::opening::{Found, close, open};
-use crate::writing::{Form, write_after};
+use crate::writing::{WrittenForm, write_after};
 use fixed_decimal::Decimal;
 use icu_decimal::options::GroupingStrategy;
 use legumeyet_c_values::{
@@ -56,7 +56,7 @@ impl Found for DecimalTables {
 // The text of a number.
 pub(crate) struct DecimalText;
 
-impl Form for DecimalText {
+impl WrittenForm for DecimalText {
     type Tables = DecimalTables;
 
     type Number = Decimal;
@@ -119,8 +119,8 @@ pub extern "C" fn legumeyet_decimal_formatter_close(
 /// Writes a decimal number that is given as text: `-987654.321` as `-987,654.321` in English.
 ///
 /// Returns 0; 2, the handle is closed; 4, an option is unknown; 7, the text is no decimal number; 8, one with a digit
-/// beyond the magnitudes -32768 to 32767; 1, out of memory, which a number of eight digits at most never takes; 3, the
-/// text needs more room.
+/// beyond the magnitudes -32768 to 32767; 1, out of memory, which a number of sixteen digits at most never takes; 3,
+/// the text needs more room.
 #[unsafe(no_mangle)]
 pub extern "C" fn legumeyet_decimal_formatter_format(
     alloc: Global,

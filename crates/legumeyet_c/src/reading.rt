@@ -138,8 +138,8 @@ fn read_behind<R: Reader>(
 /// `-1234.50`.
 ///
 /// Returns 0; 2, the handle is closed; 10, the text is not UTF-8; 11, two numbers may have one text under the symbols;
-/// 12, no number is written so, as `98,7654`; 1, out of memory, which a text with eight digits at most never takes; 3,
-/// the digits need more room.
+/// 12, no number is written so, as `98,7654`; 1, out of memory, which a text with sixteen digits at most never takes;
+/// 3, the digits need more room.
 #[unsafe(no_mangle)]
 pub extern "C" fn legumeyet_decimal_formatter_read(
     alloc: Global,

@@ -86,8 +86,8 @@ fn write_after(
 /// and 12.5 as `12.5%`.
 ///
 /// Returns 0; 2, the handle is closed; 4, an option is unknown; 7, the text is no decimal number; 8, one with a digit
-/// beyond the magnitudes -32768 to 32767; 1, out of memory, which a number of eight digits at most takes only where it is
-/// rounded to multiples of 25; 3, the text needs more room.
+/// beyond the magnitudes -32768 to 32767; 1, out of memory, which a number of sixteen digits at most takes only where
+/// it is rounded to multiples of 25; 3, the text needs more room.
 #[unsafe(no_mangle)]
 pub extern "C" fn legumeyet_unit_formatter_format(
     alloc: Global,

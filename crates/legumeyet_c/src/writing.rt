@@ -10,7 +10,7 @@ use legumeyet_c_values::CallError;
 use std::alloc::Global;
 
 // What is written of a number: its text, or another one. A type that holds nothing stands for it.
-pub(crate) trait Form {
+pub(crate) trait WrittenForm {
     ghost use Rattle.std.specs.Prelude.{List, ℕ};
     ghost use Rattle.legumeyet_c_values.specs.declared.CallError.{CallError};
 
@@ -38,7 +38,7 @@ pub(crate) trait Form {
 }
 
 // Writes a number, where there is one, by tables.
-fn write_value<F: Form>(
+fn write_value<F: WrittenForm>(
     tables: &F::Tables,
     number: &Result<F::Number, CallError>,
     out: &mut [u8],
@@ -55,7 +55,7 @@ fn write_value<F: Form>(
 }
 
 // Writes a number, where there is one, with what a content has.
-pub(crate) fn write_held<F: Form>(
+pub(crate) fn write_held<F: WrittenForm>(
     content: &Content,
     number: &Result<F::Number, CallError>,
     out: &mut [u8],
@@ -73,7 +73,7 @@ pub(crate) fn write_held<F: Form>(
 }
 
 // Writes a number, where there is one, with what is behind a handle, which stays as it is.
-pub(crate) fn write_after<F: Form>(
+pub(crate) fn write_after<F: WrittenForm>(
     alloc: Global,
     handle: &mut Handle,
     number: &Result<F::Number, CallError>,

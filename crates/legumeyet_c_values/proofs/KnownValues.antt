@@ -1,6 +1,7 @@
 -- Values from outside that a wrong definition of numbers does not survive: the enums of include/legumeyet.h.
-use Rattle.std.proofs.Common.{arith, ◌≡◌, ◌*◌, ◌^◌, [], ◌∷◌, Some, None, Ok, Err, refl}
+use Rattle.std.proofs.Common.{arith, ◌≡◌, ◌*◌, ◌^◌, ℕ, List, [], ◌∷◌, Some, None, Ok, Err, refl}
 use Rattle.std.specs.Prelude.{codes, pos, negsuc}
+use Rattle.std.specs.List.{concat}
 use Rattle.fixed_decimal.specs.declared.RoundingIncrement.TheVariants.{MultiplesOf1, MultiplesOf25}
 use Rattle.fixed_decimal.specs.declared.SignDisplay.TheVariants as display
 use Rattle.fixed_decimal.specs.declared.SignedRoundingMode.TheVariants.{Unsigned, HalfFloor}
@@ -10,12 +11,13 @@ use Rattle.icu_dimension_fractions.specs.declared.CurrencyUsage.TheVariants.{Cas
 use Rattle.locale_numbers_faults.specs.declared.BookError.TheVariants as book
 use Rattle.legumeyet_c_values.specs.CallErrors.{answer_of}
 use Rattle.legumeyet_c_values.specs.Choices.{PadsEndTo, PadsStartTo, choice_of, choices_of, count_of, grouping_of, increment_of, mode_of, no_change, sign_of, trimming_of}
+use Rattle.legumeyet_c_values.specs.Columns.{column_fault, ends_from, spelled, spelled_lines}
 use Rattle.legumeyet_c_values.specs.Parts.{kind_of}
 use Rattle.legumeyet_c_values.specs.Units.{amount_choices_of, unit_choices_of}
 use Rattle.legumeyet_c_values.specs.declared.call_error.CallError.TheVariants as call
 use Rattle.legumeyet_c_values.specs.declared.choices.Options.{Options}
 use Rattle.legumeyet_c_values.specs.declared.choices.TrailingZeros.TheVariants.{Keep, Trim}
-use Rattle.legumeyet_c_values.specs.declared.choices.Width.TheVariants.{Long}
+use Rattle.locale_numbers_requests.specs.declared.PatternLength.TheVariants.{Long}
 
 -- ---- what a call returns
 
@@ -175,3 +177,30 @@ padded_at_the_end = record { count = refl; high = refl; low = λ _. refl; same =
 -- a number that shows more digits keeps them
 longer_stays : PadsEndTo (negsuc 1) (record { count = 0; low = 32764; high = 32768 }) (record { count = 0; low = 32764; high = 32768 })
 longer_stays = record { count = refl; high = refl; low = λ _. refl; same = λ above. absurd (omega arith) }
+
+-- ---- columns
+
+-- of 1234.5, -7 and 0.25 in English
+column_texts : List (List ℕ)
+column_texts = codes "1,234.5" ∷ codes "-7" ∷ codes "0.25" ∷ []
+
+column_joined : concat column_texts ≡ codes "1,234.5-70.25"
+unfolding column_texts
+column_joined = refl
+
+column_ends : ends_from 0 column_texts ≡ 7 ∷ 9 ∷ 13 ∷ []
+unfolding column_texts
+column_ends = refl
+
+-- a line feed ends a line, and the last one needs none
+column_lines : spelled_lines (55 ∷ 10 ∷ 10 ∷ 56 ∷ []) ≡ spelled (55 ∷ []) ∷ spelled [] ∷ spelled (56 ∷ []) ∷ []
+column_lines = refl
+
+column_ended : spelled_lines (55 ∷ 10 ∷ []) ≡ spelled (55 ∷ []) ∷ []
+column_ended = refl
+
+column_closed : column_fault {T = ℕ} {C = ℕ} None (λ tables. Some 0) ≡ Some call.Closed
+column_closed = refl
+
+column_unknown : column_fault {T = ℕ} {C = ℕ} (Some 0) (λ tables. None) ≡ Some call.UnknownOption
+column_unknown = refl

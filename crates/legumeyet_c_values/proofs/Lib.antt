@@ -1,5 +1,7 @@
+pub mod ColumnLemmas
 pub mod DoublesLemmas
 mod KnownValues
+pub mod LineBuffersLemmas
 pub mod ListingLemmas
 pub mod NumbersLemmas
 pub mod PaddingLemmas

@@ -24,8 +24,8 @@ use Rattle.legumeyet_c_values.specs.declared.choices.Choices.{Choices}
 use Rattle.legumeyet_c_values.specs.declared.choices.Options.{Options}
 use Rattle.legumeyet_c_values.specs.declared.choices.TrailingZeros.{TrailingZeros}
 use Rattle.legumeyet_c_values.specs.declared.choices.TrailingZeros.TheVariants.{Keep, Trim}
-use Rattle.legumeyet_c_values.specs.declared.choices.Width.{Width}
-use Rattle.legumeyet_c_values.specs.declared.choices.Width.TheVariants.{Short, Long}
+use Rattle.locale_numbers_requests.specs.declared.PatternLength.{PatternLength}
+use Rattle.locale_numbers_requests.specs.declared.PatternLength.TheVariants.{Short, Long}
 
 -- the first keeps the sign as it is
 abbrev pub signs : List (Option SignDisplay)
@@ -39,7 +39,7 @@ modes = None ∷ Some (Unsigned Expand) ∷ Some (Unsigned Trunc) ∷ Some Ceil 
 abbrev pub groupings : List GroupingStrategy
 groupings = grouping.Auto ∷ grouping.Never ∷ grouping.Always ∷ grouping.Min2 ∷ []
 
-abbrev pub widths : List Width
+abbrev pub widths : List PatternLength
 widths = Short ∷ Long ∷ []
 
 abbrev pub sign_of : ℕ → Option (Option SignDisplay)
@@ -51,16 +51,16 @@ mode_of number = slice_get modes number
 abbrev pub grouping_of : ℕ → Option GroupingStrategy
 grouping_of number = slice_get groupings number
 
-abbrev pub width_of : ℕ → Option Width
+abbrev pub width_of : ℕ → Option PatternLength
 width_of number = slice_get widths number
 
 -- a width and a strategy, where each is known
-abbrev pub both_of : Option Width → Option GroupingStrategy → Option (Width × GroupingStrategy)
+abbrev pub both_of : Option PatternLength → Option GroupingStrategy → Option (PatternLength × GroupingStrategy)
 both_of None strategy = None
 both_of (Some width) None = None
 both_of (Some width) (Some strategy) = Some (width, strategy)
 
-abbrev pub choice_of : ℕ → ℕ → Option (Width × GroupingStrategy)
+abbrev pub choice_of : ℕ → ℕ → Option (PatternLength × GroupingStrategy)
 choice_of width grouping = both_of (width_of width) (grouping_of grouping)
 
 abbrev pub trimmings : List TrailingZeros

@@ -1,6 +1,8 @@
 pub mod CallErrors
 pub mod Choices
+pub mod Columns
 pub mod Information
+pub mod LineBuffers
 pub mod Numbers
 pub mod Parts
 pub mod Putting

@@ -27,7 +27,7 @@ abbrev pub Gives : Option Choices → (SignedValue Number → Type 0) → Signed
 Gives None is_given value = ⊥
 Gives (Some choices) is_given value = IsChanged choices is_given value
 
--- why a text gives no number; memory is wanted only for more than eight digits
+-- why a text gives no number; memory is wanted only for more than sixteen digits
 abbrev pub IsNumberFault : List ℕ → CallError → Type 0
 IsNumberFault text NoNumber = IsNoSignedText text
 IsNumberFault text Limit = IsBeyondSigned text
@@ -82,14 +82,14 @@ pub record ReadsSome (text : List ℕ) : Type 0 where
   pub number : SignedValue Number
   pub reads : ReadsSigned text number
 
--- such a text of a finite double spells a number of more than eight digits
+-- such a text of a finite double spells a number of more than sixteen digits
 pub record IsLongDouble (number : Float) : Type 0 where
   pub finite : IsTrue (float_is_finite number)
   pub text : List ℕ
   pub spells : SpellsDouble number text
   pub long : ReadsLongSigned text
 
--- only a double that is not finite gives no number; memory is wanted only for more than eight digits
+-- only a double that is not finite gives no number; memory is wanted only for more than sixteen digits
 abbrev pub IsDoubleFault : Float → CallError → Type 0
 IsDoubleFault number NoNumber = IsFalse (float_is_finite number)
 IsDoubleFault number Memory = IsLongDouble number
@@ -112,7 +112,7 @@ abbrev pub GivesCompact : Option Choices → List ℕ → CompactValue → Type 
 GivesCompact None text value = ⊥
 GivesCompact (Some choices) text value = IsCompactChanged choices text value
 
--- why a text gives no compact number; memory is wanted only for more than eight digits
+-- why a text gives no compact number; memory is wanted only for more than sixteen digits
 abbrev pub IsCompactNumberFault : List ℕ → CallError → Type 0
 IsCompactNumberFault text NoNumber = ¬ (IsUtf8 text) ⊎ IsNoCompactText text
 IsCompactNumberFault text Limit = IsBeyondCompact text

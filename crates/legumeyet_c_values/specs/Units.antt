@@ -1,7 +1,7 @@
 -- What the options of a call stand for where the number has a unit, and what is made of it: an amount gets the digits of its currency, where no other rounding is asked for.
 -- Defined in include/legumeyet.h, and docs/units.md, "Digits of a currency".
 -- Cited by the exports of formatters of percents and amounts.
-use Rattle.std.specs.Prelude.{◌≡◌, ◌⊎◌, ℕ, ◌==◌, Option, Some, None, if◌then◌else◌}
+use Rattle.std.specs.Prelude.{◌≡◌, ◌⊎◌, ◌==◌, Option, Some, None, if◌then◌else◌}
 use Rattle.fixed_decimal.specs.Number.{Number}
 use Rattle.fixed_decimal.specs.SignedValue.{SignedValue}
 use Rattle.icu_dimension_fractions.specs.FractionRounding.{RoundsAmount}

@@ -9,6 +9,7 @@ use fixed_decimal::{
     UnsignedRoundingMode,
 };
 use icu_decimal_symbols::options::GroupingStrategy;
+use locale_numbers_requests::PatternLength;
 
 /// What is made of a number before it is written, by numbers: `legumeyet_options`.
 #[repr(C)]
@@ -60,15 +61,6 @@ pub enum TrailingZeros {
     Trim,
 }
 
-/// Which patterns compact numbers are written in.
-#[derive(Clone, Copy, Drop)]
-pub enum Width {
-    /// `1.6K`.
-    Short,
-    /// `1.6 thousand`.
-    Long,
-}
-
 // The sign of a number.
 fn sign_by(number: u32) -> Option<Option<SignDisplay>>
     ensures { result ≡ sign_of number }
@@ -117,19 +109,19 @@ pub fn grouping_by(number: u32) -> Option<GroupingStrategy>
     }
 }
 
-// The width of a number.
-fn width_by(number: u32) -> Option<Width>
+// The length of patterns of a number.
+fn width_by(number: u32) -> Option<PatternLength>
     ensures { result ≡ width_of number }
 {
     match number {
-        0 => Some(Width::Short),
-        1 => Some(Width::Long),
+        0 => Some(PatternLength::Short),
+        1 => Some(PatternLength::Long),
         _ => None,
     }
 }
 
-/// The width and the strategy of two numbers, where both are known.
-pub fn choice_by(width: u32, grouping: u32) -> Option<(Width, GroupingStrategy)>
+/// The length of patterns and the strategy of two numbers, where both are known.
+pub fn choice_by(width: u32, grouping: u32) -> Option<(PatternLength, GroupingStrategy)>
     ensures { result ≡ choice_of width grouping }
 {
     let width = width_by(width)?;
@@ -187,8 +179,8 @@ impl Options {
             && self.reserved[1] == 0
     }
 
-    // What the numbers stand for, where each is known.
-    pub(crate) fn choices(&self) -> Option<Choices>
+    /// What the numbers stand for, where each is known: a sign of 3 is `Always`, and one of 6 gives none.
+    pub fn choices(&self) -> Option<Choices>
         ensures { result ≡ choices_of self.now }
     {
         if self.reserved[0] != 0 || self.reserved[1] != 0 {
@@ -266,9 +258,9 @@ fn sign(value: &mut Decimal, sign: Option<SignDisplay>)
 }
 
 impl Choices {
-    // The number rounded, then trimmed, then padded, and then with the sign that is chosen by what that left: 9.75 at -1
-    // to the even one, with `Always`, is `+9.8`. `Memory`: out of memory, which only multiples of 25 take.
-    pub(crate) fn changed(self, mut value: Decimal) -> Result<Decimal, CallError>
+    /// The number rounded, then trimmed, then padded, and then with the sign that is chosen by what that left: 9.75 at -1
+    /// to the even one, with `Always`, is `+9.8`. `Memory`: out of memory, which only multiples of 25 take.
+    pub fn changed(self, mut value: Decimal) -> Result<Decimal, CallError>
         ensures value { IfOk result (λ changed. Changes self value changed) }
         ensures fault { IfErr result (λ error. IsChangeRefused self value error) }
     {

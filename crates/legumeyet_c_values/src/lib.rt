@@ -14,15 +14,19 @@
 
 mod call_error;
 mod choices;
+mod columns;
 mod intervals;
+mod line_buffers;
 mod numbers;
 mod parts;
 mod putting;
 mod units;
 
 pub use call_error::{CallError, answer, error_of};
-pub use choices::{Choices, Options, TrailingZeros, Width, choice_by, grouping_by};
+pub use choices::{Choices, Options, TrailingZeros, choice_by, grouping_by};
+pub use columns::{Column, NumberWriter, write_column};
 pub use intervals::Interval;
+pub use line_buffers::{LineAnswerer, answer_lines};
 pub use numbers::{
     compact_of_text, number_of_f64, number_of_i64, number_of_text, number_of_u64, read_double,
     read_number, scaled, scaled_unsigned,

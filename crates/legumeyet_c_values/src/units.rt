@@ -41,8 +41,9 @@ impl Options {
         Some(UnitChoices { usage, choices })
     }
 
-    // What the numbers stand for where each is known: of an amount where there are digits of a currency.
-    fn unit_choices(&self, fractions: Option<FractionInfo>) -> Option<UnitChoices>
+    /// What the numbers stand for where each is known: of an amount where there are digits of a currency. A rounding of 10
+    /// is `Cash` of an amount, and gives none of a percent.
+    pub fn unit_choices(&self, fractions: Option<FractionInfo>) -> Option<UnitChoices>
         ensures { result ≡ unit_choices_of fractions self.now }
     {
         if fractions.is_some() {

@@ -15,7 +15,7 @@ use Rattle.locale_numbers_answers.specs.LenientUnitAnswer.{lenient_unit_with, ty
 use Rattle.locale_numbers_answers.specs.UnitAnswer.{MayGrowUnit, read_unit_with, unit_to}
 use Rattle.locale_numbers.specs.FoundUnit.{found_unit}
 use Rattle.locale_numbers.specs.FormatterKeys.{code_of, found_keyed_unit, keyed_unit, kind_of, unit_code}
-use Rattle.locale_numbers.specs.KeptFormatters.{IsOfUnit, answer_of_kind, found_keyed}
+use Rattle.locale_numbers.specs.LineFormatters.{IsOfUnit, answer_of_kind, found_keyed}
 use Rattle.locale_numbers.specs.Front.{FitsForm, FitsKey, HasKeyThat, MayTakeAfter, MayTakeIn, MayTakeKeyed, answer_after, answer_keyed, asked_after, if_text}
 use Rattle.locale_numbers_answers.specs.NumberReading.{reading_of}
 use Rattle.locale_numbers_requests.specs.Request.{Asked}

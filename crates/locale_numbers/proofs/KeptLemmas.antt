@@ -26,15 +26,15 @@ use Rattle.locale_numbers.specs.Answer.{answer_with, found_in, in_latin, refused
 use Rattle.locale_numbers.specs.CompactAnswer.{compact_with, found_compact}
 use Rattle.locale_numbers.specs.FormatterKeys.{finds, finds_kind, found_keyed_unit, keyed_unit, unit_code}
 use Rattle.locale_numbers.specs.FoundUnit.{found_unit}
-use Rattle.locale_numbers.specs.KeptFormatters.{HasKind, IsMadeFor, IsOfUnit, answer_of_kind, found_keyed}
+use Rattle.locale_numbers.specs.LineFormatters.{HasKind, IsMadeFor, IsOfUnit, answer_of_kind, found_keyed}
 use Rattle.locale_numbers.specs.UnitHeld.{ReadsUnit, WritesUnit, keyed_code, typed_of_both, unit_held}
 use Rattle.locale_numbers.specs.declared.formatter_key.FormatterKey.{FormatterKey}
 use Rattle.locale_numbers.specs.declared.formatter_key.KeyedUnit.{KeyedUnit}
 use Rattle.locale_numbers.specs.declared.formatter_key.Kind.{Kind}
 use Rattle.locale_numbers.specs.declared.formatter_key.Kind.TheVariants.{Plain, Compact, Lenient, Unit, LenientUnit}
-use Rattle.locale_numbers.specs.declared.kept_formatter.KeptFormatter.{KeptFormatter}
-use Rattle.locale_numbers.specs.declared.kept_formatter.KeptFormatter.TheVariants as kept
-use Rattle.locale_numbers.specs.declared.kept_formatter.PlainFormatter.{PlainFormatter}
+use Rattle.locale_numbers.specs.declared.line_formatter.LineFormatter.{LineFormatter}
+use Rattle.locale_numbers.specs.declared.line_formatter.LineFormatter.TheVariants as kept
+use Rattle.locale_numbers.specs.declared.line_formatter.PlainFormatter.{PlainFormatter}
 use Rattle.locale_numbers.specs.declared.lenient_unit_formatter.LenientUnitFormatter.{LenientUnitFormatter}
 use Rattle.locale_numbers.specs.declared.unit_formatter.UnitFormatter.{UnitFormatter}
 use Rattle.locale_numbers_requests.specs.declared.Refusal.TheVariants as refusal
@@ -130,14 +130,14 @@ module _ (book : BookTables) (key : FormatterKey) where
   none_read_unit of none rounding text = none_found_read keyed rounding text (none_by key.kind of none)
 
   -- a formatter of the key is one of numbers with a unit
-  abbrev MadeAs : KeptFormatter → Result UnitFound DataError → Type 0
+  abbrev MadeAs : LineFormatter → Result UnitFound DataError → Type 0
   MadeAs (kept.Plain plain) found = ⊥
   MadeAs (kept.Compact formatter) found = ⊥
   MadeAs (kept.Lenient reader) found = ⊥
   MadeAs (kept.Units formatter) found = WritesUnit found formatter
   MadeAs (kept.LenientUnits formatter) found = ⊥
 
-  made_by : (kind : Kind) (formatter : KeptFormatter) → IsOfUnit kind → HasKind kind key.code book key.preferences key.grouping formatter
+  made_by : (kind : Kind) (formatter : LineFormatter) → IsOfUnit kind → HasKind kind key.code book key.preferences key.grouping formatter
       → MadeAs formatter (found_keyed kind key.code book key.preferences key.grouping)
   made_by Plain formatter of made = absurd of
   made_by (Compact length) formatter of made = absurd of

@@ -10,16 +10,10 @@ use Rattle.icu_decimal.specs.Identifiers.{Identifier}
 use Rattle.icu_decimal.specs.KeptEntries.{CompactTable}
 use Rattle.icu_locale_core.specs.TagPreferences.{Preferences}
 use Rattle.locale_numbers_book.specs.Book.{BookTables}
+pub use Rattle.locale_numbers_book.specs.TagFormatters.{patterns_under}
 use Rattle.locale_numbers_book.specs.TagFormatters.{found_beside}
-use Rattle.locale_numbers_book.specs.Tables.{short_under, long_under}
 pub use Rattle.locale_numbers_answers.specs.CompactAnswer.{can_be_shown, text_and_value, compact_answer, compact_with, is_in_range, exact_written, exact_answer, exact_with}
 use Rattle.locale_numbers_requests.specs.declared.PatternLength.{PatternLength}
-use Rattle.locale_numbers_requests.specs.declared.PatternLength.TheVariants.{Short, Long}
-
--- the patterns of a length in a book
-abbrev pub patterns_under : PatternLength → BookTables → Identifier → Result CompactTable DataError
-patterns_under Short book = short_under book
-patterns_under Long book = long_under book
 
 -- the tables of a book that preferences find, with a grouping and the patterns of a length
 abbrev pub found_compact : PatternLength → BookTables → Preferences → GroupingStrategy → Result CompactTables DataError

@@ -88,9 +88,9 @@ key_if_text text key = if is_utf8 text then key else None
 abbrev pub key_after : Option Front → List ℕ → Option FormatterKey
 key_after front text = key_if_text text (key_front front text)
 
--- a text that may want memory, beside its answer and its formatter. To write a number: one that says a number of more than eight digits, and
+-- a text that may want memory, beside its answer and its formatter. To write a number: one that says a number of more than sixteen digits, and
 -- of more than the one that is there, or one whose number a rounding to multiples of 25 may lengthen. In an exact form: one that says a
--- number of more than eight digits. To be read back: one with more than eight digits of the tables. To be read leniently: this too, and one
+-- number of more than sixteen digits. To be read back: one with more than sixteen digits of the tables. To be read leniently: this too, and one
 -- that is folded. To be read back with a unit, or leniently with one: any text, since what it is read with may be put together for it.
 abbrev pub MayTakeIn : Form → BookTables → FormatterKey → RoundingAsked → List ℕ → SignedValue Number → Type 0
 MayTakeIn form.Plain book key rounding text value = ReadsMore text value ⊎ MayGrowRead rounding (reading_of text)

@@ -10,7 +10,7 @@ pub mod Fault
 pub mod Program
 -- What private steps follow.
 pub mod UnitHeld
-pub mod KeptFormatters
+pub mod LineFormatters
 pub mod Front
 pub mod LineMemory
 pub mod LineState

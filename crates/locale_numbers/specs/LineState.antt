@@ -8,14 +8,14 @@ use Rattle.locale_numbers_cache.specs.Cached.{Cached, IsLatest, IsSound}
 use Rattle.locale_numbers_cache.specs.LastRead.{AreRead, Remembered}
 use Rattle.locale_numbers.specs.FormatterKeys.{finds}
 use Rattle.locale_numbers.specs.Front.{HasKeyThat, front_of}
-use Rattle.locale_numbers.specs.KeptFormatters.{IsKeptFor}
+use Rattle.locale_numbers.specs.LineFormatters.{IsKeptFor}
 use Rattle.locale_numbers.specs.declared.formatter_key.FormatterKey.{FormatterKey}
 use Rattle.locale_numbers.specs.declared.front.Front.{Front}
-use Rattle.locale_numbers.specs.declared.kept_formatter.KeptFormatter.{KeptFormatter}
+use Rattle.locale_numbers.specs.declared.line_formatter.LineFormatter.{LineFormatter}
 
 -- each formatter is the one of its key, and what was read of each front is what it asks; where it is noted so, the formatter that was
 -- found last is that of the front that came last
-abbrev pub IsSoundState : BookTables → Cached FormatterKey KeptFormatter → Remembered (Option Front) → Bool → Type 0
+abbrev pub IsSoundState : BookTables → Cached FormatterKey LineFormatter → Remembered (Option Front) → Bool → Type 0
 IsSoundState book formatters read is_held =
     IsSound (finds book) (IsKeptFor book) formatters
     × All (AreRead front_of) read.pairs

@@ -9,16 +9,16 @@ ghost use Rattle.locale_numbers.specs.LineMemory.{MayTakeTag, TakesNone, no_numb
 ghost use Rattle.locale_numbers_requests.specs.Request.{Asked, request_of};
 ghost use Rattle.locale_numbers.specs.declared.formatter_key.FormatterKey.{FormatterKey};
 
-use crate::exact_answer::answer_exact;
+use crate::exact_line::answer_exact;
 use crate::formatter_key::keyed_unit;
 use crate::formatters::Formatters;
 use crate::front::{Front, cut_text, read_front};
-use crate::kept_formatter::MadeFormatter;
-use crate::lenient_answer::answer_lenient;
-use crate::lenient_unit_answer::answer_lenient_unit;
-use crate::number_answer::answer_number;
-use crate::read_answer::answer_read;
-use crate::unit_answer::{answer_read_unit, answer_unit};
+use crate::lenient_line::answer_lenient;
+use crate::lenient_unit_line::answer_lenient_unit;
+use crate::line_formatter::OneFormatter;
+use crate::number_line::answer_number;
+use crate::read_line::answer_read;
+use crate::unit_line::{answer_read_unit, answer_unit};
 use fixed_decimal::Decimal;
 use locale_numbers_answers::{write_refusal, write_refusal_or_shape};
 use locale_numbers_book::Book;
@@ -47,8 +47,8 @@ pub(crate) fn answer_after_front<'a, F: Formatters<'a>>(
     ensures err { OnErr result (Grows (string_bytes out.old) (string_bytes out.new)) }
 
     // Where there is room for the answer, and handing out the formatter of the front's key takes none, only a text of
-    // more than eight digits may be out of memory, to write a number only one of more than `value` had, and a rounding
-    // to multiples of 25 that may lengthen one of eight.
+    // more than sixteen digits may be out of memory, to write a number only one of more than `value` had, and a
+    // rounding to multiples of 25 that may lengthen one of sixteen.
     ensures room { HasRoom out.old (answer_after (F.book formatters.old) front.now text.now)
         → HasKeyThat (λ key. ¬ (F.may_take_memory formatters.old key)) front.now
         → ¬ (MayTakeAfter (F.book formatters.old) front.now text.now value.old)
@@ -96,7 +96,6 @@ pub(crate) fn answer_after_front<'a, F: Formatters<'a>>(
             answer_lenient(alloc, formatters, key, is_held, text, out)
         }
         Form::Unit(_) => answer_unit(
-            alloc,
             value,
             formatters,
             key,
@@ -175,7 +174,7 @@ pub fn answer(alloc: Global, book: &Book, line: &[u8]) -> Result<Vec<u8>, AllocE
     ensures text { IfOk result (λ text. text.items ≡ answer_of book.now line.now) }
 {
     let mut out = String::new(alloc);
-    let mut formatters = MadeFormatter {
+    let mut formatters = OneFormatter {
         alloc,
         tables: book,
         made: None,

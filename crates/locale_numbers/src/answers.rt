@@ -4,9 +4,9 @@ ghost use Rattle.std.specs.Prelude.{◌≡◌, ◌≤◌, ◌++◌, IfOk, OnOk, 
 ghost use Rattle.locale_numbers_lines.specs.Growth.{Grows};
 ghost use Rattle.locale_numbers.specs.Answer.{answer_of};
 
-use crate::kept::Kept;
-use crate::kept_formatter::FormatterMaker;
+use crate::cached_formatters::CachedFormatters;
 use crate::line_answerer::LineAnswerer;
+use crate::line_formatter::FormatterMaker;
 use crate::tables::Tables;
 use fixed_decimal::Decimal;
 use locale_numbers_cache::{FormatterCache, ReadKeys};
@@ -46,7 +46,7 @@ impl<'a, T: Tables> Answers<'a, T> {
         ensures book { IfOk result (λ answers. answers ≡ T.book tables.now) }
     {
         let formatters = FormatterCache::new(alloc, capacity)?;
-        let kept = Kept {
+        let kept = CachedFormatters {
             maker: FormatterMaker { alloc, tables },
             formatters,
         };

@@ -11,7 +11,7 @@ ghost use Rattle.locale_numbers.specs.UnitLaws.{FoundUnitsAreTexts, ReadUnitIsWr
 ghost use Rattle.locale_numbers_requests.specs.declared.PatternLength.TheVariants.{Short, Long};
 
 use crate::formatter_key::{FormatterKey, Kind};
-use crate::kept_formatter::{compact_formatter, plain_formatter};
+use crate::line_formatter::{compact_formatter, plain_formatter};
 use crate::tables::Tables;
 use icu_decimal::laws::compact::{
     held_entries_are_sound, shown_forms_are_answered, shown_values_are_compact,

@@ -4,10 +4,10 @@ ghost use Rattle.std.specs.Prelude.{◌≡◌, false, MatchOption, None, codes, 
 ghost use Rattle.icu_decimal.specs.HeldTables.{tables_of};
 ghost use Rattle.locale_numbers_answers.specs.LenientAnswer.{second_of, where_found};
 ghost use Rattle.locale_numbers.specs.Answer.{found_in, in_latin};
-ghost use Rattle.locale_numbers.specs.KeptFormatters.{ReadsInTurn};
+ghost use Rattle.locale_numbers.specs.LineFormatters.{ReadsInTurn};
 
 use crate::formatter_key::FormatterKey;
-use crate::kept_formatter::plain_formatter;
+use crate::line_formatter::plain_formatter;
 use crate::tables::Tables;
 use icu_decimal::{DecimalFormatter, DecimalFormatterPreferences};
 use icu_locale_core::preferences::extensions::unicode::keywords::NumberingSystem;

@@ -15,29 +15,29 @@
 
 mod answering;
 mod answers;
-mod exact_answer;
+mod cached_formatters;
+mod exact_line;
 mod fault;
 mod formatter_key;
 mod formatters;
 mod front;
 mod held;
-mod kept;
-mod kept_formatter;
 pub mod laws;
-mod lenient_answer;
+mod lenient_line;
 mod lenient_reader;
-mod lenient_unit_answer;
 mod lenient_unit_formatter;
+mod lenient_unit_line;
 mod line_answerer;
-mod number_answer;
+mod line_formatter;
+mod number_line;
 pub mod prelude;
 mod program_run;
-mod read_answer;
+mod read_line;
 mod running;
 mod starting;
 mod tables;
-mod unit_answer;
 mod unit_formatter;
+mod unit_line;
 mod words;
 
 pub use answering::answer;

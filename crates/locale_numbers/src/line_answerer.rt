@@ -12,9 +12,9 @@ ghost use Rattle.locale_numbers.specs.LineMemory.{IsRemembered, TakesNone, front
 ghost use Rattle.locale_numbers.specs.LineState.{IsSoundState};
 
 use crate::answering::answer_after_front;
+use crate::cached_formatters::CachedFormatters;
 use crate::formatter_key::FormatterKey;
 use crate::front::{Front, FrontReader, cut_text};
-use crate::kept::Kept;
 use crate::tables::Tables;
 use fixed_decimal::Decimal;
 use locale_numbers_cache::ReadKeys;
@@ -27,7 +27,7 @@ pub(crate) struct LineAnswerer<'a, T: Tables> {
     /// Where lines allocate.
     pub alloc: Global,
     /// The formatters.
-    pub kept: Kept<'a, T>,
+    pub kept: CachedFormatters<'a, T>,
     /// The fronts of lines that were read, and what each asks.
     pub read: ReadKeys<Option<Front>>,
     /// Whether the formatter that was found last is that of the front that came last.

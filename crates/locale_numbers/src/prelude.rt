@@ -3,6 +3,9 @@
 
 pub use fixed_decimal::{Decimal, Sign};
 pub use icu_decimal::error::{ReadError, WriteFault};
+pub use icu_decimal::options::{
+    CompactDecimalFormatterOptions, DecimalFormatterOptions, GroupingStrategy,
+};
 pub use icu_decimal::{
     AbstractFormatter, CompactDecimalFormatter, DecimalFormatter, LenientTables, read_lenient,
     read_plain,
@@ -14,5 +17,6 @@ pub use icu_dimension::{
 };
 pub use icu_locale_core::Locale;
 pub use locale_numbers_book::{Book, BookError, FormatterError, SAMPLE_BOOK, SAMPLE_UNITS_BOOK};
+pub use locale_numbers_requests::PatternLength;
 pub use locale_numbers_world::{WORLD_LOCALES, world_tags, world_text};
 pub use writeable::{Affixed, Part, PartsSink, Sink, TextSink, Writeable};

@@ -6,10 +6,10 @@ ghost use Rattle.locale_numbers_lines.specs.Run.{WritesAll, WritesTold, WritesPa
 ghost use Rattle.locale_numbers.specs.Answer.{answer_of};
 ghost use Rattle.locale_numbers.specs.FormatterKeys.{makes};
 
+use crate::cached_formatters::CachedFormatters;
 use crate::formatter_key::FormatterKey;
-use crate::kept::Kept;
-use crate::kept_formatter::FormatterMaker;
 use crate::line_answerer::LineAnswerer;
+use crate::line_formatter::FormatterMaker;
 use crate::tables::Tables;
 use fixed_decimal::Decimal;
 use locale_numbers_cache::laws::equal_keys_are_one;
@@ -85,7 +85,7 @@ pub fn run<T: Tables, R: ByteReader, W: ByteWriter>(
 {
     equal_keys_are_one::<FormatterKey>();
     let formatters = FormatterCache::new(alloc, capacity)?;
-    let kept = Kept {
+    let kept = CachedFormatters {
         maker: FormatterMaker { alloc, tables },
         formatters,
     };

@@ -7,6 +7,7 @@ ghost use Rattle.icu_dimension.specs.HeldUnits.{settings_of};
 ghost use Rattle.icu_dimension.specs.LenientUnits.{is_leniently_unit_readable_by, lenient_texts};
 ghost use Rattle.icu_dimension.specs.UnitReading.{AreReaderTexts, reader_texts};
 ghost use Rattle.locale_numbers_book.specs.TagFormatters.{currency_found_in, percent_found_in};
+ghost use Rattle.locale_numbers_answers.specs.KnownTexts.{KnowsTexts};
 ghost use Rattle.locale_numbers.specs.FormatterKeys.{found_keyed_unit};
 ghost use Rattle.locale_numbers.specs.FoundUnit.{found_amounts, found_unit, options_of};
 ghost use Rattle.locale_numbers.specs.declared.formatter_key.KeyedUnit.{KeyedUnit};
@@ -44,8 +45,25 @@ pub(crate) struct UnitFormatter<'a> {
     pub reader: Option<KnownReader<'a>>,
 }
 
+impl<'a> UnitFormatter<'a> {
+    // What it writes with, and what reads that, where it is kept. It does not allocate.
+    pub(crate) fn parts(&self) -> UnitParts<'_>
+        requires { KnowsReader self.now.numbers self.now.reader }
+        ensures settings { settings_of result.tables ≡ (unit_held self.now.numbers).settings }
+        ensures digits { result.digits ≡ (unit_held self.now.numbers).digits }
+        ensures reader { KnowsTexts result }
+    {
+        let parts = self.numbers.parts();
+        UnitParts {
+            tables: parts.tables,
+            digits: parts.digits,
+            reader: self.reader.as_ref(),
+        }
+    }
+}
+
 impl<'a> UnitNumbers<'a> {
-    // What it writes with. It does not allocate.
+    // What it writes with, without a reader. It does not allocate.
     pub(crate) fn parts(&self) -> UnitParts<'_>
         ensures settings { settings_of result.tables ≡ (unit_held self.now).settings }
         ensures digits { result.digits ≡ (unit_held self.now).digits }
@@ -54,10 +72,12 @@ impl<'a> UnitNumbers<'a> {
             UnitNumbers::Percents(percents) => UnitParts {
                 tables: percents.tables(),
                 digits: None,
+                reader: None,
             },
             UnitNumbers::Amounts(amounts) => UnitParts {
                 tables: amounts.tables(),
                 digits: Some(amounts.fractions()),
+                reader: None,
             },
         }
     }

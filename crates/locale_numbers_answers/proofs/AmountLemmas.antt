@@ -1,11 +1,13 @@
 -- The amount that the function answers is the one that the relation of `icu_dimension_fractions` names: `specs/AmountRounding.antt`.
-use Rattle.std.proofs.Common.{◌≡◌, ℕ, ◌+◌, ◌*◌, ◌^◌, ◌<◌, ◌≤◌, inl, inr, refl, sym, ap, ◌∙◌, subst, arith}
+use Rattle.std.proofs.Common.{◌≡◌, ◌↔◌, Bool, true, false, IsTrue, ℕ, ◌+◌, ◌*◌, ◌^◌, ◌<◌, ◌≤◌, inl, inr, refl, sym, ap, ◌∙◌, subst, arith}
 use Rattle.std.proofs.Math.Nat.{one-le-pow}
 use Rattle.fixed_decimal.specs.Number.{Number}
 use Rattle.fixed_decimal.specs.Rounding.{IsLimited, Takes, count_limit}
+use Rattle.fixed_decimal.specs.SignedEquality.{are_equal_decimals}
 use Rattle.fixed_decimal.specs.SignedValue.{SignedValue}
 use Rattle.fixed_decimal.specs.declared.UnsignedRoundingMode.TheVariants.{HalfEven}
 use Rattle.fixed_decimal.proofs.RunOnceLemmas.{rounded_once}
+use Rattle.fixed_decimal.proofs.SignedEqualityLemmas.{decimals_decide}
 use Rattle.fixed_decimal.proofs.TenLemmas.{tens_apart}
 use Rattle.icu_dimension_fractions.specs.FractionRounding.{RoundsAmount, RoundsToFraction}
 use Rattle.icu_dimension_fractions.specs.Fractions.{increment_of, last_place, step}
@@ -76,6 +78,15 @@ amount_is f old new rounds =
     let sign = rounds.sign in
     let size = size_once f old.absolute new.absolute (amount_size f old.absolute) rounds.size (size_right f old.absolute) in
     λ i. record { sign = sign i; absolute = size i }
+
+-- a test that tells whether an amount is its own rounding tells it by the function
+pub own_decides : (f : Fraction) (value : SignedValue Number) (own : Bool) → (IsTrue own ↔ RoundsAmount f value value) → own ≡ are_equal_decimals (amount_rounded f value) value
+own_decides f value true tells = sym ((decimals_decide (amount_rounded f value) value).1 (sym (amount_is f value value (tells.0 refl))))
+own_decides f value false tells = at (are_equal_decimals (amount_rounded f value) value) refl
+  where
+    at : (same : Bool) → are_equal_decimals (amount_rounded f value) value ≡ same → false ≡ same
+    at false is = refl
+    at true is = tells.1 (subst (λ n. RoundsAmount f value n) ((decimals_decide (amount_rounded f value) value).0 is) (amount_right f value))
 
 pub one_amount : HasOneAmount
 one_amount f old new =

@@ -5,6 +5,7 @@ pub mod CompactReadingLemmas
 pub mod ExponentLemmas
 pub mod KnownCompactAnswers
 mod KnownValues
+pub mod JoinedUnitLemmas
 pub mod LawsLemmas
 pub mod LenientLemmas
 pub mod LenientUnitLemmas

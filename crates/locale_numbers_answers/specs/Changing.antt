@@ -43,6 +43,6 @@ MayGrowRead rounding (number value) = MayGrow rounding value
 MayGrowRead rounding beyond = ⊥
 MayGrowRead rounding nothing = ⊥
 
--- a text spells a number of more than eight digits, and of more than the number that is there: only then more memory is wanted to read it in its place
+-- a text spells a number of more than sixteen digits, and of more than the number that is there: only then more memory is wanted to read it in its place
 abbrev pub ReadsMore : List ℕ → SignedValue Number → Type 0
 ReadsMore text value = ReadsLongSigned text × ReadsLongerSigned text value.absolute.count

@@ -16,6 +16,8 @@ pub mod UnitReadings
 -- What private steps follow.
 pub mod AnswerSink
 pub mod AnswerSinkLaws
+pub mod JoinedUnit
 pub mod TypedHeld
+pub mod KnownTexts
 -- Statements of laws.
 pub mod Laws

@@ -20,7 +20,7 @@ abbrev pub read_with : Result Tables DataError → List ℕ → List ℕ
 read_with (Err error) text = refused refusal.Table
 read_with (Ok tables) text = read_answer (plain_reading tables text)
 
--- more than eight digits of these tables are in the text
+-- more than sixteen digits of these tables are in the text
 abbrev pub HasManyDigitsWith : Result Tables DataError → List ℕ → Type 0
 HasManyDigitsWith (Err error) text = ⊥
 HasManyDigitsWith (Ok tables) text = HasManyDigits tables text

@@ -16,14 +16,14 @@ use std::alloc::{AllocError, Global};
 
 /// The compact number that a text says: of `-1.20c6` -1.20 and 6.
 ///
-/// `Syntax`: it says none. `Limit`: it says one beyond the limits. `Memory`: out of memory, only for more than eight
+/// `Syntax`: it says none. `Limit`: it says one beyond the limits. `Memory`: out of memory, only for more than sixteen
 /// digits.
 pub fn read_compact(alloc: Global, text: &str) -> Result<CompactDecimal, ParseError>
     ensures value { IfOk result (λ value. compact_reading_of text.now ≡ compact_number value) }
     ensures limit { IsErrOf result ParseError.Limit → compact_reading_of text.now ≡ compact_beyond }
     ensures syntax { IsErrOf result ParseError.Syntax → compact_reading_of text.now ≡ compact_nothing }
 
-    // A text that says no number of more than eight digits is never told as out of memory.
+    // A text that says no number of more than sixteen digits is never told as out of memory.
     ensures memory { IsErrOf result ParseError.Memory → ReadsLongCompact text.now }
 {
     CompactDecimal::try_from_str(alloc, text)

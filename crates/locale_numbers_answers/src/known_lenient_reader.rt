@@ -90,7 +90,7 @@ impl<'a> KnownLenientReader<'a> {
     /// The number that was typed: of English, `€` and `EUR` 1.5 of `€1.5`, `1.5` and `1.5 EUR`.
     ///
     /// `Unreadable`: texts can't be read, or not leniently and no number is written so. `NotWritten`: it is a text of no
-    /// number. `Memory`: out of memory. It allocates where the text has more than eight digits, or is folded.
+    /// number. `Memory`: out of memory. It allocates where the text has more than sixteen digits, or is folded.
     pub fn read(&self, alloc: Global, text: &str) -> Result<Decimal, ReadError>
         ensures { IsAnswered result (lenient_unit_reading self.now text.now) }
     {

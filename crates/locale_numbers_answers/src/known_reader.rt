@@ -2,13 +2,16 @@
 
 ghost use Rattle.std.specs.Prelude.{◌≡◌};
 ghost use Rattle.icu_decimal.specs.PlainReading.{IsAnswered};
+ghost use Rattle.icu_dimension_affixes.specs.HeldReaders.{pair_of};
+ghost use Rattle.icu_dimension_affixes.specs.UnitReading.{pair_for};
 ghost use Rattle.locale_numbers_answers.specs.UnitReadings.{unit_reading};
 
-use fixed_decimal::Decimal;
+use fixed_decimal::{Decimal, Sign};
 use icu_decimal::error::ReadError;
 use icu_decimal::laws::reading::{both_trips as plain_trips, plain_reading_is_the_reading};
 use icu_dimension_affixes::UnitReader;
 use icu_dimension_affixes::laws::both_trips as unit_trips;
+use icu_dimension_affixes::steps::SignAffixes;
 use std::alloc::Global;
 use std::marker::Model;
 
@@ -42,9 +45,16 @@ impl<'a> KnownReader<'a> {
         }
     }
 
+    // The affixes of a sign, with the unit in its place.
+    pub(crate) fn affixes(&self, sign: Sign) -> &SignAffixes
+        ensures { pair_of result.now ≡ pair_for self.now.pairs sign }
+    {
+        self.reader.affixes(sign)
+    }
+
     /// The number whose text with the unit this is: of English and `€` 1.50 of `€1.50`.
     ///
-    /// `Unreadable`, `NotWritten`: as `UnitReader::read`. `Memory`: out of memory. It allocates where more than eight
+    /// `Unreadable`, `NotWritten`: as `UnitReader::read`. `Memory`: out of memory. It allocates where more than sixteen
     /// digits are between the affixes of a sign.
     pub fn read(&self, alloc: Global, text: &str) -> Result<Decimal, ReadError>
         ensures { IsAnswered result (unit_reading self.now text.now) }

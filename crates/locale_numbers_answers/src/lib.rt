@@ -20,6 +20,7 @@ mod answer_sink;
 mod changing;
 mod compact_answer;
 mod exact_answer;
+mod joined_unit;
 mod known_lenient_reader;
 mod known_reader;
 pub mod laws;

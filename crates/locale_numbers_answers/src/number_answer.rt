@@ -25,8 +25,8 @@ pub fn read_number(value: &mut Decimal, text: &[u8]) -> Result<(), ParseError>
     ensures limit_text { IsErrOf result ParseError.Limit → is_utf8 text.now ≡ true }
     ensures syntax { IsErrOf result ParseError.Syntax → reading_of text.now ≡ nothing }
 
-    // Only a text that says a number of more than eight digits, and of more than the one that is there, is told as out
-    // of memory.
+    // Only a text that says a number of more than sixteen digits, and of more than the one that is there, is told as
+    // out of memory.
     ensures memory { IsErrOf result ParseError.Memory → ReadsMore text.now value.old }
 {
     value.assign_from_utf8(text)

@@ -63,7 +63,7 @@ pub fn write_read_answer(
         ≡ string_bytes out.old ++ read_answer (plain_reading (tables_of formatter.now) text.now)) }
     ensures err { OnErr result (Grows (string_bytes out.old) (string_bytes out.new)) }
 
-    // Where there is room for the answer, only a text of more than eight digits may be out of memory.
+    // Where there is room for the answer, only a text of more than sixteen digits may be out of memory.
     ensures room { HasRoom out.old (read_answer (plain_reading (tables_of formatter.now) text.now))
         → ¬ (HasManyDigits (tables_of formatter.now) text.now) → IsOk result }
 {

@@ -3,6 +3,7 @@
 ghost use Rattle.std.specs.Prelude.{◌≡◌};
 ghost use Rattle.locale_numbers_answers.specs.UnitAnswer.{fraction_asked};
 
+use crate::known_reader::KnownReader;
 use icu_dimension_affixes::UnitTables;
 use icu_dimension_fractions::{Fraction, FractionInfo};
 use locale_numbers_requests::RoundingAsked;
@@ -15,6 +16,8 @@ pub struct UnitParts<'l> {
     pub tables: UnitTables<'l>,
     /// The digits of the currency: two of euros. Percents have none.
     pub digits: Option<FractionInfo>,
+    /// A reader of what the tables write, where there is one: its affixes were put together once.
+    pub reader: Option<&'l KnownReader<'l>>,
 }
 
 // The digits that an amount is rounded to, where no other rounding is asked for.

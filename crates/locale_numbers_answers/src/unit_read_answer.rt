@@ -25,10 +25,10 @@ fn write_own_amount(value: &Decimal, fraction: Fraction, out: &mut String) -> Re
         ≡ string_bytes out.old ++ read_answer (own_reading (Some fraction) (decimal value.now))) }
     ensures err { OnErr result (Grows (string_bytes out.old) (string_bytes out.new)) }
 {
-    match is_rounded(value, fraction) {
-        Ok(true) => write_number_read(value, out),
-        Ok(false) => write_refusal(out, Refusal::NotWritten),
-        Err(refused) => Err(refused),
+    if is_rounded(value, fraction) {
+        write_number_read(value, out)
+    } else {
+        write_refusal(out, Refusal::NotWritten)
     }
 }
 
@@ -52,9 +52,9 @@ fn write_own(
 /// printed with its sign and the digits shown, or the word `unreadable` or `not-written`.
 ///
 /// An amount is read only where it is its own rounding: of euros `€1.50` is answered by `ok`, a tab and `1.50`, and
-/// `€1.5` by `not-written`. `digits` are those of the currency; percents have none. It allocates where more than eight
-/// digits are in the text, or a rounding to multiples of 25 does. `AllocError`: out of memory; a part of the answer may
-/// then be there.
+/// `€1.5` by `not-written`. `digits` are those of the currency; percents have none. Where there is room, it allocates
+/// only where more than sixteen digits are in the text. `AllocError`: out of memory; a part of the answer may then be
+/// there.
 pub fn write_unit_read_answer(
     alloc: Global,
     reader: &KnownReader<'_>,

@@ -10,7 +10,6 @@ pub mod KnownFaults
 pub mod KnownBooks
 pub mod KnownPairs
 pub mod WantedLemmas
-pub mod FormatterLemmas
 pub mod UnitLemmas
 pub mod SampleLemmas
 pub mod SampleUnitsLemmas

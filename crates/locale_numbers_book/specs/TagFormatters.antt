@@ -1,7 +1,7 @@
 -- The tables that a book has for preferences, and the formatters that it has for a tag: those of the tables that are found for what
--- the tag prefers, with default options.
+-- the tag prefers, with options or the default ones.
 -- Defined in docs/books.md, "Choosing tables", "Choosing units" and "Formatters of a tag".
--- Cited by the five makers of formatters of `Book`, and by the answer to a line.
+-- Cited by the seven makers of formatters of `Book`, and by the answer to a line.
 -- It finds tables of each kind and names each error, so it imports them all.
 use Rattle.std.specs.Prelude.{ℕ, Option, Some, None, Result, Ok, Err, if◌then◌else◌}
 use Rattle.icu_decimal.specs.CompactTables.{CompactTables}
@@ -25,6 +25,7 @@ use Rattle.locale_numbers_book.specs.Tables.{accounts_under, chain_in, currencie
 use Rattle.locale_numbers_book.specs.Wanted.{wanted_of}
 use Rattle.locale_numbers_book.specs.declared.formatter_error.FormatterError.{FormatterError}
 use Rattle.locale_numbers_book.specs.declared.formatter_error.FormatterError.TheVariants.{Tag, Table, Memory, Code}
+use Rattle.locale_numbers_requests.specs.declared.PatternLength.{PatternLength}
 
 -- ---- for preferences
 
@@ -32,7 +33,12 @@ use Rattle.locale_numbers_book.specs.declared.formatter_error.FormatterError.The
 abbrev pub found_plain : BookTables → Preferences → Option GroupingStrategy → Result Tables DataError
 found_plain book preferences grouping = found_tables (chain_in book) (symbols_under book) (digits_under book) preferences grouping
 
--- those of compact numbers, with these patterns
+-- the patterns of a length in a book
+abbrev pub patterns_under : PatternLength → BookTables → Identifier → Result CompactTable DataError
+patterns_under PatternLength.Short book = short_under book
+patterns_under PatternLength.Long book = long_under book
+
+-- the tables of compact numbers, with these patterns
 abbrev pub found_beside : (Identifier → Result CompactTable DataError) → BookTables → Preferences → Option GroupingStrategy → Result CompactTables DataError
 found_beside patterns book preferences grouping =
     found_compact_tables (chain_in book) (symbols_under book) (digits_under book) (rules_under book) patterns preferences grouping
@@ -81,20 +87,23 @@ abbrev pub found_by : {T : Type 0} → (Preferences → Result T DataError) → 
 found_by find None = Err Tag
 found_by find (Some preferences) = or_no_table (find preferences)
 
--- plain numbers: no grouping is named
-abbrev pub plain_for : BookTables → Text → Result Tables FormatterError
-plain_for book tag = found_by (λ preferences. found_plain book preferences None) (wanted_of tag)
+-- plain numbers, with a grouping or none that is named
+abbrev pub plain_grouped : BookTables → Text → Option GroupingStrategy → Result Tables FormatterError
+plain_grouped book tag grouping = found_by (λ preferences. found_plain book preferences grouping) (wanted_of tag)
 
--- compact numbers: two digits before the last separator at least
-abbrev pub compact_for : (Identifier → Result CompactTable DataError) → BookTables → Text → Result CompactTables FormatterError
-compact_for patterns book tag =
-    found_by (λ preferences. found_beside patterns book preferences (Some GroupingStrategy.Min2)) (wanted_of tag)
+abbrev pub plain_for : BookTables → Text → Result Tables FormatterError
+plain_for book tag = plain_grouped book tag None
+
+-- compact numbers, with the patterns of a length; by default two digits are before the last separator at least
+abbrev pub compact_grouped : PatternLength → BookTables → Text → Option GroupingStrategy → Result CompactTables FormatterError
+compact_grouped length book tag grouping =
+    found_by (λ preferences. found_beside (patterns_under length book) book preferences grouping) (wanted_of tag)
 
 abbrev pub short_for : BookTables → Text → Result CompactTables FormatterError
-short_for book tag = compact_for (short_under book) book tag
+short_for book tag = compact_grouped PatternLength.Short book tag (Some GroupingStrategy.Min2)
 
 abbrev pub long_for : BookTables → Text → Result CompactTables FormatterError
-long_for book tag = compact_for (long_under book) book tag
+long_for book tag = compact_grouped PatternLength.Long book tag (Some GroupingStrategy.Min2)
 
 -- percents
 abbrev pub percent_for : BookTables → Text → PercentFormatterOptions → Result UnitSettings FormatterError

@@ -7,7 +7,7 @@ ghost use Rattle.icu_decimal.specs.HeldTables.{tables_of};
 ghost use Rattle.icu_locale_core.specs.Pieces.{pieces};
 ghost use Rattle.icu_locale_core.specs.SingleVariant.{SingleMeaning, MeansSingle};
 ghost use Rattle.icu_locale_core.specs.TagAllocation.{tag_may_grow};
-ghost use Rattle.locale_numbers_book.specs.TagFormatters.{compact_for, found_beside, plain_for, short_for, long_for};
+ghost use Rattle.locale_numbers_book.specs.TagFormatters.{compact_grouped, found_beside, long_for, patterns_under, plain_for, plain_grouped, short_for};
 ghost use Rattle.locale_numbers_book.specs.Wanted.{wanted_of};
 ghost use Rattle.locale_numbers_book.specs.declared.formatter_error.FormatterError.{FormatterError};
 
@@ -18,6 +18,7 @@ use icu_decimal::options::{CompactDecimalFormatterOptions, DecimalFormatterOptio
 use icu_decimal::preferences::CompactDecimalFormatterPreferences;
 use icu_decimal::provider::DataError;
 use icu_decimal::{CompactDecimalFormatter, DecimalFormatter, DecimalFormatterPreferences};
+use locale_numbers_requests::PatternLength;
 use std::alloc::Global;
 
 // What a tag prefers.
@@ -38,89 +39,92 @@ pub(crate) fn preferences_of_tag(
     }
 }
 
-// The patterns of compact numbers, short or long, and what makes the formatter that takes them.
-pub trait Length {
-    ghost use Rattle.std.specs.Prelude.{Result};
-    ghost use Rattle.icu_decimal.specs.Identifiers.{Identifier};
-    ghost use Rattle.icu_decimal.specs.KeptEntries.{CompactTable};
-    ghost use Rattle.icu_decimal.specs.declared.error.DataError.{DataError};
-    ghost use Rattle.locale_numbers_book.specs.Book.{BookTables};
-
-    // Those of a book under an identifier.
-    ghost patterns: { BookTables → Identifier → Result CompactTable DataError };
-
-    fn formatter(
-        book: &Book,
-        preferences: CompactDecimalFormatterPreferences,
-        options: CompactDecimalFormatterOptions,
-    ) -> Result<CompactDecimalFormatter<'_>, DataError>
-        ensures { result_map_both compact_tables_of (λ error. error) result
-            ≡ found_beside (patterns book.now) book.now preferences options.grouping_strategy };
-}
-
-pub struct Short;
-
-impl Length for Short {
-    ghost use Rattle.locale_numbers_book.specs.Tables.{short_under};
-
-    ghost patterns = { short_under };
-
-    fn formatter(
-        book: &Book,
-        preferences: CompactDecimalFormatterPreferences,
-        options: CompactDecimalFormatterOptions,
-    ) -> Result<CompactDecimalFormatter<'_>, DataError> {
-        CompactDecimalFormatter::try_new_short_unstable(book, preferences, options)
-    }
-}
-
-pub struct Long;
-
-impl Length for Long {
-    ghost use Rattle.locale_numbers_book.specs.Tables.{long_under};
-
-    ghost patterns = { long_under };
-
-    fn formatter(
-        book: &Book,
-        preferences: CompactDecimalFormatterPreferences,
-        options: CompactDecimalFormatterOptions,
-    ) -> Result<CompactDecimalFormatter<'_>, DataError> {
-        CompactDecimalFormatter::try_new_long_unstable(book, preferences, options)
-    }
-}
-
-// The formatter of compact numbers for a tag, with default options and these patterns.
-fn compact_formatter<'b, L: Length>(
-    book: &'b Book,
-    alloc: Global,
-    tag: &str,
-) -> Result<CompactDecimalFormatter<'b>, FormatterError>
-    ensures value { IfOk result
-        (λ formatter. compact_for (L.patterns book.now) book.now tag.now ≡ Ok (compact_tables_of formatter)) }
-    ensures fault { IfErr result
-        (λ fault. (fault ≡ FormatterError.Memory) ⊎ (compact_for (L.patterns book.now) book.now tag.now ≡ Err fault)) }
-    ensures room { tag_may_grow (pieces tag.now) ≡ false → ¬ (IsErrOf result FormatterError.Memory) }
-    ensures single { (m : SingleMeaning) → MeansSingle (pieces tag.now) m → ¬ (IsErrOf result FormatterError.Memory) }
+// The formatter of compact numbers for preferences, with the patterns of a length.
+fn compact_in(
+    book: &Book,
+    length: PatternLength,
+    preferences: CompactDecimalFormatterPreferences,
+    options: CompactDecimalFormatterOptions,
+) -> Result<CompactDecimalFormatter<'_>, DataError>
+    ensures { result_map_both compact_tables_of (λ error. error) result
+        ≡ found_beside (patterns_under length book.now) book.now preferences options.grouping_strategy }
 {
-    let preferences = preferences_of_tag(alloc, tag)?;
-    let options = CompactDecimalFormatterOptions::default();
-    match L::formatter(book, preferences, options) {
-        Ok(formatter) => Ok(formatter),
-        Err(_) => Err(FormatterError::Table),
+    match length {
+        PatternLength::Short => {
+            CompactDecimalFormatter::try_new_short_unstable(book, preferences, options)
+        }
+        PatternLength::Long => {
+            CompactDecimalFormatter::try_new_long_unstable(book, preferences, options)
+        }
     }
 }
 
 impl Book {
-    /// The formatter of plain numbers for a tag, with default options: of `SAMPLE_BOOK` that of `en` writes -1234.5 as
-    /// `-1,234.5`.
+    /// The formatter of plain numbers for a tag, with these options: of `SAMPLE_BOOK` that of `en` and
+    /// `GroupingStrategy::Never` writes -1234.5 as `-1234.5`.
     ///
-    /// Its tables are those that `answer` finds for the tag with the grouping `auto`, and are borrowed from the book.
+    /// Its tables are those that `answer` finds for the tag with the grouping of the options, and are borrowed from the
+    /// book.
     ///
     /// - Tag: the text is no locale tag, as `e`.
     /// - Table: the book has no symbols or no digits for it, as `SAMPLE_BOOK` for `fr`.
     /// - Memory: out of memory. A tag of at most one variant and one keyword does not allocate, nor does one of language, script
     ///   and region only.
+    pub fn plain_formatter(
+        &self,
+        alloc: Global,
+        tag: &str,
+        options: DecimalFormatterOptions,
+    ) -> Result<DecimalFormatter<'_>, FormatterError>
+        ensures value { IfOk result
+            (λ formatter. plain_grouped self.now tag.now options.grouping_strategy ≡ Ok (tables_of formatter)) }
+        ensures fault { IfErr result
+            (λ fault. (fault ≡ FormatterError.Memory)
+            ⊎ (plain_grouped self.now tag.now options.grouping_strategy ≡ Err fault)) }
+        ensures room { tag_may_grow (pieces tag.now) ≡ false → ¬ (IsErrOf result FormatterError.Memory) }
+        ensures single { (m : SingleMeaning) → MeansSingle (pieces tag.now) m
+            → ¬ (IsErrOf result FormatterError.Memory) }
+    {
+        let preferences = preferences_of_tag(alloc, tag)?;
+        match DecimalFormatter::try_new_unstable(self, preferences, options) {
+            Ok(formatter) => Ok(formatter),
+            Err(_) => Err(FormatterError::Table),
+        }
+    }
+
+    /// The formatter of compact numbers for a tag, with the patterns of a length and these options: of `SAMPLE_BOOK`
+    /// that of `en` and `PatternLength::Short` writes 1650 as `1.6K`.
+    ///
+    /// It borrows its tables from the book. Errors as [`Book::plain_formatter`], `Table` also where the book has no
+    /// plural rules or no patterns of the length for the tag.
+    pub fn compact_formatter(
+        &self,
+        alloc: Global,
+        tag: &str,
+        length: PatternLength,
+        options: CompactDecimalFormatterOptions,
+    ) -> Result<CompactDecimalFormatter<'_>, FormatterError>
+        ensures value { IfOk result
+            (λ formatter. compact_grouped length self.now tag.now options.grouping_strategy
+            ≡ Ok (compact_tables_of formatter)) }
+        ensures fault { IfErr result
+            (λ fault. (fault ≡ FormatterError.Memory)
+            ⊎ (compact_grouped length self.now tag.now options.grouping_strategy ≡ Err fault)) }
+        ensures room { tag_may_grow (pieces tag.now) ≡ false → ¬ (IsErrOf result FormatterError.Memory) }
+        ensures single { (m : SingleMeaning) → MeansSingle (pieces tag.now) m
+            → ¬ (IsErrOf result FormatterError.Memory) }
+    {
+        let preferences = preferences_of_tag(alloc, tag)?;
+        match compact_in(self, length, preferences, options) {
+            Ok(formatter) => Ok(formatter),
+            Err(_) => Err(FormatterError::Table),
+        }
+    }
+
+    /// The formatter of plain numbers for a tag, with default options: of `SAMPLE_BOOK` that of `en` writes -1234.5 as
+    /// `-1,234.5`.
+    ///
+    /// It is that of [`Book::plain_formatter`] with the grouping `auto`. Errors as there.
     pub fn formatter(
         &self,
         alloc: Global,
@@ -133,19 +137,13 @@ impl Book {
         ensures single { (m : SingleMeaning) → MeansSingle (pieces tag.now) m
             → ¬ (IsErrOf result FormatterError.Memory) }
     {
-        let preferences = preferences_of_tag(alloc, tag)?;
-        let options = DecimalFormatterOptions::default();
-        match DecimalFormatter::try_new_unstable(self, preferences, options) {
-            Ok(formatter) => Ok(formatter),
-            Err(_) => Err(FormatterError::Table),
-        }
+        self.plain_formatter(alloc, tag, DecimalFormatterOptions::default())
     }
 
     /// The formatter of compact numbers in short form for a tag, with default options: of `SAMPLE_BOOK` that of `en`
     /// writes 1650 as `1.6K`.
     ///
-    /// It borrows its tables from the book. Errors as [`Book::formatter`], `Table` also where the book has no plural
-    /// rules or no short patterns for the tag.
+    /// It is that of [`Book::compact_formatter`] with short patterns and the grouping `min2`. Errors as there.
     pub fn short_formatter(
         &self,
         alloc: Global,
@@ -158,13 +156,14 @@ impl Book {
         ensures single { (m : SingleMeaning) → MeansSingle (pieces tag.now) m
             → ¬ (IsErrOf result FormatterError.Memory) }
     {
-        compact_formatter::<Short>(self, alloc, tag)
+        let options = CompactDecimalFormatterOptions::default();
+        self.compact_formatter(alloc, tag, PatternLength::Short, options)
     }
 
     /// The formatter of compact numbers in long form for a tag, with default options: of `SAMPLE_BOOK` that of `en`
     /// writes 1650 as `1.6-thousands`.
     ///
-    /// It borrows its tables from the book. Errors as [`Book::short_formatter`], of long patterns.
+    /// It is that of [`Book::compact_formatter`] with long patterns and the grouping `min2`. Errors as there.
     pub fn long_formatter(
         &self,
         alloc: Global,
@@ -177,6 +176,7 @@ impl Book {
         ensures single { (m : SingleMeaning) → MeansSingle (pieces tag.now) m
             → ¬ (IsErrOf result FormatterError.Memory) }
     {
-        compact_formatter::<Long>(self, alloc, tag)
+        let options = CompactDecimalFormatterOptions::default();
+        self.compact_formatter(alloc, tag, PatternLength::Long, options)
     }
 }

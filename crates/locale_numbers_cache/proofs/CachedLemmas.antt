@@ -102,6 +102,14 @@ pub not_promoted : {K F : Type 0} (same : K → K → Bool) (key : K) (before af
     → result ≡ is_some (lookup (same key) before.entries) → result ≡ false → after ≡ before
 not_promoted same key before after result moved looked none = let h = no_entry_of same key before.entries (sym looked ∙ none) in moved ∙ rw h refl
 
+-- so where nothing is put after it, the cache is as before
+pub nothing_put : {K F : Type 0} (same : K → K → Bool) (key : K) (before between after : LruCache K F) (made : ℕ) (old : Cached K F) (result : Bool) → cached before.entries before.cap made ≡ old
+    → between ≡ lru_cache (promoted (same key) before.entries) before.cap → result ≡ is_some (lookup (same key) before.entries) → result ≡ false → after ≡ between
+    → (after ≡ before) × (cached after.entries after.cap made ≡ old)
+nothing_put same key before between after made old result view moved looked none stays =
+    let is : after ≡ before = stays ∙ not_promoted same key before between result moved looked none in
+    (is, ap (λ k. cached k.entries k.cap made) is ∙ view)
+
 -- and then its key was not kept
 pub not_kept : {K F : Type 0} (same : K → K → Bool) (key : K) (before : LruCache K F) (made : ℕ) (old : Cached K F) (result : Bool) → cached before.entries before.cap made ≡ old
     → result ≡ is_some (lookup (same key) before.entries) → result ≡ false → has same key (recent_of old) ≡ false

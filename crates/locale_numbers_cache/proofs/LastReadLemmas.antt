@@ -1,11 +1,11 @@
 -- Pairs of places that remember nothing: one more of them, and that what they keep is right; and bytes that came last.
-use Rattle.std.proofs.Common.{◌≡◌, ℕ, ◌<◌, true, List, [], ◌∷◌, ◌++◌, length, Option, Some, None, IfSome, All, get_or, set, slice_get, refl, sym, ap, ◌∙◌, subst}
+use Rattle.std.proofs.Common.{◌≡◌, ℕ, ◌<◌, ◌||◌, true, List, [], ◌∷◌, ◌++◌, length, Option, Some, None, IfSome, All, get_or, set, slice_get, refl, sym, ap, ◌∙◌, subst}
 use Rattle.std.proofs.lemmas.List.{get_or-set_same, length-set}
 use Rattle.std.proofs.lemmas.List.Elements.{All-get_or, All-push, All-same, All-weaker}
 use Rattle.std.proofs.lemmas.Bool.{false≢true}
 use Rattle.std.proofs.lemmas.Option.{get_or_from_slice_get, slice_get-get_or, slice_get_read, slice_get_within}
 use Rattle.std.proofs.lemmas.Slice.Eq.{bytes_eq-Decides}
-use Rattle.locale_numbers_cache.specs.LastRead.{AreRead, IsLastAt, IsLastOf, IsRead, Place, Remembered, Uses, either_remembers, pair_at, remembered, remembers}
+use Rattle.locale_numbers_cache.specs.LastRead.{AreRead, IsLastAt, IsLastOf, IsRead, Place, Remembered, Uses, either_remembers, key_at, latest_at, latest_in, pair_at, remembered, remembers}
 
 module _ {K : Type 0} where
   abbrev pub Forgets : Place K × Place K → Type 0
@@ -30,13 +30,19 @@ module _ {K : Type 0} where
   keeps bytes (Some kept) is = record { key = kept.1; kept = ap (λ first. Some (first, kept.1)) ((bytes_eq-Decides kept.0 bytes).0 is) }
 
   -- bytes that the last pair used last came last
-  pub is_last : (last : ℕ) (pairs : List (Place K × Place K)) (latest : Option K) (bytes : List ℕ) (pair : Place K × Place K) → IsLastAt last pairs latest → slice_get pairs last ≡ Some pair
-      → remembers bytes pair.0 ≡ true → IsLastOf bytes (remembered pairs latest)
-  is_last last pairs latest bytes pair right at is =
+  pub is_last : (last : ℕ) (pairs : List (Place K × Place K)) (long : Option K) (bytes : List ℕ) (pair : Place K × Place K) → IsLastAt last pairs → slice_get pairs last ≡ Some pair
+      → remembers bytes pair.0 ≡ true → IsLastOf bytes (remembered pairs (latest_at last pairs long))
+  is_last last pairs long bytes pair right at is =
       let place = keeps bytes pair.0 is in
-      let both = subst (λ place. IfSome place (λ kept. (latest ≡ Some kept.1) × (pair_at kept.0 ≡ last))) place.kept
-      (subst (λ found. IfSome found (λ pair. IfSome pair.0 (λ kept. (latest ≡ Some kept.1) × (pair_at kept.0 ≡ last)))) at right) in
-      record { pair = pair; key = place.key; at = ap (slice_get pairs) both.1 ∙ at; last = place.kept; latest = both.0 }
+      let here = subst (λ place. IfSome place (λ kept. pair_at kept.0 ≡ last)) place.kept
+      (subst (λ found. IfSome found (λ pair. IfSome pair.0 (λ kept. pair_at kept.0 ≡ last))) at right) in
+      record {
+        pair = pair;
+        key = place.key;
+        at = ap (slice_get pairs) here ∙ at;
+        last = place.kept;
+        latest = ap (λ found. latest_in found long) at ∙ ap key_at place.kept;
+      }
 
   -- what every pair of the list is, the one of a place is
   pub read_at : (key_of : List ℕ → K) (pairs : List (Place K × Place K)) (at : ℕ) (pair : Place K × Place K) → slice_get pairs at ≡ Some pair → All (AreRead key_of) pairs → AreRead key_of pair
@@ -57,12 +63,22 @@ module _ {K : Type 0} where
       let uses : Uses bytes (key_of bytes) last.pair last.pair = record { last = last.last ∙ ap (λ key. Some (bytes, key)) read; other = λ not. absurd (false≢true (sym not ∙ there)) } in
       subst (λ found. IfSome found (λ old. IfSome found (λ new. Uses bytes (key_of bytes) old new))) (sym last.at) uses
 
+  -- the place that was used last by bytes remembers them
+  used_remembers : (bytes : List ℕ) (key : K) (pair : Place K × Place K) → pair.0 ≡ Some (bytes, key) → either_remembers bytes pair ≡ true
+  used_remembers bytes key pair last =
+      ap (λ place. remembers bytes place || remembers bytes pair.1) last ∙ ap (λ b. b || remembers bytes pair.1) ((bytes_eq-Decides bytes bytes).1 refl)
+
+  pub used_is_kept : (bytes : List ℕ) (key : K) (pair : Place K × Place K) (pairs : List (Place K × Place K)) → slice_get pairs (pair_at bytes) ≡ Some pair → pair.0 ≡ Some (bytes, key)
+      → IfSome (slice_get pairs (pair_at bytes)) (λ pair. either_remembers bytes pair ≡ true)
+  used_is_kept bytes key pair pairs at last =
+      subst (λ found. IfSome found (λ pair. either_remembers bytes pair ≡ true)) (sym at) (used_remembers bytes key pair last)
+
   -- after a use the pair of the bytes is the last one
   pub used_last : (pairs : List (Place K × Place K)) (bytes : List ℕ) (key : K) (at : ℕ) (old new : Place K × Place K) → slice_get pairs at ≡ Some new → at ≡ pair_at bytes
-      → Uses bytes key old new → IsLastAt at pairs (Some key)
+      → Uses bytes key old new → IsLastAt at pairs
   used_last pairs bytes key at old new found is used =
-      subst (λ found. IfSome found (λ pair. IfSome pair.0 (λ kept. (Some key ≡ Some kept.1) × (pair_at kept.0 ≡ at)))) (sym found)
-      (subst (λ place. IfSome place (λ kept. (Some key ≡ Some kept.1) × (pair_at kept.0 ≡ at))) (sym used.last) (refl, sym is))
+      subst (λ found. IfSome found (λ pair. IfSome pair.0 (λ kept. pair_at kept.0 ≡ at))) (sym found)
+      (subst (λ place. IfSome place (λ kept. pair_at kept.0 ≡ at)) (sym used.last) (sym is))
 
   -- ---- one pair of the 512 is used
 
@@ -92,6 +108,13 @@ module _ {K : Type 0} where
             subst (λ found. IfSome found (λ old. IfSome (slice_get (set items at new) (pair_at bytes)) (λ new. Uses bytes key old new))) (sym was_at)
             (subst (λ found. IfSome found (λ new. Uses bytes key old new)) (sym (ap (slice_get (set items at new)) (sym here) ∙ is_there)) used)
 
-        -- and is then the last
-        pub now_last : (latest : K) → latest ≡ key → (length (set items at new) ≡ 512) × IsLastAt at (set items at new) (Some latest)
-        now_last latest is = (length-set items at new ∙ size, subst (λ latest. IsLastAt at (set items at new) (Some latest)) (sym is) (used_last (set items at new) bytes key at old new is_there here used))
+        -- and is then the last, with the latest key
+        pub now_last : (length (set items at new) ≡ 512) × IsLastAt at (set items at new)
+        now_last = (length-set items at new ∙ size, used_last (set items at new) bytes key at old new is_there here used)
+
+        pub now_latest : (long : Option K) → latest_at at (set items at new) long ≡ Some key
+        now_latest long = ap (λ found. latest_in found long) is_there ∙ ap key_at used.last
+
+        -- where the bytes are remembered
+        pub now_kept : IfSome (slice_get (set items at new) (pair_at bytes)) (λ pair. either_remembers bytes pair ≡ true)
+        now_kept = used_is_kept bytes key new (set items at new) (ap (slice_get (set items at new)) (sym here) ∙ is_there) used.last

@@ -1,7 +1,7 @@
 -- Bytes kept beside the key that was read from them, in pairs of places: it is the key that would be read now.
 -- Defined in docs/requests.md, "What a cache keeps".
 -- Cited by `ReadKeys::find`.
-use Rattle.std.specs.Prelude.{ℕ, ◌≡◌, ◌%◌, Bool, false, ◌||◌, List, Option, Some, None, IfSome, slice_get, refl}
+use Rattle.std.specs.Prelude.{ℕ, ◌≡◌, ◌%◌, Bool, false, ◌||◌, List, Option, Some, None, IfSome, option_map, slice_get, refl}
 use Rattle.std.specs.Coded.{Coded, code_by, coded×, coded_list, coded_option, coded_ℕ}
 use Rattle.std.specs.Str.{bytes_eq}
 use Rattle.std.specs.Hash.FoldHasher.{initial, write, finish}
@@ -54,9 +54,21 @@ module _ {K : Type 0} where
     pub last : new.0 ≡ Some (bytes, key)
     pub other : remembers bytes old.0 ≡ false → new.1 ≡ old.0
 
-  -- of these pairs the one at this place, where there is one, was used last: by bytes that belong there and have the latest key
-  abbrev pub IsLastAt : ℕ → List (Place K × Place K) → Option K → Type 0
-  IsLastAt last pairs latest = IfSome (slice_get pairs last) (λ pair. IfSome pair.0 (λ kept. (latest ≡ Some kept.1) × (pair_at kept.0 ≡ last)))
+  -- the key that a place keeps
+  abbrev pub key_at : Place K → Option K
+  key_at place = option_map (λ kept. kept.1) place
+
+  -- the key of the bytes that came last: that of the place that their pair used last, or what is kept beside the pairs where they have none
+  abbrev pub latest_in : Option (Place K × Place K) → Option K → Option K
+  latest_in None long = long
+  latest_in (Some pair) long = key_at pair.0
+
+  abbrev pub latest_at : ℕ → List (Place K × Place K) → Option K → Option K
+  latest_at last pairs long = latest_in (slice_get pairs last) long
+
+  -- of these pairs the one at this place, where there is one, was used last by bytes that belong there
+  abbrev pub IsLastAt : ℕ → List (Place K × Place K) → Type 0
+  IsLastAt last pairs = IfSome (slice_get pairs last) (λ pair. IfSome pair.0 (λ kept. pair_at kept.0 ≡ last))
 
   -- these are the bytes that came last: their pair used the place with them last, and the key there is the latest
   pub record IsLastOf (bytes : List ℕ) (keys : Remembered K) : Type 0 where

@@ -4,5 +4,7 @@ pub mod Cached
 -- What is kept beside a value, and beside bytes that were read.
 pub mod Hashed
 pub mod LastRead
+-- What private steps follow.
+pub mod Putting
 -- Statements of laws.
 pub mod Laws

@@ -6,7 +6,7 @@ ghost use Rattle.locale_numbers_cache.specs.Cached.{cached, most, ChangesNothing
 
 use crate::cache_key::CacheKey;
 use crate::maker::Maker;
-use crate::promoting::promote;
+use crate::promoting::{promote, put_made};
 use lru::LruCache;
 use std::alloc::{AllocError, Global};
 use std::marker::Model;
@@ -73,10 +73,9 @@ impl<K: CacheKey, F: Drop> FormatterCache<K, F> {
         if promote(&mut self.kept, key) {
             return Ok(true);
         }
-        let Some(made) = maker.make(*key) else {
+        if !put_made(&mut self.kept, maker, key)? {
             return Ok(false);
-        };
-        self.kept.put(*key, made)?;
+        }
         self.made = self.made.saturating_add(1);
         Ok(true)
     }

@@ -1,7 +1,7 @@
 //! Two places for the bytes of one hash.
 
-ghost use Rattle.std.specs.Prelude.{◌≡◌, true, None, IfOk, OnOk, OnErr, IsOk};
-ghost use Rattle.locale_numbers_cache.specs.LastRead.{AreRead, Uses, either_remembers, remembers};
+ghost use Rattle.std.specs.Prelude.{◌≡◌, true, None, Some, OnOk, OnErr, IsOk, option_copied};
+ghost use Rattle.locale_numbers_cache.specs.LastRead.{AreRead, Uses, either_remembers, key_at, remembers};
 
 use crate::key_reader::KeyReader;
 use crate::last_key::LastKey;
@@ -43,16 +43,29 @@ impl<K: Copy> KeyPair<K> {
         }
     }
 
+    // The place that was used last.
+    fn last(&self) -> &LastKey<K>
+        ensures { result.now ≡ self.now.0 }
+    {
+        if self.is_second_last {
+            &self.second
+        } else {
+            &self.first
+        }
+    }
+
     /// Whether the place that was used last remembers these bytes. It does not allocate.
     pub fn is_last(&self, bytes: &[u8]) -> bool
         ensures { result ≡ remembers bytes.now self.now.0 }
     {
-        let last = if self.is_second_last {
-            &self.second
-        } else {
-            &self.first
-        };
-        last.known(bytes).is_some()
+        self.last().remembers(bytes)
+    }
+
+    /// The key of the bytes that were used last; `None` of a pair that remembers nothing. It does not allocate.
+    pub fn latest(&self) -> Option<&K>
+        ensures { option_copied result ≡ key_at self.now.0 }
+    {
+        self.last().key()
     }
 
     // Remembers the bytes with their key in the place that was not used last.
@@ -69,28 +82,35 @@ impl<K: Copy> KeyPair<K> {
         Ok(())
     }
 
-    /// The key of the bytes, which are read only where neither place remembers them.
+    // Reads bytes that neither place remembers. It is apart, so that what it needs is no part of a use that reads nothing.
+    #[inline(never)]
+    fn read<R: KeyReader<K>>(&mut self, reader: &R, bytes: &[u8]) -> Result<(), AllocError>
+        ensures last { OnOk result (self.new ≡ (Some (bytes.now, R.key_of reader.now bytes.now), self.old.0)) }
+        ensures err { OnErr result (self.new ≡ self.old) }
+    {
+        let key = reader.read(bytes)?;
+        self.keep(bytes, key)
+    }
+
+    /// Makes the bytes those that were used last, with their key. They are read only where neither place remembers them.
     ///
     /// The condition is that each key it remembers is the one that this reader reads. Bytes that are read push out
     /// those that were not used last. `AllocError`: out of memory; it then remembers what it did.
-    pub fn key_of<R: KeyReader<K>>(&mut self, reader: &R, bytes: &[u8]) -> Result<K, AllocError>
+    pub fn find<R: KeyReader<K>>(&mut self, reader: &R, bytes: &[u8]) -> Result<(), AllocError>
         requires { AreRead (R.key_of reader.now) self.old }
-        ensures value { IfOk result (λ key. key ≡ R.key_of reader.now bytes.now) }
         ensures used { OnOk result (Uses bytes.now (R.key_of reader.now bytes.now) self.old self.new) }
         ensures sound { AreRead (R.key_of reader.now) self.new }
         ensures err { OnErr result (self.new ≡ self.old) }
         ensures room { either_remembers bytes.now self.old ≡ true → IsOk result }
     {
-        if let Some(key) = self.first.known(bytes) {
+        if self.first.remembers(bytes) {
             self.is_second_last = false;
-            return Ok(*key);
+            return Ok(());
         }
-        if let Some(key) = self.second.known(bytes) {
+        if self.second.remembers(bytes) {
             self.is_second_last = true;
-            return Ok(*key);
+            return Ok(());
         }
-        let key = reader.read(bytes)?;
-        self.keep(bytes, key)?;
-        Ok(key)
+        self.read(reader, bytes)
     }
 }

@@ -1,7 +1,7 @@
 //! One place for bytes and what was read from them.
 
-ghost use Rattle.std.specs.Prelude.{◌≡◌, Option, Some, None, true, false, MatchOption, OnOk, OnErr};
-ghost use Rattle.locale_numbers_cache.specs.LastRead.{remembers};
+ghost use Rattle.std.specs.Prelude.{◌≡◌, Some, None, OnOk, OnErr, option_copied};
+ghost use Rattle.locale_numbers_cache.specs.LastRead.{key_at, remembers};
 
 use std::alloc::{AllocError, Global};
 use std::marker::Model;
@@ -36,17 +36,18 @@ impl<K: Copy> LastKey<K> {
         }
     }
 
-    /// The key of the bytes, where these are the ones that it remembers. It does not allocate.
-    pub fn known(&self, bytes: &[u8]) -> Option<&K>
-        ensures { MatchOption result
-            (remembers bytes.now self.now ≡ false)
-            (λ key. (remembers bytes.now self.now ≡ true) × (self.now ≡ Some (bytes.now, key.now))) }
+    /// Whether these are the bytes that it remembers. It does not allocate.
+    pub fn remembers(&self, bytes: &[u8]) -> bool
+        ensures { result ≡ remembers bytes.now self.now }
     {
-        if self.bytes.as_slice() == bytes {
-            self.key.as_ref()
-        } else {
-            None
-        }
+        self.key.is_some() && self.bytes.as_slice() == bytes
+    }
+
+    /// The key that it remembers, whatever its bytes. It does not allocate.
+    pub fn key(&self) -> Option<&K>
+        ensures { option_copied result ≡ key_at self.now }
+    {
+        self.key.as_ref()
     }
 
     /// Remembers the bytes with their key, in place of what it did.

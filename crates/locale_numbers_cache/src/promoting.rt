@@ -1,12 +1,15 @@
-//! The entry of a key goes to the front, with no look-up where it is there.
+//! The entry of a key goes to the front, with no look-up where it is there; or one is made and put there.
 
-ghost use Rattle.std.specs.Prelude.{◌≡◌, is_some};
+ghost use Rattle.std.specs.Prelude.{◌≡◌, false, is_some, IfOk, IsOk, IsTrue, OnErr};
 ghost use Rattle.std.specs.Map.{lookup};
 ghost use Rattle.lru.specs.LruCache.{lru_cache, promoted};
 ghost use Rattle.locale_numbers_cache.specs.Cached.{first_passes};
+ghost use Rattle.locale_numbers_cache.specs.Putting.{IsPut};
 
 use crate::cache_key::CacheKey;
+use crate::maker::Maker;
 use lru::LruCache;
+use std::alloc::AllocError;
 
 // Whether the first entry is that of the key.
 fn is_first<K: CacheKey, F: Drop>(kept: &LruCache<K, F>, key: &K) -> bool
@@ -27,4 +30,25 @@ pub fn promote<K: CacheKey, F: Drop>(kept: &mut LruCache<K, F>, key: &K) -> bool
         return true;
     }
     kept.promote(key)
+}
+
+// Puts what the maker makes for the key first; `false` where it makes nothing. It is apart, so that a key that is kept
+// takes no room for what is made.
+#[inline(never)]
+pub fn put_made<K: CacheKey, F: Drop, M: Maker<K, F>>(
+    kept: &mut LruCache<K, F>,
+    maker: &M,
+    key: &K,
+) -> Result<bool, AllocError>
+    ensures succeeds { M.finds maker.now key.now ≡ false → IsOk result }
+    ensures value { IfOk result (λ found. found ≡ M.finds maker.now key.now) }
+    ensures put { IfOk result (λ found. IsTrue found → IsPut K.eq (M.is_made maker.now) key.now kept.old kept.new) }
+    ensures same { IfOk result (λ found. found ≡ false → kept.new ≡ kept.old) }
+    ensures err { OnErr result (kept.new ≡ kept.old) }
+{
+    let Some(made) = maker.make(*key) else {
+        return Ok(false);
+    };
+    kept.put(*key, made)?;
+    Ok(true)
 }

@@ -34,21 +34,22 @@ pub struct ReadKeys<K: Copy> {
     pairs: Vec<KeyPair<K>>,
     /// The pair of the bytes that came last; no pair where they are too long to be kept.
     last: usize,
-    /// The key of the bytes that came last.
-    latest: Option<K>,
+    /// The key of bytes that are too long to be kept, where they came last.
+    long: Option<K>,
 }
 
 impl<K: Copy> Model for ReadKeys<K> {
     ghost use Rattle.std.specs.Prelude.{◌≡◌, length};
-    ghost use Rattle.locale_numbers_cache.specs.LastRead.{IsLastAt, Remembered, remembered, remembered_code};
+    ghost use Rattle.locale_numbers_cache.specs.LastRead.{IsLastAt, Remembered, latest_at, remembered, remembered_code};
 
     ghost Value = { Remembered K };
 
     ghost coded = { remembered_code K.code };
 
-    ghost view = { λ r. remembered r.pairs.items r.latest };
+    // The latest key is where its bytes are.
+    ghost view = { λ r. remembered r.pairs.items (latest_at r.last r.pairs.items r.long) };
 
-    ghost invariant = { λ r. (length r.pairs.items ≡ 512) × IsLastAt r.last r.pairs.items r.latest };
+    ghost invariant = { λ r. (length r.pairs.items ≡ 512) × IsLastAt r.last r.pairs.items };
 }
 
 impl<K: Copy> ReadKeys<K> {
@@ -68,7 +69,7 @@ impl<K: Copy> ReadKeys<K> {
         Ok(ReadKeys {
             pairs,
             last: PAIRS,
-            latest: None,
+            long: None,
         })
     }
 
@@ -90,6 +91,8 @@ impl<K: Copy> ReadKeys<K> {
             IfSome (slice_get self.old.pairs (pair_at bytes.now)) (λ old.
             IfSome (slice_get self.new.pairs (pair_at bytes.now))
             (λ new. Uses bytes.now (R.key_of reader.now bytes.now) old new))) }
+        ensures kept { OnOk result (length bytes.now ≤ 256 →
+            IfSome (slice_get self.new.pairs (pair_at bytes.now)) (λ pair. either_remembers bytes.now pair ≡ true)) }
         ensures sound { All (AreRead (R.key_of reader.now)) self.new.pairs }
         ensures err { OnErr result (self.new ≡ self.old) }
         ensures room { length bytes.now ≤ 256 →
@@ -98,14 +101,13 @@ impl<K: Copy> ReadKeys<K> {
     {
         if bytes.len() > LONGEST {
             let key = reader.read(bytes)?;
-            self.latest = Some(key);
+            self.long = Some(key);
             self.last = PAIRS;
             return Ok(());
         }
         let pair = pair_of(bytes);
-        match self.pairs[pair].key_of(reader, bytes) {
-            Ok(key) => {
-                self.latest = Some(key);
+        match self.pairs[pair].find(reader, bytes) {
+            Ok(()) => {
                 self.last = pair;
                 Ok(())
             }
@@ -127,6 +129,8 @@ impl<K: Copy> ReadKeys<K> {
             IfSome (slice_get self.old.pairs (pair_at bytes.now)) (λ old.
             IfSome (slice_get self.new.pairs (pair_at bytes.now))
             (λ new. Uses bytes.now (R.key_of reader.now bytes.now) old new))) }
+        ensures kept { OnOk result (length bytes.now ≤ 256 →
+            IfSome (slice_get self.new.pairs (pair_at bytes.now)) (λ pair. either_remembers bytes.now pair ≡ true)) }
         ensures sound { All (AreRead (R.key_of reader.now)) self.new.pairs }
         ensures err { OnErr result (self.new ≡ self.old) }
         ensures room { length bytes.now ≤ 256 →
@@ -146,7 +150,11 @@ impl<K: Copy> ReadKeys<K> {
         requires { IsSome self.now.latest }
         ensures { self.now.latest ≡ Some result.now }
     {
-        match &self.latest {
+        let latest = match self.pairs.get(self.last) {
+            Some(pair) => pair.latest(),
+            None => self.long.as_ref(),
+        };
+        match latest {
             Some(key) => key,
             None => unreachable!(),
         }

@@ -7,3 +7,5 @@ pub mod RoundingField
 pub mod Refusal
 -- What private steps follow.
 pub mod WordTable
+-- Statements of laws.
+pub mod Laws

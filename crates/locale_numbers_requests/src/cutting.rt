@@ -1,10 +1,14 @@
 //! Pieces of a text between the bytes that part them.
 
-ghost use Rattle.std.specs.Prelude.{◌≡◌, ◌<◌, ◌+◌, ◌∷◌, [], length, position, drop, slice_index, MatchOption};
+ghost use Rattle.std.specs.Prelude.{◌≡◌, ◌<◌, ◌≤◌, ◌+◌, ◌-◌, ◌∷◌, [], length, position, drop, slice_index, MatchOption};
 ghost use Rattle.std.specs.List.{All};
 ghost use Rattle.locale_numbers_requests.specs.Cutting.{IsLastCut, IsNot, is_separator, cut_at};
 
 use memchr::{memchr, memrchr};
+use std::simd::prelude::*;
+
+// How many bytes at the end of a text are compared at once.
+const NEAR: usize = 16;
 
 // The place of the first separator.
 fn first_separator(text: &[u8], separator: u8) -> Option<usize>
@@ -13,13 +17,35 @@ fn first_separator(text: &[u8], separator: u8) -> Option<usize>
     memchr(separator, text)
 }
 
-// The place of the last separator.
+// The place of the last separator among the last 16 bytes of a text, which are compared at once.
+fn near_separator(text: &[u8], separator: u8) -> Option<usize>
+    requires { 16 ≤ length text.now }
+    ensures { MatchOption result
+        (All (IsNot separator) (drop (length text.now - 16) text.now))
+        (λ end. (end < length text.now) × (slice_index text.now end ≡ separator)
+        × All (IsNot separator) (drop (end + 1) text.now)) }
+{
+    let from = text.len() - NEAR;
+    let near = u8x16::from_slice(&text[from..]);
+    let marks = near.simd_eq(u8x16::splat(separator)).to_bitmask();
+    if marks == 0 {
+        return None;
+    }
+    Some(from + marks.ilog2() as usize)
+}
+
+// The place of the last separator: it is looked for near the end first.
 fn last_separator(text: &[u8], separator: u8) -> Option<usize>
     ensures { MatchOption result
         (All (IsNot separator) text.now)
         (λ end. (end < length text.now) × (slice_index text.now end ≡ separator)
         × All (IsNot separator) (drop (end + 1) text.now)) }
 {
+    if NEAR <= text.len()
+        && let Some(end) = near_separator(text, separator)
+    {
+        return Some(end);
+    }
     memrchr(separator, text)
 }
 

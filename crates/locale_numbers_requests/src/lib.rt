@@ -16,6 +16,7 @@
 mod cutting;
 mod digits;
 mod form_field;
+pub mod laws;
 mod refusal;
 mod request;
 mod rounding_field;

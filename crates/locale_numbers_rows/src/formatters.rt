@@ -1,6 +1,8 @@
 //! The formatters that a book has for a tag.
 
-use locale_numbers::prelude::{AbstractFormatter, Book, Decimal, FormatterError};
+use locale_numbers::prelude::{
+    AbstractFormatter, Book, Decimal, FormatterError, GroupingStrategy, PatternLength,
+};
 use rows::{Stop, put_last_written};
 
 // Writes the text of a number.
@@ -44,7 +46,17 @@ pub fn answer(
     let Ok(number) = Decimal::try_from_str(alloc, number) else {
         return Err(Stop::Unknown);
     };
+    let (never, auto) = (GroupingStrategy::Never, GroupingStrategy::Auto);
     let put = match call {
+        "plain_formatter" => put_by(book.plain_formatter(alloc, tag, never.into()), &number, out),
+        "compact_formatter" => {
+            let long = PatternLength::Long;
+            put_by(
+                book.compact_formatter(alloc, tag, long, auto.into()),
+                &number,
+                out,
+            )
+        }
         "formatter" => put_by(book.formatter(alloc, tag), &number, out),
         "short_formatter" => put_by(book.short_formatter(alloc, tag), &number, out),
         "long_formatter" => put_by(book.long_formatter(alloc, tag), &number, out),

@@ -6,7 +6,7 @@ use Rattle.std.specs.Hash.{HashWrites, u64}
 use Rattle.std.specs.Hash.FoldHasher.{write, finish}
 use Rattle.locale_numbers_tables.specs.Seeding.{first_hasher, last_number, hash_under, key_hash}
 use Rattle.locale_numbers_tables.specs.declared.seed.SeededHasher.{SeededHasher}
-use Rattle.sha2.specs.Sha512.{sha512}
+use Rattle.md5.specs.Md5.{md5}
 
 abbrev fed : SeededHasher → List ℕ → SeededHasher
 fed hasher bytes = record hasher { state = write hasher.state bytes }
@@ -27,7 +27,7 @@ hashed_under hasher digest first last writes =
     ∙ (λ i. finish (fold write (first i) (writes ++ u64 (last i))))
 
 -- of the digest of a text
-pub hashed_in : (hasher : SeededHasher) (text digest : List ℕ) → digest ≡ sha512 text → hasher.state ≡ first_hasher digest → hasher.last ≡ last_number digest
+pub hashed_in : (hasher : SeededHasher) (text digest : List ℕ) → digest ≡ md5 text → hasher.state ≡ first_hasher digest → hasher.last ≡ last_number digest
     → (writes : HashWrites) → ended (fold fed hasher writes) ≡ key_hash text writes
 hashed_in hasher text digest digested first last writes =
     hashed_under hasher digest first last writes ∙ ap (λ d. hash_under d writes) digested

@@ -1,19 +1,22 @@
 -- What is read of a list of pieces is what it means: `specs/TagReading.antt`.
-use Rattle.std.proofs.Common.{◌≡◌, Bool, true, false, List, Option, None, Some, ◌⊎◌, inl, inr, refl, ap, ◌∙◌}
-use Rattle.std.specs.Prelude.{option_and_then, if◌then◌else◌}
+use Rattle.std.proofs.Common.{◌≡◌, Bool, true, false, List, [], ◌++◌, append-nil, Option, None, Some, ◌⊎◌, inl, inr, refl, ap, ◌∙◌}
+use Rattle.std.specs.Prelude.{option_and_then, option_to_list, if◌then◌else◌}
 use Rattle.icu_locale_core.specs.declared.ParseError.{ParseError}
 use Rattle.icu_locale_core.specs.Subtags.{Text}
 use Rattle.icu_locale_core.specs.Meaning.{TagMeaning, MeansTag}
 use Rattle.icu_locale_core.specs.FaultyPiece.{HasFault}
-use Rattle.icu_locale_core.specs.TagPreferences.{DataLocaleMeaning, data_meaning}
-use Rattle.icu_locale_core.specs.DataTags.{MeansDataLocale, HasDataFault}
+use Rattle.icu_locale_core.specs.TagPreferences.{DataLocaleMeaning, data_meaning, language_priority, locale_preferences_of}
+use Rattle.icu_locale_core.specs.DataTags.{IsDataTag, MeansDataLocale, HasDataFault}
+use Rattle.icu_locale_core.specs.OneVariant.{MeansOneVariant, one_variant}
+use Rattle.icu_locale_core.specs.SingleVariant.{SingleMeaning, MeansSingle, single_tag}
 use Rattle.icu_locale_core.specs.Stepping.{run}
 use Rattle.icu_locale_core.specs.TagStages.{TagStage, tag_start, tag_after, tag_ends}
 use Rattle.icu_locale_core.proofs.TagReader.{tag_reader}
 use Rattle.icu_locale_core.proofs.FaultyPieceLemmas.{never_both}
 use Rattle.icu_locale_core.proofs.DataFaults.{data_never_both}
+use Rattle.icu_locale_core.proofs.SingleTags.{single_is_tag}
 use Rattle.icu_locale_core.specs.LocaleValue.{locale_decides}
-use Rattle.locale_numbers_tables.specs.TagReading.{tag_of, data_locale_in, says_no_more, alone, data_locale_of}
+use Rattle.locale_numbers_tables.specs.TagReading.{tag_of, data_locale_in, says_no_more, alone, data_locale_of, one_variant_data}
 
 -- the second, where the first is not
 pub other_one : {A B : Type 0} → A ⊎ B → (A → ⊥) → B
@@ -72,3 +75,22 @@ data_read list locale m =
 
 pub data_faulty : (list : List Text) (e : ParseError) → HasDataFault list e → data_locale_of list ≡ None
 data_faulty list e fault = none_read (data_locale_of list) (λ locale h. data_never_both list locale e (data_meant list locale h) fault)
+
+-- ---- a tag of one variant at most, and nothing else
+
+abbrev plain_single : Text × Option Text × Option Text × Option Text → SingleMeaning
+plain_single parts = record { language = parts.0; script = parts.1; region = parts.2; variant = parts.3; keyword = None }
+
+-- its data locale says all of it
+says_all : (language : Text) (script region variant : Option Text) → let tag = single_tag (plain_single (language, script, region, variant)) in
+    (data_meaning (language_priority (locale_preferences_of tag)) ≡ tag) × (language_priority (locale_preferences_of tag) ≡ one_variant_data (language, script, region, variant))
+says_all language script region None = (refl, refl)
+says_all language script region (Some v) = (refl, refl)
+
+pub one_variant_read : (list : List Text) (parts : Text × Option Text × Option Text × Option Text)
+    → MeansOneVariant list (one_variant parts.0 parts.1 parts.2 parts.3) → data_locale_of list ≡ Some (one_variant_data parts)
+one_variant_read list parts m =
+    let single = plain_single parts in
+    let means : MeansSingle list single = record { front = list; last = []; parts = append-nil list; language = m.means; keyword = refl } in
+    let says = says_all parts.0 parts.1 parts.2 parts.3 in
+    data_read list (one_variant_data parts) (record { tag = single_tag single; means = single_is_tag list single means; is = says.0; same = says.1 })

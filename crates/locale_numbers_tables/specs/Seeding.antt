@@ -1,12 +1,12 @@
 -- What a key of a book hashes to: its hasher begins with one half of the digest of the book's text and ends with the other.
--- Defined in docs/DECISIONS.md, "Books"; SHA-512 is that of FIPS 180-4, and the hasher is `FoldHasher` of std.
+-- Defined in docs/DECISIONS.md, "Books"; MD5 is that of RFC 1321, and the hasher is `FoldHasher` of std.
 -- Cited by `Seed::of_text`.
 use Rattle.std.specs.Prelude.{ℕ, List, ◌++◌, ◌/◌, take, drop, length}
 use Rattle.std.specs.List.{fold}
 use Rattle.std.specs.Hash.{HashWrites, u64}
 use Rattle.std.specs.Hash.FoldHasher.{initial, write, finish}
 use Rattle.std.specs.declared.hash.FoldHasher.{FoldHasher}
-use Rattle.sha2.specs.Sha512.{sha512}
+use Rattle.md5.specs.Md5.{md5}
 
 -- the hasher that each key begins with: one that was fed the first half
 abbrev pub first_hasher : List ℕ → FoldHasher
@@ -22,4 +22,4 @@ hash_under digest writes = finish (fold write (first_hasher digest) (writes ++ u
 
 -- the hash of the key under the seed of this text
 abbrev pub key_hash : List ℕ → HashWrites → ℕ
-key_hash text writes = hash_under (sha512 text) writes
+key_hash text writes = hash_under (md5 text) writes

@@ -28,3 +28,7 @@ alone tag = if says_no_more tag then Some (data_locale_in tag) else None
 
 unfoldable pub data_locale_of : List Text → Option DataLocaleMeaning
 data_locale_of list = option_and_then alone (tag_of list)
+
+-- the data locale of a language, a script, a region and a variant
+abbrev pub one_variant_data : Text × Option Text × Option Text × Option Text → DataLocaleMeaning
+one_variant_data parts = record { language = parts.0; script = parts.1; region = parts.2; variant = parts.3; subdivision = None }

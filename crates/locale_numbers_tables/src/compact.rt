@@ -25,7 +25,7 @@ use std::alloc::{AllocError, Global};
 use std::collections::BTreeMap;
 
 // A type, its exponent and its patterns.
-type Row = (u8, (u8, PluralElements<Pattern>));
+type TypeEntry = (u8, (u8, PluralElements<Pattern>));
 
 // The patterns that slots are, or none.
 fn slots(alloc: Global, value: &Value) -> Result<Option<PluralElements<Pattern>>, AllocError>
@@ -53,7 +53,7 @@ fn slots_at(
 }
 
 // The type that a row is, or none.
-fn row(alloc: Global, value: &Value) -> Result<Option<Row>, AllocError>
+fn row(alloc: Global, value: &Value) -> Result<Option<TypeEntry>, AllocError>
     ensures { IfOk result (λ found. found ≡ row_in (view value.now)) }
 {
     if !has_count(value, 3) {
@@ -72,10 +72,10 @@ fn row(alloc: Global, value: &Value) -> Result<Option<Row>, AllocError>
 }
 
 // The types of an array, where each item is one.
-fn rows(alloc: Global, items: &[Value]) -> Result<Option<Vec<Row>>, AllocError>
+fn rows(alloc: Global, items: &[Value]) -> Result<Option<Vec<TypeEntry>>, AllocError>
     ensures { IfOk result (λ found. option_map (λ list. list.items) found ≡ all_of row_in (items_view items.now)) }
 {
-    let mut list: Vec<Row> = Vec::new(alloc);
+    let mut list: Vec<TypeEntry> = Vec::new(alloc);
     for item in items {
         let Some(row) = row(alloc, item)? else {
             return Ok(None);
@@ -86,7 +86,7 @@ fn rows(alloc: Global, items: &[Value]) -> Result<Option<Vec<Row>>, AllocError>
 }
 
 // The types of an entry, or none.
-fn entry_rows(alloc: Global, entry: &Value) -> Result<Option<Vec<Row>>, AllocError>
+fn entry_rows(alloc: Global, entry: &Value) -> Result<Option<Vec<TypeEntry>>, AllocError>
     ensures { IfOk result (λ found. option_map (λ list. list.items) found ≡ field_at rows_in 2 (view entry.now)) }
 {
     match array_at(entry, 2) {
@@ -122,7 +122,7 @@ fn entry_zero(
 }
 
 // Whether types rise strictly.
-fn types_rise(rows: &[Row]) -> bool
+fn types_rise(rows: &[TypeEntry]) -> bool
     ensures { result ≡ rise_from 0 rows.now }
 {
     let mut least: u16 = 0;
@@ -148,7 +148,7 @@ fn put<V: Drop>(types: &mut BTreeMap<u8, V>, log10_type: u8, typed: V) -> Result
 // Types that rise, as a map.
 fn map_of(
     alloc: Global,
-    rows: Vec<Row>,
+    rows: Vec<TypeEntry>,
 ) -> Result<BTreeMap<u8, (u8, PluralElements<Pattern>)>, AllocError>
     requires { rise_from 0 rows.items ≡ true }
     ensures { IfOk result (λ types. types.entries ≡ rows.items) }
@@ -163,7 +163,7 @@ fn map_of(
 // The table of types that rise, or none.
 fn table(
     alloc: Global,
-    rows: Vec<Row>,
+    rows: Vec<TypeEntry>,
     zero: Option<&PluralElements<Pattern>>,
 ) -> Result<Option<CompactPatterns>, AllocError>
     requires { rise_from 0 rows.items ≡ true }
@@ -183,7 +183,7 @@ fn table(
 // The table of types and of the patterns below them, or what is wrong with them.
 fn table_from(
     alloc: Global,
-    rows: Vec<Row>,
+    rows: Vec<TypeEntry>,
     zero: Option<&PluralElements<Pattern>>,
 ) -> Result<CompactPatterns, BookError>
     ensures value { IfOk result
@@ -205,7 +205,11 @@ fn table_from(
 }
 
 // The table of an entry with these types, or what is wrong with it.
-fn table_with(alloc: Global, entry: &Value, rows: Vec<Row>) -> Result<CompactPatterns, BookError>
+fn table_with(
+    alloc: Global,
+    entry: &Value,
+    rows: Vec<TypeEntry>,
+) -> Result<CompactPatterns, BookError>
     requires { field_at rows_in 2 (view entry.now) ≡ Some rows.items }
     ensures value { IfOk result (λ table. compact_of (view entry.now) ≡ Some table) }
     ensures sound { OnOk result (table_fault (view entry.now) ≡ None) }

@@ -8,10 +8,11 @@ ghost use Rattle.icu_locale_core.specs.Pieces.{pieces};
 ghost use Rattle.locale_numbers_tables.specs.Entries.{field_at, has_count, is_text_at, text_or_empty};
 ghost use Rattle.icu_locale_core.specs.TagAllocation.{tag_may_grow};
 ghost use Rattle.locale_numbers_tables.specs.Allocation.{locale_may_grow};
-ghost use Rattle.locale_numbers_tables.specs.TagReading.{data_locale_of};
+ghost use Rattle.locale_numbers_tables.specs.TagReading.{data_locale_of, one_variant_data};
 ghost use Rattle.locale_numbers_tables.specs.Fields.{is_plain, is_small_letter_or_digit, is_system_name, plain_text, plain_text_in, system_named, system_in, system_or_none_in, locale_in, size_in, digits_in, ten_characters};
 
-use icu_locale_core::{DataLocale, ParseError};
+use icu_locale_core::parser::OneVariantParts;
+use icu_locale_core::{DataLocale, LanguageIdentifier, ParseError};
 use serde_json::Value;
 use std::alloc::{AllocError, Global};
 use tinystr::TinyAsciiStr;
@@ -95,11 +96,23 @@ pub fn size(entry: &Value, place: usize) -> Option<u8>
     }
 }
 
-// The locale that a text is, or none.
-fn read_locale(alloc: Global, text: &str) -> Result<Option<DataLocale>, AllocError>
-    ensures value { IfOk result (λ locale. locale ≡ data_locale_of (pieces text.now)) }
+// The locale of the parts of a tag.
+fn locale_of(parts: OneVariantParts) -> DataLocale
+    ensures { result ≡ one_variant_data parts }
+{
+    let (language, script, region, variant) = parts;
+    DataLocale {
+        language,
+        script,
+        region,
+        variant,
+        subdivision: None,
+    }
+}
 
-    // A text that begins as no tag does, or has no variant and no extension, is never reported as out of memory.
+// The locale that a text is, whatever parts it has, or none.
+fn read_any_locale(alloc: Global, text: &str) -> Result<Option<DataLocale>, AllocError>
+    ensures value { IfOk result (λ locale. locale ≡ data_locale_of (pieces text.now)) }
     ensures room { OnErr result (tag_may_grow (pieces text.now) ≡ true) }
 {
     match DataLocale::try_from_utf8(alloc, text.as_bytes()) {
@@ -108,6 +121,20 @@ fn read_locale(alloc: Global, text: &str) -> Result<Option<DataLocale>, AllocErr
             ParseError::Memory => Err(AllocError),
             _ => Ok(None),
         },
+    }
+}
+
+// The locale that a text is, or none. Most have a language, a script, a region and a variant at most, and are read without
+// a tag in memory.
+fn read_locale(alloc: Global, text: &str) -> Result<Option<DataLocale>, AllocError>
+    ensures value { IfOk result (λ locale. locale ≡ data_locale_of (pieces text.now)) }
+
+    // A text that begins as no tag does, or has no variant and no extension, is never reported as out of memory.
+    ensures room { OnErr result (tag_may_grow (pieces text.now) ≡ true) }
+{
+    match LanguageIdentifier::try_from_utf8_with_single_variant(text.as_bytes()) {
+        Ok(parts) => Ok(Some(locale_of(parts))),
+        Err(_) => read_any_locale(alloc, text),
     }
 }
 

@@ -19,5 +19,5 @@ mod texts;
 pub use entry::Entry;
 pub use locale_numbers_faults::BookError;
 pub use seed::Seed;
-pub use table::Table;
+pub use table::{Table, add};
 pub use tables::table_of;

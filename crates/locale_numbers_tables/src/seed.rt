@@ -1,7 +1,8 @@
 //! What the tables of a book are hashed by: two numbers that come of the book's text.
 //!
 //! With a hash that is known, keys can be chosen that all have one: they would make the loading of a book quadratic.
-//! Here they would have to be chosen for the digest of the text that they are in.
+//! Here they would have to be chosen for the digest of the text that they are in. That two texts of one MD5 digest can be made
+//! helps nobody in that: the digest would have to be known before its text.
 
 ghost use Rattle.std.specs.Prelude.{◌≡◌};
 ghost use Rattle.std.specs.Hash as fed;
@@ -10,7 +11,7 @@ ghost use Rattle.std.specs.Hash.FoldHasher as folding;
 ghost use Rattle.std.specs.List.{fold};
 ghost use Rattle.locale_numbers_tables.specs.Seeding.{first_hasher, last_number, key_hash};
 
-use sha2::{Digest, Sha512};
+use md5::{Digest, Md5};
 use std::hash::{BuildHasher, FoldHasher, Hasher};
 
 /// A hasher that begins with one number of a text and ends with another.
@@ -66,15 +67,15 @@ impl Seed {
         }
     }
 
-    /// The seed of a text: the halves of its SHA-512 digest, each as one number. The hash of a key begins with the
-    /// first and ends with the second. It does not allocate.
+    /// The seed of a text: the halves of its MD5 digest, each as one number. The hash of a key begins with the first and
+    /// ends with the second. It does not allocate.
     pub fn of_text(text: &[u8]) -> Self
         ensures value { (writes : HashWrites)
             → ⟦<SeededHasher as Hasher>⟧.finish
             (fold ⟦<SeededHasher as Hasher>⟧.write (⟦<Seed as BuildHasher>⟧.build_hasher result) writes)
             ≡ key_hash text.now writes }
     {
-        Seed::of_digest(&Sha512::digest(text)[..])
+        Seed::of_digest(&Md5::digest(text)[..])
     }
 }
 

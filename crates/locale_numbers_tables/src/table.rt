@@ -22,11 +22,31 @@ impl<K: Eq + Hash + Drop, V: Drop> Drop for Table<K, V> {
     }
 }
 
-/// Adds a table under a key that is not there yet.
+// Makes room for as many entries as there will be, at the first one, so that the table does not grow while they are added.
+fn make_room<K: Eq + Hash, V>(
+    table: &mut IndexMap<K, V, Seed>,
+    count: usize,
+) -> Result<(), BookError>
+    ensures same { table.new.entries ≡ table.old.entries }
+    ensures seeded { hasher_of table.new ≡ hasher_of table.old }
+    ensures only { IfErr result (λ fault. fault ≡ BookError.Memory) }
+{
+    match table.reserve(count.saturating_sub(table.len())) {
+        Ok(()) => Ok(()),
+        Err(_) => Err(BookError::Memory),
+    }
+}
+
+/// Adds what is under a key that is not there yet, to a table of that many entries in the end: with a second `latn` it is
+/// `Duplicate`, and then the table is of no use. It allocates. A table that grows step by step would be moved each time.
+///
+/// - Duplicate: the key is there already.
+/// - Memory: else, out of memory.
 pub fn add<K: Eq + Hash + Drop, V: Drop>(
     table: &mut IndexMap<K, V, Seed>,
     key: K,
     value: V,
+    count: usize,
 ) -> Result<(), BookError>
     ensures added { OnOk result (table.new.entries ≡ table.old.entries ++ (key, value) ∷ []) }
     ensures fresh { OnOk result (get K.eq table.old key ≡ None) }
@@ -37,11 +57,9 @@ pub fn add<K: Eq + Hash + Drop, V: Drop>(
     ensures seeded { hasher_of table.new ≡ hasher_of table.old }
     ensures only { IfErr result (λ fault. (fault ≡ BookError.Duplicate) ⊎ (fault ≡ BookError.Memory)) }
 {
-    if table.contains_key(&key) {
-        return Err(BookError::Duplicate);
-    }
     match table.insert(key, value) {
-        Ok(_) => Ok(()),
+        Ok(None) => make_room(table, count),
+        Ok(Some(_)) => Err(BookError::Duplicate),
         Err(_) => Err(BookError::Memory),
     }
 }

@@ -18,11 +18,12 @@ use indexmap::IndexMap;
 use serde_json::Value;
 use std::alloc::Global;
 
-// Adds what an entry says, and lets the entry go.
+// Adds what an entry says to a table of that many entries in the end, and lets the entry go.
 fn add_entry<V: Entry>(
     alloc: Global,
     table: &mut IndexMap<V::Key, V, Seed>,
     entry: Value,
+    count: usize,
 ) -> Result<(), BookError>
     ensures added { OnOk result
         (Adds V.Key.eq V.meaning V.key_in V.fault_in (view entry) table.old.entries table.new.entries) }
@@ -37,7 +38,7 @@ fn add_entry<V: Entry>(
     let read = V::read(alloc, &entry);
     drop(entry);
     match read {
-        Ok((key, value)) => match add(table, key, value) {
+        Ok((key, value)) => match add(table, key, value, count) {
             Ok(()) => Ok(()),
             Err(fault) => Err(fault),
         },
@@ -59,8 +60,9 @@ fn fill<V: Entry>(
         (λ fault. IsTold (first_fault_after V.Key.eq V.key_in V.fault_in [] (items_view entries.items)) fault) }
     ensures room { IsErrOf result BookError.Memory → begins_with V.may_grow (items_view entries.items) ≡ true }
 {
+    let count = entries.len();
     for entry in entries {
-        match add_entry(alloc, table, entry) {
+        match add_entry(alloc, table, entry, count) {
             Ok(()) => {}
             Err(fault) => return Err(fault),
         }

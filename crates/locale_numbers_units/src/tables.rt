@@ -1,6 +1,6 @@
 //! Arrays of units as tables.
 
-ghost use Rattle.std.specs.Prelude.{◌≡◌, false, true, Bool, IfOk, IsErrOf, IfErr, OnOk, Some, None, [], map};
+ghost use Rattle.std.specs.Prelude.{◌≡◌, true, IfOk, IsErrOf, IfErr, IsSome, OnOk, Some, None, [], map};
 ghost use Rattle.indexmap.specs.IndexMap.{get, hasher_of};
 ghost use Rattle.serde_json.specs.Data.{item, no_items};
 ghost use Rattle.serde_json.specs.View.{items_view, view};
@@ -13,42 +13,33 @@ ghost use Rattle.locale_numbers_tables.specs.declared.BookError.{BookError};
 
 use crate::array::UnitArray;
 use indexmap::IndexMap;
-use locale_numbers_tables::{BookError, Seed, Table};
+use locale_numbers_tables::{BookError, Seed, Table, add};
 use serde_json::Value;
 use std::alloc::Global;
+use std::hash::Hash;
 
-// The key of an entry, where the table does not have it yet.
-fn new_key<A: UnitArray>(
-    alloc: Global,
-    table: &IndexMap<A::Key, A::Said, Seed>,
-    entry: &Value,
-) -> Result<A::Key, BookError>
-    ensures key { IfOk result (λ key. A.key_in (view entry.now) ≡ Some key) }
-    ensures sound { OnOk result (A.fault_in false (view entry.now) ≡ Some BookError.Duplicate) }
-    ensures fresh { IfOk result (λ key. get A.Key.eq table.now key ≡ None) }
-    ensures fault { IfErr result
-        (λ fault. IsTold
-        (first_fault_after A.Key.eq A.key_in A.fault_in (map (λ pair. pair.0) table.now.entries)
-        (item (view entry.now) no_items)) fault) }
-    ensures grows { OnOk result (A.may_grow (view entry.now) ≡ true) }
-    ensures room { IsErrOf result BookError.Memory → A.may_grow (view entry.now) ≡ true }
+// What is wrong with an entry of this key that says nothing for that fault: that the key is there already comes first.
+fn fault_under<K: Eq + Hash, V>(
+    table: &IndexMap<K, V, Seed>,
+    key: &K,
+    fault: BookError,
+) -> BookError
+    ensures twice { IsSome (get K.eq table.now key.now) → result ≡ BookError.Duplicate }
+    ensures fresh { get K.eq table.now key.now ≡ None → result ≡ fault }
 {
-    match A::read_key(alloc, entry) {
-        Ok(key) => {
-            if table.contains_key(&key) {
-                return Err(BookError::Duplicate);
-            }
-            Ok(key)
-        }
-        Err(fault) => Err(fault),
+    if table.contains_key(key) {
+        BookError::Duplicate
+    } else {
+        fault
     }
 }
 
-// Adds what an entry says, and lets the entry go.
+// Adds what an entry says to a table of that many entries in the end, and lets the entry go.
 fn add_entry<A: UnitArray>(
     alloc: Global,
     table: &mut IndexMap<A::Key, A::Said, Seed>,
     entry: Value,
+    count: usize,
 ) -> Result<(), BookError>
     ensures added { OnOk result
         (Adds A.Key.eq A.key_in A.said_in A.fault_in (view entry) table.old.entries table.new.entries) }
@@ -60,13 +51,13 @@ fn add_entry<A: UnitArray>(
     ensures grows { OnOk result (A.may_grow (view entry) ≡ true) }
     ensures room { IsErrOf result BookError.Memory → A.may_grow (view entry) ≡ true }
 {
-    match new_key::<A>(alloc, &*table, &entry) {
+    match A::read_key(alloc, &entry) {
         Ok(key) => match A::read(alloc, &entry) {
-            Ok(said) => match table.insert(key, said) {
-                Ok(_) => Ok(()),
-                Err(_) => Err(BookError::Memory),
+            Ok(said) => match add(table, key, said, count) {
+                Ok(()) => Ok(()),
+                Err(fault) => Err(fault),
             },
-            Err(fault) => Err(fault),
+            Err(fault) => Err(fault_under(&*table, &key, fault)),
         },
         Err(fault) => Err(fault),
     }
@@ -87,8 +78,9 @@ fn fill<A: UnitArray>(
         (λ fault. IsTold (first_fault_after A.Key.eq A.key_in A.fault_in [] (items_view entries.items)) fault) }
     ensures room { IsErrOf result BookError.Memory → begins_with A.may_grow (items_view entries.items) ≡ true }
 {
+    let count = entries.len();
     for entry in entries {
-        match add_entry::<A>(alloc, table, entry) {
+        match add_entry::<A>(alloc, table, entry, count) {
             Ok(()) => {}
             Err(fault) => return Err(fault),
         }

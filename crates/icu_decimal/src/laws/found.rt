@@ -3,8 +3,8 @@
 ghost use Rattle.std.specs.Prelude.{◌≡◌, ◌↔◌, IsTrue};
 ghost use Rattle.icu_decimal.specs.FoundLaws.{FindTheSameTables};
 
-use icu_decimal_provider::laws::same_preferences;
-use icu_decimal_provider::preferences::DecimalFormatterPreferences;
+use crate::laws::tables::same_preferences;
+use crate::preferences::DecimalFormatterPreferences;
 
 /// A law: true exactly of equal preferences, which find the same tables of every provider, with the same options. It is
 /// true of those of `EN-u-NU-thai` and `en-u-nu-thai`, false of those of `en-u-nu-thai` and `en`.

@@ -3,11 +3,11 @@
 
 pub mod compact;
 mod found;
+pub mod tables;
 
 pub use icu_decimal_compact_value::laws as shown;
 pub use icu_decimal_lenient::laws as lenient;
 pub use icu_decimal_patterns::laws as patterns;
-pub use icu_decimal_provider::laws as tables;
 pub use icu_decimal_reading::laws as reading;
 
 /// Laws of plain text: groups, texts and parts, and the tables that equal preferences find.

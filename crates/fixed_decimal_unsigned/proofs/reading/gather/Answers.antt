@@ -26,8 +26,8 @@ pub returns-in_err-assign_texts-clause-room : goal.returns-in_err-assign_texts-c
 returns-in_err-assign_texts-clause-room c =
     let parts = c.without_leading_zeros.result in
     on_err c.from_residual.result
-    (subst (λ n. 10 ^ 8 ≤ n) (sym c.without_leading_zeros.ensures.value)
-    (more_gathered 8 parts.0.now parts.1.now c.without_leading_zeros.ensures.integer_first c.without_leading_zeros.ensures.fraction_first (omega (arith, c.len-room.ensures.inline, c.in_err-assign_texts.ensures.room))))
+    (subst (λ n. 10 ^ 16 ≤ n) (sym c.without_leading_zeros.ensures.value)
+    (more_gathered 16 parts.0.now parts.1.now c.without_leading_zeros.ensures.integer_first c.without_leading_zeros.ensures.fraction_first (omega (arith, c.len-room.ensures.inline, c.in_err-assign_texts.ensures.room))))
 
 pub returns-in_err-assign_texts-clause-kept : goal.returns-in_err-assign_texts-clause-kept
 returns-in_err-assign_texts-clause-kept c =

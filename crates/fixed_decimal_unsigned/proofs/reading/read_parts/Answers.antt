@@ -53,7 +53,7 @@ pub returns-in_err-gather-clause-memory : goal.returns-in_err-gather-clause-memo
 returns-in_err-gather-clause-memory c = λ _.
     let p = parts_of c.args.parts.now in
     let r = c.without_mantissa_zeros.result in
-    more_mantissa 8 (spelled (r.0.now ++ r.1.now)) (length p.integer + length p.fraction - (length r.0.now + length r.1.now)) (length r.0.now + length r.1.now) (mantissa_of p)
+    more_mantissa 16 (spelled (r.0.now ++ r.1.now)) (length p.integer + length p.fraction - (length r.0.now + length r.1.now)) (length r.0.now + length r.1.now) (mantissa_of p)
     (32768 + up_of p - (length p.fraction + down_of p)) c.without_mantissa_zeros.ensures.value c.without_mantissa_zeros.ensures.last (spelled_none r.0.now r.1.now) c.in_err-gather.ensures.room
 
 pub returns-in_err-gather-clause-kept : goal.returns-in_err-gather-clause-kept

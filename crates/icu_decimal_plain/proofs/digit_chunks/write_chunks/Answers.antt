@@ -1,6 +1,6 @@
 use Rattle.std.proofs.lemmas.List.{length-take-le, take_all}
 use Rattle.std.proofs.lemmas.Str.{IsUtf8-had}
-use Rattle.std.proofs.Common.{◌≡◌, ℕ, ◌+◌, ◌*◌, ◌≤◌, ◌∙◌, IsUtf8, List, ap, arith, length, length-drop, refl, subst, sym, take}
+use Rattle.std.proofs.Common.{◌≡◌, ℕ, ◌+◌, ◌*◌, ◌≤◌, ◌∙◌, IsUtf8, List, ap, arith, length, length-drop, subst, sym, take}
 use Rattle.std.specs.Int.Digits.{AllBelowBase}
 use Rattle.writeable.specs.AnnotatedText.{bytes}
 use Rattle.writeable.specs.Taking.{on_err}
@@ -20,10 +20,10 @@ put_groups-len-requires g c =
     let was = c.loop-digits.digits in
     let enough = c.loop-digits-test.true in
     let len = c.len.ensures in
-    let is = whole_chunk c.few_digits-chunk.result was c.few_digits-chunk.ensures.long c.few_digits-chunk.ensures.chunk in
+    let is = whole_chunk c.next_digits-chunk.result was c.next_digits-chunk.ensures.long c.next_digits-chunk.ensures.chunk in
     let size = ap length is ∙ length-take-le 48 was (omega (arith, enough, len)) in
     let few = c.in-Some.ensures.few in
-    let room : 0 + 4 * (length c.few_digits-chunk.result + length c.in-Some.groups) ≤ 384 = omega (arith, size, few) in
+    let room : 0 + 4 * (length c.next_digits-chunk.result + length c.in-Some.groups) ≤ 384 = omega (arith, size, few) in
     let tens = subst (AllBelowBase 10) (sym is) (below_take 48 was c.loop-digits.invariant.tens) in
     (omega arith, (room, (c.in-Some.ensures.whole ∙ sym size, (c.new-piece.ensures.long, (c.new-piece.ensures.short, tens)))))
 
@@ -32,15 +32,15 @@ write_waiting-requires-clause-utf8 g c =
     let piece = c.new-piece.result in
     let taken = c.in-Some.groups in
     let was = c.loop-digits.digits in
-    let is = whole_chunk c.few_digits-chunk.result was c.few_digits-chunk.ensures.long c.few_digits-chunk.ensures.chunk in
+    let is = whole_chunk c.next_digits-chunk.result was c.next_digits-chunk.ensures.long c.next_digits-chunk.ensures.chunk in
     let tens = subst (AllBelowBase 10) (sym is) (below_take 48 was c.loop-digits.invariant.tens) in
     subst IsUtf8 (sym c.put_groups-len.ensures.text)
-    (utf8_groups (take piece.len piece.bytes) c.args.table.now.chars.now taken c.few_digits-chunk.result
+    (utf8_groups (take piece.len piece.bytes) c.args.table.now.chars.now taken c.next_digits-chunk.result
     (subst IsUtf8 (sym c.new-piece.ensures.is) (IsUtf8-had _ c.new-piece.ensures.utf8)) (λ d below. IsUtf8-had _ (c.args.table.now.held d below).utf8) tens)
 
 pub loop-digits-smaller : goal.loop-digits-smaller
 loop-digits-smaller g c =
-    let left = ap length (c.few_digits-chunk.ensures.blocks refl) ∙ length-drop 48 c.loop-digits.digits in
+    let left = ap length c.next_digits-chunk.ensures.digits ∙ length-drop 48 c.loop-digits.digits in
     let enough = c.loop-digits-test.true in
     let len = c.len.ensures in
     omega (arith, left, enough, len)
@@ -51,15 +51,15 @@ loop-digits-preserved g c =
     let separator = c.args.separator.now in
     let taken = c.in-Some.groups in
     let was = c.loop-digits.digits in
-    let after = c.few_digits-chunk.new.digits in
-    let chunk = c.few_digits-chunk.result in
-    let is = whole_chunk chunk was c.few_digits-chunk.ensures.long c.few_digits-chunk.ensures.chunk in
+    let after = c.next_digits-chunk.new.digits in
+    let chunk = c.next_digits-chunk.result in
+    let is = whole_chunk chunk was c.next_digits-chunk.ensures.long c.next_digits-chunk.ensures.chunk in
     let text = take c.put_groups-len.result c.put_groups-len.new.waiting in
     let put = c.put_groups-len.ensures.text ∙ ap (λ sep. groups_ahead sep (digit_text table) taken chunk) c.new-piece.ensures.is in
-    let parts = chunk_bytes separator table c.loop-digits.sizes taken c.next_chunk.new.self was after chunk text c.in-Some.ensures.taken c.in-Some.ensures.whole is (c.few_digits-chunk.ensures.blocks refl) put in
+    let parts = chunk_bytes separator table c.loop-digits.sizes taken c.next_chunk.new.self was after chunk text c.in-Some.ensures.taken c.in-Some.ensures.whole is c.next_digits-chunk.ensures.digits put in
     record {
-      tens = subst (AllBelowBase 10) (sym (c.few_digits-chunk.ensures.blocks refl)) (below_drop 48 was c.loop-digits.invariant.tens);
-      digits = chunk_past c.loop-digits.sizes taken c.next_chunk.new.self was after c.in-Some.ensures.taken c.in-Some.ensures.whole (c.few_digits-chunk.ensures.blocks refl) ∙ c.loop-digits.invariant.digits;
+      tens = subst (AllBelowBase 10) (sym c.next_digits-chunk.ensures.digits) (below_drop 48 was c.loop-digits.invariant.tens);
+      digits = chunk_past c.loop-digits.sizes taken c.next_chunk.new.self was after c.in-Some.ensures.taken c.in-Some.ensures.whole c.next_digits-chunk.ensures.digits ∙ c.loop-digits.invariant.digits;
       writing = writing_goes_on g.S.Sink.takes g.S.Sink.refused g.met.S.Sink.joins _ _ _ _ (bytes text) (bytes (groups_ahead separator (digit_text table) c.next_chunk.new.self after))
           (rw parts at c.loop-digits.invariant.writing) c.in_ok-write_waiting.ensures.ok c.in_ok-write_waiting.ensures.refused;
     }
@@ -70,12 +70,12 @@ returns-in_err-write_waiting-clause-begun g c =
     let separator = c.args.separator.now in
     let taken = c.in-Some.groups in
     let was = c.loop-digits.digits in
-    let after = c.few_digits-chunk.new.digits in
-    let chunk = c.few_digits-chunk.result in
-    let is = whole_chunk chunk was c.few_digits-chunk.ensures.long c.few_digits-chunk.ensures.chunk in
+    let after = c.next_digits-chunk.new.digits in
+    let chunk = c.next_digits-chunk.result in
+    let is = whole_chunk chunk was c.next_digits-chunk.ensures.long c.next_digits-chunk.ensures.chunk in
     let text = take c.put_groups-len.result c.put_groups-len.new.waiting in
     let put = c.put_groups-len.ensures.text ∙ ap (λ sep. groups_ahead sep (digit_text table) taken chunk) c.new-piece.ensures.is in
-    let parts = chunk_bytes separator table c.loop-digits.sizes taken c.next_chunk.new.self was after chunk text c.in-Some.ensures.taken c.in-Some.ensures.whole is (c.few_digits-chunk.ensures.blocks refl) put in
+    let parts = chunk_bytes separator table c.loop-digits.sizes taken c.next_chunk.new.self was after chunk text c.in-Some.ensures.taken c.in-Some.ensures.whole is c.next_digits-chunk.ensures.digits put in
     on_err c.from_residual.result
     (writing_stops g.S.Sink.takes g.S.Sink.refused g.met.S.Sink.joins g.S.Sink.lacks_room g.met.S.Sink.lacks_more _ _ _ _ (bytes text) (bytes (groups_ahead separator (digit_text table) c.next_chunk.new.self after))
     (rw parts at c.loop-digits.invariant.writing) c.in_err-write_waiting.ensures.begun)

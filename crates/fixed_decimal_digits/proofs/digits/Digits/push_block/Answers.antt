@@ -23,7 +23,7 @@ invariant_of-self c =
     let i = c.self.inside in
     let ds = map digit_value c.args.text.now in
     let counted : i.count ≡ length c.args.self.now.items = sym c.self.invariant.0.all ∙ ap (λ v. length v.items) c.self.view_is in
-    let capacity : 4 ≤ i.kept.capacity = c.self.invariant.1 in (
+    let capacity : 8 ≤ i.kept.capacity = c.self.invariant.1 in (
       (block_pushed i.kept.items c.copy_bytes.new.kept.items ds i.count (length c.args.text.now) c.self.invariant.0 (all_below_base_from_digits 10 c.args.text.now c.requires.text_digits) (ap (λ k. k % 2) counted ∙ c.requires.even)
           (length-map c.args.text.now digit_value) (c.copy_bytes.ensures.items ∙ ap (λ b. i.kept.items ++ b) (c.split_at.ensures.front ∙ c.bytes_of_block-bytes.ensures))).0,
       omega (arith, capacity, c.copy_bytes.ensures.capacity),

@@ -19,7 +19,7 @@ pub invariant_of-self : goal.invariant_of-self
 invariant_of-self c =
     let i = c.self.inside in let o = c.other.inside in
     let counted : i.count ≡ length c.args.self.now.items = sym c.self.invariant.0.all ∙ ap (λ v. length v.items) c.self.view_is in
-    let capacity : 4 ≤ i.kept.capacity = c.self.invariant.1 in (
+    let capacity : 8 ≤ i.kept.capacity = c.self.invariant.1 in (
       (block_pushed i.kept.items c.copy_bytes.new.kept.items (digits_in o.kept.items o.count) i.count o.count c.self.invariant.0 c.other.invariant.0.tens (ap (λ k. k % 2) counted ∙ c.requires.even)
           c.other.invariant.0.all (c.copy_bytes.ensures.items ∙ ap (λ b. i.kept.items ++ b) (c.as_slice.ensures ∙ c.other.invariant.0.packed_are))).0,
       omega (arith, capacity, c.copy_bytes.ensures.capacity),

@@ -18,7 +18,7 @@ pub invariant_of-self : goal.invariant_of-self
 invariant_of-self c =
     let i = c.self.inside in
     let counted : i.count ≡ length c.args.self.now.items = sym c.self.invariant.0.all ∙ ap (λ v. length v.items) c.self.view_is in
-    let capacity : 4 ≤ i.kept.capacity = c.self.invariant.1 in (
+    let capacity : 8 ≤ i.kept.capacity = c.self.invariant.1 in (
       (block_pushed i.kept.items c.push_bytes.new.kept.items (word_digits c.args.word 16) i.count 16 c.self.invariant.0 c.requires.tens (ap (λ k. k % 2) counted ∙ c.requires.even)
           (word_length 16 c.args.word) (c.push_bytes.ensures.items ∙ ap (λ b. i.kept.items ++ b) (sym (word_even 8 c.args.word)))).0,
       omega (arith, capacity, c.push_bytes.ensures.capacity),

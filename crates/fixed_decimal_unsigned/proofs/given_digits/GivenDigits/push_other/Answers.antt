@@ -12,8 +12,8 @@ returns-in_err-reserve-clause-room c =
     let i = c.self.inside in
     let d = c.args.digit in
     let inline = c.len-inline.ensures.inline in
-    let many : 8 < length i.kept.items + (i.zeros + 1) =
-    ⊎_elim (λ h. h) (λ few. absurd (true≢false (sym (c.in_err-reserve.ensures.succeeds (omega (arith, few, inline)))))) (cases_lt 8 (length i.kept.items + (i.zeros + 1))) in
+    let many : 16 < length i.kept.items + (i.zeros + 1) =
+    ⊎_elim (λ h. h) (λ few. absurd (true≢false (sym (c.in_err-reserve.ensures.succeeds (omega (arith, few, inline)))))) (cases_lt 16 (length i.kept.items + (i.zeros + 1))) in
     on_err c.from_residual.result
     (subst (λ v. IsLong (v.mantissa * 10 + d)) c.self.view_is (other_long i.kept.items i.zeros i.given d c.self.invariant c.requires.some c.requires.ten many))
 

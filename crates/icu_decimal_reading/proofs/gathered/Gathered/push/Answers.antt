@@ -7,4 +7,4 @@ pub returns-in_err-push-clause-room : goal.returns-in_err-push-clause-room
 returns-in_err-push-clause-room c =
     let i = c.self.inside in
     on_err c.from_residual.result
-    (subst (λ v. 8 ≤ v.count) c.self.view_is (many_gathered i.given i.count c.args.digit c.self.invariant c.requires.ten c.in_err-push.ensures.room))
+    (subst (λ v. 16 ≤ v.count) c.self.view_is (many_gathered i.given i.count c.args.digit c.self.invariant c.requires.ten c.in_err-push.ensures.room))

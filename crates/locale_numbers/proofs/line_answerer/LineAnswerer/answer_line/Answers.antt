@@ -5,7 +5,7 @@ use Rattle.locale_numbers_answers.specs.AnswerSink.{HasRoom}
 use Rattle.locale_numbers_cache.specs.Cached.{IsLatest, recent_of}
 use Rattle.locale_numbers_cache.specs.Recent.{has}
 use Rattle.locale_numbers.specs.FormatterKeys.{key_of}
-use Rattle.locale_numbers.specs.KeptFormatters.{IsKeptFor}
+use Rattle.locale_numbers.specs.LineFormatters.{IsKeptFor}
 use Rattle.locale_numbers.specs.Front.{answer_after, key_after}
 use Rattle.locale_numbers.specs.LineMemory.{IsRemembered}
 use Rattle.locale_numbers.specs.contracts.formatter_key.FormatterKeyPartialEq.TheImpl as keys

@@ -12,4 +12,4 @@ returns-in-Some g c = λ is.
     let at : slice_get c.deref.result.now inside.last ≡ Some pair =
     slice_get-get_or c.deref.result.now inside.last pair (ltb-true _ _ (sym c.in-Some.ensures.lookup.0)) ∙ ap Some (sym c.in-Some.ensures.lookup.1) in
     subst (IsLastOf c.args.bytes.now) c.self.view_is
-    (is_last inside.last inside.pairs.items inside.latest c.args.bytes.now pair c.self.invariant.1 (subst (λ items. slice_get items inside.last ≡ Some pair) c.deref.ensures.value at) (sym c.is_last.ensures ∙ is))
+    (is_last inside.last inside.pairs.items inside.long c.args.bytes.now pair c.self.invariant.1 (subst (λ items. slice_get items inside.last ≡ Some pair) c.deref.ensures.value at) (sym c.is_last.ensures ∙ is))

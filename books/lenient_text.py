@@ -1,0 +1,196 @@
+"""The number that a typed text is, of a percent or of an amount of money.
+
+This is a definition: it goes by docs/reading.md ("Lenient reading"), docs/units.md ("Lenient reading") and docs/requests.md
+("Answer line"), and shares nothing with the program. What the formatter writes is that of unit_text.py.
+"""
+import re
+import typing
+
+import unit_text
+from look_up import locale_of
+from unit_text import GROUPINGS, Format, Symbols, currency_format, is_readable, numbers_written, percent_format
+
+FORM = re.compile("read-lenient-(?:percent|(currency|code|accounting)-([A-Z]{3}))", re.A)
+ASCII = "0123456789"
+UNREADABLE = "unreadable"
+# What each of these characters becomes; `..` is between the first and the last of a row.
+FOLDED = {
+    "": "061C 200E 200F 202A..202E 2066..2069",
+    "-": "2010..2013 207B 208B 2212 2796 FE63 FF0D",
+    "+": "207A 208A 2795 FB29 FE62 FF0B",
+    "'": "2018 2019 02BC FF07",
+    " ": "00A0 1680 2000..200A 202F 205F 3000",
+    ".": "2024 FE52 FF0E",
+    ",": "FE50 FF0C",
+}
+BLANK = "\t\n\v\f\r \u0085\u00a0\u1680" + "".join(map(chr, range(0x2000, 0x200B))) + "\u2028\u2029\u202f\u205f\u3000"
+
+
+def folds():
+    """What each character becomes that does not stay as it is, whatever the digits are."""
+    found = {0xFF10 + digit: str(digit) for digit in range(10)}
+    for its, rows in FOLDED.items():
+        for row in rows.split():
+            first, _, last = row.partition("..")
+            found.update(dict.fromkeys(range(int(first, 16), int(last or first, 16) + 1), its))
+    return found
+
+
+FOLDS = folds()
+
+
+class Reader(typing.NamedTuple):
+    """What typed texts are read by: the format, that of its numbers without the unit, whether texts can be read by them, what
+    characters become, both formats folded, or None where texts can't be read leniently, and the unit and its code folded."""
+
+    form: Format
+    plain: Format
+    is_readable: bool
+    folds: dict
+    folded: Format
+    folded_plain: Format
+    names: tuple
+
+
+def without_unit(form):
+    """The format of numbers with these symbols, without a unit."""
+    its = form.symbols
+    signs = {"": ("", ""), "-": (its.minus_prefix, its.minus_suffix), "+": (its.plus_prefix, its.plus_suffix)}
+    return Format(its, form.digits, signs)
+
+
+def folded_format(form, table):
+    """The format with its symbols and its affixes folded and the digits of ASCII, whose groups begin after one digit."""
+    texts = [it.translate(table) for it in form.symbols[1:7]]
+    affixes = {sign: tuple(it.translate(table) for it in pair) for sign, pair in form.affixes.items()}
+    return Format(Symbols(form.symbols.numsys, *texts, *form.symbols[7:9], 1), ASCII, affixes)
+
+
+def reader(form, unit, code):
+    """What typed texts of a format are read by, with its unit and the code of that."""
+    table, plain = {**FOLDS, **{ord(it): str(place) for place, it in enumerate(form.digits)}}, without_unit(form)
+    folded, is_exact = [folded_format(it, table) for it in (form, plain)], is_readable(form) and is_readable(plain)
+    if not is_exact or not all(map(is_readable, folded)):
+        folded = [None, None]
+    return Reader(form, plain, is_exact, table, *folded, (unit.translate(table), code.translate(table)))
+
+
+def first(found):
+    """The first of these that is a number, or None."""
+    return next((it for it in found if it is not None), None)
+
+
+def read_as(form, text, *groupings):
+    """The number that is written so under one of the groupings, or None."""
+    return first(it for grouping in groupings for it in numbers_written(form, text, grouping))
+
+
+def read_folded(form, text):
+    """The number that a folded text is, without groups or with all of them."""
+    return read_as(form, text, "never", "always")
+
+
+def filled(separator, text):
+    """The text with a zero before a decimal separator that is before all digits and directly before one, and without one directly
+    after the last digit, where no digit is followed by a fraction."""
+    point = re.escape(separator)
+    text = re.sub(f"^([^0-9]*?)(?={point}[0-9])", r"\g<1>0", text, flags=re.S)
+    has_fraction = re.search(f"[0-9]{point}[0-9]", text)
+    return text if has_fraction else re.sub(rf"([0-9]){point}([^0-9]*)\Z", r"\1\2", text, flags=re.S)
+
+
+def read_unitless(its, text, grouping):
+    """The number that a text is without the unit."""
+    folded, point = text.translate(its.folds), its.folded.symbols.decimal
+    trimmed = folded.strip(BLANK)
+    exact = read_as(its.plain, text, grouping)
+    if exact is not None:
+        return exact
+    return first(read_folded(its.folded_plain, it) for it in dict.fromkeys((folded, trimmed, filled(point, trimmed))))
+
+
+def between(pair, text):
+    """What is between two texts, or None."""
+    before, after = pair
+    fits = len(text) >= len(before) + len(after) and text.startswith(before) and text.endswith(after)
+    return text[len(before) : len(text) - len(after)] if fits else None
+
+
+def read_beside(its, name, text):
+    """The number that a name is before, or else after, whatever spaces are between them."""
+    rests = (between(pair, text) for pair in ((name, ""), ("", name)))
+    return first(read_folded(its.folded_plain, rest.strip(BLANK)) for rest in rests if rest is not None)
+
+
+def read_named(its, name, text):
+    """The number with a name beside it, where its sign is beside the number or around both."""
+    found = [read_beside(its, name, text)]
+    for sign in "-+":
+        inner = between(its.folded_plain.affixes[sign], text)
+        number = None if inner is None else read_beside(its, name, inner.strip(BLANK))
+        found.append(number and (number._replace(sign=sign) if not number.sign else None))
+    return first(found)
+
+
+def read_typed(its, text, grouping="auto"):
+    """The number that a text is, None where it is none, and UNREADABLE where the tables do not tell."""
+    if not its.is_readable:
+        return UNREADABLE
+    exact = read_as(its.form, text, grouping)
+    if exact is not None or its.folded is None:
+        return exact or UNREADABLE
+    folded = text.translate(its.folds).strip(BLANK)
+    ways = [
+        lambda: read_unitless(its, text, grouping),
+        lambda: read_folded(its.folded, folded),
+        *(lambda name=name: read_named(its, name, folded) for name in its.names),
+        lambda: read_folded(its.folded, filled(its.folded.symbols.decimal, folded)),
+    ]
+    return first(way() for way in ways)
+
+
+def found_reader(book, locale, system, style, code):
+    """What the texts of a currency in a style, or without one of percents, are read by; None where a table is not found."""
+    form = currency_format(book, locale, system, style, code) if style else percent_format(book, locale, system)
+    if form is None:
+        return None
+    along = book.unit_chain(locale)
+    if style is None:
+        return reader(form, book.units.percent(along, system)[0], "%")
+    return reader(form, code if style == "code" else book.units.symbol(along, code)[0], code)
+
+
+def readers(book, locale, system, style, code):
+    """What texts are read by, and what those are read by then that are no number: the readers of `latn`, where the digits are
+    other ones than those of ASCII."""
+    found = found_reader(book, locale, system, style, code)
+    if found is None:
+        return []
+    latin = found_reader(book, locale, "latn", style, code) if found.form.digits != ASCII else None
+    return [found, *([latin] if latin else [])]
+
+
+def read_in_turn(its, text, grouping="auto"):
+    """The number that a text is by the first of these readers, or else by the second one."""
+    found = read_typed(its[0], text, grouping)
+    return read_typed(its[1], text, grouping) if found is None and len(its) > 1 else found
+
+
+def answer(book, line):
+    """The answer to a request line of a form with `read-lenient-` before it, and to any other one as in unit_text.py."""
+    fields = line.split("\t")
+    asked = FORM.fullmatch(fields[1]) if len(fields) == 6 else None
+    if asked is None:
+        return unit_text.answer(book, line)
+    tag, _, grouping, display, rounding, text = fields
+    if grouping not in GROUPINGS or display != "keep" or rounding not in unit_text.ROUNDINGS[: 2 if asked[1] else 1]:
+        return "err\tshape"
+    name, _, system = tag.partition("-u-nu-")
+    locale = locale_of(name)
+    if locale is None:
+        return "err\ttag"
+    its = readers(book, locale, system, asked[1], asked[2])
+    if not its:
+        return "err\ttable"
+    found = read_in_turn(its, text, grouping)
+    return f"err\t{UNREADABLE}" if found == UNREADABLE else f"ok\t{found.text()}" if found else "err\tnot-written"

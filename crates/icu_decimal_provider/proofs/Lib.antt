@@ -1,4 +1,0 @@
-pub mod ChainLoadingLemmas
-pub mod ChoiceLemmas
-pub mod KnownValues
-pub mod SameLemmas

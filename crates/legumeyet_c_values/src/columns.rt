@@ -1,0 +1,173 @@
+//! Many numbers into memory of the caller's: their texts one after the other, and where each ends.
+
+ghost use Rattle.std.specs.Prelude.{◌≡◌, ◌≢◌, ◌∷◌, [], MatchOption, drop, true, false, IfOk, IfErr};
+ghost use Rattle.locale_numbers_lines.specs.Lines.{HasNoFeed};
+ghost use Rattle.locale_numbers_lines.specs.Progress.{FirstLine};
+ghost use Rattle.legumeyet_c_values.specs.Columns.{IsGiven, IsGivenFault, IsWrittenColumn, OfFirst, given_in, integers, room, spelled, spelled_lines};
+ghost use Rattle.legumeyet_c_values.specs.Putting.{IsPut};
+
+use crate::call_error::CallError;
+use crate::numbers::{read_double, read_number, scaled};
+use fixed_decimal::Decimal;
+use memchr::memchr;
+use std::alloc::Global;
+
+/// The numbers of a column, as a call is given them.
+#[derive(Clone, Copy, Drop)]
+pub enum Column<'a> {
+    /// Doubles: 1.5 and -0.0.
+    Doubles(&'a [f64]),
+    /// Integers, each times ten to this power: 15 and -20 with -1 are 1.5 and -2.0.
+    Integers(&'a [i64], i16),
+    /// Texts, one a line: `1.5`, a line feed and `-2`.
+    Texts(&'a [u8]),
+}
+
+// A text cut at its first line feed: the line that it ends, and what follows.
+pub(crate) fn split_line(bytes: &[u8]) -> Option<(&[u8], &[u8])>
+    ensures parts { MatchOption result
+        (HasNoFeed bytes.now)
+        (λ parts. FirstLine bytes.now parts.0.now parts.1.now) }
+{
+    match memchr(b'\n', bytes) {
+        Some(at) => Some((&bytes[..at], &bytes[at + 1..])),
+        None => None,
+    }
+}
+
+// The first line of some bytes, and what follows its line feed; all of them, where they have none.
+fn first_line(bytes: &[u8]) -> (&[u8], &[u8])
+    requires { bytes.now ≢ [] }
+    ensures { spelled_lines bytes.now ≡ spelled result.0.now ∷ spelled_lines result.1.now }
+{
+    match split_line(bytes) {
+        Some(parts) => parts,
+        None => (bytes, &[]),
+    }
+}
+
+// The first integer times the power of ten, and the others.
+fn first_integer(
+    alloc: Global,
+    mantissas: &[i64],
+    exponent: i16,
+) -> (Result<Decimal, CallError>, Column<'_>)
+    requires { integers mantissas.now exponent ≢ [] }
+    ensures value { OfFirst (λ given. IfOk result.0 (IsGiven given)) (integers mantissas.now exponent) }
+    ensures fault { OfFirst (λ given. IfErr result.0 (IsGivenFault given)) (integers mantissas.now exponent) }
+    ensures rest { given_in result.1 ≡ drop 1 (integers mantissas.now exponent) }
+{
+    let mantissa = mantissas[0];
+    let number = scaled(alloc, mantissa, exponent);
+    (number, Column::Integers(&mantissas[1..], exponent))
+}
+
+impl<'a> Column<'a> {
+    // Whether it has no number.
+    fn is_empty(&self) -> bool
+        ensures none { result ≡ true → given_in self.now ≡ [] }
+        ensures some { result ≡ false → given_in self.now ≢ [] }
+    {
+        match self {
+            Column::Doubles(numbers) => numbers.is_empty(),
+            Column::Integers(mantissas, _) => mantissas.is_empty(),
+            Column::Texts(lines) => lines.is_empty(),
+        }
+    }
+
+    // The first number, and the others.
+    fn split_first(self, alloc: Global) -> (Result<Decimal, CallError>, Column<'a>)
+        requires { given_in self ≢ [] }
+        ensures value { OfFirst (λ given. IfOk result.0 (IsGiven given)) (given_in self.entry) }
+        ensures fault { OfFirst (λ given. IfErr result.0 (IsGivenFault given)) (given_in self.entry) }
+        ensures rest { given_in result.1 ≡ drop 1 (given_in self.entry) }
+    {
+        match self {
+            Column::Doubles(numbers) => {
+                let number = read_double(alloc, numbers[0]);
+                (number, Column::Doubles(&numbers[1..]))
+            }
+            Column::Integers(mantissas, exponent) => first_integer(alloc, mantissas, exponent),
+            Column::Texts(lines) => {
+                let (line, rest) = first_line(lines);
+                (read_number(alloc, line), Column::Texts(rest))
+            }
+        }
+    }
+}
+
+/// What writes a number to bytes: a formatter with options.
+pub trait NumberWriter {
+    ghost use Rattle.std.specs.Prelude.{List, ℕ};
+    ghost use Rattle.legumeyet_c_values.specs.Columns.{Given};
+    ghost use Rattle.legumeyet_c_values.specs.declared.call_error.CallError.{CallError};
+
+    // what is written of what is given
+    ghost says: { Self → Given → List ℕ → Type 0 };
+
+    // why nothing is
+    ghost fails: { Self → Given → CallError → Type 0 };
+
+    /// Writes the text of a number, where there is one, to the front of the bytes, and tells its length. `TooSmall`: it is
+    /// longer than the bytes.
+    fn write(
+        &self,
+        number: Result<Decimal, CallError>,
+        out: &mut [u8],
+        length: &mut usize,
+    ) -> Result<(), CallError>
+        requires other { IfErr number (λ error. error ≢ CallError.TooSmall) }
+        ensures put { (given : Given) → IfOk number (IsGiven given) → IfErr number (IsGivenFault given)
+            → IsPut (says self.now given) (fails self.now given) out.old out.new length.old length.new result };
+}
+
+// Writes the first number that is left of a column.
+fn write_first<W: NumberWriter>(
+    alloc: Global,
+    writer: &W,
+    left: &mut Column<'_>,
+    out: &mut [u8],
+    length: &mut usize,
+) -> Result<(), CallError>
+    requires { given_in left.old ≢ [] }
+    ensures put { OfFirst
+        (λ given. IsPut (W.says writer.now given) (W.fails writer.now given) out.old out.new length.old length.new result)
+        (given_in left.old) }
+    ensures rest { given_in left.new ≡ drop 1 (given_in left.old) }
+{
+    let (number, rest) = left.split_first(alloc);
+    *left = rest;
+    writer.write(number, out, length)
+}
+
+/// Writes the numbers of a column, and tells where the text of each ends, and how many were written: of 1.5 and -2 the
+/// bytes `1.5-2`, the ends 3 and 5, and 2. It stops at the first number that is not written.
+///
+/// `TooSmall`: the ends are all told, or the next text is longer than the bytes that are left. Another error is that of
+/// the next number.
+pub fn write_column<W: NumberWriter>(
+    alloc: Global,
+    writer: &W,
+    column: Column<'_>,
+    out: &mut [u8],
+    ends: &mut [usize],
+    count: &mut usize,
+) -> Result<(), CallError>
+    ensures { IsWrittenColumn (W.says writer.now) (W.fails writer.now) (given_in column.entry) (room out.old ends.old count.old)
+        (room out.new ends.new count.new) result }
+{
+    *count = 0;
+    let mut left = column;
+    let mut end = 0;
+    'number: while !left.is_empty() {
+        if *count >= ends.len() {
+            return Err(CallError::TooSmall);
+        }
+        let mut length = 0;
+        write_first(alloc, writer, &mut left, &mut out[end..], &mut length)?;
+        end += length;
+        ends[*count] = end;
+        *count += 1;
+    }
+    Ok(())
+}

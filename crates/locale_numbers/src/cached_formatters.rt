@@ -1,0 +1,51 @@
+//! Formatters that are kept from line to line.
+
+use crate::formatter_key::FormatterKey;
+use crate::formatters::Formatters;
+use crate::line_formatter::{FormatterMaker, LineFormatter};
+use crate::tables::Tables;
+use locale_numbers_cache::{FormatterCache, Hashed};
+use std::alloc::AllocError;
+
+// The formatters that were used last, and who makes others.
+#[derive(Drop)]
+pub(crate) struct CachedFormatters<'a, T: Tables> {
+    /// One that makes those that are not kept.
+    pub maker: FormatterMaker<'a, T>,
+    /// Those that were used last.
+    pub formatters: FormatterCache<Hashed<FormatterKey>, LineFormatter<'a>>,
+}
+
+impl<'a, T: Tables> Formatters<'a> for CachedFormatters<'a, T> {
+    ghost use Rattle.std.specs.Prelude.{IsTrue, refl};
+    ghost use Rattle.locale_numbers_cache.specs.Cached.{IsLatest, IsSound, made_over, recent_of};
+    ghost use Rattle.locale_numbers_cache.specs.Recent.{has};
+    ghost use Rattle.locale_numbers.specs.FormatterKeys.{finds};
+    ghost use Rattle.locale_numbers.specs.LineFormatters.{IsKeptFor};
+
+    ghost book = { λ s. T.book s.maker.tables.now };
+
+    ghost is_ready = { λ s. IsSound (finds (T.book s.maker.tables.now)) (IsKeptFor (T.book s.maker.tables.now))
+        s.formatters };
+
+    ghost counted_over = { λ s keys. made_over ⟦<FormatterKey as PartialEq>⟧.eq (finds (T.book s.maker.tables.now))
+        s.formatters keys };
+
+    // Only of a key that is not kept.
+    ghost may_take_memory = { λ s key. ¬ (IsTrue (has ⟦<FormatterKey as PartialEq>⟧.eq key (recent_of s.formatters))) };
+
+    ghost holds = { λ s key. IsLatest (IsKeptFor (T.book s.maker.tables.now)) key s.formatters };
+
+    fn find(&mut self, key: &Hashed<FormatterKey>) -> Result<bool, AllocError> {
+        self.formatters.keep(&self.maker, key)
+    }
+
+    fn found(&self, _key: &Hashed<FormatterKey>) -> &LineFormatter<'a> {
+        match self.formatters.latest() {
+            Some(kept) => kept,
+            None => unreachable!(),
+        }
+    }
+
+    ghost counts_none = { λ s more. refl };
+}

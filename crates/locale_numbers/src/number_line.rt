@@ -1,0 +1,125 @@
+//! The forms that write a number.
+
+ghost use Rattle.std.specs.Prelude.{◌≡◌, ◌∷◌, ◌++◌, List, Option, Some, IsOk, IsTrue, OnOk, OnErr, string_bytes};
+ghost use Rattle.locale_numbers_lines.specs.Growth.{Grows};
+ghost use Rattle.locale_numbers.specs.Answer.{answer_to};
+ghost use Rattle.locale_numbers_answers.specs.AnswerSink.{HasRoom};
+ghost use Rattle.locale_numbers_answers.specs.Changing.{MayGrowRead, ReadsMore};
+ghost use Rattle.locale_numbers.specs.FormatterKeys.{key_text};
+ghost use Rattle.locale_numbers.specs.LineFormatters.{answer_by, answer_of_kind};
+ghost use Rattle.locale_numbers.specs.Front.{if_text, key_if_text};
+ghost use Rattle.locale_numbers_answers.specs.NumberReading.{reading_of};
+ghost use Rattle.locale_numbers.specs.declared.formatter_key.FormatterKey.{FormatterKey};
+
+use crate::formatter_key::FormatterKey;
+use crate::formatters::Formatters;
+use crate::held::hold;
+use crate::line_formatter::LineFormatter;
+use fixed_decimal::{Decimal, ParseError};
+use locale_numbers_answers::{
+    change, read_number, write_compact_answer, write_plain_answer, write_refusal,
+    write_refusal_or_shape, write_with_unit,
+};
+use locale_numbers_cache::Hashed;
+use locale_numbers_requests::{Refusal, RoundingAsked, SignAsked};
+use std::alloc::AllocError;
+
+// Writes the answer to a number, by a formatter of any kind, after what `out` holds.
+fn write_answer_of_formatter(
+    formatter: &LineFormatter<'_>,
+    value: &mut Decimal,
+    out: &mut String,
+) -> Result<(), AllocError>
+    ensures text { OnOk result (string_bytes out.new ≡ string_bytes out.old ++ answer_by formatter.now value.old) }
+    ensures err { OnErr result (Grows (string_bytes out.old) (string_bytes out.new)) }
+    ensures room { HasRoom out.old (answer_by formatter.now value.old) → IsOk result }
+{
+    match formatter {
+        LineFormatter::Plain(plain) => write_plain_answer(&plain.formatter, value, out),
+        LineFormatter::Compact(compact) => write_compact_answer(compact, value, out),
+        LineFormatter::Lenient(reader) => write_plain_answer(reader.formatter(), value, out),
+        LineFormatter::Units(unit) => write_with_unit(unit.numbers.parts().tables, value, out),
+        LineFormatter::LenientUnits(unit) => {
+            write_with_unit(unit.numbers.parts().tables, value, out)
+        }
+    }
+}
+
+// Writes the answer to a number, by the formatter of a key, after what `out` holds; or the word `table`, where it has
+// none.
+fn write_answer_of_key<'a, F: Formatters<'a>>(
+    formatters: &mut F,
+    key: &Hashed<FormatterKey>,
+    is_held: &mut bool,
+    value: &mut Decimal,
+    out: &mut String,
+) -> Result<(), AllocError>
+    requires ready { F.is_ready formatters.old }
+    requires held { IsTrue is_held.old → F.holds formatters.old key.now }
+    ensures text { OnOk result (string_bytes out.new
+        ≡ string_bytes out.old ++ answer_of_kind key.now.kind key.now.code (F.book formatters.old)
+        key.now.preferences key.now.grouping value.old) }
+    ensures err { OnErr result (Grows (string_bytes out.old) (string_bytes out.new)) }
+    ensures room { HasRoom out.old (answer_of_kind key.now.kind key.now.code (F.book formatters.old)
+        key.now.preferences key.now.grouping value.old)
+        → ¬ (F.may_take_memory formatters.old key.now) → IsOk result }
+    ensures counted { OnOk result ((more : List (Option FormatterKey)) →
+        F.counted_over formatters.old (Some key.now ∷ more) ≡ F.counted_over formatters.new more) }
+    ensures same { F.book formatters.new ≡ F.book formatters.old }
+    ensures held { IsTrue is_held.new → F.holds formatters.new key.now }
+    ensures ready { F.is_ready formatters.new }
+{
+    let found = hold(formatters, key, is_held)?;
+    if !found {
+        return write_refusal(out, Refusal::Table);
+    }
+    write_answer_of_formatter(formatters.found(key), value, out)
+}
+
+// Writes the answer to a number's text, with the formatter of a key, after what `out` holds. `value` is read again.
+//
+// `is_held` says whether the formatter that was found last is the one of the key. `AllocError`: out of memory; a part
+// of the answer may then be there.
+pub(crate) fn answer_number<'a, F: Formatters<'a>>(
+    value: &mut Decimal,
+    formatters: &mut F,
+    key: &Hashed<FormatterKey>,
+    is_held: &mut bool,
+    sign: SignAsked,
+    rounding: RoundingAsked,
+    text: &[u8],
+    out: &mut String,
+) -> Result<(), AllocError>
+    requires ready { F.is_ready formatters.old }
+    requires held { IsTrue is_held.old → F.holds formatters.old key.now }
+    ensures text { OnOk result (string_bytes out.new
+        ≡ string_bytes out.old ++ if_text text.now (answer_to
+        (answer_of_kind key.now.kind key.now.code (F.book formatters.old) key.now.preferences key.now.grouping) sign rounding
+        (reading_of text.now))) }
+    ensures err { OnErr result (Grows (string_bytes out.old) (string_bytes out.new)) }
+
+    // Where there is room for the answer, and handing out the formatter of the key takes none, only a number of more
+    // than sixteen digits, and of more than `value` had, may be out of memory, and a rounding to multiples of 25 that
+    // may lengthen one of eight.
+    ensures room { HasRoom out.old (if_text text.now (answer_to
+        (answer_of_kind key.now.kind key.now.code (F.book formatters.old) key.now.preferences key.now.grouping) sign rounding
+        (reading_of text.now)))
+        → ¬ (F.may_take_memory formatters.old key.now) → ¬ (ReadsMore text.now value.old)
+        → ¬ (MayGrowRead rounding (reading_of text.now)) → IsOk result }
+    ensures counted { OnOk result ((more : List (Option FormatterKey)) →
+        F.counted_over formatters.old (key_if_text text.now (key_text key.now (reading_of text.now)) ∷ more)
+        ≡ F.counted_over formatters.new more) }
+    ensures same { F.book formatters.new ≡ F.book formatters.old }
+    ensures held { IsTrue is_held.new → F.holds formatters.new key.now }
+    ensures ready { F.is_ready formatters.new }
+{
+    match read_number(value, text) {
+        Ok(()) => {
+            change(value, rounding, sign)?;
+            write_answer_of_key(formatters, key, is_held, value, out)
+        }
+        Err(ParseError::Syntax) => write_refusal_or_shape(out, text, Refusal::Number),
+        Err(ParseError::Limit) => write_refusal(out, Refusal::Limit),
+        Err(ParseError::Memory) => Err(AllocError),
+    }
+}
