@@ -38,7 +38,7 @@ pub(crate) trait Form {
 }
 
 // Writes a number, where there is one, by tables.
-fn write_value<F: Form>(
+pub(crate) fn write_value<F: Form>(
     tables: &F::Tables,
     number: &Result<F::Number, CallError>,
     out: &mut [u8],
