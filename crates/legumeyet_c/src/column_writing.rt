@@ -92,7 +92,7 @@ fn write_changed<F: Form<Number = Decimal>>(
     ends: &mut [usize],
     count: &mut usize,
 ) -> Result<(), CallError>
-    ensures { IsColumnOf F.says F.fails (Some tables.now) options.now (given_in column)
+    ensures { IsColumnOf F.says F.fails (Some tables.now) options.now (given_in column.entry)
         (room out.old ends.old count.old) (room out.new ends.new count.new) result }
 {
     match options.choices() {
@@ -117,7 +117,7 @@ fn write_held<F: Form<Number = Decimal>>(
     ends: &mut [usize],
     count: &mut usize,
 ) -> Result<(), CallError>
-    ensures { IsColumnOf F.says F.fails (F.Tables.held_in (Some content.now)) options.now (given_in column)
+    ensures { IsColumnOf F.says F.fails (F.Tables.held_in (Some content.now)) options.now (given_in column.entry)
         (room out.old ends.old count.old) (room out.new ends.new count.new) result }
 {
     match F::Tables::held_by(content) {
@@ -150,7 +150,7 @@ pub(crate) trait ColumnForm {
         ends: &mut [usize],
         count: &mut usize,
     ) -> Result<(), CallError>
-        ensures { is_column (Some content.now) options.now (given_in column) (room out.old ends.old count.old)
+        ensures { is_column (Some content.now) options.now (given_in column.entry) (room out.old ends.old count.old)
             (room out.new ends.new count.new) result };
 
     // nothing is written where nothing is open
@@ -244,7 +244,7 @@ fn write_after<F: ColumnForm>(
     count: &mut usize,
 ) -> Result<(), CallError>
     ensures same { handle.new.pointer.value ≡ handle.old.pointer.value }
-    ensures told { F.is_column handle.old.pointer.value options.now (given_in column)
+    ensures told { F.is_column handle.old.pointer.value options.now (given_in column.entry)
         (room out.old ends.old count.old) (room out.new ends.new count.new) result }
 {
     let Some(content) = handle.take(alloc) else {
@@ -268,7 +268,7 @@ pub(crate) fn answer_column<F: ColumnForm>(
 ) -> i32
     ensures same { handle.new.pointer.value ≡ handle.old.pointer.value }
     ensures told { Answers
-        (F.is_column handle.old.pointer.value options.now (given_in column) (room out.old ends.old count.old)
+        (F.is_column handle.old.pointer.value options.now (given_in column.entry) (room out.old ends.old count.old)
         (room out.new ends.new count.new)) result }
 {
     answer(write_after::<F>(alloc, handle, column, options, out, ends, count))
@@ -284,7 +284,7 @@ fn write_shared<F: ColumnForm>(
     ends: &mut [usize],
     count: &mut usize,
 ) -> Result<(), CallError>
-    ensures { F.is_column shared.now.lent.value options.now (given_in column) (room out.old ends.old count.old)
+    ensures { F.is_column shared.now.lent.value options.now (given_in column.entry) (room out.old ends.old count.old)
         (room out.new ends.new count.new) result }
 {
     match shared.content() {
@@ -307,7 +307,7 @@ pub(crate) fn answer_shared_column<F: ColumnForm>(
     count: &mut usize,
 ) -> i32
     ensures { Answers
-        (F.is_column shared.now.lent.value options.now (given_in column) (room out.old ends.old count.old)
+        (F.is_column shared.now.lent.value options.now (given_in column.entry) (room out.old ends.old count.old)
         (room out.new ends.new count.new)) result }
 {
     answer(write_shared::<F>(alloc, shared, column, options, out, ends, count))
