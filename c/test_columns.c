@@ -1,6 +1,6 @@
 /*
- * Calls each function that writes a column, and those that answer many request lines, well and badly, and prints what each answers
- * otherwise than it should. The status is 1 where something does.
+ * Calls each function that writes a column, well and badly, and prints what each answers otherwise than it should. The status is 1 where
+ * something does.
  */
 #include <legumeyet.h>
 #include <math.h>
