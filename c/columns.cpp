@@ -1,4 +1,4 @@
-// Writes columns and answers lines by legumeyet.hpp, well and badly. The status is 1 where a call does otherwise than it should, and a line says
+// Writes columns by legumeyet.hpp, well and badly. The status is 1 where a call does otherwise than it should, and a line says
 // which.
 #include <legumeyet.hpp>
 
@@ -27,7 +27,6 @@ static_assert(takes_all<std::vector<std::string>> && takes_all<std::deque<std::s
 static_assert(!takes_all<std::vector<float>> && !takes_all<std::vector<bool>> && !takes_all<std::vector<long double>> && !takes_all<std::string>);
 static_assert(!takes_all<const char *> && !takes_all<double> && !takes_all<std::vector<void *>> && !takes_all<std::vector<std::vector<double>>>);
 static_assert(std::is_copy_constructible_v<Column> && std::is_nothrow_move_constructible_v<Column>);
-static_assert(std::is_nothrow_move_assignable_v<Answers> && !std::is_copy_constructible_v<Answers>);
 #if __cplusplus >= 202002L
 static_assert(std::ranges::random_access_range<const Column> && std::ranges::sized_range<Column>);
 static_assert(takes_all<std::span<const double>> && takes_all<std::span<int>>);
@@ -180,35 +179,6 @@ static void in_threads(const SharedDecimalFormatter &shared) {
     expect(std::to_string(status), "0");
 }
 
-static void answers() {
-    Answers world(2), moved = std::move(world);
-    std::string out = "= ", lines;
-    expect(std::to_string(moved.answer("de\tplain\tauto\tkeep\t-\t1234.5\nx\nde\tplain", out)), "30");
-    expect(out, "= ok\t1.234,5\nerr\tshape\n");
-    expect(std::to_string(moved.answer("de\tplain", out)) + std::to_string(moved.answer("", out)), "00");
-    expect_code(world.try_answer("x\n", out).error(), Code::Closed);
-    expect(out, "= ok\t1.234,5\nerr\tshape\n");
-    Book kept = Book::world(), loose = Book::world();
-    kept.keep();
-    Answers of_kept(kept);
-    kept = Book("[[],[],[],[],[]]");
-    std::string wanted;
-    for (const char *tag : {"de", "fr", "hi", "en", "de", "xx", "e"}) {
-        for (const char *number : {"1234567.891", "5.", "1e300"}) {
-            const std::string line = std::string(tag) + "\tplain\tauto\tkeep\t-\t" + number;
-            lines += line + '\n';
-            wanted += loose.answer(line) + '\n';
-        }
-    }
-    out.clear();
-    expect(std::to_string(of_kept.answer(lines, out)), std::to_string(lines.size()));
-    expect(out, wanted);
-    expect_code(Answers::try_open(loose).error(), Code::Unkept);
-    expect_code(Answers::try_open(0).error(), Code::Option);
-    expect_code(Answers::try_open(kept).error(), Code::Unkept);
-    expect_error(message(Code::Option), [] { Answers(0); });
-}
-
 int main() {
     DecimalFormatter english("en"), opened("de"), closed("en"), taken = std::move(closed);
     const SharedDecimalFormatter german(std::move(opened)), shared_english(std::move(taken));
@@ -218,6 +188,5 @@ int main() {
     refused(english, closed);
     others();
     in_threads(german);
-    answers();
     return wrong;
 }

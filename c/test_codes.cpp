@@ -111,14 +111,6 @@ static void units() {
     expect(std::to_string(book->try_locales()->size()), "0");
 }
 
-static void answers() {
-    auto answers = legumeyet::Answers::try_open();
-    if (!answers) return expect_code(answers.error(), Code::Ok);
-    std::string out;
-    expect(std::to_string(*answers->try_answer("de\tplain\tauto\tkeep\t-\t1234.5\nx", out)) + out, "28ok\t1.234,5\n");
-    expect_code(legumeyet::Answers::try_open(0).error(), Code::Option);
-}
-
 static void compact() {
     auto english = CompactDecimalFormatter::try_open("en");
     if (!english) return expect_code(english.error(), Code::Ok);
@@ -139,6 +131,5 @@ int main(int count, char **words) {
     plain();
     units();
     compact();
-    answers();
     return wrong;
 }

@@ -655,7 +655,6 @@ inline std::vector<std::string_view> world_locales() {
 
 // A book of tables.
 class Book : inner::Owned<legumeyet_book, legumeyet_book_close> {
-    friend class Answers;
     friend class CompactDecimalFormatter;
     friend class CurrencyFormatter;
     friend class DecimalFormatter;
@@ -761,56 +760,6 @@ class World {
 };
 
 } // namespace inner
-
-// Answers to request lines by the world's book, or by one that is kept, with the formatters that were used last, up to `capacity` of them: who has
-// many lines of few tags does not make a formatter for each, as Book::answer does. They may outlive the book.
-class Answers : inner::Owned<legumeyet_answers, legumeyet_answers_close> {
-    Answers() = default;
-
-  public:
-    static constexpr std::size_t CAPACITY = 16;
-
-    // Code::Option of a capacity of 0, Code::Unkept of a book that is not kept.
-    static Result<Answers> try_open(std::size_t capacity = CAPACITY) {
-        return inner::World::with([&](Book &book) { return try_open(book, capacity); });
-    }
-    static Result<Answers> try_open(Book &book, std::size_t capacity = CAPACITY) noexcept {
-        Answers found;
-        const auto code = static_cast<Code>(legumeyet_answers_open(&book.handle, capacity, &found.handle));
-        if (code != Code::Ok) return code;
-        return found;
-    }
-
-    // Adds the answers to the lines that end, each with a line feed, to `out`, and says how many bytes of `lines` these are: what is after
-    // the last line feed waits for the next call. Where the call is refused `out` is as it was.
-    Result<std::size_t> try_answer(std::string_view lines, std::string &out) {
-        struct Written {
-            std::string &out;
-            std::size_t used;
-            ~Written() { out.resize(used); }
-        } written{out, out.size()};
-        const std::size_t before = out.size();
-        std::size_t done = 0, used = before;
-        out.resize(before + lines.size() + inner::NEAR);
-        for (;;) {
-            std::size_t read = 0, wrote = 0, needs = 0;
-            const auto code = static_cast<Code>(legumeyet_answers_answer(&handle, inner::bytes(lines) + done, lines.size() - done,
-                                                                         inner::bytes(&out[used]), out.size() - used, &read, &wrote, &needs));
-            done += read;
-            used += wrote;
-            if (code == Code::Ok) written.used = used;
-            if (code == Code::Ok) return done;
-            if (code != Code::TooSmall) return code;
-            out.resize(out.size() + std::max(out.size() - before, needs));
-        }
-    }
-
-#ifdef __cpp_exceptions
-    explicit Answers(std::size_t capacity) : Answers(try_open(capacity).value()) {}
-    explicit Answers(Book &book, std::size_t capacity = CAPACITY) : Answers(try_open(book, capacity).value()) {}
-    std::size_t answer(std::string_view lines, std::string &out) { return try_answer(lines, out).value(); }
-#endif
-};
 
 template <class Formatter> class Formatted;
 

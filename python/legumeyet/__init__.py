@@ -26,12 +26,11 @@ try:
 except ImportError as error:
     raise ImportError(f"{error}: the wheel of tools/build_wheel has this module, and `pip install ./python` compiles it") from None
 from ._errors import ClosedError, Error, InputError, OutOfMemoryError
-from ._formatters import Answers, Book, CompactDecimalFormatter, CurrencyFormatter, DecimalFormatter, Part, PercentFormatter
+from ._formatters import Book, CompactDecimalFormatter, CurrencyFormatter, DecimalFormatter, Part, PercentFormatter
 from ._locales import minor, tag_of_locale_name, version, world_locales
 from ._options import Grouping, Kind, Rounding, Sign, TrailingZeros, Width
 
 __all__ = [
-    "Answers",
     "Book",
     "ClosedError",
     "CompactDecimalFormatter",

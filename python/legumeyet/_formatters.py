@@ -1,8 +1,7 @@
-"""Books, formatters and answers."""
+"""Books and formatters."""
 import os
-import sys
 from types import TracebackType
-from typing import TYPE_CHECKING, Any, AnyStr, Dict, Iterable, Iterator, List, NamedTuple, NoReturn, Optional, Tuple, Type, TypeVar, Union, overload
+from typing import TYPE_CHECKING, Any, Dict, NamedTuple, NoReturn, Optional, Tuple, Type, TypeVar, Union, overload
 
 from . import _core
 from ._errors import CODE, TAG, Error, wrong_number
@@ -398,67 +397,3 @@ class CurrencyFormatter(Open, _core.UnitFormatter):
             raise Error(CODE, f": {currency!r}")
         expect_opened(number, named)
         self._tag, self._currency = named, currency
-
-
-# How much of a file is read at once.
-PIECE = 1 << 16
-
-
-class Answers(Open, _core.Answers):
-    """Answers to request lines by the world's book, or by one that is kept, with the formatters that were used last, up to `capacity` of them: who
-    has many lines of few tags does not make a formatter for each, as `Book.answer` does. They may outlive the book.
-
-    Raises `Error` 2 where the book is closed, 15 where it is not kept, 1 where memory was refused, and a `ValueError` of a capacity below 1.
-
-    >>> with Answers() as answers:
-    ...     answers.answer("de\\tplain\\tauto\\tkeep\\t-\\t1234.5\\nde\\tplain\\tauto\\tkeep\\t-\\tx")
-    'ok\\t1.234,5\\nerr\\tnumber\\n'
-    """
-
-    __slots__ = ("__weakref__",)
-
-    def __init__(self, book: Optional[Book] = None, *, capacity: int = 16) -> None:
-        if not isinstance(capacity, int):
-            raise TypeError(f"capacity is an int, and not {type(capacity).__name__}")
-        if capacity < 1:
-            raise ValueError("capacity is at least 1")
-        number = _core.open_answers(self, book, min(capacity, sys.maxsize))
-        if number:
-            raise Error(number)
-
-    def stream(self, lines: "Iterable[AnyStr]") -> "Iterator[AnyStr]":
-        """The answers to the lines of a file, piece by piece, or to those of pieces of a text: a line may go on in the next piece. What has
-        `read` is read by 65,536 bytes or characters. Raises as `answer`.
-
-        >>> import io
-        >>> list(Answers().stream(["de\\tplain\\tauto\\t", "keep\\t-\\t0.5\\n"]))
-        ['ok\\t0,5\\n']
-        >>> list(Answers().stream(io.BytesIO(b"de\\tplain\\tauto\\tkeep\\t-\\t0.5")))
-        [b'ok\\t0,5\\n']
-        """
-        begun: List[AnyStr] = []
-        for piece in pieces_of(lines):
-            if not isinstance(piece, (str, bytes)):
-                raise TypeError(f"a piece is a str or bytes, and not {type(piece).__name__}")
-            end = piece.rfind(b"\n" if isinstance(piece, bytes) else "\n") + 1
-            begun.append(piece[:end] if end else piece)
-            if end:
-                yield self.answer(piece[:0].join(begun))
-                begun = [piece[end:]]
-        rest = begun[0][:0].join(begun) if begun else None
-        if rest:
-            yield self.answer(rest)
-
-
-def pieces_of(lines: "Iterable[AnyStr]") -> "Iterator[AnyStr]":
-    """The pieces of a file, or what is iterated over."""
-    if not hasattr(lines, "read"):
-        if isinstance(lines, (str, bytes)):
-            raise TypeError("answer takes the text itself")
-        yield from lines
-        return
-    while True:
-        piece = lines.read(PIECE)
-        if not piece:
-            return
-        yield piece

@@ -30,7 +30,7 @@ from fractions import Fraction
 
 import legumeyet
 from legumeyet import (
-    Answers, Book, ClosedError, CompactDecimalFormatter, CurrencyFormatter, DecimalFormatter, Error, Grouping, InputError, Kind, OutOfMemoryError,
+    Book, ClosedError, CompactDecimalFormatter, CurrencyFormatter, DecimalFormatter, Error, Grouping, InputError, Kind, OutOfMemoryError,
     PercentFormatter, Rounding, Sign, TrailingZeros, Width, _core, _errors, _formatters, _locales, _options,
 )
 from legumeyet.__main__ import main
@@ -549,89 +549,6 @@ class Calls(unittest.TestCase):
             [it.join() for it in threads]
         """
         subprocess.run([sys.executable, "-W", "ignore::DeprecationWarning", "-c", words], check=True, timeout=120)
-
-    def test_answers(self):
-        """Answers are those of the book, in the order of the lines, whatever they are cut into."""
-        world = Book.world()
-        world.keep()
-        numbers = ("1234567.891", "5.", "1e300", "٣", "", "1\r")
-        lines = [f"{tag}\tplain\tauto\tkeep\t-\t{number}" for tag in ("de", "fr", "hi", "en", "de", "xx", "e") for number in numbers] + ["", "x", "\t"]
-        wanted = "".join(f"{world.answer(line)}\n" for line in lines)
-        text = "".join(f"{line}\n" for line in lines)
-        answers, few = Answers(), Answers(world, capacity=1)
-        world.close()
-        for it in (answers, few):
-            self.assertEqual(it.answer(text), wanted)
-            self.assertEqual(it.answer(text[:-1]), wanted)
-            self.assertEqual(it.answer(text.encode()), wanted.encode())
-            self.assertEqual((it.answer(""), it.answer(b"")), ("", b""))
-        self.assertEqual(answers.answer(text * 300), wanted * 300)
-        long = "de\tplain\tauto\tkeep\t-\t" + "1" * 30_000
-        self.assertEqual(answers.answer(long), f"{Book.world().answer(long)}\n")
-        self.assertEqual(answers.answer("x" * 500_000 + "\n" + text), "err\tshape\n" + wanted)
-        self.assertEqual(answers.answer(b"\xff\n"), b"err\tshape\n")
-        for size in (1, 7, 1000, 10**6):
-            pieces = [text[at : at + size] for at in range(0, len(text), size)]
-            self.assertEqual("".join(answers.stream(pieces)), wanted)
-            self.assertEqual(b"".join(answers.stream(it.encode() for it in pieces)), wanted.encode())
-        self.assertEqual("".join(answers.stream(io.StringIO(text[:-1]))), wanted)
-        with tempfile.TemporaryFile() as file:
-            file.write(text.encode() * 2000)
-            file.seek(0)
-            self.assertEqual(b"".join(answers.stream(file)), wanted.encode() * 2000)
-        self.assertEqual(list(answers.stream([])), [])
-        self.assertEqual(list(answers.stream(["", "\n", ""])), ["err\tshape\n"])
-
-    def test_wrong_answers(self):
-        self.refused(15, Answers, self.book)
-        self.book.keep()
-        for capacity in (0, -1, -(2**70)):
-            self.assertRaises(ValueError, lambda: Answers(capacity=capacity))
-        for capacity in (1.0, "1", None):
-            self.assertRaises(TypeError, lambda: Answers(capacity=capacity))
-        for book in (1, "de", self.english):
-            self.assertRaises(TypeError, Answers, book)
-        answers = Answers(self.book, capacity=2**80)
-        for lines in (None, 1, ["x"], bytearray(b"x\n"), memoryview(b"x\n")):
-            self.assertRaises(TypeError, answers.answer, lines)
-        for lines in ("x\n", b"x\n", [1], ["x", b"y\n"], None, 1):
-            self.assertRaises(TypeError, lambda: list(answers.stream(lines)))
-        for call in (copy.copy, copy.deepcopy, pickle.dumps):
-            self.assertRaisesRegex(TypeError, "not copied", call, answers)
-        self.assertEqual(repr(answers), "<Answers, open>")
-        with answers:
-            self.assertEqual(answers.answer("en\tplain\tauto\tkeep\t-\t1234"), "ok\t1,234\n")
-        answers.close()
-        self.assertFalse(answers.is_open)
-        self.refused(2, answers.answer, "x\n")
-        self.refused(2, lambda: list(answers.stream(["x\n"])))
-        self.assertEqual(answers.answer(""), "")
-        self.book.close()
-        self.refused(2, Answers, self.book)
-        self.assertRaisesRegex(RuntimeError, "never opened", Answers.__new__(Answers).answer, "x")
-
-    def test_answers_in_threads(self):
-        """Threads may use the same answers, each for its own lines, and a child of a fork its own."""
-        answers, wrong = Answers(), []
-        lines = {tag: "".join(f"{tag}\tplain\tauto\tkeep\t-\t{it}\n" for it in range(20_000)) for tag in ("de", "en", "hi", "fr")}
-        wanted = {tag: Answers().answer(text) for tag, text in lines.items()}
-
-        def work(tag):
-            wrong.extend(tag for _ in range(3) if answers.answer(lines[tag]) != wanted[tag])
-
-        threads = [threading.Thread(target=work, args=(tag,)) for tag in lines]
-        for it in threads:
-            it.start()
-        child = os.fork()
-        if child == 0:
-            try:
-                os._exit(answers.answer("de\tplain\tauto\tkeep\t-\t1234\n") != "ok\t1.234\n")
-            except RuntimeError:
-                os._exit(Answers().answer("de\tplain\tauto\tkeep\t-\t1234\n") != "ok\t1.234\n")
-        self.assertEqual(os.waitpid(child, 0)[1], 0)
-        for it in threads:
-            it.join()
-        self.assertEqual(wrong, [])
 
     def test_interrupted_column(self):
         """A signal's handler runs between two parts of a column, and what it raises ends the call."""

@@ -6,7 +6,7 @@ use std::os::raw::c_char;
 pub const OK: i32 = 0;
 pub const TOO_SMALL: i32 = 3;
 
-/// A book, a formatter or answers: in C each is a type of its own with these fields.
+/// A book or a formatter: in C each is a type of its own with these fields.
 #[repr(C)]
 pub struct Handle {
     content: *mut c_void,
@@ -121,9 +121,6 @@ extern "C" {
     pub fn legumeyet_shared_unit_formatter_format_doubles(formatter: *const SharedHandle, numbers: *const f64, number_count: usize, options: *const Options, out: *mut u8, room: usize, ends: *mut usize, ends_room: usize, count: *mut usize) -> i32;
     pub fn legumeyet_shared_unit_formatter_format_integers(formatter: *const SharedHandle, mantissas: *const i64, mantissa_count: usize, exponent: i16, options: *const Options, out: *mut u8, room: usize, ends: *mut usize, ends_room: usize, count: *mut usize) -> i32;
     pub fn legumeyet_shared_unit_formatter_format_texts(formatter: *const SharedHandle, numbers: *const u8, numbers_length: usize, options: *const Options, out: *mut u8, room: usize, ends: *mut usize, ends_room: usize, count: *mut usize) -> i32;
-    pub fn legumeyet_answers_open(book: *mut Handle, capacity: usize, answers: *mut Handle) -> i32;
-    pub fn legumeyet_answers_close(answers: *mut Handle) -> i32;
-    pub fn legumeyet_answers_answer(answers: *mut Handle, lines: *const u8, lines_length: usize, out: *mut u8, room: usize, read: *mut usize, written: *mut usize, needs: *mut usize) -> i32;
     pub fn legumeyet_tag_of_locale_name(name: *const c_char, out: *mut u8, room: usize, length: *mut usize) -> i32;
     pub fn legumeyet_error_text(error: i32, out: *mut u8, room: usize, length: *mut usize) -> i32;
     pub fn legumeyet_version() -> u32;

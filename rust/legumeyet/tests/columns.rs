@@ -1,8 +1,6 @@
-//! Columns and answers, well and badly.
+//! Columns, well and badly.
 
-use legumeyet::{
-    Answers, Book, CompactDecimalFormatter, CurrencyFormatter, DecimalFormatter, Error, Options, PercentFormatter, Rounding, Sign, Width,
-};
+use legumeyet::{CompactDecimalFormatter, CurrencyFormatter, DecimalFormatter, Error, Options, PercentFormatter, Rounding, Sign, Width};
 use std::thread;
 
 const AS_GIVEN: fn() -> Options = Options::default;
@@ -76,32 +74,4 @@ fn other_formatters() {
         threads.into_iter().map(|it| it.join().unwrap()).collect::<Vec<_>>()
     });
     assert!(texts.iter().enumerate().all(|(at, column)| column.iter().all(|text| text == format!("€{at}.00"))));
-}
-
-#[test]
-fn answers() {
-    let book = Book::world().unwrap();
-    assert_eq!(Answers::from_book(&book, 4).unwrap_err(), Error::UNKEPT);
-    assert_eq!(Answers::new(0).unwrap_err(), Error::OPTION);
-    book.keep().unwrap();
-    let answers = Answers::from_book(&book, 2).unwrap();
-    let (mut lines, mut wanted, mut out) = (Vec::new(), Vec::new(), b"= ".to_vec());
-    for tag in ["de", "fr", "hi", "en", "de", "xx", "e"] {
-        for number in ["1234567.891", "5.", "1e300", "\u{ff}"] {
-            let line = format!("{tag}\tplain\tauto\tkeep\t-\t{number}");
-            wanted.extend(format!("{}\n", book.answer(line.as_bytes()).unwrap()).into_bytes());
-            lines.extend(format!("{line}\n").into_bytes());
-        }
-    }
-    drop(book);
-    let all = lines.len();
-    lines.extend(b"de\tpl");
-    assert_eq!(answers.answer(&lines, &mut out).unwrap(), all);
-    assert!(out[2..] == wanted, "the answers differ from the book's");
-    assert_eq!(answers.answer(b"", &mut out).unwrap() + answers.answer(b"de", &mut out).unwrap(), 0);
-    let moved = thread::spawn(move || {
-        let mut out = Vec::new();
-        answers.answer(b"\n", &mut out).map(|read| (read, out))
-    });
-    assert_eq!(moved.join().unwrap().unwrap(), (1, b"err\tshape\n".to_vec()));
 }
