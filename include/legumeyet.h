@@ -201,12 +201,6 @@ typedef struct {
     bool is_open;
 } legumeyet_unit_formatter;
 
-/* Answers to request lines, with the formatters that were used last. */
-typedef struct {
-    void *content;
-    bool is_open;
-} legumeyet_answers;
-
 /*
  * What is made of a number before it is written: it is rounded, then trimmed, then padded, and then its sign is chosen. Zeroed, the
  * number stays as it is, and an amount has the digits of its currency. Of LEGUMEYET_ROUND_KEEP, LEGUMEYET_ROUND_CASH and
@@ -317,41 +311,6 @@ int32_t legumeyet_book_locale(legumeyet_book *book, size_t index, uint8_t *out, 
  * Returns 0; LEGUMEYET_CLOSED; LEGUMEYET_MEMORY; LEGUMEYET_TOO_SMALL.
  */
 int32_t legumeyet_book_answer(legumeyet_book *book, const uint8_t *line, size_t line_length, uint8_t *out, size_t room, size_t *length);
-
-/*
- * Opens answers to request lines by a book, with the `capacity` formatters that were used last: who has many lines of few tags does not
- * make a formatter for each, as legumeyet_book_answer does.
- *
- * The book is kept, as by legumeyet_book_keep, and may be closed before the answers. What `answers` had open is closed, where the call
- * returns 0. A formatter that is kept changes no answer.
- *
- * Returns 0; LEGUMEYET_CLOSED, of the book; LEGUMEYET_UNKEPT; LEGUMEYET_OPTION, of a capacity of 0; LEGUMEYET_MEMORY.
- */
-int32_t legumeyet_answers_open(legumeyet_book *book, size_t capacity, legumeyet_answers *answers);
-
-/* Closes answers, and gives their memory back. Returns 0; LEGUMEYET_CLOSED, where they were closed already. */
-int32_t legumeyet_answers_close(legumeyet_answers *answers);
-
-/*
- * Answers request lines, each ended by a line feed, in order: the text is their answers, as legumeyet_book_answer has them, each ended by
- * a line feed. What is after the last line feed of `lines` waits for the next call; at the end of all a caller adds a line feed to a line
- * that has none.
- *
- * `read` is how many bytes of `lines` were answered, and `written` how many of `out` were written; those after them stay as they were.
- * `needs` is 0, but where the call returns LEGUMEYET_TOO_SMALL: then it is how much room the answer to the next line takes with its line
- * feed, which is more than is left. A caller takes what is written, and goes on from `read`:
- *
- *     while (legumeyet_answers_answer(&answers, lines + at, length - at, out, sizeof out, &read, &written, &needs)
- *            == LEGUMEYET_TOO_SMALL && needs <= sizeof out) {
- *         fwrite(out, 1, written, stdout);
- *         at += read;
- *     }
- *
- * Returns 0, where all lines that end were answered; LEGUMEYET_CLOSED, and then the three counts are 0; LEGUMEYET_MEMORY;
- * LEGUMEYET_TOO_SMALL.
- */
-int32_t legumeyet_answers_answer(legumeyet_answers *answers, const uint8_t *lines, size_t lines_length, uint8_t *out, size_t room,
-                                 size_t *read, size_t *written, size_t *needs);
 
 /*
  * Opens the formatter of plain numbers for a locale tag: that of `en` writes -1234.5 as `-1,234.5`, that of `ar-EG` as `-١٬٢٣٤٫٥`.

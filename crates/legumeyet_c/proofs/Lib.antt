@@ -1,4 +1,5 @@
 pub mod AsBox
+pub mod ColumnWritingLemmas
 pub mod LentSent
 pub mod LentSteps
 pub mod OpeningLemmas

@@ -1,4 +1,5 @@
 pub mod Answering
+pub mod ColumnWriting
 pub mod CompactWriting
 pub mod DecimalWriting
 pub mod HeldUnits

@@ -12,12 +12,15 @@
 
 pub mod answering;
 pub mod book;
+mod column_writing;
+pub mod compact_columns;
 pub mod compact_formatter;
 pub mod compact_parts;
 mod compact_tables;
 pub mod compact_writing;
 mod content;
 pub mod crossing;
+pub mod decimal_columns;
 pub mod decimal_formatter;
 mod decimal_tables;
 pub mod doubles;
@@ -37,6 +40,7 @@ mod shared_handles;
 pub mod shared_unit;
 mod sharing;
 mod unboxed;
+pub mod unit_columns;
 pub mod unit_formatter;
 mod unit_opening;
 pub mod unit_parts;

@@ -38,7 +38,7 @@ pub(crate) trait WrittenForm {
 }
 
 // Writes a number, where there is one, by tables.
-fn write_value<F: WrittenForm>(
+pub(crate) fn write_value<F: WrittenForm>(
     tables: &F::Tables,
     number: &Result<F::Number, CallError>,
     out: &mut [u8],

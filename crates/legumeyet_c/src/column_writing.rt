@@ -1,0 +1,314 @@
+//! Columns written with what is behind a handle.
+
+ghost use Rattle.std.specs.Prelude.{◌≡◌, ◌≢◌, Some, None, Err, IfOk, IfErr, refl};
+ghost use Rattle.legumeyet_c_values.specs.Columns.{Given, IsGiven, IsGivenFault, given_in, room};
+ghost use Rattle.legumeyet_c_values.specs.Numbers.{Gives, IsChangeFault};
+ghost use Rattle.legumeyet_c_values.specs.Putting.{Answers};
+ghost use Rattle.legumeyet_c.specs.ColumnWriting.{IsColumnOf, IsGivenUnitFault, IsUnitColumn, WritesGivenUnit};
+ghost use Rattle.legumeyet_c.specs.CompactWriting.{IsCompactFault, IsCompactText};
+ghost use Rattle.legumeyet_c.specs.DecimalWriting.{HasNoFault, IsDecimalText};
+ghost use Rattle.legumeyet_c.specs.Kinds.{compact_in, decimal_in, unit_in};
+ghost use Rattle.legumeyet_c.specs.Writing.{IsWritingFault, Writes};
+
+use crate::compact_writing::CompactText;
+use crate::content::{Content, Held};
+use crate::decimal_formatter::DecimalText;
+use crate::handle::Handle;
+use crate::held_units::HeldUnits;
+use crate::lent::SharedHandle;
+use crate::unit_writing;
+use crate::writing::{Form, write_value};
+use fixed_decimal::Decimal;
+use legumeyet_c_values::{CallError, Choices, Column, NumberWriter, Options, answer, write_column};
+use std::alloc::Global;
+
+// Tables with what is made of each number.
+#[derive(Drop)]
+struct ChangedWriter<'a, F: Form<Number = Decimal>> {
+    tables: &'a F::Tables,
+    choices: Choices,
+}
+
+// A number, where there is one, changed.
+fn changed(choices: Choices, number: Result<Decimal, CallError>) -> Result<Decimal, CallError>
+    requires { IfErr number (λ error. error ≢ CallError.TooSmall) }
+    ensures value { (given : Given) → IfOk number (IsGiven given) → IfOk result (Gives (Some choices) (IsGiven given)) }
+    ensures fault { (given : Given) → IfOk number (IsGiven given) → IfErr number (IsGivenFault given)
+        → IfErr result (IsChangeFault (Some choices) (IsGiven given) (IsGivenFault given)) }
+    ensures other { IfErr result (λ error. error ≢ CallError.TooSmall) }
+{
+    match number {
+        Ok(value) => choices.changed(value),
+        Err(error) => Err(error),
+    }
+}
+
+impl<'a, F: Form<Number = Decimal>> NumberWriter for ChangedWriter<'a, F> {
+    ghost says = { λ w given text. Writes F.says (Some w.tables.now) (Gives (Some w.choices) (IsGiven given)) text };
+
+    ghost fails = { λ w given error. IsWritingFault F.fails (Some w.tables.now) (Gives (Some w.choices) (IsGiven given))
+        (IsChangeFault (Some w.choices) (IsGiven given) (IsGivenFault given)) error };
+
+    fn write(
+        &self,
+        number: Result<Decimal, CallError>,
+        out: &mut [u8],
+        length: &mut usize,
+    ) -> Result<(), CallError> {
+        let value = changed(self.choices, number);
+        write_value::<F>(self.tables, &value, out, length)
+    }
+}
+
+// A content that has a unit, with options.
+#[derive(Drop)]
+struct UnitWriter<'a> {
+    content: &'a Content,
+    options: &'a Options,
+}
+
+impl<'a> NumberWriter for UnitWriter<'a> {
+    ghost says = { λ w given text. WritesGivenUnit (unit_in (Some w.content.now)) w.options.now given text };
+
+    ghost fails = { λ w given error. IsGivenUnitFault (unit_in (Some w.content.now)) w.options.now given error };
+
+    fn write(
+        &self,
+        number: Result<Decimal, CallError>,
+        out: &mut [u8],
+        length: &mut usize,
+    ) -> Result<(), CallError> {
+        unit_writing::write_held(self.content, number, self.options, out, length)
+    }
+}
+
+// Writes a column by tables.
+fn write_changed<F: Form<Number = Decimal>>(
+    alloc: Global,
+    tables: &F::Tables,
+    column: Column<'_>,
+    options: &Options,
+    out: &mut [u8],
+    ends: &mut [usize],
+    count: &mut usize,
+) -> Result<(), CallError>
+    ensures { IsColumnOf F.says F.fails (Some tables.now) options.now (given_in column.entry)
+        (room out.old ends.old count.old) (room out.new ends.new count.new) result }
+{
+    match options.choices() {
+        Some(choices) => {
+            let writer = ChangedWriter::<F> { tables, choices };
+            write_column(alloc, &writer, column, out, ends, count)
+        }
+        None => {
+            *count = 0;
+            Err(CallError::UnknownOption)
+        }
+    }
+}
+
+// Writes a column with what a content has.
+fn write_held<F: Form<Number = Decimal>>(
+    alloc: Global,
+    content: &Content,
+    column: Column<'_>,
+    options: &Options,
+    out: &mut [u8],
+    ends: &mut [usize],
+    count: &mut usize,
+) -> Result<(), CallError>
+    ensures { IsColumnOf F.says F.fails (F.Tables.held_in (Some content.now)) options.now (given_in column.entry)
+        (room out.old ends.old count.old) (room out.new ends.new count.new) result }
+{
+    match F::Tables::held_by(content) {
+        Some(tables) => write_changed::<F>(alloc, tables, column, options, out, ends, count),
+        None => {
+            *count = 0;
+            Err(CallError::Closed)
+        }
+    }
+}
+
+// A kind of formatter, which writes columns.
+pub(crate) trait ColumnForm {
+    ghost use Rattle.std.specs.Prelude.{List, Option, Result};
+    ghost use Rattle.legumeyet_c_values.specs.Columns.{Given, Room};
+    ghost use Rattle.legumeyet_c_values.specs.declared.CallError.{CallError};
+    ghost use Rattle.legumeyet_c_values.specs.declared.Options.{Options};
+    ghost use Rattle.legumeyet_c.specs.declared.content.Content.{Content};
+
+    // what is written with what a handle has
+    ghost is_column: { Option Content → Options → List Given → Room → Room → Result (Unit {0}) CallError → Type 0 };
+
+    /// Writes a column with what a content has, where it is of this kind.
+    fn write_in(
+        alloc: Global,
+        content: &Content,
+        column: Column<'_>,
+        options: &Options,
+        out: &mut [u8],
+        ends: &mut [usize],
+        count: &mut usize,
+    ) -> Result<(), CallError>
+        ensures { is_column (Some content.now) options.now (given_in column.entry) (room out.old ends.old count.old)
+            (room out.new ends.new count.new) result };
+
+    // nothing is written where nothing is open
+    ghost closed: { (options : Options) (numbers : List Given) (before : Room)
+        → is_column None options numbers before (record before { count = 0 }) (Err CallError.Closed) };
+}
+
+impl ColumnForm for DecimalText {
+    ghost is_column = { λ content options numbers before after outcome.
+        IsColumnOf IsDecimalText HasNoFault (decimal_in content) options numbers before after outcome };
+
+    fn write_in(
+        alloc: Global,
+        content: &Content,
+        column: Column<'_>,
+        options: &Options,
+        out: &mut [u8],
+        ends: &mut [usize],
+        count: &mut usize,
+    ) -> Result<(), CallError> {
+        write_held::<DecimalText>(alloc, content, column, options, out, ends, count)
+    }
+
+    ghost closed = { λ options numbers before. record { cause = refl; untouched = refl } };
+}
+
+impl ColumnForm for CompactText {
+    ghost is_column = { λ content options numbers before after outcome.
+        IsColumnOf IsCompactText IsCompactFault (compact_in content) options numbers before after outcome };
+
+    fn write_in(
+        alloc: Global,
+        content: &Content,
+        column: Column<'_>,
+        options: &Options,
+        out: &mut [u8],
+        ends: &mut [usize],
+        count: &mut usize,
+    ) -> Result<(), CallError> {
+        write_held::<CompactText>(alloc, content, column, options, out, ends, count)
+    }
+
+    ghost closed = { λ options numbers before. record { cause = refl; untouched = refl } };
+}
+
+// The text of a number with a unit.
+pub(crate) struct UnitText;
+
+impl ColumnForm for UnitText {
+    ghost is_column = { λ content options numbers before after outcome.
+        IsUnitColumn (unit_in content) options numbers before after outcome };
+
+    fn write_in(
+        alloc: Global,
+        content: &Content,
+        column: Column<'_>,
+        options: &Options,
+        out: &mut [u8],
+        ends: &mut [usize],
+        count: &mut usize,
+    ) -> Result<(), CallError> {
+        let Some(units) = HeldUnits::held_by(content) else {
+            *count = 0;
+            return Err(CallError::Closed);
+        };
+        if options.unit_choices(units.fractions()).is_none() {
+            *count = 0;
+            return Err(CallError::UnknownOption);
+        }
+        write_column(
+            alloc,
+            &UnitWriter { content, options },
+            column,
+            out,
+            ends,
+            count,
+        )
+    }
+
+    ghost closed = { λ options numbers before. record { cause = refl; untouched = refl } };
+}
+
+// Writes a column with what is behind a handle, which stays as it is.
+fn write_after<F: ColumnForm>(
+    alloc: Global,
+    handle: &mut Handle,
+    column: Column<'_>,
+    options: &Options,
+    out: &mut [u8],
+    ends: &mut [usize],
+    count: &mut usize,
+) -> Result<(), CallError>
+    ensures same { handle.new.pointer.value ≡ handle.old.pointer.value }
+    ensures told { F.is_column handle.old.pointer.value options.now (given_in column.entry)
+        (room out.old ends.old count.old) (room out.new ends.new count.new) result }
+{
+    let Some(content) = handle.take(alloc) else {
+        *count = 0;
+        return Err(CallError::Closed);
+    };
+    let written = F::write_in(alloc, &content, column, options, out, ends, count);
+    handle.put(alloc, content);
+    written
+}
+
+// Answers a call that writes a column with what is behind a handle, which stays as it is.
+pub(crate) fn answer_column<F: ColumnForm>(
+    alloc: Global,
+    handle: &mut Handle,
+    column: Column<'_>,
+    options: &Options,
+    out: &mut [u8],
+    ends: &mut [usize],
+    count: &mut usize,
+) -> i32
+    ensures same { handle.new.pointer.value ≡ handle.old.pointer.value }
+    ensures told { Answers
+        (F.is_column handle.old.pointer.value options.now (given_in column.entry) (room out.old ends.old count.old)
+        (room out.new ends.new count.new)) result }
+{
+    answer(write_after::<F>(alloc, handle, column, options, out, ends, count))
+}
+
+// Writes a column with what is shared.
+fn write_shared<F: ColumnForm>(
+    alloc: Global,
+    shared: &SharedHandle,
+    column: Column<'_>,
+    options: &Options,
+    out: &mut [u8],
+    ends: &mut [usize],
+    count: &mut usize,
+) -> Result<(), CallError>
+    ensures { F.is_column shared.now.lent.value options.now (given_in column.entry) (room out.old ends.old count.old)
+        (room out.new ends.new count.new) result }
+{
+    match shared.content() {
+        Some(content) => F::write_in(alloc, content, column, options, out, ends, count),
+        None => {
+            *count = 0;
+            Err(CallError::Closed)
+        }
+    }
+}
+
+// Answers a call that writes a column with what is shared.
+pub(crate) fn answer_shared_column<F: ColumnForm>(
+    alloc: Global,
+    shared: &SharedHandle,
+    column: Column<'_>,
+    options: &Options,
+    out: &mut [u8],
+    ends: &mut [usize],
+    count: &mut usize,
+) -> i32
+    ensures { Answers
+        (F.is_column shared.now.lent.value options.now (given_in column.entry) (room out.old ends.old count.old)
+        (room out.new ends.new count.new)) result }
+{
+    answer(write_shared::<F>(alloc, shared, column, options, out, ends, count))
+}

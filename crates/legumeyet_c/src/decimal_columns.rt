@@ -1,0 +1,184 @@
+//! Columns of plain numbers: `legumeyet_decimal_formatter_format_doubles`, `_format_integers` and `_format_texts`, and those of a shared
+//! formatter.
+
+ghost use Rattle.std.specs.Prelude.{◌≡◌};
+ghost use Rattle.legumeyet_c_values.specs.Columns.{doubles, integers, room, spelled_lines};
+ghost use Rattle.legumeyet_c_values.specs.Putting.{Answers};
+ghost use Rattle.legumeyet_c.specs.ColumnWriting.{IsColumnOf};
+ghost use Rattle.legumeyet_c.specs.DecimalWriting.{HasNoFault, IsDecimalText};
+ghost use Rattle.legumeyet_c.specs.SharedViews.{shared_decimal_open};
+ghost use Rattle.legumeyet_c.specs.Views.{decimal_content, decimal_open};
+
+use crate::column_writing::{answer_column, answer_shared_column};
+use crate::decimal_formatter::DecimalText;
+use crate::handles::DecimalHandle;
+use crate::shared_handles::SharedDecimalHandle;
+use legumeyet_c_values::{Column, Options};
+use std::alloc::Global;
+
+/// Writes doubles, one after the other, and tells where each text ends: 1234.5 and -7.0 as `1,234.5` and `-7` in
+/// English.
+///
+/// Returns 0, where all were written; 2, the handle is closed; 4, an option is unknown; of the number at `count`, the
+/// first that was not written, 3, where there is no place for its end or its text has not room, or what
+/// `legumeyet_decimal_formatter_format_double` returns.
+#[unsafe(no_mangle)]
+pub extern "C" fn legumeyet_decimal_formatter_format_doubles(
+    alloc: Global,
+    formatter: &mut DecimalHandle,
+    numbers: &[f64],
+    options: &Options,
+    out: &mut [u8],
+    ends: &mut [usize],
+    count: &mut usize,
+) -> i32
+    ensures same { decimal_content formatter.new ≡ decimal_content formatter.old }
+    ensures told { Answers
+        (IsColumnOf IsDecimalText HasNoFault (decimal_open formatter.old) options.now (doubles numbers.now)
+        (room out.old ends.old count.old) (room out.new ends.new count.new)) result }
+{
+    let column = Column::Doubles(numbers);
+    answer_column::<DecimalText>(
+        alloc,
+        &mut formatter.handle,
+        column,
+        options,
+        out,
+        ends,
+        count,
+    )
+}
+
+/// Writes integers times ten to the power `exponent`, one after the other, and tells where each text ends: 123450 and
+/// -700 with -2 as `1,234.50` and `-7.00` in English.
+///
+/// Returns 0, where all were written; 2, the handle is closed; 4, an option is unknown; of the number at `count`, the
+/// first that was not written, 3, where there is no place for its end or its text has not room, or what
+/// `legumeyet_decimal_formatter_format_i64` returns.
+#[unsafe(no_mangle)]
+pub extern "C" fn legumeyet_decimal_formatter_format_integers(
+    alloc: Global,
+    formatter: &mut DecimalHandle,
+    mantissas: &[i64],
+    exponent: i16,
+    options: &Options,
+    out: &mut [u8],
+    ends: &mut [usize],
+    count: &mut usize,
+) -> i32
+    ensures same { decimal_content formatter.new ≡ decimal_content formatter.old }
+    ensures told { Answers
+        (IsColumnOf IsDecimalText HasNoFault (decimal_open formatter.old) options.now (integers mantissas.now exponent)
+        (room out.old ends.old count.old) (room out.new ends.new count.new)) result }
+{
+    let column = Column::Integers(mantissas, exponent);
+    answer_column::<DecimalText>(
+        alloc,
+        &mut formatter.handle,
+        column,
+        options,
+        out,
+        ends,
+        count,
+    )
+}
+
+/// Writes the numbers that lines are, one after the other, and tells where each text ends: of `1234.5`, a line feed and
+/// `-7` as `1,234.5` and `-7` in English.
+///
+/// Returns 0, where all were written; 2, the handle is closed; 4, an option is unknown; of the number at `count`, the
+/// first that was not written, 3, where there is no place for its end or its text has not room, or what
+/// `legumeyet_decimal_formatter_format` returns.
+#[unsafe(no_mangle)]
+pub extern "C" fn legumeyet_decimal_formatter_format_texts(
+    alloc: Global,
+    formatter: &mut DecimalHandle,
+    numbers: &[u8],
+    options: &Options,
+    out: &mut [u8],
+    ends: &mut [usize],
+    count: &mut usize,
+) -> i32
+    ensures same { decimal_content formatter.new ≡ decimal_content formatter.old }
+    ensures told { Answers
+        (IsColumnOf IsDecimalText HasNoFault (decimal_open formatter.old) options.now (spelled_lines numbers.now)
+        (room out.old ends.old count.old) (room out.new ends.new count.new)) result }
+{
+    let column = Column::Texts(numbers);
+    answer_column::<DecimalText>(
+        alloc,
+        &mut formatter.handle,
+        column,
+        options,
+        out,
+        ends,
+        count,
+    )
+}
+
+/// Writes doubles, one after the other, and tells where each text ends: 1234.5 and -7.0 as `1,234.5` and `-7` in
+/// English.
+///
+/// Returns as `legumeyet_decimal_formatter_format_doubles`.
+#[unsafe(no_mangle)]
+pub extern "C" fn legumeyet_shared_decimal_formatter_format_doubles(
+    alloc: Global,
+    formatter: &SharedDecimalHandle,
+    numbers: &[f64],
+    options: &Options,
+    out: &mut [u8],
+    ends: &mut [usize],
+    count: &mut usize,
+) -> i32
+    ensures { Answers
+        (IsColumnOf IsDecimalText HasNoFault (shared_decimal_open formatter.now) options.now (doubles numbers.now)
+        (room out.old ends.old count.old) (room out.new ends.new count.new)) result }
+{
+    let column = Column::Doubles(numbers);
+    answer_shared_column::<DecimalText>(alloc, &formatter.handle, column, options, out, ends, count)
+}
+
+/// Writes integers times ten to the power `exponent`, one after the other, and tells where each text ends: 123450 and
+/// -700 with -2 as `1,234.50` and `-7.00` in English.
+///
+/// Returns as `legumeyet_decimal_formatter_format_integers`.
+#[unsafe(no_mangle)]
+pub extern "C" fn legumeyet_shared_decimal_formatter_format_integers(
+    alloc: Global,
+    formatter: &SharedDecimalHandle,
+    mantissas: &[i64],
+    exponent: i16,
+    options: &Options,
+    out: &mut [u8],
+    ends: &mut [usize],
+    count: &mut usize,
+) -> i32
+    ensures { Answers
+        (IsColumnOf IsDecimalText HasNoFault (shared_decimal_open formatter.now) options.now (integers mantissas.now exponent)
+        (room out.old ends.old count.old) (room out.new ends.new count.new)) result }
+{
+    let column = Column::Integers(mantissas, exponent);
+    answer_shared_column::<DecimalText>(alloc, &formatter.handle, column, options, out, ends, count)
+}
+
+/// Writes the numbers that lines are, one after the other, and tells where each text ends: of `1234.5`, a line feed and
+/// `-7` as `1,234.5` and `-7` in English.
+///
+/// Returns as `legumeyet_decimal_formatter_format_texts`.
+#[unsafe(no_mangle)]
+pub extern "C" fn legumeyet_shared_decimal_formatter_format_texts(
+    alloc: Global,
+    formatter: &SharedDecimalHandle,
+    numbers: &[u8],
+    options: &Options,
+    out: &mut [u8],
+    ends: &mut [usize],
+    count: &mut usize,
+) -> i32
+    ensures { Answers
+        (IsColumnOf IsDecimalText HasNoFault (shared_decimal_open formatter.now) options.now (spelled_lines numbers.now)
+        (room out.old ends.old count.old) (room out.new ends.new count.new)) result }
+{
+    let column = Column::Texts(numbers);
+    answer_shared_column::<DecimalText>(alloc, &formatter.handle, column, options, out, ends, count)
+}
