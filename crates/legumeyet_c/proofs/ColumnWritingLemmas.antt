@@ -1,18 +1,15 @@
 -- Columns written behind a handle, by what is known of it and of the options.
-use Rattle.std.proofs.Common.{◌≡◌, ◌≢◌, ℕ, true, List, Option, Some, None, Result, Ok, Err, is_some, IfOk, IfErr, refl, sym, subst, inl, inr}
+use Rattle.std.proofs.Common.{◌≡◌, ◌≢◌, ℕ, List, Option, Some, None, Result, Ok, Err, IfOk, IfErr, refl, sym, subst, inr}
 use Rattle.fixed_decimal.specs.Number.{Number}
 use Rattle.fixed_decimal.specs.SignedValue.{SignedValue}
 use Rattle.legumeyet_c_values.specs.Choices.{Changes, IsChangeRefused}
 use Rattle.legumeyet_c_values.specs.Columns.{Given, IsColumn, IsGiven, IsGivenFault, IsWrittenColumn, Room, option_fault, room}
 use Rattle.legumeyet_c_values.specs.Numbers.{Gives, IsChangeFault}
-use Rattle.legumeyet_c_values.specs.Units.{unit_choices_of}
 use Rattle.legumeyet_c_values.specs.declared.CallError.{CallError}
 use Rattle.legumeyet_c_values.specs.declared.CallError.TheVariants.{Closed, TooSmall, UnknownOption}
 use Rattle.legumeyet_c_values.specs.declared.Choices.{Choices}
 use Rattle.legumeyet_c_values.specs.declared.Options.{Options}
-use Rattle.legumeyet_c_values.specs.declared.UnitChoices.{UnitChoices}
-use Rattle.legumeyet_c.specs.ColumnWriting.{IsColumnOf, IsGivenUnitFault, IsUnitColumn, WritesGivenUnit}
-use Rattle.legumeyet_c.specs.HeldUnits.{HeldUnit}
+use Rattle.legumeyet_c.specs.ColumnWriting.{IsColumnOf}
 use Rattle.legumeyet_c.specs.Writing.{IsWritingFault, Writes}
 
 -- ---- a number that is given, changed
@@ -67,33 +64,3 @@ pub column_closed : {T : Type 0} (says : T → SignedValue Number → List ℕ �
     → open_tables ≡ None → IsColumnOf says fails open_tables options numbers (room bytes ends count) (room bytes ends 0) (Err Closed)
 column_closed {T} says fails open_tables options numbers bytes ends count is =
     column_open says fails open_tables None options numbers (room bytes ends count) (room bytes ends 0) (Err Closed) is (record { cause = refl; untouched = refl })
-
--- ---- with a unit
-
-known_unit : (choices : Option UnitChoices) (says : Given → List ℕ → Type 0) (fails : Given → CallError → Type 0) (numbers : List Given) (before after : Room)
-    (outcome : Result (Unit {0}) CallError) → is_some choices ≡ true → IsWrittenColumn says fails numbers before after outcome → IsColumn (option_fault choices) says fails numbers before after outcome
-known_unit None says fails numbers before after outcome some written = absurd (cc some)
-known_unit (Some choices) says fails numbers before after outcome some written = written
-
-pub unit_column_known : (open_units : Option HeldUnit) (held : HeldUnit) (options : Options) (numbers : List Given) (before after : Room) (outcome : Result (Unit {0}) CallError)
-    → open_units ≡ Some held → is_some (unit_choices_of held.fractions options) ≡ true
-    → IsWrittenColumn (WritesGivenUnit open_units options) (IsGivenUnitFault open_units options) numbers before after outcome
-    → IsUnitColumn open_units options numbers before after outcome
-unit_column_known open_units held options numbers before after outcome is known written =
-    let P : Option HeldUnit → Type 0 = λ o. IsUnitColumn o options numbers before after outcome in
-    let W : Option HeldUnit → Type 0 = λ o. IsWrittenColumn (WritesGivenUnit o options) (IsGivenUnitFault o options) numbers before after outcome in
-    subst P (sym is)
-    (known_unit (unit_choices_of held.fractions options) (WritesGivenUnit (Some held) options) (IsGivenUnitFault (Some held) options) numbers before after outcome known (subst W is written))
-
-pub unit_column_unknown : (open_units : Option HeldUnit) (held : HeldUnit) (options : Options) (numbers : List Given) (bytes ends : List ℕ) (count : ℕ)
-    → open_units ≡ Some held → unit_choices_of held.fractions options ≡ None → IsUnitColumn open_units options numbers (room bytes ends count) (room bytes ends 0) (Err UnknownOption)
-unit_column_unknown open_units held options numbers bytes ends count is unknown =
-    let P : Option HeldUnit → Type 0 = λ o. IsUnitColumn o options numbers (room bytes ends count) (room bytes ends 0) (Err UnknownOption) in
-    subst P (sym is)
-    (column_unknown (unit_choices_of held.fractions options) (WritesGivenUnit (Some held) options) (IsGivenUnitFault (Some held) options) numbers bytes ends count unknown)
-
-pub unit_column_closed : (open_units : Option HeldUnit) (options : Options) (numbers : List Given) (bytes ends : List ℕ) (count : ℕ)
-    → open_units ≡ None → IsUnitColumn open_units options numbers (room bytes ends count) (room bytes ends 0) (Err Closed)
-unit_column_closed open_units options numbers bytes ends count is =
-    let P : Option HeldUnit → Type 0 = λ o. IsUnitColumn o options numbers (room bytes ends count) (room bytes ends 0) (Err Closed) in
-    subst P (sym is) (record { cause = refl; untouched = refl })

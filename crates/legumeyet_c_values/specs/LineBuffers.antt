@@ -1,6 +1,6 @@
 -- What a call that answers request lines over buffers leaves in them: which lines were answered, their answers, and why the next one was not.
--- Defined in include/legumeyet.h, and docs/c-api.md, "Many lines".
--- Cited by `answer_lines`, and by `legumeyet_answers_answer`.
+-- Defined here, over the lines of docs/requests.md, "Lines".
+-- Cited by `answer_lines`.
 use Rattle.std.specs.Prelude.{◌≡◌, ◌≢◌, ℕ, ◌≤◌, List, ◌++◌, length, take, drop, Result, Err, IsOk, IfErr, IsErrOf}
 use Rattle.std.specs.List.{flat_map}
 use Rattle.locale_numbers_lines.specs.Lines.{AreLines, HasNoFeed, answers_to, ended}

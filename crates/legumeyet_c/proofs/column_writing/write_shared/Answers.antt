@@ -1,4 +1,4 @@
-use Rattle.std.proofs.Common.{Option, Err, sym, subst}
+use Rattle.std.proofs.Common.{Option, Err, subst}
 use Rattle.legumeyet_c_values.specs.Columns.{given_in, room}
 use Rattle.legumeyet_c_values.specs.declared.CallError.TheVariants.{Closed}
 use Rattle.legumeyet_c.specs.declared.content.Content.{Content}
