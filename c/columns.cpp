@@ -1,5 +1,4 @@
-// Writes columns by legumeyet.hpp, well and badly. The status is 1 where a call does otherwise than it should, and a line says
-// which.
+// Writes columns by legumeyet.hpp, well and badly. The status is 1 where a call does otherwise than it should, and a line says which.
 #include <legumeyet.hpp>
 
 #include <array>

@@ -2,9 +2,9 @@
  * The module legumeyet._core: books and formatters of the library for C, which is linked into it. It uses what every CPython since 3.8 has.
  *
  * A call holds the lock of the interpreter, the GIL, and runs nothing of Python while the library has a handle. So one call at a time has a handle,
- * whatever threads and signal handlers do. Two calls let go of the GIL: that which reads a book, whose handle nobody else has yet, and format_all, for
- * CHUNK numbers at a time. Its formatter is marked as busy until then, unless it is shared: of a shared one any number of threads may be inside a
- * call. Nothing else is shared by two interpreters.
+ * whatever threads and signal handlers do. Two calls let go of the GIL: that which reads a book, whose handle nobody else has yet, and format_all,
+ * for CHUNK numbers at a time. Its formatter is marked as busy until then, unless it is shared: of a shared one any number of threads may be inside
+ * a call. Nothing else is shared by two interpreters.
  */
 #define PY_SSIZE_T_CLEAN
 #define Py_LIMITED_API 0x03080000
@@ -71,8 +71,8 @@ struct open {
     } shared_handle;           /* of a shared formatter, whose `handle` is closed then */
     bool is_shared;            /* whether it is one */
     legumeyet_options options; /* those of each call, where it has no others */
-    PyThread_type_lock next;   /* held by who waits for a call that is without the GIL: it does not go on before */
-    PyThread_type_lock lock;   /* held while such a call is without it */
+    PyThread_type_lock next;   /* held by who waits for format_all: it does not go on before */
+    PyThread_type_lock lock;   /* held while format_all is without the GIL */
     bool is_busy;              /* whether it is; written under the GIL */
     uint32_t forks;            /* `forks` of `shared` when it was last so */
 };
