@@ -102,39 +102,18 @@ fn put_by_blocks(out: &mut String, mut digits: ShownDigits<'_>) -> Result<(), St
     Ok(())
 }
 
-// Writes the same list, of digits that are taken forty-eight at a time where they can be, and else a block at a time.
-fn put_by_chunks(out: &mut String, mut digits: ShownDigits<'_>) -> Result<(), Stop> {
-    put(out, &digits.len())?;
-    put_text(out, ":")?;
-    let mut block = [0; 16];
-    while digits.len() > 0 {
-        if let Some(chunk) = digits.next_chunk() {
-            put_block(out, &chunk)?;
-        } else {
-            let count = digits.next_block(&mut block);
-            put_block(out, &block[..count])?;
-        }
-    }
-    Ok(())
-}
-
-// Writes the list of digits, where those taken one by one are those taken a block and forty-eight at a time; false where
-// they are not.
+// Writes the list of digits, where those taken one by one are those taken a block at a time; false where they are not.
 fn put_listed(
     out: &mut String,
     single: ShownDigits<'_>,
     blocks: ShownDigits<'_>,
-    chunks: ShownDigits<'_>,
 ) -> Result<bool, Stop> {
-    let mut by_blocks = String::new(*out.allocator());
-    let mut by_chunks = String::new(*out.allocator());
-    let listed = put_by_blocks(&mut by_blocks, blocks);
-    let chunked = put_by_chunks(&mut by_chunks, chunks);
+    let mut other = String::new(*out.allocator());
+    let listed = put_by_blocks(&mut other, blocks);
     let single = put_singly(out, single);
-    let is_same = out.as_str() == by_blocks.as_str() && out.as_str() == by_chunks.as_str();
-    drop((by_blocks, by_chunks));
+    let is_same = out.as_str() == other.as_str();
+    drop(other);
     listed?;
-    chunked?;
     single?;
     Ok(is_same)
 }
@@ -146,18 +125,8 @@ pub fn tell(number: &UnsignedDecimal, step: Step<'_>, out: &mut String) -> Resul
         "nonzero_magnitude_end" => told(out, &number.nonzero_magnitude_end()),
         "is_zero" => told(out, &number.is_zero()),
         "digit_at" => told(out, &number.digit_at(number_of(step.passed)?)),
-        "whole_digits" => put_listed(
-            out,
-            number.whole_digits(),
-            number.whole_digits(),
-            number.whole_digits(),
-        ),
-        "fraction_digits" => put_listed(
-            out,
-            number.fraction_digits(),
-            number.fraction_digits(),
-            number.fraction_digits(),
-        ),
+        "whole_digits" => put_listed(out, number.whole_digits(), number.whole_digits()),
+        "fraction_digits" => put_listed(out, number.fraction_digits(), number.fraction_digits()),
         "magnitude_range" => {
             let range = number.magnitude_range();
             ends(out, range.start(), range.end())

@@ -16,8 +16,8 @@ returns c =
       outcome = told.outcome;
       number = to_z-of_z w32 c.answer_shared_column.result fits ∙ told.number;
       held = subst
-        (λ (exponent : ℤ). IsUnitColumn (shared_unit_open c.args.formatter.now) c.args.options.now
-        (integers c.args.mantissas.now exponent) (room c.args.out.now c.args.ends.now c.args.count.now)
-        (room c.answer_shared_column.new.out c.answer_shared_column.new.ends c.answer_shared_column.new.count) told.outcome)
-        (to_z-of_z w16 c.args.exponent power) told.held;
+          (λ (exponent : ℤ). IsUnitColumn (shared_unit_open c.args.formatter.now) c.args.options.now
+          (integers c.args.mantissas.now exponent) (room c.args.out.now c.args.ends.now c.args.count.now)
+          (room c.answer_shared_column.new.out c.answer_shared_column.new.ends c.answer_shared_column.new.count) told.outcome)
+          (to_z-of_z w16 c.args.exponent power) told.held;
     }
