@@ -3,7 +3,7 @@ use mathlib.Core.List.{[]}
 use mir.Syntax.{impl, tnil, dnil}
 use denote.RattleType.{RattleType}
 use denote.Signature.{Slot, plain}
-use Rattle.std.proofs.BoxSteps.WrittenForm.{Bx}
+use Rattle.std.proofs.BoxSteps.Form.{Bx}
 use Rattle.std.specs.contracts.alloc.Global as global
 use Rattle.std.proofs.alloc.Global.TheLaws as global_laws
 use Rattle.std.specs.contracts.impls.GlobalAllocator.TheImpl as heap

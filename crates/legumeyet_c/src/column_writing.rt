@@ -17,14 +17,14 @@ use crate::handle::Handle;
 use crate::held_units::HeldUnits;
 use crate::lent::SharedHandle;
 use crate::unit_writing;
-use crate::writing::{WrittenForm, write_value};
+use crate::writing::{Form, write_value};
 use fixed_decimal::Decimal;
 use legumeyet_c_values::{CallError, Choices, Column, NumberWriter, Options, answer, write_column};
 use std::alloc::Global;
 
 // Tables with what is made of each number.
 #[derive(Drop)]
-struct ChangedWriter<'a, F: WrittenForm<Number = Decimal>> {
+struct ChangedWriter<'a, F: Form<Number = Decimal>> {
     tables: &'a F::Tables,
     choices: Choices,
 }
@@ -43,7 +43,7 @@ fn changed(choices: Choices, number: Result<Decimal, CallError>) -> Result<Decim
     }
 }
 
-impl<'a, F: WrittenForm<Number = Decimal>> NumberWriter for ChangedWriter<'a, F> {
+impl<'a, F: Form<Number = Decimal>> NumberWriter for ChangedWriter<'a, F> {
     ghost says = { λ w given text. Writes F.says (Some w.tables.now) (Gives (Some w.choices) (IsGiven given)) text };
 
     ghost fails = { λ w given error. IsWritingFault F.fails (Some w.tables.now) (Gives (Some w.choices) (IsGiven given))
@@ -83,7 +83,7 @@ impl<'a> NumberWriter for UnitWriter<'a> {
 }
 
 // Writes a column by tables.
-fn write_changed<F: WrittenForm<Number = Decimal>>(
+fn write_changed<F: Form<Number = Decimal>>(
     alloc: Global,
     tables: &F::Tables,
     column: Column<'_>,
@@ -108,7 +108,7 @@ fn write_changed<F: WrittenForm<Number = Decimal>>(
 }
 
 // Writes a column with what a content has.
-fn write_held<F: WrittenForm<Number = Decimal>>(
+fn write_held<F: Form<Number = Decimal>>(
     alloc: Global,
     content: &Content,
     column: Column<'_>,

@@ -11,7 +11,7 @@ ghost use Rattle.legumeyet_c.specs.Writing.{IsNumberWritingFault, IsScaledWritin
 
 use crate::compact_tables::HeldCompactTables;
 use crate::handles::CompactHandle;
-use crate::writing::{WrittenForm, write_after};
+use crate::writing::{Form, write_after};
 use fixed_decimal::{CompactDecimal, Decimal};
 use icu_decimal::CompactDecimalFormatter;
 use legumeyet_c_values::{
@@ -22,7 +22,7 @@ use std::alloc::{AllocError, Global};
 // The compact text of a number.
 pub(crate) struct CompactText;
 
-impl WrittenForm for CompactText {
+impl Form for CompactText {
     type Tables = HeldCompactTables;
 
     type Number = Decimal;
@@ -69,7 +69,7 @@ fn shown_by(
 // The value that this text shows.
 pub(crate) struct ShownText;
 
-impl WrittenForm for ShownText {
+impl Form for ShownText {
     type Tables = HeldCompactTables;
 
     type Number = Decimal;
@@ -98,7 +98,7 @@ impl WrittenForm for ShownText {
 // The text of a significand with an exponent.
 pub(crate) struct ExactText;
 
-impl WrittenForm for ExactText {
+impl Form for ExactText {
     type Tables = HeldCompactTables;
 
     type Number = CompactDecimal;

@@ -13,7 +13,7 @@ ghost use Rattle.legumeyet_c.specs.Writing.{IsNumberWritingFault, IsScaledWritin
 use crate::decimal_tables::DecimalTables;
 use crate::handles::{BookHandle, DecimalHandle};
 use crate::opening::{Found, close, open};
-use crate::writing::{WrittenForm, write_after};
+use crate::writing::{Form, write_after};
 use fixed_decimal::Decimal;
 use icu_decimal::options::GroupingStrategy;
 use legumeyet_c_values::{
@@ -56,7 +56,7 @@ impl Found for DecimalTables {
 // The text of a number.
 pub(crate) struct DecimalText;
 
-impl WrittenForm for DecimalText {
+impl Form for DecimalText {
     type Tables = DecimalTables;
 
     type Number = Decimal;

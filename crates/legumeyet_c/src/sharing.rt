@@ -14,7 +14,7 @@ use crate::handle::Handle;
 use crate::lent::SharedHandle;
 use crate::parts::{Annotates, annotated_in};
 use crate::reading::{Reader, read_with};
-use crate::writing::{WrittenForm, write_held};
+use crate::writing::{Form, write_held};
 use fixed_decimal::Decimal;
 use legumeyet_c_values::{CallError, Interval, put_parts};
 use std::alloc::Global;
@@ -76,7 +76,7 @@ pub(crate) fn close_shared<T: Held>(shared: &mut SharedHandle) -> Result<(), Cal
 }
 
 // Writes a number, where there is one, with what is shared.
-pub(crate) fn write_shared<F: WrittenForm>(
+pub(crate) fn write_shared<F: Form>(
     shared: &SharedHandle,
     number: &Result<F::Number, CallError>,
     out: &mut [u8],

@@ -10,7 +10,7 @@ use legumeyet_c_values::CallError;
 use std::alloc::Global;
 
 // What is written of a number: its text, or another one. A type that holds nothing stands for it.
-pub(crate) trait WrittenForm {
+pub(crate) trait Form {
     ghost use Rattle.std.specs.Prelude.{List, ℕ};
     ghost use Rattle.legumeyet_c_values.specs.declared.CallError.{CallError};
 
@@ -38,7 +38,7 @@ pub(crate) trait WrittenForm {
 }
 
 // Writes a number, where there is one, by tables.
-pub(crate) fn write_value<F: WrittenForm>(
+pub(crate) fn write_value<F: Form>(
     tables: &F::Tables,
     number: &Result<F::Number, CallError>,
     out: &mut [u8],
@@ -55,7 +55,7 @@ pub(crate) fn write_value<F: WrittenForm>(
 }
 
 // Writes a number, where there is one, with what a content has.
-pub(crate) fn write_held<F: WrittenForm>(
+pub(crate) fn write_held<F: Form>(
     content: &Content,
     number: &Result<F::Number, CallError>,
     out: &mut [u8],
@@ -73,7 +73,7 @@ pub(crate) fn write_held<F: WrittenForm>(
 }
 
 // Writes a number, where there is one, with what is behind a handle, which stays as it is.
-pub(crate) fn write_after<F: WrittenForm>(
+pub(crate) fn write_after<F: Form>(
     alloc: Global,
     handle: &mut Handle,
     number: &Result<F::Number, CallError>,

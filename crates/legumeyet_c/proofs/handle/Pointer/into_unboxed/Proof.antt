@@ -22,7 +22,7 @@ use denote.Triple.Walked.{Stays, stay_dropped, walk_of, says, ends_at}
 use Rattle.std.specs.Box.Ownership.{box_owns}
 use Rattle.std.specs.declared.alloc.Global.{Global}
 use Rattle.std.specs.contracts.alloc.Global as global
-use Rattle.std.proofs.BoxSteps.WrittenForm.{D, word, box_typed}
+use Rattle.std.proofs.BoxSteps.Form.{D, word, box_typed}
 use Rattle.std.proofs.BoxSteps.Steps.{box_in}
 use Rattle.std.proofs.alloc.Calls.{token, Goes-blank, handle_tells}
 use Rattle.std.proofs.raw_atomic.Walks.{proved_at}

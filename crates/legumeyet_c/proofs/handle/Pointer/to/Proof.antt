@@ -15,7 +15,7 @@ use denote.Steps.{nothing}
 use denote.Triple.Walked.{Stays, stay_dropped, walk_of, says, ends_at}
 use Rattle.std.specs.Box.Ownership.{box_owns}
 use Rattle.std.specs.declared.alloc.Global.{Global}
-use Rattle.std.proofs.BoxSteps.WrittenForm.{B, D, word, box_typed}
+use Rattle.std.proofs.BoxSteps.Form.{B, D, word, box_typed}
 use Rattle.std.proofs.BoxSteps.Steps.{box_out}
 use Rattle.std.proofs.alloc.Calls.{token, Goes-blank}
 use Rattle.std.proofs.raw_atomic.Walks.{proved_at}

@@ -25,7 +25,7 @@ use denote.Triple.Spec.{triple_of}
 use denote.Triple.Table.{framed}
 use denote.Triple.Walked.{Stays, stay_dropped, walk_of, says, ends_at}
 use Rattle.std.proofs.VecSteps.Shapes.{after}
-use Rattle.std.proofs.BoxSteps.WrittenForm.{Bx, B, D, P, R, box_ty, word, box_typed}
+use Rattle.std.proofs.BoxSteps.Form.{Bx, B, D, P, R, box_ty, word, box_typed}
 use Rattle.std.proofs.BoxSteps.Steps.{box_in, box_out}
 use Rattle.std.proofs.alloc.Calls.{Goes-blank}
 use Rattle.std.proofs.raw_atomic.Walks.{proved_at}
