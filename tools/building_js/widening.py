@@ -20,7 +20,7 @@ STORED = re.compile(r"^(\s*)store ptr (.+), ptr ([^,]+), (align \d+)(?:, ![\w.]+
 KNOWN = re.compile(
     r"^\s*(?:%\S+ = )?(?:(?:tail |musttail |notail )?call |ret (?:ptr|\{) ?|phi ptr |select |icmp \w+ ptr |ptrtoint ptr |ptrtoaddr ptr |freeze ptr "
     r"|inttoptr i64 \S+ to ptr$"
-    r"|getelementptr (?:inbounds |nuw |nusw )*(?:i8|\[\d+ x i8\]), ptr "
+    r"|getelementptr (?:inbounds |nuw |nusw )*(?:i\d+|double|\[\d+ x i\d+\]), ptr "
     r"|(?:load|store) (?:i\d+|<\d+ x i\d+>|\[\d+ x i\d+\]|double|\{[^{}]*\})[ ,]"
     r"|alloca ptr, align \d+$|extractvalue \{|unreachable|br |switch )"
 )
