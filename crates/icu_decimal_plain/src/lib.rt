@@ -17,6 +17,7 @@ mod digit_chunks;
 mod formatted_sign;
 mod formatted_unsigned_decimal;
 pub mod laws;
+mod owned_tables;
 mod piece_tables;
 mod runs;
 mod short_runs;
@@ -28,4 +29,5 @@ mod writing;
 
 pub use formatted_sign::FormattedSign;
 pub use formatted_unsigned_decimal::FormattedUnsignedDecimal;
+pub use owned_tables::OwnedDecimalTables;
 pub use tables::{DecimalTables, FormattedDecimal};
