@@ -120,6 +120,16 @@ impl<'b> DecimalFormatter<'b> {
     }
 }
 
+/// The formatter that writes with these tables: of those of English with `Never` one that writes -1234.5 as `-1234.5`.
+/// It does not allocate.
+impl<'b> From<DecimalTables<'b>> for DecimalFormatter<'b> {
+    ghost from_gives = { λ tables formatter. tables_of formatter ≡ borrowed_tables tables };
+
+    fn from(tables: DecimalTables<'b>) -> Self {
+        DecimalFormatter { tables }
+    }
+}
+
 impl<'b> AsRef<DecimalFormatter<'b>> for DecimalFormatter<'b> {
     /// The formatter itself: the one of `en` gives the one of `en`. It does not allocate.
     fn as_ref(&self) -> &DecimalFormatter<'b>

@@ -46,7 +46,7 @@ pub use formatter::DecimalFormatter;
 pub use icu_decimal_grouping::grouper;
 pub use icu_decimal_lenient::LenientTables;
 pub use icu_decimal_plain::{
-    DecimalTables, FormattedDecimal, FormattedSign, FormattedUnsignedDecimal,
+    DecimalTables, FormattedDecimal, FormattedSign, FormattedUnsignedDecimal, OwnedDecimalTables,
 };
 pub use icu_decimal_symbols::{Cow, options, parts};
 pub use lenient::{is_leniently_readable, read_lenient};
