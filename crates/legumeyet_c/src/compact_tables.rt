@@ -4,11 +4,11 @@ ghost use Rattle.std.specs.Prelude.{◌≡◌, IfOk};
 ghost use Rattle.icu_decimal.specs.HeldCompact.{compact_tables_of};
 ghost use Rattle.legumeyet_c.specs.Opening.{regrouped};
 
-use crate::decimal_tables::{OwnedDecimalTables, with_strategy};
-use icu_decimal::CompactDecimalFormatter;
+use crate::decimal_tables::with_strategy;
 use icu_decimal::options::GroupingStrategy;
 use icu_decimal::plurals::PluralRules;
 use icu_decimal::provider::CompactPatterns;
+use icu_decimal::{CompactDecimalFormatter, DecimalFormatter, OwnedDecimalTables};
 use std::alloc::{AllocError, Global};
 use std::marker::Model;
 
@@ -37,7 +37,7 @@ impl OwnedCompactTables {
     ) -> Result<OwnedCompactTables, AllocError>
         ensures { IfOk result (λ tables. tables ≡ regrouped strategy (compact_tables_of formatter.now)) }
     {
-        let plain = OwnedDecimalTables::of(formatter.plain(), strategy)?;
+        let plain = OwnedDecimalTables::try_from_tables(formatter.plain().tables(), strategy)?;
         let rules = formatter.rules().try_clone(alloc)?;
         let patterns = formatter.patterns().try_clone()?;
         Ok(OwnedCompactTables {
@@ -51,7 +51,8 @@ impl OwnedCompactTables {
     pub(crate) fn formatter(&self) -> CompactDecimalFormatter<'_>
         ensures { compact_tables_of result ≡ self.now }
     {
-        CompactDecimalFormatter::from_tables(self.plain.formatter(), &self.rules, &self.patterns)
+        let plain = DecimalFormatter::from(self.plain.tables());
+        CompactDecimalFormatter::from_tables(plain, &self.rules, &self.patterns)
     }
 }
 

@@ -9,52 +9,10 @@ ghost use Rattle.icu_decimal_lenient.specs.KeptFolds.{folds_of};
 use fixed_decimal::Decimal;
 use icu_decimal::error::ReadError;
 use icu_decimal::options::{DecimalFormatterOptions, GroupingStrategy};
-use icu_decimal::provider::DecimalSymbols;
-use icu_decimal::{DecimalFormatter, read_lenient};
+use icu_decimal::{DecimalFormatter, OwnedDecimalTables, read_lenient};
 use icu_decimal_lenient::FoldedSymbols;
 use std::alloc::{AllocError, Global};
 use std::marker::Model;
-
-// Symbols, digits, and when separators are written, in memory of their own.
-#[derive(Drop)]
-pub(crate) struct OwnedDecimalTables {
-    symbols: DecimalSymbols,
-    digits: [char; 10],
-    strategy: GroupingStrategy,
-}
-
-impl Model for OwnedDecimalTables {
-    ghost use Rattle.icu_decimal.specs.PlainText.{Tables};
-
-    ghost Value = { Tables };
-
-    ghost view = { λ t. record { symbols = t.symbols; digits = t.digits; strategy = t.strategy } };
-}
-
-impl OwnedDecimalTables {
-    // The tables that a formatter borrows, with a strategy of their own. `AllocError`: out of memory.
-    pub(crate) fn of(
-        formatter: &DecimalFormatter<'_>,
-        strategy: GroupingStrategy,
-    ) -> Result<OwnedDecimalTables, AllocError>
-        ensures { IfOk result (λ tables. tables ≡ record (tables_of formatter.now) { strategy = strategy }) }
-    {
-        let symbols = formatter.symbols().try_clone()?;
-        Ok(OwnedDecimalTables {
-            symbols,
-            digits: *formatter.digits(),
-            strategy,
-        })
-    }
-
-    // The formatter that writes with them. It does not allocate.
-    pub(crate) fn formatter(&self) -> DecimalFormatter<'_>
-        ensures { tables_of result ≡ self.now }
-    {
-        let options = DecimalFormatterOptions::from(self.strategy);
-        DecimalFormatter::from_tables(&self.symbols, &self.digits, options)
-    }
-}
 
 // Where they are.
 #[derive(Drop)]
@@ -118,7 +76,7 @@ impl DecimalTables {
     ) -> Result<DecimalTables, AllocError>
         ensures { IfOk result (λ tables. tables ≡ record (tables_of formatter.now) { strategy = strategy }) }
     {
-        let own = OwnedDecimalTables::of(formatter, strategy)?;
+        let own = OwnedDecimalTables::try_from_tables(formatter.tables(), strategy)?;
         Ok(DecimalTables {
             place: DecimalPlace::Own(own),
             folded: None,
@@ -143,7 +101,7 @@ impl DecimalTables {
         ensures { tables_of result ≡ self.now }
     {
         match &self.place {
-            DecimalPlace::Own(tables) => tables.formatter(),
+            DecimalPlace::Own(tables) => DecimalFormatter::from(tables.tables()),
             DecimalPlace::Kept(formatter) => *formatter,
         }
     }
