@@ -10,8 +10,8 @@ use lib.Utf8.{encode}
 use Rattle.icu_decimal_reading.specs.DecimalOfText.{not_written}
 use Rattle.icu_decimal_reading.specs.PlainReading.{plain_reading}
 use Rattle.icu_decimal_lenient.specs.Folding.{fold_of}
-use Rattle.icu_decimal_lenient.specs.LenientReading.{filled, is_leniently_readable_by, lenient_reading, read_either}
-use Rattle.icu_decimal_lenient.proofs.KnownLenient.{latin, number, with_strings}
+use Rattle.icu_decimal_lenient.specs.LenientReading.{filled, is_leniently_readable_by, lenient_reading, read_either, reading_by_both}
+use Rattle.icu_decimal_lenient.proofs.KnownLenient.{english, latin, number, with_strings}
 
 -- German
 
@@ -166,3 +166,42 @@ own_text = refl
 of_a_wide_digit : is_leniently_readable_by (with_strings latin (record english_strings { grouping_separator = encode_utf8_all (0xFF10 ∷ []) })) ≡ false
 unfolding fold_of chars encode
 of_a_wide_digit = refl
+
+-- Khmer with its own digits and separators, which are the other way about than those of its Latin digits
+
+abbrev khmer : Tables
+khmer = with_strings (0x17E0 ∷ 0x17E1 ∷ 0x17E2 ∷ 0x17E3 ∷ 0x17E4 ∷ 0x17E5 ∷ 0x17E6 ∷ 0x17E7 ∷ 0x17E8 ∷ 0x17E9 ∷ []) (record english_strings { decimal_separator = codes ","; grouping_separator = codes "." })
+
+ambiguous : reading_by_both khmer english (codes "1,234") ≡ not_written
+unfolding fold_of chars trim_start trim_end encode
+ambiguous = refl
+
+by_both : reading_by_both khmer english (codes "1234") ≡ number NoSign 1234 4 0
+unfolding fold_of chars trim_start trim_end encode
+by_both = refl
+
+-- of both readings one computes for too long here: each alone
+by_the_first : lenient_reading khmer (codes "1,5") ≡ number NoSign 15 1 1
+unfolding fold_of chars trim_start trim_end encode
+by_the_first = refl
+
+not_by_the_second : lenient_reading english (codes "1,5") ≡ not_written
+unfolding fold_of chars trim_start trim_end encode
+not_by_the_second = refl
+
+by_the_second : reading_by_both khmer english (codes "1.5") ≡ number NoSign 15 1 1
+unfolding fold_of chars trim_start trim_end encode
+by_the_second = refl
+
+of_its_own : reading_by_both khmer english (encode_utf8_all (0x17E1 ∷ 0x2C ∷ 0x17E5 ∷ [])) ≡ number NoSign 15 1 1
+unfolding fold_of chars trim_start trim_end encode
+of_its_own = refl
+
+-- digits of ASCII in another order: what is written without groups is the form's own
+
+abbrev downwards : Tables
+downwards = with_strings (codes "9876543210") english_strings
+
+without_groups : reading_by_both downwards english (codes "1234") ≡ number NoSign 8765 4 0
+unfolding fold_of chars trim_start trim_end encode
+without_groups = refl

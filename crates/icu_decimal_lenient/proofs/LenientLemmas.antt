@@ -11,7 +11,7 @@ use Rattle.icu_decimal_symbols.specs.declared.options.GroupingStrategy.TheVarian
 use Rattle.icu_decimal_plain.specs.PlainText.{Tables, decimal_text}
 use Rattle.icu_decimal_reading.specs.DecimalOfText.{PlainReading, decimal, not_written, unreadable}
 use Rattle.icu_decimal_lenient.specs.Folding.{folded_alike, folded_symbols, folded_tables, folded_text}
-use Rattle.icu_decimal_lenient.specs.LenientLaws.{EachGroupingIsLenient, ExactIsLenient, LenientIsTyped, LenientIsUnreadable, LenientMisses, SecondLeavesFirst, SecondReadsRest, WrittenReadsLeniently, grouped_as, under}
+use Rattle.icu_decimal_lenient.specs.LenientLaws.{EachGroupingIsLenient, ExactIsLenient, LenientIsTyped, LenientIsUnreadable, LenientMisses, WrittenReadsLeniently, grouped_as, under}
 use Rattle.icu_decimal_lenient.specs.LenientReading.{IsGroupedText, IsTypedText, IsUnreadable, filled_fold, filled_text, folded_reading, is_leniently_readable_by, lenient_reading, or_else, read_either, read_folded, read_trimmed, trimmed_fold, with_folded}
 use Rattle.icu_decimal_reading.specs.PlainReading.{plain_reading}
 use Rattle.icu_decimal_reading.specs.Readable.{is_readable_by}
@@ -231,11 +231,3 @@ lenient_is_unreadable t text = (λ e. by (plain_reading t text) refl e, back)
     back (inr none) =
         ap (λ r. or_else r (folded_reading t text)) none.1
         ∙ ap (λ b. cond b (read_folded (folded_symbols t) (folded_text t.digits text)) unreadable) none.0
-
--- ---- second tables
-
-pub second_leaves_first : SecondLeavesFirst
-second_leaves_first t other text v e = ap (λ r. or_else r (lenient_reading other text)) e
-
-pub second_reads_rest : SecondReadsRest
-second_reads_rest t other text e = ap (λ r. or_else r (lenient_reading other text)) e

@@ -1,5 +1,5 @@
 -- What a call answers that reads a text in several ways.
-use Rattle.std.proofs.Common.{◌≡◌, ◌⊎◌, inl, inr, ℕ, Bool, true, false, cond, List, Option, None, Some, Result, Ok, Err, IfOk, IsErrOf, refl, sym, ap, ◌∙◌}
+use Rattle.std.proofs.Common.{◌≡◌, inl, ℕ, Bool, true, false, cond, List, Option, None, Some, Result, Ok, Err, IfOk, IsErrOf, refl, sym, ap, ◌∙◌}
 use Rattle.std.proofs.lemmas.Bool.{and_parts, false≢true}
 use Rattle.std.specs.Str.{IsUtf8}
 use Rattle.fixed_decimal.specs.Number.{Number}
@@ -83,11 +83,6 @@ pub lacks_reading : (t : Tables) (text : List ℕ) → false ≡ is_readable_by 
 lacks_reading t text lacks = (lenient_is_unreadable t text).1 (inl (sym lacks))
 
 -- ---- what an answer means
-
--- by the second tables
-pub typed_later : (t other : Tables) (text : List ℕ) (r : Result (SignedValue Number) ReadError) → IfOk r (λ v. IsTypedText other text v) → IfOk r (λ v. IsTypedText t text v ⊎ IsTypedText other text v)
-typed_later t other text (Ok v) is = inr is
-typed_later t other text (Err e) is = tt
 
 pub answered_typed : (t : Tables) (text : List ℕ) (r : Result (SignedValue Number) ReadError) → AreTables t → IsAnswered r (lenient_reading t text) → IfOk r (λ v. IsTypedText t text v)
 answered_typed t text (Ok v) are answered = lenient_is_typed t text v are answered

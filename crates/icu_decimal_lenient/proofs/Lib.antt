@@ -1,3 +1,4 @@
+pub mod AgreementLemmas
 pub mod FillStepLemmas
 pub mod FilledLemmas
 pub mod FoldStepLemmas

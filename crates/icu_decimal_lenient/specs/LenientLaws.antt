@@ -4,6 +4,7 @@
 use Rattle.std.specs.Prelude.{◌≡◌, ◌↔◌, ◌⊎◌, ℕ, true, List}
 use Rattle.std.specs.Str.{IsUtf8}
 use Rattle.fixed_decimal.specs.Number.{Number}
+use Rattle.fixed_decimal.specs.SignedEquality.{are_equal_decimals}
 use Rattle.fixed_decimal.specs.SignedValue.{SignedValue}
 use Rattle.fixed_decimal.specs.TextLaws.{IsDecimal}
 use Rattle.icu_decimal_symbols.specs.declared.options.GroupingStrategy.{GroupingStrategy}
@@ -14,11 +15,8 @@ use Rattle.icu_decimal_reading.specs.PlainReading.{plain_reading}
 use Rattle.icu_decimal_reading.specs.Readable.{is_readable_by}
 use Rattle.icu_decimal_reading.specs.ReadingLaws.{AreTables}
 use Rattle.icu_decimal_lenient.specs.Folding.{folded_alike, folded_text}
-use Rattle.icu_decimal_lenient.specs.LenientReading.{HasNoTyped, IsTypedText, IsUnreadable, is_leniently_readable_by, lenient_reading, reading_by_both}
-
--- the same tables under another grouping
-abbrev pub under : GroupingStrategy → Tables → Tables
-under strategy t = record t { strategy = strategy }
+use Rattle.icu_decimal_lenient.specs.LenientReading.{HasNeither, HasNoTyped, IsAmbiguous, IsTypedText, IsUnreadable, is_leniently_readable_by, lenient_reading, reading_by_both}
+pub use Rattle.icu_decimal_lenient.specs.LenientReading.{under}
 
 -- under another grouping, of which groups begin with the first digit before them
 abbrev pub grouped_as : GroupingStrategy → Tables → Tables
@@ -67,10 +65,31 @@ abbrev pub WrittenReadsLeniently : Type 0
 WrittenReadsLeniently = (t : Tables) (v : SignedValue Number) → AreTables t → is_readable_by t ≡ true → IsDecimal v
     → lenient_reading t (decimal_text t v) ≡ decimal v
 
--- with second tables, what the first ones read is read as before
+-- with second tables too, what is read exactly by the first ones is read as the same decimal
+abbrev pub ExactIsReadByBoth : Type 0
+ExactIsReadByBoth = (t other : Tables) (text : List ℕ) (v : SignedValue Number) → plain_reading t text ≡ decimal v → reading_by_both t other text ≡ decimal v
+
+-- and so is what is read exactly under another grouping
+abbrev pub EachGroupingIsReadByBoth : Type 0
+EachGroupingIsReadByBoth = (t other : Tables) (strategy : GroupingStrategy) (text : List ℕ) (v : SignedValue Number)
+    → AreTables t → IsUtf8 text → is_leniently_readable_by t ≡ true
+    → plain_reading (under strategy t) text ≡ decimal v → reading_by_both t other text ≡ decimal v
+
+-- what the first tables read, and the second ones do not read as another decimal, is read as before
 abbrev pub SecondLeavesFirst : Type 0
-SecondLeavesFirst = (t other : Tables) (text : List ℕ) (v : SignedValue Number) → lenient_reading t text ≡ decimal v → reading_by_both t other text ≡ decimal v
+SecondLeavesFirst = (t other : Tables) (text : List ℕ) (v : SignedValue Number)
+    → lenient_reading t text ≡ decimal v → ((w : SignedValue Number) → lenient_reading other text ≡ decimal w → are_equal_decimals v w ≡ true)
+    → reading_by_both t other text ≡ decimal v
 
 -- and what they do not read is read as by the second ones alone
 abbrev pub SecondReadsRest : Type 0
 SecondReadsRest = (t other : Tables) (text : List ℕ) → lenient_reading t text ≡ not_written → reading_by_both t other text ≡ lenient_reading other text
+
+-- where both read, and differ, a text that is not the first formatter's own is not read
+abbrev pub AmbiguousIsNotWritten : Type 0
+AmbiguousIsNotWritten = (t other : Tables) (text : List ℕ) → IsAmbiguous t other text → reading_by_both t other text ≡ not_written
+
+-- no other text that one of them reads is refused
+abbrev pub BothMiss : Type 0
+BothMiss = (t other : Tables) (text : List ℕ) → AreTables t → AreTables other → IsUtf8 text
+    → reading_by_both t other text ≡ not_written → HasNeither t other text ⊎ IsAmbiguous t other text

@@ -1,17 +1,18 @@
 -- What a typed text is read as: as the exact reader reads it; else folded, with the folded symbols, without groups or with all of them: as it is, else trimmed, else with a zero before a point that no digit is before, and without a point that no digit is after.
 -- Defined in docs/reading.md, "Lenient reading".
--- Cited by `read_lenient`, `is_leniently_readable`, `LenientTables`, and by the laws of lenient reading.
-use Rattle.std.specs.Prelude.{◌≡◌, ◌⊎◌, ℕ, Bool, true, false, ◌&&◌, ◌==◌, cond, List, [], ◌∷◌, is_some, is_none}
+-- Cited by `read_lenient`, `is_leniently_readable`, `LenientTables`, `is_own_text`, `unless_other`, and by the laws of lenient reading.
+use Rattle.std.specs.Prelude.{◌≡◌, ◌⊎◌, ℕ, Bool, true, false, ◌&&◌, ◌||◌, ◌==◌, cond, List, [], ◌∷◌, is_some, is_none}
 use Rattle.std.specs.List.{list_all}
 use Rattle.std.specs.Str.{chars, encode_utf8_all, trim}
 use Rattle.fixed_decimal.specs.Number.{Number}
+use Rattle.fixed_decimal.specs.SignedEquality.{are_equal_decimals}
 use Rattle.fixed_decimal.specs.SignedValue.{SignedValue}
 use Rattle.icu_decimal_symbols.specs.declared.options.GroupingStrategy.{GroupingStrategy}
-use Rattle.icu_decimal_symbols.specs.declared.options.GroupingStrategy.TheVariants.{Never, Always}
+use Rattle.icu_decimal_symbols.specs.declared.options.GroupingStrategy.TheVariants.{Never, Always, Min2}
 use Rattle.icu_decimal_symbols.specs.Symbols.{Symbols}
 use Rattle.icu_decimal_plain.specs.PlainText.{Tables}
 use Rattle.icu_decimal_reading.specs.DecimalOfText.{HasManyDigits, IsPlainText, PlainReading, decimal, not_written, unreadable}
-use Rattle.icu_decimal_reading.specs.PlainReading.{begins_fraction, plain_reading}
+use Rattle.icu_decimal_reading.specs.PlainReading.{begins_fraction, is_text_of, plain_reading}
 use Rattle.icu_decimal_reading.specs.Readable.{digit_of, is_readable_by}
 use Rattle.icu_decimal_lenient.specs.Folding.{folded_symbols, folded_text, plain_digits}
 
@@ -106,9 +107,45 @@ folded_reading t text = cond (is_leniently_readable_by t) (read_folded (folded_s
 abbrev pub lenient_reading : Tables → List ℕ → PlainReading
 lenient_reading t text = or_else (plain_reading t text) (folded_reading t text)
 
--- a text that has no reading by the first tables is read by the second ones
+-- ---- with second tables
+
+-- the same tables under another grouping
+abbrev pub under : GroupingStrategy → Tables → Tables
+under strategy t = record t { strategy = strategy }
+
+-- the text is what the formatter writes of the decimal, under any grouping: `Auto` writes it as `Always` does
+abbrev pub is_own_text : Tables → List ℕ → SignedValue Number → Bool
+is_own_text t text v =
+    is_text_of (under Never t) text v || (is_text_of (under Always t) text v || is_text_of (under Min2 t) text v)
+
+-- a decimal, where a second reading is no other one
+abbrev pub unless_other : SignedValue Number → PlainReading → PlainReading
+unless_other v unreadable = decimal v
+unless_other v not_written = decimal v
+unless_other v (decimal w) = cond (are_equal_decimals v w) (decimal v) not_written
+
+-- the first reading, where the text is its decimal's own or the second reading is no other decimal; the second one, where no number is written so by the first
+abbrev pub agreed : (SignedValue Number → Bool) → PlainReading → PlainReading → PlainReading
+agreed is_own unreadable other = unreadable
+agreed is_own not_written other = other
+agreed is_own (decimal v) other = cond (is_own v) (decimal v) (unless_other v other)
+
+-- any text, by the first tables and by the second ones
 abbrev pub reading_by_both : Tables → Tables → List ℕ → PlainReading
-reading_by_both t other text = or_else (lenient_reading t text) (lenient_reading other text)
+reading_by_both t other text = agreed (λ v. is_own_text t text v) (lenient_reading t text) (lenient_reading other text)
+
+-- the first tables read a decimal that they do not write so, and the second ones another one
+pub record IsAmbiguous (t other : Tables) (text : List ℕ) : Type 0 where
+  pub one : SignedValue Number
+  pub two : SignedValue Number
+  pub first : lenient_reading t text ≡ decimal one
+  pub second : lenient_reading other text ≡ decimal two
+  pub typed : is_own_text t text one ≡ false
+  pub differ : are_equal_decimals one two ≡ false
+
+-- it is a text of no decimal by either tables
+abbrev pub HasNeither : Tables → Tables → List ℕ → Type 0
+HasNeither t other text = HasNoTyped t text × HasNoTyped other text
 
 -- what is kept to read leniently with: the symbols are readable, and those kept are the folded ones
 pub record AreKept (t : Tables) (folded : Symbols) : Type 0 where

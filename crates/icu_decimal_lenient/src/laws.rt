@@ -1,5 +1,5 @@
 //! Laws of lenient reading. No call is made: each clause is the law.
-ghost use Rattle.icu_decimal_lenient.specs.LenientLaws.{EachGroupingIsLenient, ExactIsLenient, FoldOfTextIsText, GroupingsHaveOneDecimal, LenientIsTyped, LenientIsUnreadable, LenientMisses, SecondLeavesFirst, SecondReadsRest, TwoGroupingsAreEnough, WrittenReadsLeniently};
+ghost use Rattle.icu_decimal_lenient.specs.LenientLaws.{AmbiguousIsNotWritten, BothMiss, EachGroupingIsLenient, EachGroupingIsReadByBoth, ExactIsLenient, ExactIsReadByBoth, FoldOfTextIsText, GroupingsHaveOneDecimal, LenientIsTyped, LenientIsUnreadable, LenientMisses, SecondLeavesFirst, SecondReadsRest, TwoGroupingsAreEnough, WrittenReadsLeniently};
 
 /// Under readable symbols the fold of a decimal's text is its text with the folded symbols: `1’234.5` of Switzerland is
 /// `1'234.5`.
@@ -38,9 +38,18 @@ pub fn written_reads_leniently()
     ensures { WrittenReadsLeniently }
 {}
 
-/// Second tables add to what is read, and change nothing of what the first ones read: with those of `ar-EG-u-nu-latn`
-/// after those of `ar-EG` also `1,234.5` is read.
-pub fn second_tables_only_add()
+/// Second tables change nothing of what the first ones write, under any grouping: with those of `km-u-nu-latn` after those
+/// of `km-u-nu-khmr`, `១,៥` is 1.5.
+pub fn own_texts_are_read_by_both()
+    ensures same { ExactIsReadByBoth }
+    ensures grouped { EachGroupingIsReadByBoth }
+{}
+
+/// Second tables add to what is read, and refuse what they read as another decimal: with those of `km-u-nu-latn` after
+/// those of `km-u-nu-khmr` also `1,234.5` is read, and `1,234` is refused.
+pub fn second_tables_agree()
     ensures first { SecondLeavesFirst }
     ensures rest { SecondReadsRest }
+    ensures ambiguous { AmbiguousIsNotWritten }
+    ensures none { BothMiss }
 {}

@@ -5,11 +5,12 @@ ghost use Rattle.icu_decimal_plain.specs.BorrowedTables.{borrowed_tables};
 ghost use Rattle.icu_decimal_reading.specs.DecimalOfText.{IsAnswered, not_written};
 ghost use Rattle.icu_decimal_reading.specs.PlainReading.{plain_reading};
 ghost use Rattle.icu_decimal_reading.specs.Readable.{is_readable_by};
-ghost use Rattle.icu_decimal_lenient.specs.LenientReading.{HasNoTyped, IsTypedText, IsUnreadable, MayAllocate, folded_reading, is_leniently_readable_by, lenient_reading, reading_by_both};
+ghost use Rattle.icu_decimal_lenient.specs.LenientReading.{HasNeither, HasNoTyped, IsAmbiguous, IsTypedText, IsUnreadable, MayAllocate, folded_reading, is_leniently_readable_by, lenient_reading, reading_by_both};
 
 use crate::folded::read_whole;
 use crate::folding::{fold_symbols, fold_text};
 use crate::readable::is_leniently_readable;
+use crate::second::{is_own_text, unless_other};
 use fixed_decimal::Decimal;
 use icu_decimal_plain::DecimalTables;
 use icu_decimal_reading::{ReadError, are_tables, is_readable, read_readable};
@@ -102,12 +103,38 @@ impl<'b> LenientTables<'b> {
         self.answer(alloc, text)
     }
 
-    /// As `read`, and by other tables where these read none: `1,234.5` in an Egyptian form, with those of
-    /// `ar-EG-u-nu-latn` for the others.
+    // A text by these tables, and by others.
+    #[tactic(auto, using(crate::proofs::AgreementLemmas::own_agrees, crate::proofs::AgreementLemmas::answered_other))]
+    fn answer_or(
+        &self,
+        alloc: Global,
+        other: &LenientTables<'_>,
+        text: &str,
+    ) -> Result<Decimal, ReadError>
+        ensures unreadable { ¬ (IsErrOf result ReadError.Unreadable) }
+        ensures memory { IsErrOf result ReadError.Memory
+            → MayAllocate self.now text.now ⊎ MayAllocate other.now text.now }
+        ensures reading { IsAnswered result (reading_by_both self.now other.now text.now) }
+    {
+        let number = match self.answer(alloc, text) {
+            Ok(number) => number,
+            Err(ReadError::NotWritten) => return other.answer(alloc, text),
+            Err(error) => return Err(error),
+        };
+        if is_own_text(&self.tables, &number, text) {
+            return Ok(number);
+        }
+        unless_other(number, other.answer(alloc, text))
+    }
+
+    /// As `read`, and by other tables: `1,234.5` is 1234.5 in an Egyptian form, with those of `ar-EG-u-nu-latn` for the
+    /// others.
     ///
-    /// What these tables read, the others do not change. `NotWritten`: it is a text of no decimal by either. `Memory`:
-    /// out of memory. Allocates as `read` does.
-    #[tactic(auto, using(crate::proofs::LenientStepLemmas::answered_first, crate::proofs::LenientStepLemmas::answered_second, crate::proofs::LenientStepLemmas::typed_later))]
+    /// What a formatter with these tables writes, under any grouping, the others are not asked for. Any other text is
+    /// what one of them reads, where the other one reads none or the same. `NotWritten`: it is a text of no decimal by
+    /// either, or it is ambiguous: these tables read one decimal and the others another, as `1,234` with those of
+    /// `km-u-nu-khmr` is 1.234, and 1234 with those of `km`. `Memory`: out of memory. Allocates as `read` does, and as
+    /// `read` of the others where they are asked.
     pub fn read_or(
         &self,
         alloc: Global,
@@ -115,18 +142,16 @@ impl<'b> LenientTables<'b> {
         text: &str,
     ) -> Result<Decimal, ReadError>
         ensures unreadable { ¬ (IsErrOf result ReadError.Unreadable) }
-        ensures not_written { IsErrOf result ReadError.NotWritten → HasNoTyped self.now text.now }
-        ensures neither { IsErrOf result ReadError.NotWritten → HasNoTyped other.now text.now }
+        ensures not_written { IsErrOf result ReadError.NotWritten
+            → HasNeither self.now other.now text.now ⊎ IsAmbiguous self.now other.now text.now }
         ensures memory { IsErrOf result ReadError.Memory
             → MayAllocate self.now text.now ⊎ MayAllocate other.now text.now }
         ensures value { IfOk result (λ v. IsTypedText self.now text.now v ⊎ IsTypedText other.now text.now v) }
         ensures reading { IsAnswered result (reading_by_both self.now other.now text.now) }
     {
-        match self.read(alloc, text) {
-            Ok(number) => Ok(number),
-            Err(ReadError::NotWritten) => other.read(alloc, text),
-            Err(error) => Err(error),
-        }
+        are_tables(&self.tables);
+        are_tables(&other.tables);
+        self.answer_or(alloc, other, text)
     }
 }
 

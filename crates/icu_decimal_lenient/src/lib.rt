@@ -18,8 +18,10 @@ mod kept;
 pub mod laws;
 mod lenient;
 mod readable;
+mod second;
 mod steps;
 
 pub use kept::FoldedSymbols;
 pub use lenient::{LenientTables, read_lenient};
 pub use readable::is_leniently_readable;
+pub use second::{is_own_text, unless_other};
