@@ -7,7 +7,7 @@ ghost use Rattle.icu_decimal_lenient.specs.Folding.{folded_symbols, folded_text}
 ghost use Rattle.icu_decimal_lenient.specs.LenientReading.{filled_text, is_leniently_readable_by, or_else};
 ghost use Rattle.icu_decimal_plain.specs.BorrowedTables.{borrowed_tables};
 ghost use Rattle.icu_dimension_affixes.specs.HeldUnits.{name_of, settings_of};
-ghost use Rattle.icu_dimension_affixes.specs.UnitReading.{AreReaderTexts, is_unit_readable_by, reader_texts};
+ghost use Rattle.icu_dimension_affixes.specs.UnitReading.{AreReaderTexts, HasManyBetween, HasNoDecimal, IsUnitText, is_unit_readable_by, reader_texts};
 ghost use Rattle.icu_dimension_lenient.specs.HeldPairs.{pairs_of, unit_of};
 ghost use Rattle.icu_dimension_lenient.specs.LenientUnits.{IsUnitAnswer, MayAllocateUnit, is_leniently_unit_readable_by, lenient_texts, read_named, read_own, read_unit_folded, texts_with, typed_unit_reading};
 
@@ -277,5 +277,31 @@ impl<'b> LenientUnitReader<'b> {
             Err(ReadError::NotWritten) => read_typed(alloc, &self.kept, &self.texts, text),
             Err(error) => Err(error),
         }
+    }
+
+    /// The first step of `read`: the decimal that the formatter writes so. In English with `€`, `€1,234.5` is 1234.5, and
+    /// `€1234.5` is none.
+    ///
+    /// `NotWritten`: no decimal is written so. `Memory`: out of memory. It allocates where more than sixteen digits are
+    /// between the affixes of a sign.
+    pub fn read_exactly(&self, alloc: Global, text: &str) -> Result<Decimal, ReadError>
+        ensures unreadable { ¬ (IsErrOf result ReadError.Unreadable) }
+        ensures not_written { IsErrOf result ReadError.NotWritten → HasNoDecimal self.now.reader text.now }
+        ensures memory { IsErrOf result ReadError.Memory → HasManyBetween self.now.reader text.now }
+        ensures value { IfOk result (λ v. IsUnitText self.now.reader text.now v) }
+    {
+        self.exact.read_readable(alloc, text)
+    }
+
+    /// The second step of `read`, for a text that the formatter does not write: in English with `€` and `EUR`, `€1234.5`
+    /// and `5 EUR` are 1234.5 and 5.
+    ///
+    /// `NotWritten`: it is a text of no decimal, folded. `Memory`: out of memory. It allocates.
+    pub fn read_leniently(&self, alloc: Global, text: &str) -> Result<Decimal, ReadError>
+        ensures unreadable { ¬ (IsErrOf result ReadError.Unreadable) }
+        ensures reading { IsAnswered result
+            (typed_unit_reading self.now.reader.tables self.now.folded text.now) }
+    {
+        read_typed(alloc, &self.kept, &self.texts, text)
     }
 }
