@@ -161,8 +161,7 @@ def found_reader(book, locale, system, style, code):
 
 
 def readers(book, locale, system, style, code):
-    """What texts are read by, and what those are read by then that are no number: the readers of `latn`, where the digits are
-    other ones than those of ASCII."""
+    """What texts are read by: a reader and, where its digits are other ones than those of ASCII, that of `latn`."""
     found = found_reader(book, locale, system, style, code)
     if found is None:
         return []
@@ -171,9 +170,15 @@ def readers(book, locale, system, style, code):
 
 
 def read_in_turn(its, text, grouping="auto"):
-    """The number that a text is by the first of these readers, or else by the second one."""
+    """The number that a text is by one of these readers, where the other one reads none or the same. What the format of the first
+    one writes is read by that one alone."""
     found = read_typed(its[0], text, grouping)
-    return read_typed(its[1], text, grouping) if found is None and len(its) > 1 else found
+    if len(its) == 1 or found == UNREADABLE or read_as(its[0].form, text, grouping) is not None:
+        return found
+    other = read_typed(its[1], text, grouping)
+    if found is None:
+        return other
+    return found if other in (None, UNREADABLE, found) else None
 
 
 def answer(book, line):

@@ -24,7 +24,7 @@ fn by_kept(
     read
 }
 
-// What a text is read as by these tables, and by others where they read none.
+// What a text is read as by these tables and by others.
 fn by_both(
     alloc: Global,
     kept: &LenientTables<'_>,

@@ -3,15 +3,14 @@ use Rattle.std.proofs.Common.{◌≡◌, ℕ, List, Option, Some, None, Result, 
 use Rattle.fixed_decimal.specs.Number.{Number}
 use Rattle.fixed_decimal.specs.SignedText.{signed_text_of}
 use Rattle.fixed_decimal.specs.SignedValue.{SignedValue}
-use Rattle.icu_decimal.specs.LenientReading.{or_else}
 use Rattle.icu_decimal.specs.PlainReading.{PlainReading, decimal, not_written, unreadable}
 use Rattle.icu_decimal.specs.declared.error.DataError.{DataError}
 use Rattle.icu_locale_core.specs.TagPreferences.{Preferences}
-use Rattle.locale_numbers_answers.specs.LenientUnitAnswer.{lenient_unit_reading, lenient_unit_with, second_unit, typed_by, typed_code, typed_in_turn}
+use Rattle.locale_numbers_answers.specs.LenientUnitAnswer.{lenient_unit_with, second_unit, typed_code, typed_in_turn}
 use Rattle.locale_numbers_answers.specs.ReadAnswer.{read_answer}
 use Rattle.locale_numbers_answers.specs.UnitAnswer.{UnitFound, fraction_asked, read_unit_with, reading_found}
 use Rattle.locale_numbers_answers.specs.UnitReadings.{unit_reading}
-use Rattle.locale_numbers_answers.proofs.LenientUnitLemmas.{read_first}
+use Rattle.locale_numbers_answers.proofs.LenientUnitLemmas.{read_exactly}
 use Rattle.locale_numbers_answers.proofs.UnitLemmas.{own_parts}
 use Rattle.locale_numbers_book.specs.Book.{BookTables}
 use Rattle.locale_numbers_book.specs.Wanted.{wanted_of}
@@ -38,13 +37,12 @@ read_as (decimal value) digits same = record { value = value; is = refl; printed
 
 read_leniently : (code : List ℕ) (found latin : Result UnitFound DataError) (rounding : RoundingAsked) (text digits : List ℕ)
     → read_unit_with found rounding text ≡ written digits → lenient_unit_with code found latin text ≡ written digits
-unfolding lenient_unit_reading
 read_leniently code (Err error) latin rounding text digits same = absurd (refused_no refusal.Table digits same)
 read_leniently code (Ok found) latin rounding text digits same =
     let readers = typed_in_turn code found (second_unit found latin) in
     let read = read_as (reading_found found rounding text) digits same in
     let exact = (own_parts (fraction_asked found.digits rounding) (unit_reading readers.first.reader text) read.value read.is).0 in
-    ap read_answer (read_first readers.first readers.second text read.value (ap (λ r. or_else r (typed_by readers.first.reader.tables readers.first.folded text)) exact))
+    ap read_answer (read_exactly readers.first readers.second text read.value exact)
     ∙ ap written read.printed
 
 read_tagged : (book : BookTables) (asked : Asked) (unit : UnitAsked) (rounding other : RoundingAsked) (wanted : Option Preferences) (text digits : List ℕ)

@@ -18,8 +18,7 @@ use Rattle.icu_decimal.specs.FoundTables.{with_digits, with_symbols}
 use Rattle.icu_decimal.specs.Identifiers.{digits_identifiers, symbols_identifiers}
 use Rattle.icu_decimal.specs.KeptEntries.{CompactTable}
 use Rattle.icu_decimal.specs.Folding.{plain_digits}
-use Rattle.icu_decimal.specs.LenientLaws.{EachGroupingIsLenient, under}
-use Rattle.icu_decimal.specs.LenientReading.{folded_reading, lenient_reading, or_else}
+use Rattle.icu_decimal.specs.LenientLaws.{under}
 use Rattle.icu_decimal.specs.PlainReading.{IsPlainText, PlainReading, decimal, not_written, plain_reading, unreadable}
 use Rattle.icu_decimal.specs.PlainText.{Tables, decimal_text}
 use Rattle.icu_decimal.specs.ReadingLaws.{HasOneReading as HasOnePlainReading, ReadIsWrittenAgain as TextIsWrittenAgain, TextsHaveOneDecimal, WrittenReadsBack as TextReadsBack}
@@ -60,7 +59,7 @@ use Rattle.locale_numbers_requests.specs.declared.RoundingAsked.{RoundingAsked}
 use Rattle.locale_numbers_requests.specs.declared.RoundingAsked.TheVariants.{Unrounded}
 use Rattle.locale_numbers_requests.specs.declared.SignAsked.{SignAsked}
 use Rattle.locale_numbers_requests.specs.declared.SignAsked.TheVariants.{Keep}
-use Rattle.locale_numbers_answers.proofs.LenientLemmas.{read_first}
+use Rattle.locale_numbers_answers.proofs.LenientLemmas.{read_exactly, read_grouped}
 use Rattle.locale_numbers_answers.proofs.NumberBounds.{changed_again, changed_is_decimal, reading_is_decimal}
 use Rattle.locale_numbers_answers.proofs.NumberReadingLemmas.{signed_number}
 
@@ -297,7 +296,7 @@ read_leniently : (found latin : Result Tables DataError) (text digits : List ℕ
 read_leniently (Err error) latin text digits same = absurd (refused_no refusal.Table digits same)
 read_leniently (Ok tables) latin text digits same =
     let read = read_by tables text digits (plain_reading tables text) refl same in
-    ap read_answer (read_first tables (second_of tables latin) text read.value (ap (λ reading. or_else reading (folded_reading tables text)) read.is))
+    ap read_answer (read_exactly tables (second_of tables latin) text read.value read.is)
     ∙ ap written read.printed
 
 read_tagged : (book : BookTables) (asked : Asked) (wanted : Option Preferences) (text digits : List ℕ)
@@ -329,14 +328,14 @@ module _ (book : BookTables) (asked : Asked) (tables : Tables) (finds : FindsTab
       ∙ ap (λ found. read_with found text) (found_regrouped asked.grouping grouping book finds.preferences)
       ∙ ap (λ found. read_with (regrouped grouping found) text) finds.found
 
-  -- what is read leniently is answered
-  lenient_found : (text : List ℕ) (value : SignedValue Number) → lenient_reading tables text ≡ decimal value
+  -- what is read whatever the second tables are is answered
+  lenient_found : (text : List ℕ) (value : SignedValue Number) → ((second : Option Tables) → reading_by tables second text ≡ decimal value)
       → answer_asked book (Some (lenient_request asked text)) ≡ written (signed_text_of value)
   lenient_found text value is =
       let latin : Result Tables DataError = found_in book (in_latin finds.preferences) asked.grouping in
       ap (λ p. answer_tagged book p (lenient_request asked text)) finds.tag
       ∙ ap (λ found. lenient_with found latin text) finds.found
-      ∙ ap read_answer (read_first tables (second_of tables latin) text value is)
+      ∙ ap read_answer (is (second_of tables latin))
 
   plain_found : (rounding : RoundingAsked) (digits : List ℕ) (value : SignedValue Number) → reading_of digits ≡ number value
       → answer_asked book (Some (plain_request asked rounding digits)) ≡ written (decimal_text tables (changed rounding Keep value))
@@ -381,11 +380,11 @@ read_again one again book asked tables text digits finds same =
     plain_found book asked tables finds Unrounded digits read.value (sent_again book asked tables finds text digits read plain.decimal)
     ∙ ap written (again tables text read.value read.is)
 
-pub each_grouping_is_read : EachGroupingIsLenient → EachGroupingIsReadLeniently
-each_grouping_is_read lenient book asked tables grouping text digits finds readable utf8 same =
+pub each_grouping_is_read : EachGroupingIsReadLeniently
+each_grouping_is_read book asked tables grouping text digits finds readable utf8 same =
     let other : Tables = under grouping tables in
     let read = read_by other text digits (plain_reading other text) refl (sym (regrouped_found book asked tables finds grouping text) ∙ same) in
-    lenient_found book asked tables finds text read.value (lenient tables grouping text read.value finds.are utf8 readable read.is)
+    lenient_found book asked tables finds text read.value (λ second. read_grouped tables second grouping text read.value finds.are utf8 readable read.is)
     ∙ ap written read.printed
 
 pub reads_back : TextReadsBack → WrittenReadsBack

@@ -16,7 +16,6 @@ use crate::tables::Tables;
 use icu_decimal::laws::compact::{
     held_entries_are_sound, shown_forms_are_answered, shown_values_are_compact,
 };
-use icu_decimal::laws::lenient::exact_is_lenient;
 use icu_decimal::laws::reading::{
     both_trips, plain_reading_is_the_reading, texts_are_utf8, texts_have_one_decimal,
 };
@@ -110,9 +109,7 @@ pub fn read_is_read_leniently()
 /// `read-lenient` with `always`.
 pub fn each_grouping_is_read_leniently()
     ensures { EachGroupingIsReadLeniently }
-{
-    exact_is_lenient();
-}
+{}
 
 /// What is written of a number is UTF-8, as each field of a line is: with `en` that of -987654.321 is `-987,654.321`.
 pub fn written_is_utf8()

@@ -1,68 +1,68 @@
 -- What is read of texts with a unit that people type: `specs/LenientUnitAnswer.antt`.
-use Rattle.std.proofs.Common.{◌≡◌, ◌⊎◌, ℕ, List, Option, Some, None, Result, Ok, Err, IsErrOf, inl, inr, ap, ◌∙◌, sym}
+use Rattle.std.proofs.Common.{◌≡◌, ℕ, Bool, true, false, cond, List, Option, Some, None, Result, Ok, Err, refl, ap, ◌∙◌}
 use Rattle.fixed_decimal.specs.Number.{Number}
 use Rattle.fixed_decimal.specs.SignedValue.{SignedValue}
-use Rattle.icu_decimal.specs.LenientReading.{or_else}
+use Rattle.icu_decimal.specs.LenientReading.{agreed, or_else, unless_other}
 use Rattle.icu_decimal.specs.PlainReading.{IsAnswered, PlainReading, decimal, not_written, unreadable}
 use Rattle.icu_decimal.specs.declared.error.ReadError.{ReadError}
 use Rattle.icu_decimal.specs.declared.error.ReadError.TheVariants.{Unreadable, NotWritten, Memory}
-use Rattle.icu_dimension_affixes.specs.UnitReading.{ReaderTexts}
-use Rattle.icu_dimension_lenient.specs.LenientUnits.{IsLenientUnitReading, IsUnitAnswer, LenientTexts, typed_unit_reading}
-use Rattle.locale_numbers_answers.specs.Laws.{HasOneUnitReading}
-use Rattle.locale_numbers_answers.specs.LenientUnitAnswer.{TypedTexts, lenient_unit_reading, unit_reading_by}
-use Rattle.locale_numbers_answers.specs.TypedHeld.{IsLenient, leniently}
+use Rattle.icu_decimal_lenient.proofs.AgreementLemmas.{answered_other, answered_unless, own_agrees}
+use Rattle.icu_decimal_lenient.proofs.LenientStepLemmas.{answered_second}
+use Rattle.locale_numbers_answers.specs.LenientUnitAnswer.{TypedTexts, is_number, is_own_unit_text, lenient_unit_reading, typed_by, unit_reading_by}
 use Rattle.locale_numbers_answers.specs.UnitReadings.{unit_reading}
 
 -- ---- one reader
 
--- the reading of the relation is that of the function
-lenient_is : HasOneUnitReading → (a : LenientTexts) (text : List ℕ) (reading : PlainReading) → IsLenient a → IsLenientUnitReading a text reading → lenient_unit_reading (leniently a) text ≡ reading
+-- what the formatter writes
+pub exactly_read : (a : TypedTexts) (text : List ℕ) (v : SignedValue Number) → unit_reading a.reader text ≡ decimal v → lenient_unit_reading a text ≡ decimal v
 unfolding lenient_unit_reading
-lenient_is one a text reading held (inl found) =
-    ap (λ r. or_else r (typed_unit_reading a.reader.tables a.folded text)) (sym ((one a.reader text (decimal found.0) held.texts).0 (held.readable, found.1.0)))
-    ∙ sym found.1.1
-lenient_is one a text reading held (inr none) =
-    ap (λ r. or_else r (typed_unit_reading a.reader.tables a.folded text)) (sym ((one a.reader text not_written held.texts).0 (held.readable, none.0)))
-    ∙ sym none.1
+exactly_read a text v is = ap (λ reading. or_else reading (typed_by a.reader.tables a.folded text)) is
 
-pub answered_leniently : HasOneUnitReading → (a : LenientTexts) (text : List ℕ) (answer : Result (SignedValue Number) ReadError) → IsLenient a → IsUnitAnswer a text answer
-    → IsAnswered answer (lenient_unit_reading (leniently a) text)
-answered_leniently one a text (Ok v) held is = lenient_is one a text (decimal v) held is
-answered_leniently one a text (Err Unreadable) held is = lenient_is one a text unreadable held is
-answered_leniently one a text (Err NotWritten) held is = lenient_is one a text not_written held is
-answered_leniently one a text (Err Memory) held is = tt
-
--- where texts can't be read leniently
-pub answered_exactly : (r : ReaderTexts) (text : List ℕ) (v : SignedValue Number) → unit_reading r text ≡ decimal v → lenient_unit_reading (record { reader = r; folded = None }) text ≡ decimal v
+-- where the symbols do not tell
+pub exactly_unread : (a : TypedTexts) (text : List ℕ) → unit_reading a.reader text ≡ unreadable → lenient_unit_reading a text ≡ unreadable
 unfolding lenient_unit_reading
-answered_exactly r text v is = ap (λ reading. or_else reading unreadable) is
+exactly_unread a text broken = ap (λ reading. or_else reading (typed_by a.reader.tables a.folded text)) broken
 
-pub unread_exactly : (r : ReaderTexts) (text : List ℕ) → unit_reading r text ≡ unreadable → lenient_unit_reading (record { reader = r; folded = None }) text ≡ unreadable
+-- any other text
+typed_is : (a : TypedTexts) (text : List ℕ) (r : PlainReading) → unit_reading a.reader text ≡ not_written → typed_by a.reader.tables a.folded text ≡ r → lenient_unit_reading a text ≡ r
 unfolding lenient_unit_reading
-unread_exactly r text broken = ap (λ reading. or_else reading unreadable) broken
+typed_is a text r none is = ap (λ reading. or_else reading (typed_by a.reader.tables a.folded text)) none ∙ is
 
-pub none_exactly : (r : ReaderTexts) (text : List ℕ) → unit_reading r text ≡ not_written → lenient_unit_reading (record { reader = r; folded = None }) text ≡ unreadable
+pub typed_read : (a : TypedTexts) (text : List ℕ) (answer : Result (SignedValue Number) ReadError) → unit_reading a.reader text ≡ not_written → IsAnswered answer (typed_by a.reader.tables a.folded text)
+    → IsAnswered answer (lenient_unit_reading a text)
 unfolding lenient_unit_reading
-none_exactly r text none = ap (λ reading. or_else reading unreadable) none
+typed_read a text answer none answered = answered_second answer (unit_reading a.reader text) (typed_by a.reader.tables a.folded text) none answered
 
--- ---- in turn
+-- ---- and another one
 
--- what the first one reads, the second one leaves
-pub read_first : (first : TypedTexts) (second : Option TypedTexts) (text : List ℕ) (value : SignedValue Number)
-    → lenient_unit_reading first text ≡ decimal value → unit_reading_by first second text ≡ decimal value
-read_first first None text value is = is
-read_first first (Some second) text value is = ap (λ reading. or_else reading (lenient_unit_reading second text)) is
+-- what the first one reads exactly, the second one leaves
+pub read_exactly : (first : TypedTexts) (second : Option TypedTexts) (text : List ℕ) (value : SignedValue Number)
+    → unit_reading first.reader text ≡ decimal value → unit_reading_by first second text ≡ decimal value
+read_exactly first None text value is = exactly_read first text value is
+read_exactly first (Some second) text value is =
+    own_agrees (λ v. is_own_unit_text first text) (lenient_unit_reading first text) (lenient_unit_reading second text) value (exactly_read first text value is) (ap is_number is)
 
 -- and so where the first one does not tell
-pub unread_first : (first : TypedTexts) (second : Option TypedTexts) (text : List ℕ)
-    → lenient_unit_reading first text ≡ unreadable → unit_reading_by first second text ≡ unreadable
-unread_first first None text is = is
-unread_first first (Some second) text is = ap (λ reading. or_else reading (lenient_unit_reading second text)) is
+unread_by : (first second : TypedTexts) (text : List ℕ) → lenient_unit_reading first text ≡ unreadable → unit_reading_by first (Some second) text ≡ unreadable
+unread_by first second text broken = ap (λ reading. agreed (λ v. is_own_unit_text first text) reading (lenient_unit_reading second text)) broken
+
+pub unread_exactly : (first second : TypedTexts) (text : List ℕ) → unit_reading first.reader text ≡ unreadable → unit_reading_by first (Some second) text ≡ unreadable
+unread_exactly first second text broken = unread_by first second text (exactly_unread first text broken)
+
+pub unread_typed : (first second : TypedTexts) (text : List ℕ)
+    → unit_reading first.reader text ≡ not_written → typed_by first.reader.tables first.folded text ≡ unreadable → unit_reading_by first (Some second) text ≡ unreadable
+unread_typed first second text none broken = unread_by first second text (typed_is first text unreadable none broken)
+
+-- what it reads leniently is what the second one does not read otherwise
+pub read_unless : (value : SignedValue Number) (answer : Result (SignedValue Number) ReadError) (first second : TypedTexts) (text : List ℕ)
+    → unit_reading first.reader text ≡ not_written → typed_by first.reader.tables first.folded text ≡ decimal value → IsAnswered answer (unless_other value (lenient_unit_reading second text))
+    → IsAnswered answer (unit_reading_by first (Some second) text)
+read_unless value answer first second text none is answered =
+    answered_unless value answer (lenient_unit_reading first text) (lenient_unit_reading second text) (λ v. is_own_unit_text first text) (typed_is first text (decimal value) none is) (ap is_number none) answered
 
 -- a text that is no number by the first one is what it is by the second one
-pub read_second : (answer : Result (SignedValue Number) ReadError) (first second : TypedTexts) (text : List ℕ)
-    → lenient_unit_reading first text ≡ not_written → IsAnswered answer (lenient_unit_reading second text) → IsAnswered answer (unit_reading_by first (Some second) text)
-read_second (Ok value) first second text none is = ap (λ reading. or_else reading (lenient_unit_reading second text)) none ∙ is
-read_second (Err Unreadable) first second text none is = ap (λ reading. or_else reading (lenient_unit_reading second text)) none ∙ is
-read_second (Err NotWritten) first second text none is = ap (λ reading. or_else reading (lenient_unit_reading second text)) none ∙ is
-read_second (Err Memory) first second text none is = tt
+pub read_other : (answer : Result (SignedValue Number) ReadError) (first second : TypedTexts) (text : List ℕ)
+    → unit_reading first.reader text ≡ not_written → typed_by first.reader.tables first.folded text ≡ not_written → IsAnswered answer (lenient_unit_reading second text)
+    → IsAnswered answer (unit_reading_by first (Some second) text)
+read_other answer first second text none nothing answered =
+    answered_other answer (lenient_unit_reading first text) (lenient_unit_reading second text) (λ v. is_own_unit_text first text) (typed_is first text not_written none nothing) answered

@@ -12,7 +12,7 @@ use Rattle.locale_numbers_answers.specs.AnswerLine.{refused}
 use Rattle.locale_numbers_answers.specs.ReadAnswer.{read_answer}
 use Rattle.locale_numbers_requests.specs.declared.Refusal.TheVariants as refusal
 
--- tables that a text is read with, and others, where there are any, for what the first ones do not read
+-- tables that a text is read with, and others, where there are any, by which it is not to be another number
 pub record TablesInTurn : Type 0 where
   pub first : Tables
   pub second : Option Tables
@@ -32,7 +32,7 @@ second_of tables latin = second_found tables.digits latin
 abbrev pub in_turn : Tables → Result Tables DataError → TablesInTurn
 in_turn tables latin = record { first = tables; second = second_of tables latin }
 
--- what a text is by the first tables, or else by the second ones
+-- what a text is by the first tables, or by these and the second ones
 abbrev pub reading_by : Tables → Option Tables → List ℕ → PlainReading
 reading_by first None text = lenient_reading first text
 reading_by first (Some second) text = reading_by_both first second text

@@ -2,9 +2,9 @@
 -- Defined in docs/requests.md, "Answer line", and docs/units.md, "Lenient reading".
 -- Cited by `answer` and `run`, through Answer.antt of `locale_numbers`, and by `KnownLenientReader`, `UnitReadersInTurn` and `write_lenient_unit_answer`.
 -- A text is read exactly, and else leniently, and each is defined in a file of its own to import.
-use Rattle.std.specs.Prelude.{ℕ, cond, List, Option, Some, None, option_map, Result, Ok, Err, codes}
-use Rattle.icu_decimal.specs.LenientReading.{or_else}
-use Rattle.icu_decimal.specs.PlainReading.{PlainReading, unreadable}
+use Rattle.std.specs.Prelude.{ℕ, Bool, true, false, cond, List, Option, Some, None, option_map, Result, Ok, Err, codes}
+use Rattle.icu_decimal.specs.LenientReading.{agreed, or_else}
+use Rattle.icu_decimal.specs.PlainReading.{PlainReading, decimal, not_written, unreadable}
 use Rattle.icu_decimal.specs.PlainText.{Tables}
 use Rattle.icu_decimal.specs.declared.error.DataError.{DataError}
 use Rattle.icu_dimension_affixes.specs.UnitReading.{ReaderTexts, reader_texts}
@@ -41,14 +41,24 @@ lenient_unit_reading a text = or_else (unit_reading a.reader text) (typed_by a.r
 
 -- ---- in turn
 
--- what a text is read with, and others, where there are any, for what the first ones do not read
+-- what a text is read with, and others, where there are any, by which it is not to be another number
 pub record TypedInTurn : Type 0 where
   pub first : TypedTexts
   pub second : Option TypedTexts
 
+abbrev pub is_number : PlainReading → Bool
+is_number unreadable = false
+is_number not_written = false
+is_number (decimal v) = true
+
+-- the formatter writes a number so
+abbrev pub is_own_unit_text : TypedTexts → List ℕ → Bool
+is_own_unit_text a text = is_number (unit_reading a.reader text)
+
 abbrev pub unit_reading_by : TypedTexts → Option TypedTexts → List ℕ → PlainReading
 unit_reading_by first None text = lenient_unit_reading first text
-unit_reading_by first (Some second) text = or_else (lenient_unit_reading first text) (lenient_unit_reading second text)
+unit_reading_by first (Some second) text =
+    agreed (λ v. is_own_unit_text first text) (lenient_unit_reading first text) (lenient_unit_reading second text)
 
 abbrev pub unit_reading_in_turn : TypedInTurn → List ℕ → PlainReading
 unit_reading_in_turn readers text = unit_reading_by readers.first readers.second text

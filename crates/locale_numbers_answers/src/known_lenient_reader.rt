@@ -1,14 +1,17 @@
 //! A reader of what people type of numbers with a unit that was asked whether it can be read.
 
-ghost use Rattle.std.specs.Prelude.{◌≡◌, None};
-ghost use Rattle.icu_decimal.specs.PlainReading.{IsAnswered};
-ghost use Rattle.locale_numbers_answers.specs.LenientUnitAnswer.{lenient_unit_reading};
+ghost use Rattle.std.specs.Prelude.{◌≡◌, None, Some};
+ghost use Rattle.icu_decimal.specs.PlainReading.{IsAnswered, not_written};
+ghost use Rattle.locale_numbers_answers.specs.LenientUnitAnswer.{lenient_unit_reading, typed_by, unit_reading_by};
 ghost use Rattle.locale_numbers_answers.specs.TypedHeld.{IsLenient, leniently};
+ghost use Rattle.locale_numbers_answers.specs.UnitReadings.{unit_reading};
 
 use crate::known_reader::KnownReader;
-use crate::laws::unit_texts_have_one_reading;
 use fixed_decimal::Decimal;
 use icu_decimal::error::ReadError;
+use icu_decimal::laws::reading::{both_trips as plain_trips, plain_reading_is_the_reading};
+use icu_decimal_lenient::unless_other;
+use icu_dimension_affixes::laws::both_trips as unit_trips;
 use icu_dimension_lenient::LenientUnitReader;
 use std::alloc::Global;
 use std::marker::Model;
@@ -40,29 +43,15 @@ impl<'a> Model for KnownLenientReader<'a> {
     ghost invariant = { λ s. IsHeld s.reader };
 }
 
-// What a reader reads leniently.
-fn read_leniently(
-    alloc: Global,
-    reader: &LenientUnitReader<'_>,
-    text: &str,
-) -> Result<Decimal, ReadError>
+// What the formatter of a reader writes.
+fn read_own(alloc: Global, reader: &LenientUnitReader<'_>, text: &str) -> Result<Decimal, ReadError>
     requires { IsLenient reader.now }
-    ensures { IsAnswered result (lenient_unit_reading (leniently reader.now) text.now) }
+    ensures { IsAnswered result (unit_reading reader.now.reader text.now) }
 {
-    unit_texts_have_one_reading();
-    reader.read(alloc, text)
-}
-
-// What a reader reads exactly: where texts can't be read leniently, any other one is unreadable.
-#[tactic(auto, using(crate::proofs::LenientUnitLemmas::answered_exactly, crate::proofs::LenientUnitLemmas::unread_exactly, crate::proofs::LenientUnitLemmas::none_exactly))]
-fn read_exactly(alloc: Global, reader: &KnownReader<'_>, text: &str) -> Result<Decimal, ReadError>
-    ensures { IsAnswered result (lenient_unit_reading (record { reader = reader.now; folded = None }) text.now) }
-{
-    match reader.read(alloc, text) {
-        Ok(number) => Ok(number),
-        Err(ReadError::NotWritten | ReadError::Unreadable) => Err(ReadError::Unreadable),
-        Err(ReadError::Memory) => Err(ReadError::Memory),
-    }
+    plain_reading_is_the_reading();
+    plain_trips();
+    unit_trips();
+    reader.read_exactly(alloc, text)
 }
 
 impl<'a> KnownLenientReader<'a> {
@@ -87,16 +76,82 @@ impl<'a> KnownLenientReader<'a> {
         }
     }
 
+    // What the formatter writes.
+    fn read_exactly(&self, alloc: Global, text: &str) -> Result<Decimal, ReadError>
+        ensures { IsAnswered result (unit_reading self.now.reader text.now) }
+    {
+        match &self.reader {
+            TypedReader::Leniently(reader) => read_own(alloc, reader, text),
+            TypedReader::Exactly(reader) => reader.read(alloc, text),
+        }
+    }
+
+    // Any other text: where texts can't be read leniently it is unreadable.
+    fn read_leniently(&self, alloc: Global, text: &str) -> Result<Decimal, ReadError>
+        ensures { IsAnswered result (typed_by self.now.reader.tables self.now.folded text.now) }
+    {
+        match &self.reader {
+            TypedReader::Leniently(reader) => reader.read_leniently(alloc, text),
+            TypedReader::Exactly(_) => Err(ReadError::Unreadable),
+        }
+    }
+
     /// The number that was typed: of English, `€` and `EUR` 1.5 of `€1.5`, `1.5` and `1.5 EUR`.
     ///
     /// `Unreadable`: texts can't be read, or not leniently and no number is written so. `NotWritten`: it is a text of no
     /// number. `Memory`: out of memory. It allocates where the text has more than sixteen digits, or is folded.
+    #[tactic(auto, using(crate::proofs::LenientUnitLemmas::exactly_read, crate::proofs::LenientUnitLemmas::exactly_unread, crate::proofs::LenientUnitLemmas::typed_read))]
     pub fn read(&self, alloc: Global, text: &str) -> Result<Decimal, ReadError>
         ensures { IsAnswered result (lenient_unit_reading self.now text.now) }
     {
-        match &self.reader {
-            TypedReader::Leniently(reader) => read_leniently(alloc, reader, text),
-            TypedReader::Exactly(reader) => read_exactly(alloc, reader, text),
+        match self.read_exactly(alloc, text) {
+            Ok(number) => Ok(number),
+            Err(ReadError::NotWritten) => self.read_leniently(alloc, text),
+            Err(ReadError::Unreadable) => Err(ReadError::Unreadable),
+            Err(ReadError::Memory) => Err(ReadError::Memory),
+        }
+    }
+
+    // A text that the formatter does not write, by this reader and by another one.
+    #[tactic(auto, using(crate::proofs::LenientUnitLemmas::unread_typed, crate::proofs::LenientUnitLemmas::read_unless, crate::proofs::LenientUnitLemmas::read_other))]
+    fn read_unless(
+        &self,
+        alloc: Global,
+        other: &KnownLenientReader<'_>,
+        text: &str,
+    ) -> Result<Decimal, ReadError>
+        requires { unit_reading self.now.reader text.now ≡ not_written }
+        ensures { IsAnswered result (unit_reading_by self.now (Some other.now) text.now) }
+    {
+        match self.read_leniently(alloc, text) {
+            Ok(number) => unless_other(number, other.read(alloc, text)),
+            Err(ReadError::NotWritten) => other.read(alloc, text),
+            Err(ReadError::Unreadable) => Err(ReadError::Unreadable),
+            Err(ReadError::Memory) => Err(ReadError::Memory),
+        }
+    }
+
+    /// As `read`, and by another reader, where the text is not what the formatter writes: by the reader of
+    /// `km-u-nu-khmr` and `USD` and that of `km-u-nu-latn`, `1,234.5 USD` is 1234.5, and `1,234 USD` is refused.
+    ///
+    /// `Unreadable`: as `read`, and where no number is written so by this reader and the other one answers so.
+    /// `NotWritten`: it is a text of no number by either, or it is ambiguous: this reader reads one number, the other
+    /// one another. `Memory`: out of memory. It allocates as `read`, and as `read` of the other reader where that is
+    /// asked.
+    #[tactic(auto, using(crate::proofs::LenientUnitLemmas::read_exactly, crate::proofs::LenientUnitLemmas::unread_exactly))]
+    pub fn read_or(
+        &self,
+        alloc: Global,
+        other: &KnownLenientReader<'_>,
+        text: &str,
+    ) -> Result<Decimal, ReadError>
+        ensures { IsAnswered result (unit_reading_by self.now (Some other.now) text.now) }
+    {
+        match self.read_exactly(alloc, text) {
+            Ok(number) => Ok(number),
+            Err(ReadError::NotWritten) => self.read_unless(alloc, other, text),
+            Err(ReadError::Unreadable) => Err(ReadError::Unreadable),
+            Err(ReadError::Memory) => Err(ReadError::Memory),
         }
     }
 }

@@ -1,17 +1,18 @@
 //! What people type, read by a formatter, and where its digits are its own, also by one of the digits of ASCII.
 
-ghost use Rattle.std.specs.Prelude.{◌≡◌, Option, None, Some, IsErrOf, IfSome, option_map};
+ghost use Rattle.std.specs.Prelude.{◌≡◌, ◌⊎◌, Option, None, Some, IsErrOf, IfSome, option_map};
 ghost use Rattle.std.specs.Str.{bytes_eq};
 ghost use Rattle.icu_decimal.specs.BorrowedTables.{borrowed_tables};
 ghost use Rattle.icu_decimal.specs.Folding.{plain_digits};
 ghost use Rattle.icu_decimal.specs.HeldTables.{tables_of};
-ghost use Rattle.icu_decimal.specs.LenientReading.{MayAllocate, lenient_reading};
+ghost use Rattle.icu_decimal.specs.LenientReading.{MayAllocate, lenient_reading, reading_by_both};
 ghost use Rattle.icu_decimal.specs.PlainReading.{IsAnswered};
 ghost use Rattle.locale_numbers_answers.specs.LenientAnswer.{MayAllocateInTurn, reading_in_turn};
 
 use fixed_decimal::Decimal;
 use icu_decimal::error::ReadError;
 use icu_decimal::{DecimalFormatter, DecimalTables, LenientTables, read_lenient};
+use icu_decimal_lenient::{is_own_text, unless_other};
 use std::alloc::Global;
 use std::marker::Model;
 
@@ -78,10 +79,33 @@ impl<'a> LenientFormatter<'a> {
             None => read_lenient(alloc, &self.formatter, text),
         }
     }
+
+    // The same, by another formatter too where the text is not what this one writes.
+    #[tactic(auto, using(icu_decimal_lenient::proofs::AgreementLemmas::own_agrees, icu_decimal_lenient::proofs::AgreementLemmas::answered_other))]
+    fn read_or(
+        &self,
+        alloc: Global,
+        other: &LenientFormatter<'_>,
+        text: &str,
+    ) -> Result<Decimal, ReadError>
+        ensures memory { IsErrOf result ReadError.Memory
+            → MayAllocate self.now text.now ⊎ MayAllocate other.now text.now }
+        ensures reading { IsAnswered result (reading_by_both self.now other.now text.now) }
+    {
+        let number = match self.read(alloc, text) {
+            Ok(number) => number,
+            Err(ReadError::NotWritten) => return other.read(alloc, text),
+            Err(error) => return Err(error),
+        };
+        if is_own_text(self.formatter.tables(), &number, text) {
+            return Ok(number);
+        }
+        unless_other(number, other.read(alloc, text))
+    }
 }
 
-/// What reads the texts of a form that people type into: by a formatter, and what this does not read by a second one,
-/// where there is one, as that of `ar-EG-u-nu-latn` beside that of `ar-EG`.
+/// What reads the texts of a form that people type into: by a formatter and, where there is one, by a second one, as that
+/// of `ar-EG-u-nu-latn` beside that of `ar-EG`.
 ///
 /// A clause sees the tables of both.
 #[derive(Drop)]
@@ -145,21 +169,17 @@ impl<'a> LenientReader<'a> {
 
     /// The decimal that was typed: by the formatter of `en` 1234.5 of `1234.5`, and 0.5 of `.5`.
     ///
-    /// `Unreadable`, `NotWritten`: as `read_lenient` of `icu_decimal` by the first formatter, or, where by this the text
-    /// is no number, by the second one. `Memory`: out of memory. Allocates as `read_lenient`.
-    #[tactic(auto, using(crate::proofs::LenientLemmas::read_first, crate::proofs::LenientLemmas::unread_first, crate::proofs::LenientLemmas::read_second))]
+    /// Where there is a second formatter, it is asked too where the text is not what the first one writes under any
+    /// grouping. `Unreadable`, `NotWritten`: as `read_lenient` of `icu_decimal` by the first formatter, or, where by this
+    /// the text is no number, by the second one. `NotWritten` also where both read a number, and they differ, as `1,234`
+    /// in `km-u-nu-khmr`. `Memory`: out of memory. Allocates as `read_lenient` by each formatter that is asked.
     pub fn read(&self, alloc: Global, text: &str) -> Result<Decimal, ReadError>
         ensures memory { IsErrOf result ReadError.Memory → MayAllocateInTurn self.now text.now }
         ensures reading { IsAnswered result (reading_in_turn self.now text.now) }
     {
-        match self.first.read(alloc, text) {
-            Ok(number) => Ok(number),
-            Err(ReadError::NotWritten) => match &self.second {
-                Some(second) => second.read(alloc, text),
-                None => Err(ReadError::NotWritten),
-            },
-            Err(ReadError::Unreadable) => Err(ReadError::Unreadable),
-            Err(ReadError::Memory) => Err(ReadError::Memory),
+        match &self.second {
+            Some(second) => self.first.read_or(alloc, second, text),
+            None => self.first.read(alloc, text),
         }
     }
 }

@@ -11,8 +11,8 @@ use icu_decimal::error::ReadError;
 use std::alloc::Global;
 use std::marker::Model;
 
-/// What reads the texts with a unit of a form that people type into: by a reader, and what this does not read by a second
-/// one, where there is one, as that of `ar-EG-u-nu-latn` beside that of `ar-EG`.
+/// What reads the texts with a unit of a form that people type into: by a reader and, where there is one, by a second one,
+/// as that of `ar-EG-u-nu-latn` beside that of `ar-EG`.
 #[derive(Drop)]
 pub struct UnitReadersInTurn<'a> {
     first: KnownLenientReader<'a>,
@@ -37,20 +37,14 @@ impl<'a> UnitReadersInTurn<'a> {
 
     /// The number that was typed: by the reader of `en` and `EUR` 1234.5 of `€1234.5`, and 5 of `5 EUR`.
     ///
-    /// `Unreadable`, `NotWritten`: as `KnownLenientReader::read` by the first reader, or, where by this the text is no
-    /// number, by the second one. `Memory`: out of memory. Allocates as these.
-    #[tactic(auto, using(crate::proofs::LenientUnitLemmas::read_first, crate::proofs::LenientUnitLemmas::unread_first, crate::proofs::LenientUnitLemmas::read_second))]
+    /// `Unreadable`, `NotWritten`, `Memory`, and what it allocates: as `KnownLenientReader::read`, or, where there is a
+    /// second reader, as `read_or` of these.
     pub fn read(&self, alloc: Global, text: &str) -> Result<Decimal, ReadError>
         ensures { IsAnswered result (unit_reading_in_turn self.now text.now) }
     {
-        match self.first.read(alloc, text) {
-            Ok(number) => Ok(number),
-            Err(ReadError::NotWritten) => match &self.second {
-                Some(second) => second.read(alloc, text),
-                None => Err(ReadError::NotWritten),
-            },
-            Err(ReadError::Unreadable) => Err(ReadError::Unreadable),
-            Err(ReadError::Memory) => Err(ReadError::Memory),
+        match &self.second {
+            Some(second) => self.first.read_or(alloc, second, text),
+            None => self.first.read(alloc, text),
         }
     }
 }
