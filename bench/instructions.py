@@ -1,11 +1,12 @@
 #!/usr/bin/env python3
-"""Counts the instructions that a line costs, by its kind, and those of a start, with valgrind's callgrind.
+"""Counts the instructions that a line costs, by its kind, and those of a start, with valgrind's callgrind, beside those of ICU4C.
 
 usage: bench/instructions.py [BOOK [COUNT]]
 
 A line costs the difference between a run over 2 * COUNT lines and one over the first COUNT of them, over COUNT: so the start and
 the first use of each formatter cost nothing here. Counts do not swing, as times do, by other work on the machine. BOOK is the sample book where none is named; with one of
-`books/make-cldr` the lines of twenty locales are of twenty locales. The lines are seeded. It prints a row a kind, and the status
+`books/make-cldr` the lines of twenty locales are of twenty locales. The lines are seeded. It prints a row a kind: the instructions
+here, those of ICU4C's program (books/icu_peer.cpp) for the same lines, where it can be built, and the one over the other. The status
 is 1 where valgrind or the program is not there.
 """
 import os
@@ -67,27 +68,37 @@ def a_line(words, lines, folder):
     return (counted(words, lines, folder)[0] - counted(words, lines[:half], folder)[0]) / (len(lines) - half)
 
 
+def icu():
+    """The command of ICU4C's formatter, or None."""
+    ran = subprocess.run([f"{TOP}/books/build-icu", "icu_peer"], stdout=subprocess.PIPE, stderr=subprocess.DEVNULL, encoding="utf-8", check=False)
+    return None if ran.returncode else [ran.stdout.strip()]
+
+
+def row(name, words, peer, lines, folder):
+    """Prints the row of a kind."""
+    here, there = a_line(words, lines, folder), a_line(peer, lines, folder) if peer else None
+    print(f"{name:<20}{here:>12,.0f}" + (f"{there:>14,.0f}{there / here:>8.2f}" if there else ""), flush=True)
+
+
 def main(book="", count="2000"):
     """Prints a row a kind."""
     if shutil.which("valgrind") is None:
         print("bench: valgrind is needed", file=sys.stderr)
         return 1
     words = [program(), *([os.path.abspath(book), "32"] if book else [])]
-    count, locales = int(count), LOCALES if book else ["en", "ar-EG"]
+    count, locales, peer = int(count), LOCALES if book else ["en", "ar-EG"], icu()
     with tempfile.TemporaryDirectory() as folder:
         start, _ = counted(words, [], folder)
-        print(f"{'start':<20}{start:>12,}")
+        print(f"{'':<20}{'here':>12}{'ICU4C':>14}{'ratio':>8}\n{'start':<20}{start:>12,}")
         for size in [1, 4, 8, 12, 16, 17, 32, 47, 48, 64, 512, 32768]:
-            lines = lines_of(f"{size} digits", max(2 * count * 16 // max(size, 16), 8), locales)
-            print(f"{f'{size} digits':<20}{a_line(words, lines, folder):>12,.0f}", flush=True)
+            row(f"{size} digits", words, peer, lines_of(f"{size} digits", max(2 * count * 16 // max(size, 16), 8), locales), folder)
         for kind in ["plain", "locales in turn", "short", "long", "sign and rounding"]:
-            print(f"{kind:<20}{a_line(words, lines_of(kind, 2 * count, locales), folder):>12,.0f}", flush=True)
+            row(kind, words, peer, lines_of(kind, 2 * count, locales), folder)
         _, answers = counted(words, lines_of("plain", 2 * count, locales), folder)
         texts = [it.split("\t")[1] for it in answers.decode().splitlines()]
         typed = [it.rpartition("\t")[2] for it in lines_of("plain", 2 * count, locales)]
         for said, form, given in (("read", "read", texts), ("read-lenient", "read-lenient", texts), ("typed", "read-lenient", typed)):
-            lines = [f"en\t{form}\tauto\tkeep\t-\t{it}" for it in given]
-            print(f"{said:<20}{a_line(words, lines, folder):>12,.0f}", flush=True)
+            row(said, words, peer, [f"en\t{form}\tauto\tkeep\t-\t{it}" for it in given], folder)
     return 0
 
 

@@ -15,7 +15,7 @@ import subprocess
 import sys
 import tempfile
 
-from instructions import TOP, a_line, counted, lines_of, program
+from instructions import TOP, a_line, counted, icu, lines_of, program
 
 BOOK = f"{TOP}/books/world.json"
 FORMS = ("percent", "currency-EUR", "code-EUR", "accounting-EUR")
@@ -26,12 +26,6 @@ TURNS = 5
 def asked(form, numbers):
     """The lines that ask for a form of these numbers, or to read these texts."""
     return [f"de\t{form}\tauto\tkeep\t-\t{it}" for it in numbers]
-
-
-def icu():
-    """The command of ICU4C's formatter, or None."""
-    ran = subprocess.run([f"{TOP}/books/build-icu", "icu_peer"], stdout=subprocess.PIPE, stderr=subprocess.DEVNULL, encoding="utf-8", check=False)
-    return None if ran.returncode else [ran.stdout.strip()]
 
 
 def spent(words, lines):
