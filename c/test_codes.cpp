@@ -81,6 +81,13 @@ static void plain() {
     out << (*german)("5.");
     expect(out.fail() ? "failed" : "well", "failed");
     expect_text(DecimalFormatter::try_open("de", Grouping::Never)->try_format(1234), "1234");
+    legumeyet::Column column;
+    const double some[] = {0.5, 1e300 * 1e300};
+    expect_code(german->format_all_to(column, some, 1), Code::Ok);
+    expect_code(german->format_all_to(column, some), Code::Number);
+    expect(std::to_string(column.size()) + column.text(), "20,50,5");
+    expect_code(german->try_format_all(std::vector<const char *>{"5."}).error(), Code::Number);
+    expect((*german->try_format_all(std::vector<int>{1234}))[0], "1.234");
     expect_code(DecimalFormatter::try_open("de_DE").error(), Code::Tag);
     expect_code(DecimalFormatter::try_open("xx").error(), Code::Table);
 }

@@ -6,6 +6,7 @@
 //     legumeyet::CompactDecimalFormatter short_german("de");
 //     short_german.format(1234567);                              // 1,2 Mio. with a no-break space
 //     legumeyet::CurrencyFormatter("de", "EUR").format(1234.5);  // 1.234,50 € with a no-break space
+//     german.format_all(std::vector<double>{1234.5, 0.25});      // a Column of 1.234,5 and 0,25
 //
 // Where a function of legumeyet.h returns an error, a call whose name begins with `try_` has it in its Result, `format_to` and `try_keep`
 // return it as a Code, and each other call throws it as an Error. A program that is compiled with -fno-exceptions has all but the last.
@@ -364,6 +365,12 @@ template <class Handle, int32_t (*close)(Handle *)> class Owned {
 
 } // namespace inner
 
+namespace inner {
+
+template <class Handle, class Calls, class Base = Owned<Handle, Calls::close>> class Formatter;
+
+} // namespace inner
+
 // A number to be written: a text, as `-987654.321`, an integer, a double, or an integer times a power of ten. It borrows a text.
 class Number {
     std::variant<std::string_view, int64_t, uint64_t, double> content;
@@ -501,6 +508,136 @@ template <class Call> Result<Annotated> annotated_of(Call call) {
 
 } // namespace inner
 
+// The texts of many numbers, one after the other in one string: `column[0]` is the first. As a range it has each as a std::string_view.
+class Column {
+    std::string content;
+    std::vector<std::size_t> ends;
+
+    template <class, class, class> friend class inner::Formatter;
+
+    // Adds the texts of `total` numbers. A call writes those from a number on, and takes the last five arguments of such a function of
+    // legumeyet.h.
+    template <class Call> Code add(std::size_t total, Call call) {
+        struct Written {
+            Column &column;
+            std::size_t used, count;
+            ~Written() {
+                column.content.resize(used);
+                column.ends.resize(count);
+            }
+        } written{*this, content.size(), ends.size()};
+        const std::size_t before = ends.size();
+        ends.resize(before + total);
+        content.resize(written.used + 16 * total + inner::NEAR);
+        for (;;) {
+            const std::size_t done = written.count - before;
+            std::size_t *next = ends.data() + written.count, count = 0;
+            const Code code = call(done, inner::bytes(&content[written.used]), content.size() - written.used, next, total - done, &count);
+            for (std::size_t *it = next; it != next + count; ++it) *it += written.used;
+            if (count > 0) written.used = next[count - 1];
+            written.count += count;
+            if (code != Code::TooSmall) return code;
+            content.resize(2 * content.size());
+        }
+    }
+
+    void add(std::string_view text) {
+        ends.reserve(ends.size() + 1);
+        content += text;
+        ends.push_back(content.size());
+    }
+
+  public:
+    // Where a text is.
+    class iterator {
+        const Column *whole = nullptr;
+        std::ptrdiff_t at = 0;
+
+      public:
+        using iterator_category = std::input_iterator_tag;
+        using iterator_concept = std::random_access_iterator_tag;
+        using difference_type = std::ptrdiff_t;
+        using value_type = std::string_view;
+        using reference = std::string_view;
+        using pointer = void;
+
+        iterator() = default;
+        iterator(const Column &column, std::size_t text) noexcept : whole(&column), at(static_cast<std::ptrdiff_t>(text)) {}
+
+        std::string_view operator*() const noexcept { return (*whole)[static_cast<std::size_t>(at)]; }
+        std::string_view operator[](std::ptrdiff_t count) const noexcept { return *(*this + count); }
+        iterator &operator+=(std::ptrdiff_t count) noexcept {
+            at += count;
+            return *this;
+        }
+        iterator &operator-=(std::ptrdiff_t count) noexcept { return *this += -count; }
+        iterator &operator++() noexcept { return *this += 1; }
+        iterator &operator--() noexcept { return *this -= 1; }
+        iterator operator++(int) noexcept {
+            const iterator before = *this;
+            ++*this;
+            return before;
+        }
+        iterator operator--(int) noexcept {
+            const iterator before = *this;
+            --*this;
+            return before;
+        }
+        friend iterator operator+(iterator it, std::ptrdiff_t count) noexcept { return it += count; }
+        friend iterator operator+(std::ptrdiff_t count, iterator it) noexcept { return it += count; }
+        friend iterator operator-(iterator it, std::ptrdiff_t count) noexcept { return it -= count; }
+        friend std::ptrdiff_t operator-(const iterator &left, const iterator &right) noexcept { return left.at - right.at; }
+        friend bool operator==(const iterator &left, const iterator &right) noexcept { return left.at == right.at; }
+        friend bool operator!=(const iterator &left, const iterator &right) noexcept { return left.at != right.at; }
+        friend bool operator<(const iterator &left, const iterator &right) noexcept { return left.at < right.at; }
+        friend bool operator>(const iterator &left, const iterator &right) noexcept { return left.at > right.at; }
+        friend bool operator<=(const iterator &left, const iterator &right) noexcept { return left.at <= right.at; }
+        friend bool operator>=(const iterator &left, const iterator &right) noexcept { return left.at >= right.at; }
+    };
+    using const_iterator = iterator;
+    using value_type = std::string_view;
+    using size_type = std::size_t;
+
+    std::size_t size() const noexcept { return ends.size(); }
+    bool empty() const noexcept { return ends.empty(); }
+
+    // A text, of a place below `size()`. It is the column's: it is used before that is changed.
+    std::string_view operator[](std::size_t at) const noexcept {
+        const std::size_t start = at == 0 ? 0 : ends[at - 1];
+        return std::string_view(content).substr(start, ends[at] - start);
+    }
+    std::string_view front() const noexcept { return (*this)[0]; }
+    std::string_view back() const noexcept { return (*this)[size() - 1]; }
+    iterator begin() const noexcept { return {*this, 0}; }
+    iterator end() const noexcept { return {*this, size()}; }
+
+    // All texts, with nothing between.
+    const std::string &text() const noexcept { return content; }
+
+    // Leaves no text. The memory is kept for those that come.
+    void clear() noexcept {
+        content.clear();
+        ends.clear();
+    }
+};
+
+namespace inner {
+
+// What a range has, and whether it has that in one piece of memory.
+template <class Numbers> using item_of = std::remove_cv_t<std::remove_reference_t<decltype(*std::begin(std::declval<Numbers &>()))>>;
+template <class T, class Numbers, class = void> inline constexpr bool is_memory_of = false;
+template <class T, class Numbers>
+inline constexpr bool is_memory_of<T, Numbers, std::void_t<decltype(std::data(std::declval<Numbers &>()), std::size(std::declval<Numbers &>()))>> =
+    std::is_convertible_v<decltype(std::data(std::declval<Numbers &>())), const T *>;
+
+// Whether a type is of ranges of numbers: of doubles, of integers, or of texts.
+template <class Numbers, class = void> inline constexpr bool has_numbers = false;
+template <class Numbers>
+inline constexpr bool has_numbers<Numbers, std::void_t<item_of<Numbers>>> =
+    std::is_same_v<item_of<Numbers>, double> || is_number<item_of<Numbers>> || is_text<item_of<Numbers>>;
+
+} // namespace inner
+
 // The tag of a locale's name as LANG and setlocale give it: `de-DE` of `de_DE.UTF-8`; legumeyet_tag_of_locale_name has the rule. A null
 // pointer is an empty name.
 inline std::string tag_of_locale_name(const char *name) {
@@ -628,9 +765,105 @@ template <class Formatter> class Formatted;
 
 namespace inner {
 
+// The column that a call adds all its numbers to.
+template <class Call> Result<Column> column_of(Call call) {
+    Column column;
+    const Code code = call(column);
+    if (code != Code::Ok) return code;
+    return column;
+}
+
+#ifdef __cpp_exceptions
+template <class Call> Column whole_column_of(Call call) {
+    Column column;
+    const Code code = call(column);
+    const bool is_of_one = code != Code::Ok && code != Code::Closed && code != Code::Option;
+    if (is_of_one) throw Error(code, ": the number at " + std::to_string(column.size()));
+    expect_well(code);
+    return column;
+}
+#endif
+
 // What a formatter of any kind writes; `Calls` has the functions of legumeyet.h for the kind, and `Base` the handle.
-template <class Handle, class Calls, class Base = Owned<Handle, Calls::close>> class Formatter : Base {
+template <class Handle, class Calls, class Base> class Formatter : Base {
     friend class Formatted<Formatter>;
+
+    // How many numbers that are not in one piece of memory one call writes, and how many bytes of texts.
+    static constexpr std::size_t GATHERED = 256, LINES = 1 << 16;
+
+    // Adds the text of one number to a column.
+    Code add_one(Column &into, const Number &number, const Options &options) {
+        return with_text_of(number, options, [&](std::string_view text) { into.add(text); });
+    }
+
+    Code add_doubles(Column &into, const double *numbers, std::size_t total, const legumeyet_options &options) {
+        return into.add(total, [&](std::size_t done, auto... out) {
+            return static_cast<Code>(Calls::format_doubles(&handle, numbers + done, total - done, &options, out...));
+        });
+    }
+
+    Code add_integers(Column &into, const int64_t *numbers, std::size_t total, const legumeyet_options &options) {
+        return into.add(total, [&](std::size_t done, auto... out) {
+            return static_cast<Code>(Calls::format_integers(&handle, numbers + done, total - done, 0, &options, out...));
+        });
+    }
+
+    // The numbers are lines.
+    Code add_lines(Column &into, std::string_view lines, std::size_t total, const legumeyet_options &options) {
+        std::size_t at = 0;
+        return into.add(total, [&](std::size_t done, auto... out) {
+            for (; at < done; ++at) lines.remove_prefix(lines.find('\n') + 1);
+            return static_cast<Code>(Calls::format_texts(&handle, bytes(lines), lines.size(), &options, out...));
+        });
+    }
+
+    // Adds numbers that are not in one piece of memory as T, some at a time; an integer that is none is added alone.
+    template <class T, class Numbers> Code add_gathered(Column &into, Numbers &numbers, const Options &options) {
+        const auto choices = static_cast<legumeyet_options>(options);
+        T gathered[GATHERED];
+        std::size_t count = 0;
+        const auto add = [&] {
+            const std::size_t total = std::exchange(count, 0);
+            if constexpr (std::is_same_v<T, double>)
+                return add_doubles(into, gathered, total, choices);
+            else
+                return add_integers(into, gathered, total, choices);
+        };
+        for (const auto &it : numbers) {
+            Code code = Code::Ok;
+            bool is_alone = false;
+            if constexpr (!std::is_same_v<T, double>) is_alone = !fits<T>(it);
+            if (count == GATHERED || is_alone) code = add();
+            if (code == Code::Ok && is_alone)
+                code = add_one(into, it, options);
+            else
+                gathered[count++] = static_cast<T>(it);
+            if (code != Code::Ok) return code;
+        }
+        return add();
+    }
+
+    // Adds texts. One with a line feed inside would be two numbers: it is added alone, to be refused.
+    template <class Numbers> Code add_texts(Column &into, Numbers &numbers, const Options &options) {
+        const auto choices = static_cast<legumeyet_options>(options);
+        std::string lines;
+        std::size_t count = 0;
+        const auto add = [&] {
+            const Code code = add_lines(into, lines, count, choices);
+            lines.clear();
+            count = 0;
+            return code;
+        };
+        for (const auto &it : numbers) {
+            const std::string_view text(it);
+            const bool is_alone = text.find('\n') != text.npos;
+            Code code = is_alone || lines.size() >= LINES ? add() : Code::Ok;
+            if (code == Code::Ok && is_alone) code = add_one(into, text, options);
+            if (code != Code::Ok) return code;
+            if (!is_alone) (lines += text) += '\n', ++count;
+        }
+        return add();
+    }
 
     // Calls with the text of a number.
     template <class Use> Code with_text_of(const Number &number, const Options &options, Use use) {
@@ -680,6 +913,39 @@ template <class Handle, class Calls, class Base = Owned<Handle, Calls::close>> c
         return text;
     }
 
+    // Adds the texts of many numbers to a column, of a range of doubles, integers or texts: as `format` has each, and far sooner. Where one is
+    // refused the column has those before it, so that its size says which.
+    template <class Numbers, std::enable_if_t<has_numbers<Numbers>, int> = 0>
+    Code format_all_to(Column &into, Numbers &&numbers, const Options &options = {}) {
+        using T = item_of<Numbers>;
+        if constexpr (is_text<T>)
+            return add_texts(into, numbers, options);
+        else if constexpr (is_memory_of<double, Numbers>)
+            return add_doubles(into, std::data(numbers), std::size(numbers), static_cast<legumeyet_options>(options));
+        else if constexpr (is_memory_of<int64_t, Numbers>)
+            return add_integers(into, std::data(numbers), std::size(numbers), static_cast<legumeyet_options>(options));
+        else
+            return add_gathered<std::conditional_t<std::is_same_v<T, double>, double, int64_t>>(into, numbers, options);
+    }
+    Code format_all_to(Column &into, const double *numbers, std::size_t count, const Options &options = {}) {
+        return add_doubles(into, numbers, count, static_cast<legumeyet_options>(options));
+    }
+    Code format_all_to(Column &into, const int64_t *numbers, std::size_t count, const Options &options = {}) {
+        return add_integers(into, numbers, count, static_cast<legumeyet_options>(options));
+    }
+
+    // The texts of many numbers, which are given as to `format_all_to`.
+    template <class Numbers, std::enable_if_t<has_numbers<Numbers>, int> = 0>
+    Result<Column> try_format_all(Numbers &&numbers, const Options &options = {}) {
+        return column_of([&](Column &it) { return format_all_to(it, numbers, options); });
+    }
+    Result<Column> try_format_all(const double *numbers, std::size_t count, const Options &options = {}) {
+        return column_of([&](Column &it) { return format_all_to(it, numbers, count, options); });
+    }
+    Result<Column> try_format_all(const int64_t *numbers, std::size_t count, const Options &options = {}) {
+        return column_of([&](Column &it) { return format_all_to(it, numbers, count, options); });
+    }
+
     // The same with its parts, in order of their beginning; of a compact number those of its sign.
     Result<Annotated> try_format_parts(const Digits &number, const Options &options = {}) {
         const std::string_view text = number.view();
@@ -694,6 +960,18 @@ template <class Handle, class Calls, class Base = Owned<Handle, Calls::close>> c
         return format(Number(mantissa, exponent), options);
     }
     Annotated format_parts(const Digits &number, const Options &options = {}) { return try_format_parts(number, options).value(); }
+
+    // An Error says which number it is of, from 0 on.
+    template <class Numbers, std::enable_if_t<has_numbers<Numbers>, int> = 0>
+    Column format_all(Numbers &&numbers, const Options &options = {}) {
+        return whole_column_of([&](Column &it) { return format_all_to(it, numbers, options); });
+    }
+    Column format_all(const double *numbers, std::size_t count, const Options &options = {}) {
+        return whole_column_of([&](Column &it) { return format_all_to(it, numbers, count, options); });
+    }
+    Column format_all(const int64_t *numbers, std::size_t count, const Options &options = {}) {
+        return whole_column_of([&](Column &it) { return format_all_to(it, numbers, count, options); });
+    }
 #endif
 };
 
@@ -704,6 +982,9 @@ struct DecimalCalls {
     static constexpr auto format_u64 = legumeyet_decimal_formatter_format_u64;
     static constexpr auto format_double = legumeyet_decimal_formatter_format_double;
     static constexpr auto format_parts = legumeyet_decimal_formatter_format_parts;
+    static constexpr auto format_doubles = legumeyet_decimal_formatter_format_doubles;
+    static constexpr auto format_integers = legumeyet_decimal_formatter_format_integers;
+    static constexpr auto format_texts = legumeyet_decimal_formatter_format_texts;
 };
 
 struct CompactCalls {
@@ -713,6 +994,9 @@ struct CompactCalls {
     static constexpr auto format_u64 = legumeyet_compact_formatter_format_u64;
     static constexpr auto format_double = legumeyet_compact_formatter_format_double;
     static constexpr auto format_parts = legumeyet_compact_formatter_format_parts;
+    static constexpr auto format_doubles = legumeyet_compact_formatter_format_doubles;
+    static constexpr auto format_integers = legumeyet_compact_formatter_format_integers;
+    static constexpr auto format_texts = legumeyet_compact_formatter_format_texts;
 };
 
 struct UnitCalls {
@@ -722,6 +1006,9 @@ struct UnitCalls {
     static constexpr auto format_u64 = legumeyet_unit_formatter_format_u64;
     static constexpr auto format_double = legumeyet_unit_formatter_format_double;
     static constexpr auto format_parts = legumeyet_unit_formatter_format_parts;
+    static constexpr auto format_doubles = legumeyet_unit_formatter_format_doubles;
+    static constexpr auto format_integers = legumeyet_unit_formatter_format_integers;
+    static constexpr auto format_texts = legumeyet_unit_formatter_format_texts;
 };
 
 // What formatters of numbers with a unit have in common.
@@ -983,6 +1270,20 @@ template <class Handle, class Calls> class SharedFormatter : Formatter<Handle, C
     }
     Formatted<Calling> operator()(Number number, const Options &options = {}) const &noexcept { return calling()(number, options); }
     Result<std::string> try_format(Number number, const Options &options = {}) const { return calling().try_format(number, options); }
+    template <class Numbers, std::enable_if_t<has_numbers<Numbers>, int> = 0>
+    Code format_all_to(Column &into, Numbers &&numbers, const Options &options = {}) const {
+        return calling().format_all_to(into, numbers, options);
+    }
+    template <class T> Code format_all_to(Column &into, const T *numbers, std::size_t count, const Options &options = {}) const {
+        return calling().format_all_to(into, numbers, count, options);
+    }
+    template <class Numbers, std::enable_if_t<has_numbers<Numbers>, int> = 0>
+    Result<Column> try_format_all(Numbers &&numbers, const Options &options = {}) const {
+        return calling().try_format_all(numbers, options);
+    }
+    template <class T> Result<Column> try_format_all(const T *numbers, std::size_t count, const Options &options = {}) const {
+        return calling().try_format_all(numbers, count, options);
+    }
     Result<Annotated> try_format_parts(const Digits &number, const Options &options = {}) const {
         return calling().try_format_parts(number, options);
     }
@@ -994,6 +1295,13 @@ template <class Handle, class Calls> class SharedFormatter : Formatter<Handle, C
         return calling().format(mantissa, exponent, options);
     }
     Annotated format_parts(const Digits &number, const Options &options = {}) const { return calling().format_parts(number, options); }
+    template <class Numbers, std::enable_if_t<has_numbers<Numbers>, int> = 0>
+    Column format_all(Numbers &&numbers, const Options &options = {}) const {
+        return calling().format_all(numbers, options);
+    }
+    template <class T> Column format_all(const T *numbers, std::size_t count, const Options &options = {}) const {
+        return calling().format_all(numbers, count, options);
+    }
 #endif
 };
 
@@ -1003,6 +1311,9 @@ struct SharedDecimalCalls {
     static constexpr auto format_u64 = legumeyet_shared_decimal_formatter_format_u64;
     static constexpr auto format_double = legumeyet_shared_decimal_formatter_format_double;
     static constexpr auto format_parts = legumeyet_shared_decimal_formatter_format_parts;
+    static constexpr auto format_doubles = legumeyet_shared_decimal_formatter_format_doubles;
+    static constexpr auto format_integers = legumeyet_shared_decimal_formatter_format_integers;
+    static constexpr auto format_texts = legumeyet_shared_decimal_formatter_format_texts;
 };
 
 struct SharedCompactCalls {
@@ -1011,6 +1322,9 @@ struct SharedCompactCalls {
     static constexpr auto format_u64 = legumeyet_shared_compact_formatter_format_u64;
     static constexpr auto format_double = legumeyet_shared_compact_formatter_format_double;
     static constexpr auto format_parts = legumeyet_shared_compact_formatter_format_parts;
+    static constexpr auto format_doubles = legumeyet_shared_compact_formatter_format_doubles;
+    static constexpr auto format_integers = legumeyet_shared_compact_formatter_format_integers;
+    static constexpr auto format_texts = legumeyet_shared_compact_formatter_format_texts;
 };
 
 struct SharedUnitCalls {
@@ -1019,6 +1333,9 @@ struct SharedUnitCalls {
     static constexpr auto format_u64 = legumeyet_shared_unit_formatter_format_u64;
     static constexpr auto format_double = legumeyet_shared_unit_formatter_format_double;
     static constexpr auto format_parts = legumeyet_shared_unit_formatter_format_parts;
+    static constexpr auto format_doubles = legumeyet_shared_unit_formatter_format_doubles;
+    static constexpr auto format_integers = legumeyet_shared_unit_formatter_format_integers;
+    static constexpr auto format_texts = legumeyet_shared_unit_formatter_format_texts;
 };
 
 } // namespace inner

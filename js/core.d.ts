@@ -83,6 +83,8 @@ export class Book extends Open {
 declare abstract class Formatter<Options> extends Open {
   /** The text of a number. It may be handed on without its formatter: `numbers.map(german.format)`. */
   readonly format: (number: Num) => string;
+  /** The texts of many numbers, as `format` has each, and sooner: of doubles and integers in a typed array, or of what can be iterated over. */
+  formatAll(numbers: Float64Array | BigInt64Array | Iterable<Num>): string[];
   /** The parts of a number's text. */
   formatToParts(number: Num): Part[];
   /** The options, as they were given or as they are without; and the locale that was found. */

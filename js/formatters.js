@@ -1,5 +1,7 @@
 // Books and formatters, as classes in the manner of Intl.
-import { ErrorNumber, LegumeyetError, age, begun, calls, expected, got, inside, isPresent, partsWritten, put, written } from "./instance.js";
+import {
+  ErrorNumber, LegumeyetError, NUMBERS, age, begun, calls, columnWritten, expected, got, inside, isPresent, partsWritten, put, written,
+} from "./instance.js";
 import { read as readOptions } from "./options.js";
 
 // What the garbage collector takes is closed.
@@ -172,6 +174,56 @@ function digitsOf(number) {
   throw new TypeError(`a number is a string, a number or a bigint, and not ${number === null ? "null" : typeof number}`);
 }
 
+// Digits that may be in a line with others: one of any other character is no digit.
+const IN_LINE = /^[\0-\x09\x0b-\x7f]*$/;
+
+// Adds the texts of digits, some together; `call` writes a text alone.
+function addDigits(it, call, all, digits, texts) {
+  for (let done = 0; done < digits.length; ) {
+    const before = texts.length;
+    const alone = digits.findIndex((digit, at) => at >= done && !IN_LINE.test(digit));
+    if (alone === done) {
+      try {
+        texts.push(written(atOf(it), calls[call], digits[done]));
+      } catch (error) {
+        throw error instanceof LegumeyetError ? new LegumeyetError(error.number, `: the number at ${before}`) : error;
+      }
+    } else columnWritten(atOf(it), calls[all], `${digits.slice(done, alone < 0 ? digits.length : alone).join("\n")}\n`, texts);
+    done += texts.length - before;
+  }
+}
+
+// Adds the texts of doubles or integers, which are a typed array.
+function addColumn(it, call, column, texts) {
+  for (const end = texts.length + column.length; texts.length < end; ) {
+    const done = column.length - (end - texts.length);
+    const at = atOf(it);
+    columnWritten(at, calls[call], column.subarray(done, done + NUMBERS), texts);
+  }
+}
+
+// The texts of many numbers: of doubles or integers in a typed array, or of what can be iterated over.
+function allWritten(it, { format, doubles, integers, digits }, numbers) {
+  const texts = [];
+  if (typeof numbers === "string" || typeof numbers?.[Symbol.iterator] !== "function") {
+    throw new TypeError("numbers are an array, or what else can be iterated over");
+  }
+  if (numbers instanceof Float64Array) addColumn(it, doubles, numbers, texts);
+  else if (numbers instanceof BigInt64Array) addColumn(it, integers, numbers, texts);
+  else {
+    const all = Array.from(numbers);
+    for (let start = 0; start < all.length; start += NUMBERS) {
+      const some = all.slice(start, start + NUMBERS);
+      if (some.every((number) => typeof number === "number")) addColumn(it, doubles, Float64Array.from(some), texts);
+      else addDigits(it, format, digits, some.map(digitsOf), texts);
+    }
+  }
+  return texts;
+}
+
+const CALLS_OF = (kind) => ({ format: `js_${kind}_format`, doubles: `js_${kind}_doubles`, integers: `js_${kind}_integers`, digits: `js_${kind}_texts` });
+const ALL = { decimal: CALLS_OF("decimal"), compact: CALLS_OF("compact"), unit: CALLS_OF("unit") };
+
 // Opens a formatter of the first of these locales that the book has tables for. Returns its tag.
 function openFormatter(handle, asked, source, { numbers, resolved }, fill) {
   const { sign, mode, position, zeros, increment, integer, fraction } = numbers;
@@ -249,6 +301,11 @@ export class DecimalFormatter extends Formatter {
     this.format = (number) => written(atOf(this), calls.js_decimal_format, digitsOf(number));
   }
 
+  /** The texts of many numbers, as `format` has each, and sooner. */
+  formatAll(numbers) {
+    return allWritten(this, ALL.decimal, numbers);
+  }
+
   /** The parts of a number's text, each with its type and value. */
   formatToParts(number) {
     return partsWritten(atOf(this), calls.js_decimal_parts, digitsOf(number));
@@ -273,6 +330,11 @@ export class CompactDecimalFormatter extends Formatter {
     this.format = (number) => written(atOf(this), calls.js_compact_format, digitsOf(number));
   }
 
+  /** The texts of many numbers, as `format` has each, and sooner. */
+  formatAll(numbers) {
+    return allWritten(this, ALL.compact, numbers);
+  }
+
   /** The parts of a number's text: its sign, and the rest as a literal. */
   formatToParts(number) {
     return partsWritten(atOf(this), calls.js_compact_parts, digitsOf(number));
@@ -295,6 +357,11 @@ class UnitFormatter extends Formatter {
     super(kind, locales, options, fill);
     /** The text of a number. As Intl's, it may be handed on without its formatter. */
     this.format = (number) => written(atOf(this), calls.js_unit_format, digitsOf(number));
+  }
+
+  /** The texts of many numbers, as `format` has each, and sooner. */
+  formatAll(numbers) {
+    return allWritten(this, ALL.unit, numbers);
   }
 
   /** The parts of a number's text, each with its type and value. */

@@ -2,6 +2,8 @@
 
 const SHORT = 64; // of so many characters a text is put by hand, which is faster than by an encoder
 const ROOM = 512; // as in module/calls.c
+/** How many numbers of a column a call writes at most; as in module/calls.c. */
+export const NUMBERS = 512;
 const LITERAL = 0, MINUS_SIGN = 1, PLUS_SIGN = 2, INTEGER = 3; // kinds of parts
 const NO_UTF8 = new Uint8Array([0xff]);
 const HALF = /\p{Surrogate}/u;
@@ -243,6 +245,29 @@ function large(length) {
   isInside = false;
   expected(length);
   return text;
+}
+
+/**
+ * Adds the texts that a call writes of a handle and a column: at most NUMBERS doubles or integers, which are a typed array, or digits with a line
+ * feed after each. Where not all are written it is called again with the others. Where the next is refused it throws the error, with its place.
+ */
+export function columnWritten(at, call, column, texts) {
+  const error = inside(() => {
+    let size = column.length;
+    if (typeof column === "string") size = put(column);
+    else new column.constructor(calls.memory.buffer, calls.js_column_in(), size).set(column);
+    const count = call(at, size);
+    if (memory.length === 0) look();
+    const [start, ends] = [calls.js_column_out(), calls.js_column_ends() >> 2];
+    const all = decoded(start, calls.js_column_length());
+    for (let i = 0, from = 0; i < count; i += 1) {
+      texts.push(all.slice(from, words[ends + i]));
+      from = words[ends + i];
+    }
+    calls.js_let_go();
+    return calls.js_column_error();
+  });
+  expected(-error, `: the number at ${texts.length}`);
 }
 
 const KINDS = ["literal", "minusSign", "plusSign", "integer", "group", "decimal", "fraction", "currency", "percentSign"];

@@ -3,7 +3,7 @@
  *
  * A result below 0 is less the number of an error; else it is the length of the text that was written, or 0. A text of at most ROOM
  * bytes is put at js_in() and found at js_out(). A larger one is put at js_large_in(size), and found at js_large_out(); js_let_go() frees
- * both. In the memory of the module a pointer of the library takes eight bytes, as on the machine that its layouts were computed for.
+ * both. A column of numbers is put at js_column_in(), and its texts are found at js_column_out(). In the memory of the module a pointer of the library takes eight bytes, as on the machine that its layouts were computed for.
  */
 typedef unsigned char u8;
 typedef unsigned short u16;
@@ -48,12 +48,18 @@ number legumeyet_book_locale(handle *, u64, u8 *, u64, u64 *);
 number legumeyet_decimal_formatter_open(handle *, const u8 *, u64, u32, handle *);
 number legumeyet_decimal_formatter_close(handle *);
 number legumeyet_decimal_formatter_format(handle *, const u8 *, u64, const options *, u8 *, u64, u64 *);
+number legumeyet_decimal_formatter_format_doubles(handle *, const double *, u64, const options *, u8 *, u64, u64 *, u64, u64 *);
+number legumeyet_decimal_formatter_format_integers(handle *, const long long *, u64, short, const options *, u8 *, u64, u64 *, u64, u64 *);
+number legumeyet_decimal_formatter_format_texts(handle *, const u8 *, u64, const options *, u8 *, u64, u64 *, u64, u64 *);
 number legumeyet_decimal_formatter_format_parts(handle *, const u8 *, u64, const options *, u8 *, u64, u64 *, interval *, u64, u64 *);
 number legumeyet_decimal_formatter_read(handle *, const u8 *, u64, u8 *, u64, u64 *);
 number legumeyet_decimal_formatter_read_lenient(handle *, const u8 *, u64, u8 *, u64, u64 *);
 number legumeyet_compact_formatter_open(handle *, const u8 *, u64, u32, u32, handle *);
 number legumeyet_compact_formatter_close(handle *);
 number legumeyet_compact_formatter_format(handle *, const u8 *, u64, const options *, u8 *, u64, u64 *);
+number legumeyet_compact_formatter_format_doubles(handle *, const double *, u64, const options *, u8 *, u64, u64 *, u64, u64 *);
+number legumeyet_compact_formatter_format_integers(handle *, const long long *, u64, short, const options *, u8 *, u64, u64 *, u64, u64 *);
+number legumeyet_compact_formatter_format_texts(handle *, const u8 *, u64, const options *, u8 *, u64, u64 *, u64, u64 *);
 number legumeyet_compact_formatter_format_parts(handle *, const u8 *, u64, const options *, u8 *, u64, u64 *, interval *, u64, u64 *);
 number legumeyet_compact_formatter_shown(handle *, const u8 *, u64, const options *, u8 *, u64, u64 *);
 number legumeyet_compact_formatter_format_exact(handle *, const u8 *, u64, const options *, u8 *, u64, u64 *);
@@ -61,6 +67,9 @@ number legumeyet_percent_formatter_open(handle *, const u8 *, u64, u32, handle *
 number legumeyet_currency_formatter_open(handle *, const u8 *, u64, const u8 *, u64, u32, u32, u32, handle *);
 number legumeyet_unit_formatter_close(handle *);
 number legumeyet_unit_formatter_format(handle *, const u8 *, u64, const options *, u8 *, u64, u64 *);
+number legumeyet_unit_formatter_format_doubles(handle *, const double *, u64, const options *, u8 *, u64, u64 *, u64, u64 *);
+number legumeyet_unit_formatter_format_integers(handle *, const long long *, u64, short, const options *, u8 *, u64, u64 *, u64, u64 *);
+number legumeyet_unit_formatter_format_texts(handle *, const u8 *, u64, const options *, u8 *, u64, u64 *, u64, u64 *);
 number legumeyet_unit_formatter_format_parts(handle *, const u8 *, u64, const options *, u8 *, u64, u64 *, interval *, u64, u64 *);
 number legumeyet_unit_formatter_read(handle *, const u8 *, u64, u8 *, u64, u64 *);
 number legumeyet_unit_formatter_read_lenient(handle *, const u8 *, u64, u8 *, u64, u64 *);
@@ -68,7 +77,7 @@ number legumeyet_error_text(number, u8 *, u64, u64 *);
 u32 legumeyet_version(void);
 u32 legumeyet_minor(void);
 
-enum { ROOM = 512, PARTS = 64, MEMORY = 1, TOO_SMALL = 3 };
+enum { ROOM = 512, PARTS = 64, NUMBERS = 512, TEXTS = 1 << 14, MEMORY = 1, TOO_SMALL = 3 };
 
 static u8 small_in[ROOM], small_out[ROOM];
 static interval small_parts[PARTS];
@@ -130,6 +139,52 @@ static number told(number error, const place *at) {
 
 static const u8 *text_in(void) { return large_in ? large_in : small_in; }
 
+/* A column: at most NUMBERS numbers a call, and their texts, one after the other. */
+static union {
+    double doubles[NUMBERS];
+    long long integers[NUMBERS];
+} column_in;
+static u8 column_out[TEXTS];
+static u64 column_ends[NUMBERS];
+static u32 column_units[NUMBERS], column_length;
+static number column_error;
+
+void *js_column_in(void) { return &column_in; }
+u8 *js_column_out(void) { return large_out ? large_out : column_out; }
+
+/* How many bytes the texts have, and where each ends, in the units of JavaScript's strings: one for each character, and two for one of four bytes. */
+u32 js_column_length(void) { return column_length; }
+u32 *js_column_ends(void) { return column_units; }
+
+/* Why the number after the last that was written was not; 0 where there is none, or where it is still to be written. */
+number js_column_error(void) { return column_error; }
+
+static number column_told(const u8 *out, u32 count, number error) {
+    u32 at = 0, units = 0;
+    for (u32 text = 0; text < count; text++) {
+        for (; at < column_ends[text]; at++) units += (out[at] & 0xc0) != 0x80 ? 1 + (out[at] >= 0xf0) : 0;
+        column_units[text] = units;
+    }
+    column_length = at;
+    column_error = error == TOO_SMALL ? 0 : error;
+    return (number)count;
+}
+
+/* Makes a call that writes a column, with more room where the first text needs it. Returns how many numbers were written. */
+#define COLUMN(CALL)                                                         \
+    u8 *out = column_out;                                                    \
+    u64 room = TEXTS, count = 0;                                             \
+    number error;                                                            \
+    while ((error = CALL) == TOO_SMALL && count == 0) {                      \
+        free(large_out);                                                     \
+        room *= 2;                                                           \
+        out = large_out = malloc((__SIZE_TYPE__)room);                       \
+        if (!out) return column_told(column_out, 0, MEMORY);                 \
+    }                                                                        \
+    return column_told(out, (u32)count, error);
+
+#define COLUMN_OUT &it->how, out, room, column_ends, NUMBERS, &count
+
 opened *js_new(void) {
     opened *it = malloc(sizeof *it);
     if (it) *it = (opened){{0, 0}, {0}};
@@ -164,6 +219,9 @@ number js_decimal_format(opened *it, u32 n) { WRITTEN(legumeyet_decimal_formatte
 number js_decimal_parts(opened *it, u32 n) { WRITTEN(legumeyet_decimal_formatter_format_parts(&it->of, text_in(), n, &it->how, PARTS_OUT)) }
 number js_decimal_read(opened *it, u32 n) { WRITTEN(legumeyet_decimal_formatter_read(&it->of, text_in(), n, OUT)) }
 number js_decimal_read_lenient(opened *it, u32 n) { WRITTEN(legumeyet_decimal_formatter_read_lenient(&it->of, text_in(), n, OUT)) }
+number js_decimal_doubles(opened *it, u32 n) { COLUMN(legumeyet_decimal_formatter_format_doubles(&it->of, column_in.doubles, n, COLUMN_OUT)) }
+number js_decimal_integers(opened *it, u32 n) { COLUMN(legumeyet_decimal_formatter_format_integers(&it->of, column_in.integers, n, 0, COLUMN_OUT)) }
+number js_decimal_texts(opened *it, u32 n) { COLUMN(legumeyet_decimal_formatter_format_texts(&it->of, text_in(), n, COLUMN_OUT)) }
 void js_decimal_close(opened *it) {
     legumeyet_decimal_formatter_close(&it->of);
     free(it);
@@ -177,6 +235,9 @@ number js_compact_format(opened *it, u32 n) { WRITTEN(legumeyet_compact_formatte
 number js_compact_parts(opened *it, u32 n) { WRITTEN(legumeyet_compact_formatter_format_parts(&it->of, text_in(), n, &it->how, PARTS_OUT)) }
 number js_compact_shown(opened *it, u32 n) { WRITTEN(legumeyet_compact_formatter_shown(&it->of, text_in(), n, &it->how, OUT)) }
 number js_compact_exact(opened *it, u32 n) { WRITTEN(legumeyet_compact_formatter_format_exact(&it->of, text_in(), n, &it->how, OUT)) }
+number js_compact_doubles(opened *it, u32 n) { COLUMN(legumeyet_compact_formatter_format_doubles(&it->of, column_in.doubles, n, COLUMN_OUT)) }
+number js_compact_integers(opened *it, u32 n) { COLUMN(legumeyet_compact_formatter_format_integers(&it->of, column_in.integers, n, 0, COLUMN_OUT)) }
+number js_compact_texts(opened *it, u32 n) { COLUMN(legumeyet_compact_formatter_format_texts(&it->of, text_in(), n, COLUMN_OUT)) }
 void js_compact_close(opened *it) {
     legumeyet_compact_formatter_close(&it->of);
     free(it);
@@ -194,6 +255,9 @@ number js_unit_format(opened *it, u32 n) { WRITTEN(legumeyet_unit_formatter_form
 number js_unit_parts(opened *it, u32 n) { WRITTEN(legumeyet_unit_formatter_format_parts(&it->of, text_in(), n, &it->how, PARTS_OUT)) }
 number js_unit_read(opened *it, u32 n) { WRITTEN(legumeyet_unit_formatter_read(&it->of, text_in(), n, OUT)) }
 number js_unit_read_lenient(opened *it, u32 n) { WRITTEN(legumeyet_unit_formatter_read_lenient(&it->of, text_in(), n, OUT)) }
+number js_unit_doubles(opened *it, u32 n) { COLUMN(legumeyet_unit_formatter_format_doubles(&it->of, column_in.doubles, n, COLUMN_OUT)) }
+number js_unit_integers(opened *it, u32 n) { COLUMN(legumeyet_unit_formatter_format_integers(&it->of, column_in.integers, n, 0, COLUMN_OUT)) }
+number js_unit_texts(opened *it, u32 n) { COLUMN(legumeyet_unit_formatter_format_texts(&it->of, text_in(), n, COLUMN_OUT)) }
 void js_unit_close(opened *it) {
     legumeyet_unit_formatter_close(&it->of);
     free(it);

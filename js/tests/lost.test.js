@@ -61,6 +61,7 @@ function areWell() {
   assert.equal(euros.format("1234.5"), "1.234,50\u00a0€");
   assert.equal(percents.read("-%12,5"), "-12.5");
   assert.equal(own.format("1234"), "1,234");
+  assert.deepEqual(world.formatAll([1234567.5, "2"]), ["1.234.567,50", "2,00"]);
   assert.equal(orphan.format("1234"), "1234");
   assert.equal(book.answer("en\tplain\tauto\tkeep\t-\t1234"), "ok\t1,234");
   assert.ok(ofClosed.closed);
@@ -76,6 +77,7 @@ test("where the stack runs out inside a call, the next one is well", () => {
     () => book.answer("en\tplain\tauto\tkeep\t-\t1234"), () => new DecimalFormatter("hi").close(), () => new CompactDecimalFormatter("hi", { compactDisplay: "long" }).close(),
     () => new Book(JSON_OF_ONE).close(), () => orphan.format("1"), () => euros.formatToParts("-1234.5"), () => euros.read("1.234,50\u00a0€"), () => percents.format(5),
     () => new CurrencyFormatter("hi", { currency: "INR" }).close(), () => book.locales(),
+    () => world.formatAll([1234567.5, 2]), () => euros.formatAll(["1234.5", "2"]), () => percents.formatAll(new BigInt64Array(3)),
   ];
   let lost = 0;
   for (const call of calls) {
@@ -109,7 +111,7 @@ test("where memory is refused, the call says so, and its formatter stays", () =>
   const before = instance.age;
   for (let size = 1 << 30; size >= 1 << 11; size >>= 1) while (instance.calls.js_large_in(size) !== 0);
   instance.calls.js_let_go();
-  for (const call of [() => world.format("1".repeat(30000)), () => world.read("x".repeat(1e6)), () => new Book(" ".repeat(1e6)), () => new Book(JSON_OF_ONE)]) {
+  for (const call of [() => world.format("1".repeat(30000)), () => world.formatAll(["1".repeat(30000)]), () => world.read("x".repeat(1e6)), () => new Book(" ".repeat(1e6)), () => new Book(JSON_OF_ONE)]) {
     assert.throws(call, (error) => error instanceof LegumeyetError && error.number === 1);
   }
   assert.equal(world.format("-1234567.5"), "-1.234.567,50");

@@ -11,6 +11,7 @@ import locales from "legumeyet/locales";
 const options: DecimalFormatterOptions = { minimumFractionDigits: 2, maximumFractionDigits: 2, roundingMode: "halfEven", useGrouping: false };
 const german = new DecimalFormatter(["de", new Intl.Locale("en")], options);
 const texts: string[] = [1, "2", 3n].map(german.format);
+texts.push(...german.formatAll(new Float64Array(1)), ...german.formatAll([1, "2", 3n]), ...german.formatAll(new BigInt64Array(1)));
 const parts: Part[] = german.formatToParts(texts[0]);
 const digits: string = german.read(german.readLenient("1"));
 const locale: string = german.resolvedOptions().locale;
@@ -36,6 +37,10 @@ export { told, loaded };
 
 // @ts-expect-error
 german.format(null);
+// @ts-expect-error
+german.formatAll([null]);
+// @ts-expect-error
+german.formatAll(5);
 // @ts-expect-error
 new DecimalFormatter("de", { style: "percent" });
 // @ts-expect-error

@@ -17,7 +17,7 @@ Percents and amounts of money have formatters of their own:
 ('%12,5', '-$1,234.50')
 
 Books and formatters close themselves when they are no longer used; `with` and `close` close them sooner. Threads, signal handlers and forked
-children may use them: a call waits where another thread is inside `format_all`.
+children may use them: a call waits where another thread is inside `format_all`, for 4,096 numbers of it at most.
 """
 from decimal import Decimal
 

@@ -2,9 +2,9 @@
  * The module legumeyet._core: books and formatters of the library for C, which is linked into it. It uses what every CPython since 3.8 has.
  *
  * A call holds the lock of the interpreter, the GIL, and runs nothing of Python while the library has a handle. So one call at a time has a handle,
- * whatever threads and signal handlers do. Two calls let go of the GIL: that which reads a book, whose handle nobody else has yet, and format_all over
- * memory, whose formatter is marked as busy until then, unless it is shared: of a shared one any number of threads may be inside a call. Nothing else
- * is shared by two interpreters.
+ * whatever threads and signal handlers do. Two calls let go of the GIL: that which reads a book, whose handle nobody else has yet, and format_all,
+ * for CHUNK numbers at a time. Its formatter is marked as busy until then, unless it is shared: of a shared one any number of threads may be inside
+ * a call. Nothing else is shared by two interpreters.
  */
 #define PY_SSIZE_T_CLEAN
 #define Py_LIMITED_API 0x03080000
@@ -28,7 +28,11 @@ enum { STRIDES_AND_FORMAT = 0x1c };
 extern int PyObject_GetBuffer(PyObject *, buffer *, int);
 extern void PyBuffer_Release(buffer *);
 
-enum { ROOM = 512, PLACES = 32, CHUNK = 4096, HIGHEST = 32767, LOWEST = -32768 };
+enum { ROOM = 512, PLACES = 32, HIGHEST = 32767, LOWEST = -32768 };
+
+/* How many numbers of format_all are written together, from how many on other threads run meanwhile, how many bytes their digits have together
+ * before one more is taken, and how much room their texts have at first. */
+enum { CHUNK = 4096, ASIDE = 64, DIGITS_AT_MOST = 1 << 20, LEAST = 1 << 14 };
 
 /* An exponent that no digits bring back to the magnitudes of the library. */
 static const long long FAR = 1000000000000000;
@@ -67,6 +71,7 @@ struct open {
     } shared_handle;           /* of a shared formatter, whose `handle` is closed then */
     bool is_shared;            /* whether it is one */
     legumeyet_options options; /* those of each call, where it has no others */
+    PyThread_type_lock next;   /* held by who waits for format_all: it does not go on before */
     PyThread_type_lock lock;   /* held while format_all is without the GIL */
     bool is_busy;              /* whether it is; written under the GIL */
     uint32_t forks;            /* `forks` of `shared` when it was last so */
@@ -102,7 +107,15 @@ static PyObject *refused(struct shared *shared, int32_t number, Py_ssize_t at) {
     return NULL;
 }
 
-/* Whether a handle may be called: it was opened once, and no other thread is inside a call. Waits for one that is. */
+/* Takes a lock. What waits for it is without the GIL meanwhile. */
+static void take_lock(PyThread_type_lock lock) {
+    if (PyThread_acquire_lock(lock, NOWAIT_LOCK)) return;
+    Py_BEGIN_ALLOW_THREADS
+    PyThread_acquire_lock(lock, WAIT_LOCK);
+    Py_END_ALLOW_THREADS
+}
+
+/* Whether a handle may be called: it was opened once, and no other thread is inside a call. Waits for one that is, up to its next part. */
 static bool is_ready(struct open *it) {
     if (it->shared == NULL || it->shared->error == NULL) {
         PyErr_SetString(PyExc_RuntimeError, it->shared == NULL ? "it was never opened" : "the interpreter ends");
@@ -113,10 +126,10 @@ static bool is_ready(struct open *it) {
             PyErr_SetString(PyExc_RuntimeError, "another thread was using it when the process forked: open another one");
             return false;
         }
-        Py_BEGIN_ALLOW_THREADS
-        PyThread_acquire_lock(it->lock, WAIT_LOCK);
+        take_lock(it->next);
+        take_lock(it->lock);
         PyThread_release_lock(it->lock);
-        Py_END_ALLOW_THREADS
+        PyThread_release_lock(it->next);
     }
     return true;
 }
@@ -584,14 +597,14 @@ static PyObject *format_parts(PyObject *self, PyObject *arguments, PyObject *giv
 }
 
 /* A row of numbers in memory of another object, as the machine has them. */
-struct column {
+struct row {
     const char *at;
     Py_ssize_t count, stride, width;
     enum { SIGNED, UNSIGNED, REALS } type;
 };
 
 /* Whether memory of one dimension is such a row. */
-static bool take_column(const buffer *from, struct column *into) {
+static bool take_row(const buffer *from, struct row *into) {
     const char *format = from->format == NULL ? "B" : from->format;
     const uint16_t one = 1;
     bool is_small_first = *(const uint8_t *)&one == 1;
@@ -606,76 +619,109 @@ static bool take_column(const buffer *from, struct column *into) {
     return into->width == 1 || into->width == 2 || into->width == 4 || into->width == 8;
 }
 
-/* A number of the row. */
-static void take_item(const struct column *from, Py_ssize_t place, struct request *asked) {
-    const char *at = from->at + place * from->stride;
+/* Numbers of one kind, which one call writes. */
+struct numbers {
+    enum { INTEGERS, DOUBLES, DIGITS } kind;
+    size_t count;
     union {
-        int8_t b;
-        int16_t h;
-        int32_t i;
-        int64_t q;
-        double d;
-    } it;
-    memcpy(&it, at, (size_t)from->width);
-    asked->what = from->type == REALS ? REAL : from->type == UNSIGNED && from->width == 8 ? NATURAL : INTEGER;
-    asked->real = from->type == REALS ? it.d : 0;
-    if (from->type == SIGNED)
-        asked->integer = from->width == 1 ? it.b : from->width == 2 ? it.h : from->width == 4 ? it.i : it.q;
-    else if (from->type == UNSIGNED)
-        asked->integer = from->width == 1 ? (uint8_t)it.b : from->width == 2 ? (uint16_t)it.h : from->width == 4 ? (uint32_t)it.i : it.q;
-}
-
-/* The texts of some numbers, one after the other. */
-struct texts {
-    uint8_t *out;
-    size_t room, ends[CHUNK];
-    Py_ssize_t count;
-    int32_t number; /* of the library, of the number after them */
+        int64_t integers[CHUNK];
+        double doubles[CHUNK];
+    } as;
+    uint8_t *digits; /* each with a line feed */
+    size_t length, room;
 };
 
-/* Writes the numbers of a row from a place on, CHUNK of them at most. It needs no GIL. */
-static void write_some(struct open *it, struct request *asked, const struct column *from, Py_ssize_t first, struct texts *into) {
-    size_t end = 0, length = 0;
-    into->count = 0;
-    into->number = LEGUMEYET_OK;
-    while (into->count < CHUNK && first + into->count < from->count) {
-        take_item(from, first + into->count, asked);
-        into->number = ask(it, asked, into->out + end, into->room - end, &length);
-        if (into->number == LEGUMEYET_TOO_SMALL) {
-            size_t room = 2 * into->room + length;
-            uint8_t *out = realloc(into->out, room);
-            into->number = LEGUMEYET_MEMORY;
-            if (out == NULL) return;
-            into->out = out;
-            into->room = room;
-            continue;
-        }
-        if (into->number != LEGUMEYET_OK) return;
-        end += length;
-        into->ends[into->count++] = end;
+/* Their texts, one after the other. */
+struct texts {
+    uint8_t *out;
+    size_t room, ends[CHUNK], count;
+};
+
+/* A call of format_all. */
+struct column {
+    struct open *by;
+    legumeyet_options options;
+    PyObject *list;       /* of the texts that were written */
+    Py_ssize_t done;      /* how many are in it */
+    size_t since;         /* how many of them since other threads could run */
+    struct numbers from;  /* those after them */
+    struct texts written;
+};
+
+/* Asks a formatter for the texts of numbers, by the functions of `calls`. */
+#define ASK_COLUMN(name, handle, calls) \
+    static int32_t name(handle *it, const legumeyet_options *options, const struct numbers *from, struct texts *into) { \
+        size_t room = into->room, *ends = into->ends, *count = &into->count; \
+        if (from->kind == DOUBLES) return calls##_format_doubles(it, from->as.doubles, from->count, options, into->out, room, ends, CHUNK, count); \
+        if (from->kind == DIGITS) return calls##_format_texts(it, from->digits, from->length, options, into->out, room, ends, CHUNK, count); \
+        return calls##_format_integers(it, from->as.integers, from->count, 0, options, into->out, room, ends, CHUNK, count); \
     }
+ASK_COLUMN(ask_decimal_column, legumeyet_decimal_formatter, legumeyet_decimal_formatter)
+ASK_COLUMN(ask_compact_column, legumeyet_compact_formatter, legumeyet_compact_formatter)
+ASK_COLUMN(ask_unit_column, legumeyet_unit_formatter, legumeyet_unit_formatter)
+ASK_COLUMN(ask_shared_decimal_column, const legumeyet_shared_decimal_formatter, legumeyet_shared_decimal_formatter)
+ASK_COLUMN(ask_shared_compact_column, const legumeyet_shared_compact_formatter, legumeyet_shared_compact_formatter)
+ASK_COLUMN(ask_shared_unit_column, const legumeyet_shared_unit_formatter, legumeyet_shared_unit_formatter)
+
+/* Returns the number of the library, of the number after those that were written. */
+static int32_t ask_for_texts(struct open *it, const legumeyet_options *options, const struct numbers *from, struct texts *into) {
+    if (it->is_shared && it->kind == DECIMAL) return ask_shared_decimal_column(&it->shared_handle.decimal, options, from, into);
+    if (it->is_shared && it->kind == UNIT) return ask_shared_unit_column(&it->shared_handle.unit, options, from, into);
+    if (it->is_shared) return ask_shared_compact_column(&it->shared_handle.compact, options, from, into);
+    if (it->kind == DECIMAL) return ask_decimal_column(&it->handle.decimal, options, from, into);
+    if (it->kind == UNIT) return ask_unit_column(&it->handle.unit, options, from, into);
+    return ask_compact_column(&it->handle.compact, options, from, into);
 }
 
-/* Writes them without the GIL. No other call has the formatter meanwhile, unless it is shared. */
-static bool write_aside(struct open *it, struct request *asked, const struct column *from, Py_ssize_t first, struct texts *into) {
-    if (it->is_shared) {
-        struct open copied = *it; /* of the handle: another thread may close the formatter meanwhile */
-        Py_BEGIN_ALLOW_THREADS
-        write_some(&copied, asked, from, first, into);
-        Py_END_ALLOW_THREADS
-        return true;
+/* Writes numbers, from the first on where they need more room. It needs no GIL. */
+static int32_t write_texts(struct open *it, const legumeyet_options *options, const struct numbers *from, struct texts *into) {
+    int32_t number;
+    while ((number = ask_for_texts(it, options, from, into)) == LEGUMEYET_TOO_SMALL) {
+        uint8_t *out = realloc(into->out, 2 * into->room);
+        if (out == NULL) return LEGUMEYET_MEMORY;
+        into->out = out;
+        into->room *= 2;
     }
-    if (it->lock == NULL || it->forks != it->shared->forks) it->lock = PyThread_allocate_lock(); /* one of before a fork may be held by nobody */
-    if (it->lock == NULL) return PyErr_NoMemory(), false;
-    PyThread_acquire_lock(it->lock, WAIT_LOCK);
+    return number;
+}
+
+/* Marks a handle as busy, once those have called it who waited for that. */
+static bool begin_part(struct open *it) {
+    if (it->lock == NULL || it->forks != it->shared->forks) { /* locks of before a fork may be held by nobody */
+        PyThread_type_lock next = PyThread_allocate_lock(), lock = next == NULL ? NULL : PyThread_allocate_lock();
+        if (lock == NULL) {
+            if (next != NULL) PyThread_free_lock(next);
+            return PyErr_NoMemory(), false;
+        }
+        it->next = next;
+        it->lock = lock;
+        it->forks = it->shared->forks;
+    }
+    take_lock(it->next);
+    take_lock(it->lock);
     it->is_busy = true;
-    it->forks = it->shared->forks;
-    Py_BEGIN_ALLOW_THREADS
-    write_some(it, asked, from, first, into);
-    PyThread_release_lock(it->lock);
-    Py_END_ALLOW_THREADS
-    it->is_busy = false;
+    PyThread_release_lock(it->next);
     return true;
+}
+
+/* Marks it as free again. */
+static void end_part(struct open *it) {
+    it->is_busy = false;
+    PyThread_release_lock(it->lock);
+}
+
+/* Writes numbers without the GIL. No other call has the formatter meanwhile, unless it is shared. Returns -1 with an error of Python. */
+static int32_t write_aside(struct open *it, const legumeyet_options *options, const struct numbers *from, struct texts *into) {
+    bool is_alone = !it->is_shared;
+    int32_t number;
+    struct open copied;
+    if (is_alone && !begin_part(it)) return -1;
+    copied = *it; /* of a shared handle: another thread may close the formatter meanwhile */
+    Py_BEGIN_ALLOW_THREADS
+    number = write_texts(is_alone ? it : &copied, options, from, into);
+    Py_END_ALLOW_THREADS
+    if (is_alone) end_part(it);
+    return number;
 }
 
 /* Adds a text to a list, which takes it over. */
@@ -685,47 +731,151 @@ static bool add(PyObject *list, PyObject *text) {
     return is_well;
 }
 
-/* Adds the texts of a row to a list. */
-static bool add_column(struct open *it, struct request *asked, const struct column *from, PyObject *list) {
-    struct texts *some = calloc(1, sizeof *some);
-    bool is_well = some != NULL && (some->out = malloc(ROOM)) != NULL;
-    if (is_well)
-        some->room = ROOM;
-    else
-        PyErr_NoMemory();
-    for (Py_ssize_t first = 0; is_well && first < from->count; first += some->count) {
-        is_well = is_ready(it) && write_aside(it, asked, from, first, some);
-        for (Py_ssize_t at = 0; is_well && at < some->count; at++) {
-            size_t start = at == 0 ? 0 : some->ends[at - 1];
-            is_well = add(list, PyUnicode_DecodeUTF8((const char *)some->out + start, (Py_ssize_t)(some->ends[at] - start), NULL));
-        }
-        if (is_well && some->number != LEGUMEYET_OK) is_well = refused(it->shared, some->number, first + some->count) != NULL;
-        is_well = is_well && PyErr_CheckSignals() == 0;
+/* Lets other threads and the handlers of signals run, once as many numbers were written as a part has. */
+static bool let_others_run(struct column *all, size_t count, bool is_aside) {
+    all->since += count;
+    if (all->since < CHUNK) return true;
+    all->since = 0;
+    if (!is_aside) {
+        Py_BEGIN_ALLOW_THREADS
+        Py_END_ALLOW_THREADS
     }
-    if (some != NULL) free(some->out);
-    free(some);
+    return PyErr_CheckSignals() == 0;
+}
+
+/* Writes the numbers that were taken, and adds their texts to the list. */
+static bool write_taken(struct column *all) {
+    const struct texts *texts = &all->written;
+    size_t count = all->from.count, start = 0;
+    bool is_aside = count >= ASIDE, is_well = true;
+    int32_t number;
+    if (count == 0) return true;
+    if (!is_ready(all->by)) return false;
+    number = (is_aside ? write_aside : write_texts)(all->by, &all->options, &all->from, &all->written);
+    for (size_t at = 0; is_well && number == LEGUMEYET_OK && at < count; start = texts->ends[at++])
+        is_well = add(all->list, PyUnicode_DecodeUTF8((const char *)texts->out + start, (Py_ssize_t)(texts->ends[at] - start), NULL));
+    if (number > 0) refused(all->by->shared, number, all->done + (Py_ssize_t)texts->count);
+    all->from.count = all->from.length = 0;
+    all->done += (Py_ssize_t)count;
+    return is_well && number == LEGUMEYET_OK && let_others_run(all, count, is_aside);
+}
+
+/* Ends where a number is none that can be written: by the error of Python that is there, or by a number of the library above 0. A number before
+ * it that is refused comes first. */
+static bool end_wrong(struct column *all, int32_t number) {
+    PyObject *kind = NULL, *error = NULL, *trace = NULL;
+    PyErr_Fetch(&kind, &error, &trace);
+    if (!write_taken(all)) {
+        Py_XDECREF(kind);
+        Py_XDECREF(error);
+        Py_XDECREF(trace);
+    } else if (number > 0) {
+        refused(all->by->shared, number, all->done);
+    } else {
+        PyErr_Restore(kind, error, trace);
+    }
+    return false;
+}
+
+/* Makes room for a number of a kind. Those of another are written before. */
+static bool begin_number(struct column *all, int kind) {
+    bool is_other = all->from.count > 0 && (int)all->from.kind != kind;
+    if ((is_other || all->from.count == CHUNK || all->from.length >= DIGITS_AT_MOST) && !write_taken(all)) return false;
+    all->from.kind = kind;
+    return true;
+}
+
+static bool put_integer(struct column *all, int64_t number) {
+    if (!begin_number(all, INTEGERS)) return false;
+    all->from.as.integers[all->from.count++] = number;
+    return true;
+}
+
+static bool put_double(struct column *all, double number) {
+    if (!begin_number(all, DOUBLES)) return false;
+    all->from.as.doubles[all->from.count++] = number;
+    return true;
+}
+
+/* Digits with a line feed inside would be two numbers: they are written alone, to be refused. */
+static bool put_line_feed(struct column *all, struct request *asked) {
+    if (!write_taken(all)) return false;
+    asked->options = all->options;
+    return add(all->list, written(all->by, asked, all->done++));
+}
+
+static bool put_digits_of(struct column *all, const uint8_t *digits, size_t length) {
+    struct numbers *into = &all->from;
+    if (!begin_number(all, DIGITS)) return false;
+    if (length >= into->room - into->length) {
+        size_t room = 2 * into->room + length + 1;
+        uint8_t *larger = realloc(into->digits, room);
+        if (larger == NULL) return PyErr_NoMemory(), false;
+        into->digits = larger;
+        into->room = room;
+    }
+    if (length > 0) memcpy(into->digits + into->length, digits, length);
+    into->digits[into->length + length] = '\n';
+    into->length += length + 1;
+    into->count++;
+    return true;
+}
+
+/* Takes a number of a row. What has not its bits as an int64_t is taken as digits. */
+static bool put_item(struct column *all, const struct row *from, Py_ssize_t place) {
+    const char *at = from->at + place * from->stride;
+    char digits[24];
+    union {
+        int8_t b;
+        int16_t h;
+        int32_t i;
+        int64_t q;
+        double d;
+    } it;
+    memcpy(&it, at, (size_t)from->width);
+    if (from->type == REALS) return put_double(all, it.d);
+    if (from->type == SIGNED) return put_integer(all, from->width == 1 ? it.b : from->width == 2 ? it.h : from->width == 4 ? it.i : it.q);
+    if (from->width < 8) return put_integer(all, from->width == 1 ? (uint8_t)it.b : from->width == 2 ? (uint16_t)it.h : (uint32_t)it.i);
+    if (it.q >= 0) return put_integer(all, it.q);
+    return put_digits_of(all, (const uint8_t *)digits, (size_t)snprintf(digits, sizeof digits, "%llu", (unsigned long long)it.q));
+}
+
+/* Takes the numbers of a row. */
+static bool take_all_of(struct column *all, const struct row *from) {
+    bool is_well = true;
+    for (Py_ssize_t at = 0; is_well && at < from->count; at++) is_well = put_item(all, from, at);
     return is_well;
 }
 
-/* Adds the text of one number to a list. */
-static bool add_number(struct open *it, const struct request *like, PyObject *number, Py_ssize_t at, PyObject *list) {
-    struct request asked = *like;
-    int32_t found = is_ready(it) ? take_number(it->shared, &asked, number) : -1;
-    PyObject *text = found == LEGUMEYET_OK ? written(it, &asked, at) : found < 0 ? NULL : refused(it->shared, found, at);
+/* Takes a number of a caller. */
+static bool put_number(struct column *all, PyObject *number) {
+    struct request asked = {.what = TEXT};
+    int32_t found = take_number(all->by->shared, &asked, number);
+    bool is_well;
+    if (found != LEGUMEYET_OK)
+        is_well = end_wrong(all, found);
+    else if (asked.what == INTEGER)
+        is_well = put_integer(all, asked.integer);
+    else if (asked.what == REAL)
+        is_well = put_double(all, asked.real);
+    else if (asked.length > 0 && memchr(asked.at, '\n', asked.length) != NULL)
+        is_well = put_line_feed(all, &asked);
+    else
+        is_well = put_digits_of(all, asked.at, asked.length);
     let_go(&asked);
-    return add(list, text) && (at % CHUNK != CHUNK - 1 || PyErr_CheckSignals() == 0);
+    return is_well;
 }
 
-/* Adds the texts of the numbers that an object iterates over. */
-static bool add_each(struct open *it, const struct request *asked, PyObject *numbers, PyObject *list) {
+/* Takes the numbers that an object iterates over. */
+static bool take_each(struct column *all, PyObject *numbers) {
     PyObject *iterator = PyObject_GetIter(numbers), *number = NULL;
     bool is_well = iterator != NULL;
-    for (Py_ssize_t at = 0; is_well && (number = PyIter_Next(iterator)) != NULL; at++) {
-        is_well = add_number(it, asked, number, at, list);
+    while (is_well && (number = PyIter_Next(iterator)) != NULL) {
+        is_well = put_number(all, number);
         Py_DECREF(number);
     }
     Py_XDECREF(iterator);
-    return is_well && !PyErr_Occurred();
+    return is_well && PyErr_Occurred() ? end_wrong(all, -1) : is_well;
 }
 
 /* The memory of an object, or of the NumPy array of a column that has `to_numpy`. Returns whether there is some; there is no error. */
@@ -741,36 +891,56 @@ static bool take_memory(PyObject *numbers, buffer *into) {
     return is_there;
 }
 
-/* Adds the texts of all numbers. */
-static bool add_all(struct open *it, struct request *asked, PyObject *numbers, PyObject *list) {
+/* Takes all numbers of an object. */
+static bool take_all(struct column *all, PyObject *numbers) {
     buffer memory;
-    struct column column;
+    struct row row;
     bool is_well;
-    if (PyList_Check(numbers) || PyTuple_Check(numbers) || !take_memory(numbers, &memory)) return add_each(it, asked, numbers, list);
+    if (PyList_Check(numbers) || PyTuple_Check(numbers) || !take_memory(numbers, &memory)) return take_each(all, numbers);
     if (memory.ndim != 1) {
         PyErr_Format(PyExc_TypeError, "numbers are in a row, and not in %d dimensions", memory.ndim);
         is_well = false;
     } else {
-        is_well = take_column(&memory, &column) ? add_column(it, asked, &column, list) : add_each(it, asked, numbers, list);
+        is_well = take_row(&memory, &row) ? take_all_of(all, &row) : take_each(all, numbers);
     }
     PyBuffer_Release(&memory);
     return is_well;
 }
 
+/* A list of the texts of all numbers. */
+static PyObject *texts_of(struct open *by, const legumeyet_options *options, PyObject *numbers) {
+    struct column *all = malloc(sizeof *all);
+    PyObject *list = PyList_New(0);
+    bool is_well = all != NULL && (all->written.out = malloc(LEAST)) != NULL;
+    if (!is_well && list != NULL) PyErr_NoMemory();
+    if (is_well) {
+        all->written.room = LEAST;
+        all->by = by;
+        all->options = *options;
+        all->list = list;
+        all->done = 0;
+        all->from.digits = NULL;
+        all->since = all->from.count = all->from.length = all->from.room = 0;
+        is_well = list != NULL && take_all(all, numbers) && write_taken(all);
+        free(all->from.digits);
+        free(all->written.out);
+    }
+    free(all);
+    if (!is_well) Py_CLEAR(list);
+    return list;
+}
+
 static PyObject *format_all(PyObject *self, PyObject *arguments, PyObject *given) {
     struct open *it = (struct open *)self;
     struct request asked = {.what = TEXT};
-    PyObject *list, *numbers = argument(arguments, "what has the numbers");
+    PyObject *numbers = argument(arguments, "what has the numbers");
     if (numbers == NULL || !is_ready(it)) return NULL;
     if (PyUnicode_Check(numbers) || PyBytes_Check(numbers) || PyByteArray_Check(numbers)) {
         PyErr_Format(PyExc_TypeError, "numbers are given one by one, and not as a %R", Py_TYPE(numbers));
         return NULL;
     }
     asked.options = it->options;
-    if (!take_options(it->shared, given, &asked.options)) return NULL;
-    list = PyList_New(0);
-    if (list != NULL && !add_all(it, &asked, numbers, list)) Py_CLEAR(list);
-    return list;
+    return take_options(it->shared, given, &asked.options) ? texts_of(it, &asked.options, numbers) : NULL;
 }
 
 static PyObject *answer(PyObject *self, PyObject *line) {
@@ -894,7 +1064,10 @@ static void dealloc(PyObject *self) {
     freefunc free_it = (freefunc)PyType_GetSlot(type, Py_tp_free);
     close_handle(it);
     leave(it->shared);
-    if (it->lock != NULL) PyThread_free_lock(it->lock);
+    if (it->lock != NULL) {
+        PyThread_free_lock(it->next);
+        PyThread_free_lock(it->lock);
+    }
     free_it(self);
     Py_DECREF(type);
 }
@@ -934,7 +1107,8 @@ static PyGetSetDef properties[] = {{"is_open", is_open, NULL, "Whether it is ope
     {"format_all", CALL(format_all), \
      "format_all($self, numbers, /, **options)\n--\n\n" \
      "A list of the texts of many numbers, as format writes each. The numbers are what can be iterated over, or a row in memory: an array of\n" \
-     "array or NumPy, a column of pandas. A row of integers, or of doubles, is read where it is, and other threads run meanwhile.\n\n" \
+     "array or NumPy, a column of pandas. A row of integers, or of doubles, is read where it is. Up to 4,096 numbers of one kind are written\n" \
+     "together, and other threads run meanwhile.\n\n" \
      "Raises as format; an Error says which number it is of, from 0 on.\n\n" \
      ">>> DecimalFormatter('de').format_all([1234, Decimal('0.50'), '1e6'])\n" \
      "['1.234', '0,50', '1.000.000']"}

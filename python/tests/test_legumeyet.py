@@ -437,6 +437,119 @@ class Calls(unittest.TestCase):
         thread.join()
         self.assertIn(said, (["all"], ["closed"]))
 
+    def test_calls_beside_a_column(self):
+        """Who waits for a column waits for a part of it at most, and other threads run meanwhile, also where the numbers are a list."""
+        for numbers in (array.array("q", range(300_000)), list(range(300_000)), [str(it) for it in range(200_000)]):
+            ended = threading.Event()
+
+            def column(numbers=numbers, ended=ended):
+                self.english.format_all(numbers)
+                ended.set()
+
+            threads = [threading.Thread(target=column) for _ in range(2)]
+            for it in threads:
+                it.start()
+            calls = 0
+            while not ended.is_set():
+                self.assertEqual(self.english.format(1234), "1,234")
+                calls += not ended.is_set()
+            for it in threads:
+                it.join()
+            self.assertGreater(calls, 10)
+
+    def test_kinds_in_a_column(self):
+        """Numbers of all kinds are written in their order, whatever comes after what, and however many they are."""
+        kinds = [1234, 1234.5, "1e3", Decimal("-0.50"), 2**70, True, -0.0]
+        wanted = ["1,234", "1,234.5", "1,000", "-0.50", f"{2**70:,}", "1", "-0"]
+        for times in (1, 63, 64, 65, 4095, 4096, 4097):
+            self.assertEqual(self.english.format_all([it for it in kinds for _ in range(times)]), [it for it in wanted for _ in range(times)])
+        self.assertEqual(self.english.format_all(kinds * 1500), wanted * 1500)
+        long = "1" * 100_000
+        self.assertRaises(InputError, self.english.format_all, [long])
+        long = "1" * 30_000
+        self.assertEqual(self.english.format_all([long, 5, long] * 50), [self.english.format(it) for it in (long, 5, long)] * 50)
+
+    def test_refused_in_a_column(self):
+        """The first number that is refused, or that is none, ends the call, and the error says where it is."""
+        nan, others = float("nan"), [1] * 5000
+
+        def stops(numbers):
+            yield from numbers
+            raise KeyError(1)
+
+        for before in ([], [1], [1.5, "2"], others, [1.5] * 5000, ["7"] * 5000, [1, 2.0] * 40):
+            for wrong, number in ((nan, 7), ("5.", 7), ("", 7), ("1\n2", 7), ("\n", 7), ("1\r", 7), (Decimal("1E+40000"), 8), ("1e40000", 8), (10**32768, 8)):
+                for numbers in ([*before, wrong], [*before, wrong, nan, None], iter([*before, wrong]), stops([*before, wrong]), [*before, wrong, *others]):
+                    with self.assertRaises(InputError) as caught:
+                        self.english.format_all(numbers)
+                    self.assertRegex(str(caught.exception), f"^{number}: .*: the number at {len(before)}$")
+            self.assertRaises(TypeError, self.english.format_all, [*before, None, nan])
+            self.assertRaises(KeyError, self.english.format_all, stops(before))
+        self.assertRaises(TypeError, self.english.format_all, [1], position="1")
+        self.english.close()
+        self.refused(2, self.english.format_all, [1])
+        self.refused(2, self.english.format_all, array.array("d", [1.0] * 100))
+
+    def test_numbers_that_meddle_with_a_column(self):
+        """What a number or an iterator does while it is taken is as if it came before the numbers that are not written yet."""
+        english, said = self.english, []
+
+        def uses():
+            for at in range(5000):
+                said.append(english.format(at))
+                yield at
+
+        class Forks(Decimal):
+            def __str__(self):
+                child = os.fork()
+                if child == 0:
+                    os._exit(english.format_all(range(200)) != [f"{it:,}" for it in range(200)])
+                self.status = os.waitpid(child, 0)[1]
+                return "7"
+
+        self.assertEqual(english.format_all(uses()), said)
+        forks = Forks(1)
+        self.assertEqual(english.format_all([*range(100), forks, 8])[-2:], ["7", "8"])
+        self.assertEqual(forks.status, 0)
+
+        def nested():
+            yield 1
+            yield from map(int, english.format_all([2] * 100))
+            english.close()
+            yield 3
+
+        self.refused(2, english.format_all, nested())
+
+    def test_children_of_columns(self):
+        """A child of a process whose threads are inside columns and wait for them has a formatter of its own, or is told to open one."""
+        words = """if True:
+            import os, threading
+            from legumeyet import DecimalFormatter
+            german, numbers, ended = DecimalFormatter("de"), list(range(400000)), []
+            def column():
+                german.format_all(numbers)
+                ended.append(1)
+            def single():
+                while len(ended) < 2:
+                    german.format(1)
+            threads = [threading.Thread(target=it) for it in (column, single, column, single)]
+            [it.start() for it in threads]
+            children = 0
+            while len(ended) < 2 and children < 30:
+                child = os.fork()
+                if child == 0:
+                    try:
+                        assert german.format_all([1234] * 100) == ["1.234"] * 100
+                        assert german.format(1234) == "1.234"
+                    except RuntimeError as error:
+                        assert "forked" in str(error), error
+                    os._exit(0)
+                assert os.waitpid(child, 0)[1] == 0
+                children += 1
+            [it.join() for it in threads]
+        """
+        subprocess.run([sys.executable, "-W", "ignore::DeprecationWarning", "-c", words], check=True, timeout=120)
+
     def test_interrupted_column(self):
         """A signal's handler runs between two parts of a column, and what it raises ends the call."""
 

@@ -68,6 +68,7 @@
 //! is_shared::<legumeyet::CurrencyFormatter>();
 //! ```
 
+mod column;
 mod error;
 mod number;
 mod options;
@@ -77,6 +78,7 @@ mod sys;
 mod units;
 mod world;
 
+pub use column::{Column, ColumnError, Texts};
 pub use error::{Error, OpenError, UnknownWord, WriteError};
 pub use number::Number;
 pub use options::{
@@ -92,6 +94,7 @@ use std::ops::Range;
 use std::path::Path;
 use std::str::FromStr;
 
+use column::columns;
 use number::Of;
 use owned::{annotated, written, written_to, Owned};
 use world::with_world;
@@ -263,6 +266,11 @@ impl DecimalFormatter {
     }
 }
 
+columns! {
+    DecimalFormatter: legumeyet_decimal_formatter_format_doubles, legumeyet_decimal_formatter_format_integers,
+    legumeyet_decimal_formatter_format_texts, |it| it.0.at()
+}
+
 /// The formatter of compact numbers for a locale tag, short or long. It may outlive the book.
 ///
 /// ```
@@ -379,4 +387,9 @@ pub fn version() -> u32 {
 pub fn minor() -> u32 {
     // SAFETY: it reads nothing.
     unsafe { sys::legumeyet_minor() }
+}
+
+columns! {
+    CompactDecimalFormatter: legumeyet_compact_formatter_format_doubles, legumeyet_compact_formatter_format_integers,
+    legumeyet_compact_formatter_format_texts, |it| it.0.at()
 }

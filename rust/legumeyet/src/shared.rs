@@ -1,5 +1,6 @@
 //! Formatters that any number of threads use at once.
 
+use crate::column::columns;
 use crate::number::Of;
 use crate::owned::{annotated, written, written_to, Owned};
 use crate::{sys, Error, Number, Options, Parts, WriteError};
@@ -190,4 +191,24 @@ reads! {
 reads! {
     /// The number of a text that somebody typed, as digits, by the rule of `CurrencyFormatter::read_lenient`. Refused as `read`.
     SharedCurrencyFormatter: read_lenient, legumeyet_shared_unit_formatter_read_lenient
+}
+
+columns! {
+    SharedDecimalFormatter: legumeyet_shared_decimal_formatter_format_doubles, legumeyet_shared_decimal_formatter_format_integers,
+    legumeyet_shared_decimal_formatter_format_texts, |it| it.at()
+}
+
+columns! {
+    SharedCompactDecimalFormatter: legumeyet_shared_compact_formatter_format_doubles, legumeyet_shared_compact_formatter_format_integers,
+    legumeyet_shared_compact_formatter_format_texts, |it| it.at()
+}
+
+columns! {
+    SharedPercentFormatter: legumeyet_shared_unit_formatter_format_doubles, legumeyet_shared_unit_formatter_format_integers,
+    legumeyet_shared_unit_formatter_format_texts, |it| it.at()
+}
+
+columns! {
+    SharedCurrencyFormatter: legumeyet_shared_unit_formatter_format_doubles, legumeyet_shared_unit_formatter_format_integers,
+    legumeyet_shared_unit_formatter_format_texts, |it| it.at()
 }

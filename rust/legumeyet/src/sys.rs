@@ -54,8 +54,6 @@ pub struct Interval {
 }
 
 #[rustfmt::skip]
-// The calls that write columns are not wrapped yet.
-#[allow(dead_code)]
 extern "C" {
     pub fn legumeyet_book_open(json: *const u8, json_length: usize, book: *mut Handle) -> i32;
     pub fn legumeyet_book_open_world(book: *mut Handle) -> i32;

@@ -1,5 +1,6 @@
 //! Formatters of percents and of amounts of money.
 
+use crate::column::columns;
 use crate::number::Of;
 use crate::owned::{annotated, written, written_to, Owned};
 use crate::shared::{SharedCurrencyFormatter, SharedPercentFormatter};
@@ -129,6 +130,10 @@ macro_rules! calls_of {
 pub struct PercentFormatter(Unit);
 
 calls_of!(PercentFormatter, SharedPercentFormatter);
+columns! {
+    PercentFormatter: legumeyet_unit_formatter_format_doubles, legumeyet_unit_formatter_format_integers,
+    legumeyet_unit_formatter_format_texts, |it| it.0 .0.at()
+}
 
 /// The formatter of a tag, as of `new`.
 impl FromStr for PercentFormatter {
@@ -182,6 +187,10 @@ impl PercentFormatter {
 pub struct CurrencyFormatter(Unit);
 
 calls_of!(CurrencyFormatter, SharedCurrencyFormatter);
+columns! {
+    CurrencyFormatter: legumeyet_unit_formatter_format_doubles, legumeyet_unit_formatter_format_integers,
+    legumeyet_unit_formatter_format_texts, |it| it.0 .0.at()
+}
 
 impl CurrencyFormatter {
     /// The formatter of a tag and a code, of the world's book, which the process opens once and keeps. Refused by `CODE`, `TAG`, `TABLE`,

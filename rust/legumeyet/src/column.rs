@@ -1,0 +1,244 @@
+//! Many numbers in one call.
+
+use crate::{sys, Error, Number};
+use std::{fmt, iter, ops, slice};
+
+/// The texts of many numbers, one after the other in one string: what `format_all`, `format_doubles` and `format_integers` write.
+///
+/// ```
+/// use legumeyet::{DecimalFormatter, Options};
+///
+/// let column = DecimalFormatter::new("de")?.format_doubles(&[1234.5, -7.0, 0.25], &Options::default())?;
+/// assert_eq!((column.len(), &column[0], column.get(3)), (3, "1.234,5", None));
+/// assert_eq!(column.iter().collect::<Vec<_>>(), ["1.234,5", "-7", "0,25"]);
+/// # Ok::<(), Box<dyn std::error::Error>>(())
+/// ```
+#[derive(Clone, Debug, Default, PartialEq, Eq)]
+pub struct Column {
+    texts: String,
+    ends: Vec<usize>,
+}
+
+impl Column {
+    /// How many texts there are.
+    pub fn len(&self) -> usize {
+        self.ends.len()
+    }
+
+    /// Whether there is none.
+    pub fn is_empty(&self) -> bool {
+        self.ends.is_empty()
+    }
+
+    /// The text at a place, where there is one.
+    pub fn get(&self, at: usize) -> Option<&str> {
+        let start = at.checked_sub(1).map_or(Some(0), |before| self.ends.get(before).copied())?;
+        self.texts.get(start..*self.ends.get(at)?)
+    }
+
+    /// The texts, in order.
+    pub fn iter(&self) -> Texts<'_> {
+        Texts { rest: &self.texts, done: 0, ends: self.ends.iter() }
+    }
+
+    /// All texts, with nothing between.
+    pub fn as_str(&self) -> &str {
+        &self.texts
+    }
+
+    /// What a call writes of `total` numbers, with as much room as they need: the call is passed the number to begin with, memory for texts
+    /// and its length, memory for ends and its length, and where the count goes.
+    pub(crate) fn written(
+        total: usize,
+        mut call: impl FnMut(usize, *mut u8, usize, *mut usize, usize, *mut usize) -> i32,
+    ) -> Result<Column, ColumnError> {
+        let (mut out, mut ends) = (vec![0; total.saturating_mul(16).saturating_add(64)], vec![0; total]);
+        let (mut used, mut done) = (0, 0);
+        loop {
+            let (rest, next, mut count) = (&mut out[used..], &mut ends[done..], 0);
+            let number = call(done, rest.as_mut_ptr(), rest.len(), next.as_mut_ptr(), next.len(), &mut count);
+            next[..count].iter_mut().for_each(|end| *end += used);
+            done += count;
+            used = ends[..done].last().copied().unwrap_or(0);
+            if number != sys::TOO_SMALL {
+                out.truncate(used);
+                ends.truncate(done);
+                let column = Column { texts: String::from_utf8(out).expect("the library writes UTF-8"), ends };
+                return match Error::check(number) {
+                    Ok(()) => Ok(column),
+                    Err(error) => Err(ColumnError { error, column }),
+                };
+            }
+            out.resize(2 * out.len(), 0);
+        }
+    }
+}
+
+impl ops::Index<usize> for Column {
+    type Output = str;
+
+    fn index(&self, at: usize) -> &str {
+        self.get(at).expect("the place of a text")
+    }
+}
+
+impl<'a> IntoIterator for &'a Column {
+    type Item = &'a str;
+    type IntoIter = Texts<'a>;
+
+    fn into_iter(self) -> Texts<'a> {
+        self.iter()
+    }
+}
+
+/// The texts of a column, in order.
+#[derive(Clone, Debug)]
+pub struct Texts<'a> {
+    rest: &'a str,
+    done: usize,
+    ends: slice::Iter<'a, usize>,
+}
+
+impl<'a> Iterator for Texts<'a> {
+    type Item = &'a str;
+
+    fn next(&mut self) -> Option<&'a str> {
+        let end = *self.ends.next()?;
+        let (text, rest) = self.rest.split_at(end - self.done);
+        (self.rest, self.done) = (rest, end);
+        Some(text)
+    }
+
+    fn size_hint(&self) -> (usize, Option<usize>) {
+        self.ends.size_hint()
+    }
+}
+
+impl ExactSizeIterator for Texts<'_> {}
+impl iter::FusedIterator for Texts<'_> {}
+
+/// Why a number of many was refused, and the texts of those before it: `at` says which it is, from 0 on.
+///
+/// ```
+/// use legumeyet::{DecimalFormatter, Error, Options};
+///
+/// let refused = DecimalFormatter::new("de")?.format_doubles(&[0.5, f64::NAN, 1.0], &Options::default()).unwrap_err();
+/// assert_eq!((refused.error, refused.at(), &refused.column[0]), (Error::NUMBER, 1, "0,5"));
+/// # Ok::<(), Error>(())
+/// ```
+#[derive(Clone, Debug, PartialEq, Eq)]
+pub struct ColumnError {
+    pub error: Error,
+    pub column: Column,
+}
+
+impl ColumnError {
+    /// The place of the number.
+    pub fn at(&self) -> usize {
+        self.column.len()
+    }
+}
+
+impl fmt::Display for ColumnError {
+    fn fmt(&self, out: &mut fmt::Formatter<'_>) -> fmt::Result {
+        write!(out, "{}: the number at {}", self.error, self.at())
+    }
+}
+
+impl std::error::Error for ColumnError {}
+
+impl From<ColumnError> for Error {
+    fn from(refused: ColumnError) -> Error {
+        refused.error
+    }
+}
+
+/// Numbers as lines. A text with a line feed inside would be two numbers: there are none from it on, and it is refused.
+pub(crate) struct Lines {
+    text: Vec<u8>,
+    pub(crate) count: usize,
+    is_cut: bool,
+}
+
+impl Lines {
+    pub(crate) fn of<'a, N: Into<Number<'a>>>(numbers: impl IntoIterator<Item = N>) -> Lines {
+        let mut lines = Lines { text: Vec::new(), count: 0, is_cut: false };
+        for number in numbers {
+            let number = number.into();
+            let digits = number.digits();
+            if digits.contains('\n') {
+                lines.is_cut = true;
+                break;
+            }
+            lines.text.extend_from_slice(digits.as_bytes());
+            lines.text.push(b'\n');
+            lines.count += 1;
+        }
+        lines
+    }
+
+    /// Those from a number on.
+    pub(crate) fn after(&self, done: usize) -> &[u8] {
+        let begins = |_| self.text.iter().enumerate().filter(|it| *it.1 == b'\n').nth(done - 1).map(|it| it.0 + 1);
+        &self.text[done.checked_sub(1).and_then(begins).unwrap_or(0)..]
+    }
+
+    /// What was written of them, where none was left out.
+    pub(crate) fn whole(&self, column: Column) -> Result<Column, ColumnError> {
+        if self.is_cut {
+            Err(ColumnError { error: Error::NUMBER, column })
+        } else {
+            Ok(column)
+        }
+    }
+}
+
+/// The calls of a formatter that write many numbers; the handle is found as the last argument says.
+macro_rules! columns {
+    ($type:ident: $doubles:ident, $integers:ident, $texts:ident, |$it:ident| $at:expr) => {
+        impl $type {
+            /// The texts of many doubles, as `format` writes each, and far sooner. Refused as `format`, by the first number that is.
+            pub fn format_doubles(&self, numbers: &[f64], options: &crate::Options) -> Result<crate::Column, crate::ColumnError> {
+                let (options, $it) = (options.numbers(), self);
+                crate::Column::written(numbers.len(), |done, out, room, ends, ends_room, count| {
+                    let from = &numbers[done..];
+                    // SAFETY: a slice is memory of its length, `out` and `ends` are memory of their room, and no other call has the handle.
+                    unsafe { crate::sys::$doubles($at, from.as_ptr(), from.len(), &options, out, room, ends, ends_room, count) }
+                })
+            }
+
+            /// The texts of many integers, each times ten to the power `exponent`: with -2 those of cents in whole units. Refused as
+            /// `format_i64`, by the first number that is.
+            pub fn format_integers(
+                &self,
+                mantissas: &[i64],
+                exponent: i16,
+                options: &crate::Options,
+            ) -> Result<crate::Column, crate::ColumnError> {
+                let (options, $it) = (options.numbers(), self);
+                crate::Column::written(mantissas.len(), |done, out, room, ends, ends_room, count| {
+                    let from = &mantissas[done..];
+                    // SAFETY: as for `format_doubles`.
+                    unsafe { crate::sys::$integers($at, from.as_ptr(), from.len(), exponent, &options, out, room, ends, ends_room, count) }
+                })
+            }
+
+            /// The texts of what can be iterated over: texts, integers or floats, as `format` takes them. Refused as `format`, by the first
+            /// number that is.
+            pub fn format_all<'a, N: Into<crate::Number<'a>>>(
+                &self,
+                numbers: impl IntoIterator<Item = N>,
+                options: &crate::Options,
+            ) -> Result<crate::Column, crate::ColumnError> {
+                let (options, $it, lines) = (options.numbers(), self, crate::column::Lines::of(numbers));
+                let column = crate::Column::written(lines.count, |done, out, room, ends, ends_room, count| {
+                    let from = lines.after(done);
+                    // SAFETY: as for `format_doubles`.
+                    unsafe { crate::sys::$texts($at, from.as_ptr(), from.len(), &options, out, room, ends, ends_room, count) }
+                })?;
+                lines.whole(column)
+            }
+        }
+    };
+}
+pub(crate) use columns;
