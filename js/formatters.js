@@ -182,18 +182,19 @@ function addDigits(it, call, all, digits, texts) {
   for (let done = 0; done < digits.length; ) {
     const before = texts.length;
     const alone = digits.findIndex((digit, at) => at >= done && !IN_LINE.test(digit));
+    const at = atOf(it);
     if (alone === done) {
       try {
-        texts.push(written(atOf(it), calls[call], digits[done]));
+        texts.push(written(at, calls[call], digits[done]));
       } catch (error) {
         throw error instanceof LegumeyetError ? new LegumeyetError(error.number, `: the number at ${before}`) : error;
       }
-    } else columnWritten(atOf(it), calls[all], `${digits.slice(done, alone < 0 ? digits.length : alone).join("\n")}\n`, texts);
+    } else columnWritten(at, calls[all], `${digits.slice(done, alone < 0 ? digits.length : alone).join("\n")}\n`, texts);
     done += texts.length - before;
   }
 }
 
-// Adds the texts of doubles or integers, which are a typed array.
+// Adds the texts of doubles or integers, which are a typed array, and no subclass of one.
 function addColumn(it, call, column, texts) {
   for (const end = texts.length + column.length; texts.length < end; ) {
     const done = column.length - (end - texts.length);
@@ -202,14 +203,20 @@ function addColumn(it, call, column, texts) {
   }
 }
 
+// The same memory as a typed array of JavaScript's own, where it is one of a subclass.
+function plain(Type, numbers) {
+  return new Type(numbers.buffer, numbers.byteOffset, numbers.length);
+}
+
 // The texts of many numbers: of doubles or integers in a typed array, or of what can be iterated over.
 function allWritten(it, { format, doubles, integers, digits }, numbers) {
   const texts = [];
   if (typeof numbers === "string" || typeof numbers?.[Symbol.iterator] !== "function") {
     throw new TypeError("numbers are an array, or what else can be iterated over");
   }
-  if (numbers instanceof Float64Array) addColumn(it, doubles, numbers, texts);
-  else if (numbers instanceof BigInt64Array) addColumn(it, integers, numbers, texts);
+  atOf(it); // a closed one is refused also where there is no number
+  if (numbers instanceof Float64Array) addColumn(it, doubles, plain(Float64Array, numbers), texts);
+  else if (numbers instanceof BigInt64Array) addColumn(it, integers, plain(BigInt64Array, numbers), texts);
   else {
     const all = Array.from(numbers);
     for (let start = 0; start < all.length; start += NUMBERS) {

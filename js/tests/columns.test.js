@@ -38,6 +38,8 @@ test("columns of each kind", () => {
   assert.deepEqual(en.formatAll(new BigUint64Array([2n ** 64n - 1n])), ["18,446,744,073,709,551,615"]);
   assert.deepEqual(en.formatAll(new Float64Array([1, 2, 3]).subarray(1)), ["2", "3"]);
   assert.deepEqual(en.formatAll([1, 2].map((it) => it * 1000)), ["1,000", "2,000"]);
+  class Own extends Float64Array { constructor(...given) { if (given.length > 1) throw new SyntaxError("x"); super(...given); } }
+  assert.deepEqual(en.formatAll(new Own([1, 2.5])), ["1", "2.5"]);
 });
 
 test("columns that are empty, and texts that are long", () => {
@@ -70,8 +72,8 @@ test("numbers that are none", () => {
 test("what is closed, and what is closed meanwhile", () => {
   const closed = new DecimalFormatter("en");
   closed.close();
-  for (const numbers of [[1], ["1"], new Float64Array(1), new BigInt64Array(1)]) {
-    assert.throws(() => closed.formatAll(numbers), (error) => error.number === ErrorNumber.CLOSED);
+  for (const numbers of [[], [1], ["1"], ["\n"], new Float64Array(0), new Float64Array(1), new BigInt64Array(1)]) {
+    assert.throws(() => closed.formatAll(numbers), (error) => error.number === ErrorNumber.CLOSED && !error.message.includes("number at"));
   }
   const meddled = new DecimalFormatter("en");
   const closes = { *[Symbol.iterator]() { yield 1; meddled.close(); yield 2; } };

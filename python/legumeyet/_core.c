@@ -96,10 +96,11 @@ static void let_go(struct request *asked) {
     asked->made = NULL;
 }
 
-/* Raises the error of a number of the library; `at` is the place of a number among many, and -1 of one alone. */
+/* Raises the error of a number of the library; `at` is the place of a number among many, and -1 of one alone. What is of all has no place. */
 static PyObject *refused(struct shared *shared, int32_t number, Py_ssize_t at) {
+    bool is_of_one = at >= 0 && number != LEGUMEYET_CLOSED && number != LEGUMEYET_OPTION;
     PyObject *hint, *error;
-    hint = at < 0 ? PyUnicode_FromString("") : PyUnicode_FromFormat(": the number at %zd", at);
+    hint = is_of_one ? PyUnicode_FromFormat(": the number at %zd", at) : PyUnicode_FromString("");
     error = hint == NULL ? NULL : PyObject_CallFunction(shared->error, "iO", (int)number, hint);
     Py_XDECREF(hint);
     if (error != NULL) PyErr_SetObject((PyObject *)Py_TYPE(error), error);
@@ -619,6 +620,13 @@ static bool take_row(const buffer *from, struct row *into) {
     return into->width == 1 || into->width == 2 || into->width == 4 || into->width == 8;
 }
 
+/* Whether memory has reals other than doubles: as doubles they would have other digits than their own. */
+static bool has_other_reals(const buffer *from) {
+    const char *format = from->format == NULL ? "B" : from->format;
+    if (*format != '\0' && strchr("@=<>!", *format)) format++;
+    return *format != '\0' && format[1] == '\0' && strchr("efg", *format) != NULL;
+}
+
 /* Numbers of one kind, which one call writes. */
 struct numbers {
     enum { INTEGERS, DOUBLES, DIGITS } kind;
@@ -743,13 +751,14 @@ static bool let_others_run(struct column *all, size_t count, bool is_aside) {
     return PyErr_CheckSignals() == 0;
 }
 
-/* Writes the numbers that were taken, and adds their texts to the list. */
+/* Writes the numbers that were taken, and adds their texts to the list. It asks the formatter also where there is no number at all: a closed one
+ * refuses that. */
 static bool write_taken(struct column *all) {
     const struct texts *texts = &all->written;
     size_t count = all->from.count, start = 0;
     bool is_aside = count >= ASIDE, is_well = true;
     int32_t number;
-    if (count == 0) return true;
+    if (count == 0 && all->done > 0) return true;
     if (!is_ready(all->by)) return false;
     number = (is_aside ? write_aside : write_texts)(all->by, &all->options, &all->from, &all->written);
     for (size_t at = 0; is_well && number == LEGUMEYET_OK && at < count; start = texts->ends[at++])
@@ -878,11 +887,13 @@ static bool take_each(struct column *all, PyObject *numbers) {
     return is_well && PyErr_Occurred() ? end_wrong(all, -1) : is_well;
 }
 
-/* The memory of an object, or of the NumPy array of a column that has `to_numpy`. Returns whether there is some; there is no error. */
+/* The memory of an object, or of the NumPy array of a column that has `to_numpy`. Returns whether there is some; there is no error. That of an array
+ * of NumPy with a mask is left alone: it has numbers where some are missing. */
 static bool take_memory(PyObject *numbers, buffer *into) {
     PyObject *array;
     bool is_there = PyObject_GetBuffer(numbers, into, STRIDES_AND_FORMAT) == 0;
-    if (is_there) return true;
+    if (is_there && !PyObject_HasAttrString(numbers, "mask")) return true;
+    if (is_there) return PyBuffer_Release(into), false;
     PyErr_Clear();
     array = PyObject_CallMethod(numbers, "to_numpy", NULL);
     is_there = array != NULL && PyObject_GetBuffer(array, into, STRIDES_AND_FORMAT) == 0;
@@ -899,6 +910,9 @@ static bool take_all(struct column *all, PyObject *numbers) {
     if (PyList_Check(numbers) || PyTuple_Check(numbers) || !take_memory(numbers, &memory)) return take_each(all, numbers);
     if (memory.ndim != 1) {
         PyErr_Format(PyExc_TypeError, "numbers are in a row, and not in %d dimensions", memory.ndim);
+        is_well = false;
+    } else if (has_other_reals(&memory)) {
+        PyErr_Format(PyExc_TypeError, "a row of reals has doubles, and not the format '%s': give them as doubles, as numbers.astype(float)", memory.format);
         is_well = false;
     } else {
         is_well = take_row(&memory, &row) ? take_all_of(all, &row) : take_each(all, numbers);
@@ -919,6 +933,7 @@ static PyObject *texts_of(struct open *by, const legumeyet_options *options, PyO
         all->options = *options;
         all->list = list;
         all->done = 0;
+        all->from.kind = INTEGERS;
         all->from.digits = NULL;
         all->since = all->from.count = all->from.length = all->from.room = 0;
         is_well = list != NULL && take_all(all, numbers) && write_taken(all);

@@ -486,9 +486,15 @@ class Calls(unittest.TestCase):
             self.assertRaises(TypeError, self.english.format_all, [*before, None, nan])
             self.assertRaises(KeyError, self.english.format_all, stops(before))
         self.assertRaises(TypeError, self.english.format_all, [1], position="1")
+        for numbers in ([], [1], [1.5] * 100):
+            with self.assertRaises(InputError) as caught:
+                self.english.format_all(numbers, rounding=Rounding.CASH)
+            self.assertRegex(str(caught.exception), "^4: [a-z ]*$")
         self.english.close()
-        self.refused(2, self.english.format_all, [1])
-        self.refused(2, self.english.format_all, array.array("d", [1.0] * 100))
+        for numbers in ([], iter(()), [1], array.array("d"), array.array("d", [1.0] * 100)):
+            with self.assertRaises(ClosedError) as closed:
+                self.english.format_all(numbers)
+            self.assertNotIn("number at", str(closed.exception))
 
     def test_numbers_that_meddle_with_a_column(self):
         """What a number or an iterator does while it is taken is as if it came before the numbers that are not written yet."""
@@ -625,9 +631,9 @@ class Calls(unittest.TestCase):
             self.assertEqual(self.english.format_all(memoryview(row)[1::3]), [f"{ends[1]:,}"] * 2000)
             self.assertEqual(self.english.format_all(memoryview(row)[::-3]), [f"{ends[2]:,}"] * 2000)
         self.assertEqual(self.english.format_all(array.array("d")), [])
-        self.assertEqual(self.english.format_all(array.array("f", [0.5])), ["0.5"])
         self.assertRaises(TypeError, self.english.format_all, memoryview(bytes(4)).cast("B", (2, 2)))
-        self.assertRaises(TypeError, self.english.format_all, memoryview(b"12").cast("c"))
+        for row in (memoryview(b"12").cast("c"), array.array("f", [0.5]), memoryview(array.array("f", [0.5]))):
+            self.assertRaises(TypeError, self.english.format_all, row)
         wide = array.array("q", [2**62] * 5000)
         self.assertEqual(self.english.format_all(wide, position=-400), [f"{2**62:,}.{'0' * 400}"] * 5000)
 
@@ -646,6 +652,9 @@ class Calls(unittest.TestCase):
         for refused in (row.reshape(6, 2), row.astype("float32"), numpy.array([None]), row.astype("datetime64[s]"), row.astype(complex)):
             self.assertRaises(TypeError, self.english.format_all, refused)
         self.assertRaisesRegex(TypeError, r"give it as float\(it\)", self.english.format, numpy.float32(0.1))
+        self.assertRaisesRegex(TypeError, r"astype\(float\)", self.english.format_all, row.astype("float16"))
+        self.assertEqual(self.english.format_all(numpy.ma.array([1.5, 2.5])), ["1.5", "2.5"])
+        self.assertRaises(TypeError, self.english.format_all, numpy.ma.array([1.5, 2.5], mask=[False, True]))
         try:
             import pandas
         except ImportError:
@@ -656,6 +665,7 @@ class Calls(unittest.TestCase):
         self.assertEqual(self.english.format_all(table["c"]), want)
         self.assertEqual(self.english.format_all(table["a"].astype("Int64")), want)
         self.assertRaises(TypeError, self.english.format_all, table[["a", "b"]])
+        self.assertRaises(TypeError, self.english.format_all, table["b"].astype("float32"))
 
     def test_options_of_a_formatter(self):
         money = DecimalFormatter(self.book, "en", position=-2, sign=Sign.ALWAYS)

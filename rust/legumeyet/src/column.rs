@@ -141,6 +141,9 @@ impl ColumnError {
 
 impl fmt::Display for ColumnError {
     fn fmt(&self, out: &mut fmt::Formatter<'_>) -> fmt::Result {
+        if self.error == Error::OPTION {
+            return self.error.fmt(out);
+        }
         write!(out, "{}: the number at {}", self.error, self.at())
     }
 }

@@ -54,7 +54,8 @@ fn refused() {
     assert_eq!((Error::from(first.clone()), first.at()), (Error::NUMBER, 1));
     assert_eq!(english.format_integers(&[1, 10], i16::MAX, &AS_GIVEN()).unwrap_err().at(), 1);
     let unknown = AS_GIVEN().rounding(Rounding::Cash);
-    assert_eq!(english.format_doubles(&[], &unknown).unwrap_err().error, Error::OPTION);
+    let of_all = english.format_doubles(&[], &unknown).unwrap_err();
+    assert_eq!((of_all.error, of_all.to_string()), (Error::OPTION, Error::OPTION.to_string()));
 }
 
 #[test]
