@@ -69,14 +69,28 @@ static int32_t told_of(legumeyet_decimal_formatter *decimal, const char *text) {
     return legumeyet_decimal_formatter_read_lenient(decimal, TEXT(text), out, sizeof out, &length);
 }
 
+/* A column: where memory was refused those before the number are written, and it goes on from there. */
+static void write_column(legumeyet_decimal_formatter *decimal) {
+    static const char *const lines[] = {"1234.5\n98765432109876123\n-7\n1e20\n", "98765432109876123\n-7\n1e20\n", "-7\n1e20\n", "1e20\n"};
+    size_t ends[4] = {0}, count = 0, used = 0, more = 0;
+    if (is_refused(legumeyet_decimal_formatter_format_texts(decimal, TEXT(lines[0]), &AS_GIVEN, out, sizeof out, ends, 4, &count))) {
+        expect("those before it", count < 4, 1);
+        used = count == 0 ? 0 : ends[count - 1];
+        expect("it goes on", legumeyet_decimal_formatter_format_texts(decimal, TEXT(lines[count & 3]), &AS_GIVEN, out + used, sizeof out - used, ends + count, 4 - count, &more), LEGUMEYET_OK);
+    }
+    expect("how many", (int64_t)(count + more), 4);
+    length = used + ends[3];
+    expect_text("1234.598,765,432,109,876,123-7100,000,000,000,000,000,000");
+}
+
 /* Each call of formatters, which are the same whoever has the tables. */
 static void write_all(legumeyet_decimal_formatter *decimal, legumeyet_compact_formatter *compact) {
     legumeyet_interval parts[8];
     size_t count = 0;
     TWICE(legumeyet_decimal_formatter_format(decimal, TEXT("-1234.5"), &AS_GIVEN, out, sizeof out, &length));
     expect_text("-1234.5");
-    TWICE(legumeyet_decimal_formatter_format_i64(decimal, 98765432109, 0, &AS_GIVEN, out, sizeof out, &length));
-    expect_text("98,765,432,109");
+    TWICE(legumeyet_decimal_formatter_format_i64(decimal, 98765432109876123, 0, &AS_GIVEN, out, sizeof out, &length));
+    expect_text("98,765,432,109,876,123");
     TWICE(legumeyet_decimal_formatter_format_parts(decimal, TEXT("-12345.5"), &AS_GIVEN, out, sizeof out, &length, parts, 8, &count));
     expect("parts", (int64_t)count, 5);
     TWICE(legumeyet_decimal_formatter_read(decimal, TEXT("12,345"), out, sizeof out, &length));
@@ -86,14 +100,15 @@ static void write_all(legumeyet_decimal_formatter *decimal, legumeyet_compact_fo
     expect("a group of two", told_of(decimal, "1,23"), LEGUMEYET_NOT_WRITTEN);
     TWICE(legumeyet_compact_formatter_format(compact, TEXT("1650"), &AS_GIVEN, out, sizeof out, &length));
     expect_text("1.6 k");
-    TWICE(legumeyet_compact_formatter_format_i64(compact, 98765432109, 0, &AS_GIVEN, out, sizeof out, &length));
-    expect_text("98,765,432 ks");
+    TWICE(legumeyet_compact_formatter_format_i64(compact, 98765432109876123, 0, &AS_GIVEN, out, sizeof out, &length));
+    expect_text("98,765,432,109,876 ks two");
     TWICE(legumeyet_compact_formatter_format_parts(compact, TEXT("-1650"), &AS_GIVEN, out, sizeof out, &length, parts, 8, &count));
     expect("parts", (int64_t)count, 1);
     TWICE(legumeyet_compact_formatter_shown(compact, TEXT("1650"), &AS_GIVEN, out, sizeof out, &length));
     expect_text("1.6c3");
     TWICE(legumeyet_compact_formatter_format_exact(compact, TEXT("1.60c3"), &AS_GIVEN, out, sizeof out, &length));
     expect_text("1.60 k");
+    write_column(decimal);
 }
 
 /* Formatters of percents and amounts are of kept books alone. */
@@ -110,24 +125,24 @@ static void write_units(void) {
     legumeyet_interval parts[8];
     size_t count = 0;
     cash.rounding = LEGUMEYET_ROUND_CASH;
-    TWICE(legumeyet_unit_formatter_format(&percents, TEXT("-98765432109.5"), &AS_GIVEN, out, sizeof out, &length));
-    expect_text("-98,765,432,109.5%");
-    TWICE(legumeyet_unit_formatter_read(&percents, TEXT("-98,765,432,109.5%"), out, sizeof out, &length));
-    expect_text("-98765432109.5");
-    TWICE(legumeyet_unit_formatter_read_lenient(&percents, TEXT("-98765432109.5 %"), out, sizeof out, &length));
-    expect_text("-98765432109.5");
+    TWICE(legumeyet_unit_formatter_format(&percents, TEXT("-98765432109876123.5"), &AS_GIVEN, out, sizeof out, &length));
+    expect_text("-98,765,432,109,876,123.5%");
+    TWICE(legumeyet_unit_formatter_read(&percents, TEXT("-98,765,432,109,876,123.5%"), out, sizeof out, &length));
+    expect_text("-98765432109876123.5");
+    TWICE(legumeyet_unit_formatter_read_lenient(&percents, TEXT("-98765432109876123.5 %"), out, sizeof out, &length));
+    expect_text("-98765432109876123.5");
     TWICE(legumeyet_unit_formatter_format(&dollars, TEXT("1234567.8"), &cash, out, sizeof out, &length));
     expect_text("$1,234,567.75");
-    TWICE(legumeyet_unit_formatter_format_i64(&dollars, -98765432109, 0, &AS_GIVEN, out, sizeof out, &length));
-    expect_text("($98,765,432,109.00)");
+    TWICE(legumeyet_unit_formatter_format_i64(&dollars, -98765432109876123, 0, &AS_GIVEN, out, sizeof out, &length));
+    expect_text("($98,765,432,109,876,123.00)");
     TWICE(legumeyet_unit_formatter_format_u64(&dollars, 5, -1, &AS_GIVEN, out, sizeof out, &length));
     expect_text("$0.50");
     TWICE(legumeyet_unit_formatter_format_double(&dollars, -98765432.125, &AS_GIVEN, out, sizeof out, &length));
     expect_text("($98,765,432.12)");
     TWICE(legumeyet_unit_formatter_format_parts(&dollars, TEXT("-12345.5"), &AS_GIVEN, out, sizeof out, &length, parts, 8, &count));
     expect("parts", (int64_t)count, 7);
-    TWICE(legumeyet_unit_formatter_read(&dollars, TEXT("($98,765,432,109.00)"), out, sizeof out, &length));
-    expect_text("-98765432109.00");
+    TWICE(legumeyet_unit_formatter_read(&dollars, TEXT("($98,765,432,109,876,123.00)"), out, sizeof out, &length));
+    expect_text("-98765432109876123.00");
     TWICE(legumeyet_unit_formatter_read_lenient(&dollars, TEXT("USD -1234567890.5"), out, sizeof out, &length));
     expect_text("-1234567890.5");
 }

@@ -542,7 +542,7 @@ class Column {
     }
 
     void add(std::string_view text) {
-        ends.reserve(ends.size() + 1);
+        if (ends.size() == ends.capacity()) ends.reserve(2 * ends.size() + 1);
         content += text;
         ends.push_back(content.size());
     }
