@@ -97,11 +97,38 @@ static void use_others(work *it) {
     expect_text(it, "lenient", legumeyet_shared_unit_formatter_read_lenient(&dollars, TEXT("1234.5 $"), out, ROOM, length), "1234.5");
 }
 
+/* Columns, of numbers that no other turn of a thread has, and of a kind each. */
+static void use_columns(work *it, unsigned turn) {
+    const int64_t integers[2] = {100000 + 1000 * it->seed + turn % 1000, -7};
+    const double doubles[2] = {(double)integers[0] / 8, -7};
+    size_t ends[3], count = 0;
+    uint8_t *out = it->out;
+    char written[ROOM], lines[ROOM];
+    snprintf(written, sizeof written, "%u,%03u-7", (unsigned)(integers[0] / 1000), (unsigned)(integers[0] % 1000));
+    expect(it, "integers", legumeyet_shared_decimal_formatter_format_integers(&english, integers, 2, 0, &AS_GIVEN, out, ROOM, ends, 3, &count), 0);
+    it->length = ends[1];
+    expect_text(it, "integers", count == 2 ? 0 : -1, written);
+    snprintf(lines, sizeof lines, "%u\n-7\nx", (unsigned)integers[0]);
+    expect(it, "texts", legumeyet_shared_decimal_formatter_format_texts(&english, TEXT(lines), &AS_GIVEN, out, ROOM, ends, 3, &count), LEGUMEYET_NUMBER);
+    it->length = ends[1];
+    expect_text(it, "texts", count == 2 ? 0 : -1, written);
+    snprintf(written, sizeof written, "$%u,%03u.00-$7.00", (unsigned)(integers[0] / 1000), (unsigned)(integers[0] % 1000));
+    expect(it, "amounts", legumeyet_shared_unit_formatter_format_integers(&dollars, integers, 2, 0, &AS_GIVEN, out, ROOM, ends, 3, &count), 0);
+    it->length = ends[1];
+    expect_text(it, "amounts", count == 2 ? 0 : -1, written);
+    snprintf(written, sizeof written, "%u.%03u-7", (unsigned)(integers[0] / 8000), (unsigned)(integers[0] / 8 % 1000));
+    expect(it, "doubles", legumeyet_shared_decimal_formatter_format_doubles(&german, doubles, 2, &AS_GIVEN, out, ROOM, ends, 3, &count), 0);
+    it->length = ends[1];
+    if (integers[0] % 8 == 0) expect_text(it, "doubles", count == 2 ? 0 : -1, written);
+    expect(it, "compact", legumeyet_shared_compact_formatter_format_doubles(&compact, doubles, 2, &AS_GIVEN, out, ROOM, ends, 1, &count), LEGUMEYET_TOO_SMALL);
+}
+
 static void *do_work(void *given) {
     work *it = given;
     int turn;
     for (turn = 0; turn < turns; turn++) {
         use_plain(it, (unsigned)turn);
+        if (turn % 10 == 0) use_columns(it, (unsigned)turn);
         if (turn % 100 == 0) use_others(it);
     }
     return NULL;
