@@ -1,6 +1,6 @@
 #!/bin/sh
-# Times a call that writes a number in German from C, and a number among a thousand that one call writes, of texts, integers and doubles, beside
-# `Intl.NumberFormat` of Node, for 1, 7 and 18 digits; and from Python beside Babel a call
+# Times a call that writes a number in German from C beside `Intl.NumberFormat` of Node, for 1, 7 and 18 digits; and beside calls for one a number
+# among a thousand that one call writes, of texts, integers and doubles; and from Python beside Babel a call
 # that writes one, one that reads it back, and one that writes many of a list and of a row in memory, by the number. Prints nanoseconds and the one
 # over the other: below 1 this library is faster. It needs a C compiler, the headers of Python, node and python3, and of Debian's packages
 # python3-babel.
@@ -16,13 +16,13 @@ mkdir -p "$made"
 "${CC:-cc}" -O2 -D_GNU_SOURCE "-I$library" -o "$made/languages" "$here/main.c" "$library/liblegumeyet.a"
 "$made/languages" "$turns" $digits >"$made/c.txt"
 node "$here/intl.js" "$turns" $digits >"$made/intl.txt"
-echo "digits       C    Intl  ratio   texts integers doubles"
+echo "digits       C    Intl  ratio   texts ratio  integers ratio  doubles ratio"
 for count in $digits; do
     echo "$count"
-done | paste -d ' ' - "$made/c.txt" "$made/intl.txt" | while read -r count c ct texts integers doubles intl it; do
+done | paste -d ' ' - "$made/c.txt" "$made/intl.txt" | while read -r count c ct texts tr integers ir doubles dr intl it; do
     [ "$ct" = "$it" ] || echo "bench: the texts differ: $ct $it" >&2
-    awk -v n="$count" -v c="$c" -v i="$intl" -v t="$texts" -v g="$integers" -v d="$doubles" \
-        'BEGIN { printf "%6d %7.0f %7.0f  %5.2f %7.0f %8.0f %7.0f\n", n, c, i, c / i, t, g, d }'
+    awk -v n="$count" -v c="$c" -v i="$intl" -v t="$texts $tr $integers $ir $doubles $dr" \
+        'BEGIN { split(t, k); printf "%6d %7.0f %7.0f  %5.2f %7.0f  %4.2f %9.0f  %4.2f %8.0f  %4.2f\n", n, c, i, c / i, k[1], k[2], k[3], k[4], k[5], k[6] }'
 done
 wheel=$("$top/tools/build_wheel" --library "$library" "$made/wheels")
 rm -rf "$made/python"

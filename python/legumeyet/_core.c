@@ -31,8 +31,8 @@ extern void PyBuffer_Release(buffer *);
 enum { ROOM = 512, PLACES = 32, HIGHEST = 32767, LOWEST = -32768 };
 
 /* How many numbers of format_all are written together, from how many on other threads run meanwhile, how many bytes their digits have together
- * before one more is taken, and how much room their texts have at first. */
-enum { CHUNK = 4096, ASIDE = 64, DIGITS_AT_MOST = 1 << 20, LEAST = 1 << 14 };
+ * before one more is taken, and how much room each text has at first, and all together at least. */
+enum { CHUNK = 4096, ASIDE = 64, DIGITS_AT_MOST = 1 << 20, EACH = 32, LEAST = 1 << 11 };
 
 /* An exponent that no digits bring back to the magnitudes of the library. */
 static const long long FAR = 1000000000000000;
@@ -681,16 +681,21 @@ static int32_t ask_for_texts(struct open *it, const legumeyet_options *options, 
     return ask_compact_column(&it->handle.compact, options, from, into);
 }
 
+/* Makes room for texts, where there is less. */
+static bool make_room(struct texts *into, size_t room) {
+    uint8_t *out = room <= into->room ? into->out : realloc(into->out, room);
+    if (out == NULL) return false;
+    into->room = room <= into->room ? into->room : room;
+    into->out = out;
+    return true;
+}
+
 /* Writes numbers, from the first on where they need more room. It needs no GIL. */
 static int32_t write_texts(struct open *it, const legumeyet_options *options, const struct numbers *from, struct texts *into) {
-    int32_t number;
-    while ((number = ask_for_texts(it, options, from, into)) == LEGUMEYET_TOO_SMALL) {
-        uint8_t *out = realloc(into->out, 2 * into->room);
-        if (out == NULL) return LEGUMEYET_MEMORY;
-        into->out = out;
-        into->room *= 2;
-    }
-    return number;
+    int32_t number = LEGUMEYET_MEMORY;
+    bool has_room = make_room(into, EACH * from->count);
+    while (has_room && (number = ask_for_texts(it, options, from, into)) == LEGUMEYET_TOO_SMALL) has_room = make_room(into, 2 * into->room);
+    return has_room ? number : LEGUMEYET_MEMORY;
 }
 
 /* Marks a handle as busy, once those have called it who waited for that. */
