@@ -913,7 +913,7 @@ template <class Handle, class Calls, class Base> class Formatter : Base {
         return text;
     }
 
-    // Adds the texts of many numbers to a column, of a range of doubles, integers or texts: as `format` has each, and far sooner. Where one is
+    // Adds the texts of many numbers to a column, of a range of doubles, integers or texts: as `format` has each, and sooner. Where one is
     // refused the column has those before it, so that its size says which.
     template <class Numbers, std::enable_if_t<has_numbers<Numbers>, int> = 0>
     Code format_all_to(Column &into, Numbers &&numbers, const Options &options = {}) {

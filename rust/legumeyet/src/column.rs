@@ -200,7 +200,7 @@ impl Lines {
 macro_rules! columns {
     ($type:ident: $doubles:ident, $integers:ident, $texts:ident, |$it:ident| $at:expr) => {
         impl $type {
-            /// The texts of many doubles, as `format` writes each, and far sooner. Refused as `format`, by the first number that is.
+            /// The texts of many doubles, as `format` writes each, and sooner. Refused as `format`, by the first number that is.
             pub fn format_doubles(&self, numbers: &[f64], options: &crate::Options) -> Result<crate::Column, crate::ColumnError> {
                 let (options, $it) = (options.numbers(), self);
                 crate::Column::written(numbers.len(), |done, out, room, ends, ends_room, count| {
