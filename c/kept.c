@@ -29,7 +29,7 @@ static const char BOOK[] = "[[[[\"en\",\"\",\"latn\",\"-\",\"\",\"+\",\"\",\".\"
 static legumeyet_book book;
 static legumeyet_decimal_formatter own, plain;
 static legumeyet_compact_formatter own_short, short_english, long_english;
-static legumeyet_unit_formatter percents, dollars;
+static legumeyet_unit_formatter own_percents, own_dollars, percents, dollars;
 static const legumeyet_options AS_GIVEN = {0};
 static uint8_t out[64];
 static size_t length;
@@ -111,39 +111,37 @@ static void write_all(legumeyet_decimal_formatter *decimal, legumeyet_compact_fo
     write_column(decimal);
 }
 
-/* Formatters of percents and amounts are of kept books alone. */
-static void open_units(void) {
-    expect("not kept", legumeyet_percent_formatter_open(&book, TEXT("en"), 0, &percents), LEGUMEYET_UNKEPT);
-    TWICE(legumeyet_book_keep(&book));
-    TWICE(legumeyet_percent_formatter_open(&book, TEXT("en"), LEGUMEYET_GROUPING_AUTO, &percents));
-    TWICE(legumeyet_currency_formatter_open(&book, TEXT("en"), TEXT("USD"), LEGUMEYET_STYLE_ACCOUNTING, LEGUMEYET_CURRENCY_SYMBOL, 0, &dollars));
+/* Opens a formatter of percents and one of amounts. */
+static void open_units(legumeyet_unit_formatter *percent, legumeyet_unit_formatter *dollar) {
+    TWICE(legumeyet_percent_formatter_open(&book, TEXT("en"), LEGUMEYET_GROUPING_AUTO, percent));
+    TWICE(legumeyet_currency_formatter_open(&book, TEXT("en"), TEXT("USD"), LEGUMEYET_STYLE_ACCOUNTING, LEGUMEYET_CURRENCY_SYMBOL, 0, dollar));
 }
 
-/* Each call of theirs. */
-static void write_units(void) {
+/* Each call of theirs, which are the same whoever has the tables. */
+static void write_units(legumeyet_unit_formatter *percent, legumeyet_unit_formatter *dollar) {
     legumeyet_options cash = {0};
     legumeyet_interval parts[8];
     size_t count = 0;
     cash.rounding = LEGUMEYET_ROUND_CASH;
-    TWICE(legumeyet_unit_formatter_format(&percents, TEXT("-98765432109876123.5"), &AS_GIVEN, out, sizeof out, &length));
+    TWICE(legumeyet_unit_formatter_format(percent, TEXT("-98765432109876123.5"), &AS_GIVEN, out, sizeof out, &length));
     expect_text("-98,765,432,109,876,123.5%");
-    TWICE(legumeyet_unit_formatter_read(&percents, TEXT("-98,765,432,109,876,123.5%"), out, sizeof out, &length));
+    TWICE(legumeyet_unit_formatter_read(percent, TEXT("-98,765,432,109,876,123.5%"), out, sizeof out, &length));
     expect_text("-98765432109876123.5");
-    TWICE(legumeyet_unit_formatter_read_lenient(&percents, TEXT("-98765432109876123.5 %"), out, sizeof out, &length));
+    TWICE(legumeyet_unit_formatter_read_lenient(percent, TEXT("-98765432109876123.5 %"), out, sizeof out, &length));
     expect_text("-98765432109876123.5");
-    TWICE(legumeyet_unit_formatter_format(&dollars, TEXT("1234567.8"), &cash, out, sizeof out, &length));
+    TWICE(legumeyet_unit_formatter_format(dollar, TEXT("1234567.8"), &cash, out, sizeof out, &length));
     expect_text("$1,234,567.75");
-    TWICE(legumeyet_unit_formatter_format_i64(&dollars, -98765432109876123, 0, &AS_GIVEN, out, sizeof out, &length));
+    TWICE(legumeyet_unit_formatter_format_i64(dollar, -98765432109876123, 0, &AS_GIVEN, out, sizeof out, &length));
     expect_text("($98,765,432,109,876,123.00)");
-    TWICE(legumeyet_unit_formatter_format_u64(&dollars, 5, -1, &AS_GIVEN, out, sizeof out, &length));
+    TWICE(legumeyet_unit_formatter_format_u64(dollar, 5, -1, &AS_GIVEN, out, sizeof out, &length));
     expect_text("$0.50");
-    TWICE(legumeyet_unit_formatter_format_double(&dollars, -98765432.125, &AS_GIVEN, out, sizeof out, &length));
+    TWICE(legumeyet_unit_formatter_format_double(dollar, -98765432.125, &AS_GIVEN, out, sizeof out, &length));
     expect_text("($98,765,432.12)");
-    TWICE(legumeyet_unit_formatter_format_parts(&dollars, TEXT("-12345.5"), &AS_GIVEN, out, sizeof out, &length, parts, 8, &count));
+    TWICE(legumeyet_unit_formatter_format_parts(dollar, TEXT("-12345.5"), &AS_GIVEN, out, sizeof out, &length, parts, 8, &count));
     expect("parts", (int64_t)count, 7);
-    TWICE(legumeyet_unit_formatter_read(&dollars, TEXT("($98,765,432,109,876,123.00)"), out, sizeof out, &length));
+    TWICE(legumeyet_unit_formatter_read(dollar, TEXT("($98,765,432,109,876,123.00)"), out, sizeof out, &length));
     expect_text("-98765432109876123.00");
-    TWICE(legumeyet_unit_formatter_read_lenient(&dollars, TEXT("USD -1234567890.5"), out, sizeof out, &length));
+    TWICE(legumeyet_unit_formatter_read_lenient(dollar, TEXT("USD -1234567890.5"), out, sizeof out, &length));
     expect_text("-1234567890.5");
 }
 
@@ -163,18 +161,24 @@ int main(void) {
     expect("a closed book", legumeyet_book_keep(&book), LEGUMEYET_CLOSED);
     TWICE(legumeyet_book_open(TEXT(BOOK), &book));
     held = open_both(&own, &own_short);
-    open_units();
+    open_units(&own_percents, &own_dollars);
+    TWICE(legumeyet_book_keep(&book));
     expect("once more", legumeyet_book_keep(&book), LEGUMEYET_OK);
     borrowed = open_both(&plain, &short_english);
     if (held != 0 && refused == 0) expect("it borrows", 2 * borrowed < held, 1);
+    open_units(&percents, &dollars);
     use_kept_book();
     write_all(&own, &own_short);
     write_all(&plain, &short_english);
-    write_units();
+    write_units(&own_percents, &own_dollars);
+    write_units(&percents, &dollars);
     expect("the book", legumeyet_book_close(&book), LEGUMEYET_OK);
     expect("a closed book", legumeyet_book_keep(&book), LEGUMEYET_CLOSED);
     write_all(&plain, &short_english);
-    write_units();
+    write_units(&own_percents, &own_dollars);
+    write_units(&percents, &dollars);
+    expect("its formatter", legumeyet_unit_formatter_close(&own_percents), LEGUMEYET_OK);
+    expect("its formatter", legumeyet_unit_formatter_close(&own_dollars), LEGUMEYET_OK);
     expect("its formatter", legumeyet_unit_formatter_close(&percents), LEGUMEYET_OK);
     expect("its formatter", legumeyet_unit_formatter_close(&dollars), LEGUMEYET_OK);
     expect("its formatter", legumeyet_decimal_formatter_close(&plain), LEGUMEYET_OK);

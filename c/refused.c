@@ -15,8 +15,11 @@
 #define TEXT(text) (const uint8_t *)(text), strlen(text)
 #define TWICE(call) (is_refused(call) ? expect_well(call) : (void)0)
 
-static const char BOOK[] = "[[[\"en\",\"\",\"latn\",\"-\",\"\",\"+\",\"\",\".\",\",\",3,3,1]],[[\"latn\",\"0123456789\"]],"
-                           "[[\"en\",[[\"one\",\"i = 1\"]]]],[[\"en\",\"\",[[3,3,[[\"one\",[\"\",\" k\"]],[\"other\",[\"\",\" ks\"]]]]],null]],[]]";
+static const char BOOK[] = "[[[[\"en\",\"\",\"latn\",\"-\",\"\",\"+\",\"\",\".\",\",\",3,3,1]],[[\"latn\",\"0123456789\"]],"
+                           "[[\"en\",[[\"one\",\"i = 1\"]]]],[[\"en\",\"\",[[3,3,[[\"one\",[\"\",\" k\"]],[\"other\",[\"\",\" ks\"]]]]],null]],[]],"
+                           "[[[\"en\",\"\",\"%\",null,[\"\",\"\\u00a4\"]]],[[\"en\",\"\",null,[\"\\u00a4\",\"\"],null]],"
+                           "[[\"en\",\"\",null,[\"\\u00a4\",\"\",\"(\\u00a4\",\")\",\"+\\u00a4\",\"\"],null]],[[\"en\",\"USD\",\"$\",0]],"
+                           "[[\"USD\",2,1,2,25]]]]";
 
 static int refused, wrong;
 
@@ -32,6 +35,34 @@ static void expect_text(const uint8_t *out, size_t length, const char *text) {
     if (length == strlen(text) && memcmp(out, text, length) == 0) return;
     printf("%.*s, and not %s\n", (int)length, (const char *)out, text);
     wrong = 1;
+}
+
+/* Formatters of percents and of amounts, with tables of their own: they are opened, and the book is closed before they write and read. */
+static void call_units(void) {
+    static const char TAG[] = "en-a-aa-b-bb-u-ca-gregory-nu-latn-x-y";
+    static const legumeyet_options CASH = {.rounding = LEGUMEYET_ROUND_CASH};
+    legumeyet_book book = {0};
+    legumeyet_unit_formatter percents = {0}, dollars = {0};
+    uint8_t out[64];
+    legumeyet_interval parts[16];
+    size_t length = 0, count = 0;
+    TWICE(legumeyet_book_open(TEXT(BOOK), &book));
+    TWICE(legumeyet_percent_formatter_open(&book, TEXT(TAG), 0, &percents));
+    TWICE(legumeyet_currency_formatter_open(&book, TEXT(TAG), TEXT("USD"), LEGUMEYET_STYLE_ACCOUNTING, 0, 0, &dollars));
+    expect_well(legumeyet_book_close(&book));
+    TWICE(legumeyet_unit_formatter_format(&percents, TEXT("-98765432109876543210.5"), &(legumeyet_options){0}, out, sizeof out, &length));
+    expect_text(out, length, "-98,765,432,109,876,543,210.5%");
+    TWICE(legumeyet_unit_formatter_format(&dollars, TEXT("1234567.8"), &CASH, out, sizeof out, &length));
+    expect_text(out, length, "$1,234,567.75");
+    TWICE(legumeyet_unit_formatter_format_parts(&dollars, TEXT("-12345.5"), &CASH, out, sizeof out, &length, parts, 16, &count));
+    expect_text(out, length, "($12,345.50)");
+    wrong = wrong || count != 7;
+    TWICE(legumeyet_unit_formatter_read(&percents, TEXT("-98,765,432,109.5%"), out, sizeof out, &length));
+    expect_text(out, length, "-98765432109.5");
+    TWICE(legumeyet_unit_formatter_read_lenient(&dollars, TEXT("USD -1234567890.5"), out, sizeof out, &length));
+    expect_text(out, length, "-1234567890.5");
+    expect_well(legumeyet_unit_formatter_close(&percents));
+    expect_well(legumeyet_unit_formatter_close(&dollars));
 }
 
 static void call_all(const char *path) {
@@ -96,6 +127,7 @@ int main(int count, char **words) {
     before = mallinfo2().uordblks;
     if (count != 2) return 1;
     call_all(words[1]);
+    call_units();
     after = mallinfo2().uordblks;
     if (after != before) printf("%zu bytes are lost\n", after - before);
     if (wrong) printf("a call answered otherwise\n");

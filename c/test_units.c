@@ -82,9 +82,6 @@ static void opens(void) {
     legumeyet_unit_formatter *it = &percents;
     expect("a closed book", legumeyet_percent_formatter_open(&closed_book, TEXT("en"), 0, it), LEGUMEYET_CLOSED);
     expect("the book", legumeyet_book_open(TEXT(BOOK), &book), LEGUMEYET_OK);
-    expect("a book that is not kept", legumeyet_percent_formatter_open(&book, TEXT("en"), 9, it), LEGUMEYET_UNKEPT);
-    expect("a book that is not kept", open_currency("en", "EUR", 0, 0, it), LEGUMEYET_UNKEPT);
-    expect("kept", legumeyet_book_keep(&book), LEGUMEYET_OK);
     expect("a grouping", legumeyet_percent_formatter_open(&book, TEXT("e"), 4, it), LEGUMEYET_OPTION);
     expect("no tag", legumeyet_percent_formatter_open(&book, TEXT("e"), 0, it), LEGUMEYET_TAG);
     expect("no percents", legumeyet_percent_formatter_open(&book, TEXT("de-CH"), 0, it), LEGUMEYET_TABLE);
@@ -96,6 +93,10 @@ static void opens(void) {
     expect("no tag", open_currency("e", "EUR", 0, 0, it), LEGUMEYET_TAG);
     expect("no currencies", open_currency("tr", "EUR", 0, 0, it), LEGUMEYET_TABLE);
     expect("it stayed closed", legumeyet_unit_formatter_close(it), LEGUMEYET_CLOSED);
+}
+
+/* Formatters of the book, which have their own tables where it is not kept. */
+static void opens_units(void) {
     expect("percents", legumeyet_percent_formatter_open(&book, TEXT("en"), LEGUMEYET_GROUPING_AUTO, &percents), LEGUMEYET_OK);
     expect("euros", open_currency("en", "EUR", LEGUMEYET_STYLE_STANDARD, LEGUMEYET_CURRENCY_SYMBOL, &euros), LEGUMEYET_OK);
     expect("accounts", open_currency("en", "EUR", LEGUMEYET_STYLE_ACCOUNTING, LEGUMEYET_CURRENCY_SYMBOL, &accounts), LEGUMEYET_OK);
@@ -213,12 +214,35 @@ static void faults(void) {
     expect("it stayed closed", legumeyet_book_close(&refused), LEGUMEYET_CLOSED);
 }
 
+/* Each call that writes or reads. */
+static void calls(void) {
+    writes();
+    parts();
+    reads();
+    reads_leniently();
+}
+
+/* Separators as they are asked for, and formatters of each grouping. */
+static void groups(void) {
+    static const char *const TEXTS[] = {"1,234%", "1234%", "1,234%", "1234%"};
+    uint32_t grouping;
+    for (grouping = 0; grouping < 4; grouping++) {
+        expect("percents", legumeyet_percent_formatter_open(&book, TEXT("en"), grouping, &percents), LEGUMEYET_OK);
+        expect_text(format(&percents, "1234", AS_GIVEN), TEXTS[grouping]);
+        expect("francs", legumeyet_currency_formatter_open(&book, TEXT("en"), TEXT("XXX"), 0, 0, grouping, &francs), LEGUMEYET_OK);
+        expect_text(rounded(&francs, "1234", LEGUMEYET_ROUND_NONE), grouping % 2 == 0 ? "XXX" SPACE "1,234" : "XXX" SPACE "1234");
+    }
+}
+
+/* The book is closed before its formatters, which write and read as before. */
 static void closes(void) {
+    expect("the book", legumeyet_book_close(&book), LEGUMEYET_OK);
+    expect("the book again", legumeyet_percent_formatter_open(&book, TEXT("en"), 0, &closed), LEGUMEYET_CLOSED);
+    calls();
     expect("percents", legumeyet_unit_formatter_close(&percents), LEGUMEYET_OK);
     expect("twice", legumeyet_unit_formatter_close(&percents), LEGUMEYET_CLOSED);
     expect("accounts", legumeyet_unit_formatter_close(&accounts), LEGUMEYET_OK);
     expect("francs", legumeyet_unit_formatter_close(&francs), LEGUMEYET_OK);
-    expect("the book", legumeyet_book_close(&book), LEGUMEYET_OK);
     expect_text(format(&euros, "5", AS_GIVEN), EURO "5.00");
     expect("euros", legumeyet_unit_formatter_close(&euros), LEGUMEYET_OK);
 }
@@ -227,11 +251,16 @@ int main(void) {
     memset(out, '.', sizeof out);
     length = 77;
     opens();
-    writes();
-    parts();
-    reads();
-    reads_leniently();
+    groups();
+    opens_units();
+    calls();
     locales();
+    closes();
+    expect("the book", legumeyet_book_open(TEXT(BOOK), &book), LEGUMEYET_OK);
+    expect("kept", legumeyet_book_keep(&book), LEGUMEYET_OK);
+    groups();
+    opens_units();
+    calls();
     faults();
     closes();
     return wrong;

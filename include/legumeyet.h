@@ -490,11 +490,10 @@ int32_t legumeyet_compact_formatter_format_exact(legumeyet_compact_formatter *fo
 /*
  * Opens the formatter of percents for a locale tag: that of `en` writes 12.5 as `12.5%`, that of `tr` as `%12,5`.
  *
- * The book is kept, as by legumeyet_book_keep: the formatter borrows its tables, and has no copy of its own. What `formatter` had open is
- * closed, where the call returns 0.
+ * It has its own copy of the tables, unless the book is kept. What `formatter` had open is closed, where the call returns 0.
  *
- * Returns 0; LEGUMEYET_CLOSED, of the book; LEGUMEYET_UNKEPT; LEGUMEYET_OPTION, of the grouping; LEGUMEYET_TAG; LEGUMEYET_TABLE, where the
- * book has no symbols, no digits or no percents for the tag; LEGUMEYET_MEMORY, also in place of the last two.
+ * Returns 0; LEGUMEYET_CLOSED, of the book; LEGUMEYET_OPTION, of the grouping; LEGUMEYET_TAG; LEGUMEYET_TABLE, where the book has no
+ * symbols, no digits or no percents for the tag; LEGUMEYET_MEMORY, also in place of the last two.
  */
 int32_t legumeyet_percent_formatter_open(legumeyet_book *book, const uint8_t *tag, size_t tag_length, uint32_t grouping,
                                          legumeyet_unit_formatter *formatter);
@@ -503,12 +502,12 @@ int32_t legumeyet_percent_formatter_open(legumeyet_book *book, const uint8_t *ta
  * Opens the formatter of amounts in one currency for a locale tag: that of `de-CH` and `CHF` writes -5 as `CHF-5.00`.
  *
  * `code` is three letters `A` to `Z`. A currency that the book does not know is written by its code, and has two digits. `style` is a
- * LEGUMEYET_STYLE, and `width` a LEGUMEYET_CURRENCY. The book is kept, as legumeyet_percent_formatter_open says. What `formatter` had
+ * LEGUMEYET_STYLE, and `width` a LEGUMEYET_CURRENCY. It has its own copy of the tables, unless the book is kept. What `formatter` had
  * open is closed, where the call returns 0.
  *
- * Returns 0; LEGUMEYET_CLOSED, of the book; LEGUMEYET_UNKEPT; LEGUMEYET_OPTION, of the style, the width or the grouping; LEGUMEYET_CODE;
- * LEGUMEYET_TAG; LEGUMEYET_TABLE, where the book has no symbols, no digits or no currencies for the tag; LEGUMEYET_MEMORY, also in place
- * of the last two.
+ * Returns 0; LEGUMEYET_CLOSED, of the book; LEGUMEYET_OPTION, of the style, the width or the grouping; LEGUMEYET_CODE; LEGUMEYET_TAG;
+ * LEGUMEYET_TABLE, where the book has no symbols, no digits or no currencies for the tag; LEGUMEYET_MEMORY, also in place of the last
+ * two.
  */
 int32_t legumeyet_currency_formatter_open(legumeyet_book *book, const uint8_t *tag, size_t tag_length, const uint8_t *code,
                                           size_t code_length, uint32_t style, uint32_t width, uint32_t grouping,

@@ -6,4 +6,5 @@ pub mod OpeningLemmas
 pub mod PointerValues
 pub mod Sent
 pub mod UnitLemmas
+pub mod UnitStrategies
 pub mod WritingLemmas

@@ -120,20 +120,19 @@ unit_closed_put open_units options number out told is =
 -- ---- opening
 
 -- where something is found, out of memory is a fault
-pub unit_memory_misses : {A : Type 0} (found : BookTables → A → List ℕ → Result HeldUnit FormatterError) (book : Option BookTables) (kept : Bool) (asked : Result A CallError) (tag : List ℕ) (held : HeldUnit)
-    → FindsUnit found book kept asked tag held → (error : CallError) → error ≡ Memory → IsUnitFindingFault found book kept asked tag error
-unit_memory_misses found None kept asked tag held finds error is = absurd finds
-unit_memory_misses found (Some book) false asked tag held finds error is = absurd finds
-unit_memory_misses found (Some book) true (Err fault) tag held finds error is = absurd finds
-unit_memory_misses found (Some book) true (Ok asked) tag held finds error is = subst (λ (e : CallError). IsTagFault (found book asked tag) tag e) (sym is) tt
+pub unit_memory_misses : {A : Type 0} (found : BookTables → A → List ℕ → Result HeldUnit FormatterError) (book : Option BookTables) (asked : Result A CallError) (tag : List ℕ) (held : HeldUnit)
+    → FindsUnit found book asked tag held → (error : CallError) → error ≡ Memory → IsUnitFindingFault found book asked tag error
+unit_memory_misses found None asked tag held finds error is = absurd finds
+unit_memory_misses found (Some book) (Err fault) tag held finds error is = absurd finds
+unit_memory_misses found (Some book) (Ok asked) tag held finds error is = subst (λ (e : CallError). IsTagFault (found book asked tag) tag e) (sym is) tt
 
 -- the same of what is asked, which is known to be another one
-pub unit_opening_asked : {A : Type 0} (found : BookTables → A → List ℕ → Result HeldUnit FormatterError) (book : Option BookTables) (kept : Bool) (asked known : Result A CallError) (tag : List ℕ)
+pub unit_opening_asked : {A : Type 0} (found : BookTables → A → List ℕ → Result HeldUnit FormatterError) (book : Option BookTables) (asked known : Result A CallError) (tag : List ℕ)
     (before after : Option Content) (outcome : Result (Unit {0}) CallError) → asked ≡ known
-    → IsOpening unit_in (FindsUnit found book kept asked tag) (IsUnitFindingFault found book kept asked tag) before after outcome
-    → IsOpening unit_in (FindsUnit found book kept known tag) (IsUnitFindingFault found book kept known tag) before after outcome
-unit_opening_asked {A} found book kept asked known tag before after outcome is opening =
-    subst (λ (a : Result A CallError). IsOpening unit_in (FindsUnit found book kept a tag) (IsUnitFindingFault found book kept a tag) before after outcome) is opening
+    → IsOpening unit_in (FindsUnit found book asked tag) (IsUnitFindingFault found book asked tag) before after outcome
+    → IsOpening unit_in (FindsUnit found book known tag) (IsUnitFindingFault found book known tag) before after outcome
+unit_opening_asked {A} found book asked known tag before after outcome is opening =
+    subst (λ (a : Result A CallError). IsOpening unit_in (FindsUnit found book a tag) (IsUnitFindingFault found book a tag) before after outcome) is opening
 
 -- ---- parts
 

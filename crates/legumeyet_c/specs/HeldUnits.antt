@@ -2,6 +2,7 @@
 -- Defined in docs/c-api.md, "Handles".
 -- Cited by the model of `HeldUnits`, and by the exports of formatters of percents and amounts.
 use Rattle.std.specs.Prelude.{ℕ, List, Option, Some, None, codes}
+use Rattle.icu_decimal.specs.declared.options.GroupingStrategy.{GroupingStrategy}
 use Rattle.icu_dimension.specs.FoundUnits.{CurrencySettings}
 use Rattle.icu_dimension.specs.HeldFormatters.{currency_settings_of, settings_of_percent}
 use Rattle.icu_dimension.specs.UnitText.{UnitSettings}
@@ -24,3 +25,12 @@ held_amount code settings = record { settings = settings.unit; fractions = Some 
 abbrev pub unit_at : UnitPlace → HeldUnit
 unit_at (unit.Percent formatter) = held_percent (settings_of_percent formatter)
 unit_at (unit.Currency formatter code) = held_amount code (currency_settings_of formatter)
+unit_at (unit.OwnPercent tables) = held_percent tables.value
+unit_at (unit.OwnCurrency tables code fractions) = held_amount code (record { unit = tables.value; fractions = fractions })
+
+-- settings with another strategy
+abbrev pub unit_regrouped : GroupingStrategy → UnitSettings → UnitSettings
+unit_regrouped strategy s = record s { tables = record s.tables { strategy = strategy } }
+
+abbrev pub amounts_regrouped : GroupingStrategy → CurrencySettings → CurrencySettings
+amounts_regrouped strategy s = record s { unit = unit_regrouped strategy s.unit }

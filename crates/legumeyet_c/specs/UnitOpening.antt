@@ -1,8 +1,8 @@
--- What a call that opens a formatter of percents or of amounts leaves in its handle, and why it is refused. The formatter borrows of a book that is kept.
+-- What a call that opens a formatter of percents or of amounts leaves in its handle, and why it is refused.
 -- Defined in include/legumeyet.h, and docs/units.md, "Formatters".
 -- Cited by `legumeyet_percent_formatter_open` and `legumeyet_currency_formatter_open`.
 -- The imports are many: what a book has of either kind, what is asked of it, and the errors of a tag and of a call.
-use Rattle.std.specs.Prelude.{◌≡◌, ℕ, Bool, true, false, List, [], ◌∷◌, Option, Some, None, Result, Ok, Err, slice_get, if◌then◌else◌}
+use Rattle.std.specs.Prelude.{◌≡◌, ℕ, List, [], ◌∷◌, Option, Some, None, Result, Ok, Err, slice_get, if◌then◌else◌}
 use Rattle.std.specs.Result.{result_map_both}
 use Rattle.icu_decimal.specs.declared.options.GroupingStrategy.{GroupingStrategy}
 use Rattle.icu_dimension.specs.CurrencyCodes.{is_currency_code}
@@ -17,7 +17,7 @@ use Rattle.locale_numbers.specs.TagFormatters.{currency_for, percent_for}
 use Rattle.locale_numbers.specs.declared.FormatterError.{FormatterError}
 use Rattle.legumeyet_c_values.specs.Choices.{grouping_of}
 use Rattle.legumeyet_c_values.specs.declared.CallError.{CallError}
-use Rattle.legumeyet_c_values.specs.declared.CallError.TheVariants.{Closed, Code, UnknownOption, Unkept}
+use Rattle.legumeyet_c_values.specs.declared.CallError.TheVariants.{Closed, Code, UnknownOption}
 use Rattle.legumeyet_c.specs.HeldUnits.{HeldUnit, held_amount, held_percent}
 use Rattle.legumeyet_c.specs.Opening.{IsTagFault}
 
@@ -67,16 +67,14 @@ amount_held book asked tag = result_map_both (held_amount asked.code) (λ error.
 
 -- ---- what is opened
 
--- what is found in a book that is open and kept
-abbrev pub FindsUnit : {A : Type 0} → (BookTables → A → List ℕ → Result HeldUnit FormatterError) → Option BookTables → Bool → Result A CallError → List ℕ → HeldUnit → Type 0
-FindsUnit found None kept asked tag held = ⊥
-FindsUnit found (Some book) false asked tag held = ⊥
-FindsUnit found (Some book) true (Err error) tag held = ⊥
-FindsUnit found (Some book) true (Ok asked) tag held = found book asked tag ≡ Ok held
+-- what is found in an open book
+abbrev pub FindsUnit : {A : Type 0} → (BookTables → A → List ℕ → Result HeldUnit FormatterError) → Option BookTables → Result A CallError → List ℕ → HeldUnit → Type 0
+FindsUnit found None asked tag held = ⊥
+FindsUnit found (Some book) (Err error) tag held = ⊥
+FindsUnit found (Some book) (Ok asked) tag held = found book asked tag ≡ Ok held
 
--- a closed book comes first, then one that is not kept, then what is wrong with what is asked
-abbrev pub IsUnitFindingFault : {A : Type 0} → (BookTables → A → List ℕ → Result HeldUnit FormatterError) → Option BookTables → Bool → Result A CallError → List ℕ → CallError → Type 0
-IsUnitFindingFault found None kept asked tag error = error ≡ Closed
-IsUnitFindingFault found (Some book) false asked tag error = error ≡ Unkept
-IsUnitFindingFault found (Some book) true (Err fault) tag error = error ≡ fault
-IsUnitFindingFault found (Some book) true (Ok asked) tag error = IsTagFault (found book asked tag) tag error
+-- a closed book comes first, then what is wrong with what is asked
+abbrev pub IsUnitFindingFault : {A : Type 0} → (BookTables → A → List ℕ → Result HeldUnit FormatterError) → Option BookTables → Result A CallError → List ℕ → CallError → Type 0
+IsUnitFindingFault found None asked tag error = error ≡ Closed
+IsUnitFindingFault found (Some book) (Err fault) tag error = error ≡ fault
+IsUnitFindingFault found (Some book) (Ok asked) tag error = IsTagFault (found book asked tag) tag error

@@ -1,48 +1,59 @@
-//! What percents and amounts of money are written with: the tables of a book that is kept.
+//! What percents and amounts of money are written with: tables of one's own, or those of a book that is kept.
 
-ghost use Rattle.std.specs.Prelude.{◌≡◌, true, IfOk, IsErrOf};
+ghost use Rattle.std.specs.Prelude.{◌≡◌, true, IfOk, IfSome, IsErrOf};
 ghost use Rattle.icu_decimal.specs.PlainReading.{decimal, not_written, unreadable};
-ghost use Rattle.icu_dimension.specs.HeldUnits.{settings_of};
 ghost use Rattle.icu_dimension.specs.UnitReading.{IsUnitReading, reader_texts};
 ghost use Rattle.icu_dimension_lenient.specs.LenientUnits.{is_leniently_unit_readable_by};
 ghost use Rattle.legumeyet_c.specs.HeldUnits.{unit_at};
 ghost use Rattle.legumeyet_c.specs.UnitReading.{IsExactUnit, IsTypedReading, IsTypedUnit};
 
+use crate::unit_tables::{LentUnitTables, OwnedUnitTables};
 use fixed_decimal::Decimal;
 use icu_decimal::error::ReadError;
+use icu_dimension::provider::CurrencySymbol;
 use icu_dimension::{
-    CurrencyCode, CurrencyFormatter, FractionInfo, PercentFormatter, UnitReader, UnitTables,
+    CurrencyCode, CurrencyFormatter, FractionInfo, PercentFormatter, UnitPattern, UnitReader,
 };
 use icu_dimension_lenient::LenientUnitReader;
-use std::alloc::{AllocError, Global};
+use std::alloc::Global;
 use std::marker::Model;
 
-// Which of both it is.
+// What they are, and where.
 #[derive(Drop)]
 pub(crate) enum UnitPlace {
-    // What percents are written with.
+    // What percents are written with, in a book that is kept.
     Percent(PercentFormatter<'static>),
-    // What amounts of one currency are written with, and its code.
+    // What amounts of one currency are written with, in a book that is kept, and its code.
     Currency(CurrencyFormatter<'static>, CurrencyCode),
+    // What percents are written with, in memory of their own.
+    OwnPercent(Box<OwnedUnitTables>),
+    // What amounts of one currency are written with, in memory of their own, its code and its digits.
+    OwnCurrency(Box<OwnedUnitTables>, CurrencyCode, FractionInfo),
 }
 
 impl UnitPlace {
-    // The reader of what is written with it. `AllocError`: out of memory.
-    fn reader(&self, alloc: Global) -> Result<UnitReader<'static>, AllocError>
-        ensures { IfOk result (λ reader. reader ≡ reader_texts (unit_at self.now).settings) }
+    // The reader of what is written with it, to be kept. `None`: out of memory, or the tables are its own.
+    fn reader(&self, alloc: Global) -> Option<UnitReader<'static>>
+        ensures { IfSome result (λ reader. reader ≡ reader_texts (unit_at self.now).settings) }
     {
-        match self {
+        let made = match self {
             UnitPlace::Percent(formatter) => formatter.reader(alloc),
             UnitPlace::Currency(formatter, _) => formatter.reader(alloc),
+            UnitPlace::OwnPercent(_) | UnitPlace::OwnCurrency(..) => return None,
+        };
+        match made {
+            Ok(reader) => Some(reader),
+            Err(_) => None,
         }
     }
 }
 
-/// What a handle writes numbers with a unit with, and the reader of them, from the first text on that is read.
+/// What a handle writes numbers with a unit with, and the reader of them, where it is of a kept book, from the first text
+/// on that is read.
 #[derive(Drop)]
 pub struct HeldUnits {
-    pub(crate) place: UnitPlace,
-    pub(crate) reader: Option<Box<UnitReader<'static>>>,
+    place: UnitPlace,
+    reader: Option<Box<UnitReader<'static>>>,
 }
 
 impl Model for HeldUnits {
@@ -82,23 +93,36 @@ fn read_typed(
 }
 
 impl HeldUnits {
+    // What is written with these, without a reader that is kept. It does not allocate.
+    pub(crate) fn of(place: UnitPlace) -> HeldUnits
+        ensures { result ≡ unit_at place }
+    {
+        HeldUnits {
+            place,
+            reader: None,
+        }
+    }
+
     // The digits of the currency, where it writes amounts. It does not allocate.
     pub(crate) fn fractions(&self) -> Option<FractionInfo>
         ensures { result ≡ self.now.fractions }
     {
         match &self.place {
-            UnitPlace::Percent(_) => None,
+            UnitPlace::Percent(_) | UnitPlace::OwnPercent(_) => None,
             UnitPlace::Currency(formatter, _) => Some(formatter.fractions()),
+            UnitPlace::OwnCurrency(_, _, fractions) => Some(*fractions),
         }
     }
 
-    // What it writes with, as one value. It does not allocate.
-    pub(crate) fn tables(&self) -> UnitTables<'_>
-        ensures { settings_of result ≡ self.now.settings }
+    // What it writes with, borrowed for a call. It does not allocate.
+    pub(crate) fn lent(&self) -> LentUnitTables<'_>
+        ensures { result ≡ self.now.settings }
     {
         match &self.place {
-            UnitPlace::Percent(formatter) => formatter.tables(),
-            UnitPlace::Currency(formatter, _) => formatter.tables(),
+            UnitPlace::Percent(formatter) => LentUnitTables::of(&formatter.tables()),
+            UnitPlace::Currency(formatter, _) => LentUnitTables::of(&formatter.tables()),
+            UnitPlace::OwnPercent(tables) => tables.lent(),
+            UnitPlace::OwnCurrency(tables, _, _) => tables.lent(),
         }
     }
 
@@ -107,21 +131,20 @@ impl HeldUnits {
         ensures { result.now ≡ self.now.code }
     {
         match &self.place {
-            UnitPlace::Percent(_) => "%",
+            UnitPlace::Percent(_) | UnitPlace::OwnPercent(_) => "%",
             UnitPlace::Currency(_, code) => code.as_str(),
+            UnitPlace::OwnCurrency(_, code, _) => code.as_str(),
         }
     }
 
-    // Puts the affixes of the signs together, unless they are, where memory is not refused.
+    // Puts the affixes of the signs together, unless they are, where they can be kept and memory is not refused.
     pub(crate) fn keep_reader(&mut self, alloc: Global)
         ensures { self.new ≡ self.old }
     {
+        let _pattern: Option<&UnitPattern> = None; // for the proof
+        let _symbol: Option<&CurrencySymbol> = None; // for the proof
         if self.reader.is_none() {
-            let made = match &self.place {
-                UnitPlace::Percent(formatter) => formatter.reader(alloc),
-                UnitPlace::Currency(formatter, _) => formatter.reader(alloc),
-            };
-            if let Ok(reader) = made {
+            if let Some(reader) = self.place.reader(alloc) {
                 if let Ok(reader) = Box::new(alloc, reader) {
                     self.reader = Some(reader);
                 }
@@ -138,7 +161,8 @@ impl HeldUnits {
         if let Some(reader) = &self.reader {
             return read_by(alloc, reader, text);
         }
-        match self.place.reader(alloc) {
+        let lent = self.lent();
+        match UnitReader::try_new(alloc, &lent.tables()) {
             Ok(reader) => read_by(alloc, &reader, text),
             Err(_) => Err(ReadError::Memory),
         }
@@ -150,7 +174,8 @@ impl HeldUnits {
         ensures unreadable { IsErrOf result ReadError.Unreadable → IsTypedUnit self.now text.now unreadable }
         ensures not_written { IsErrOf result ReadError.NotWritten → IsTypedUnit self.now text.now not_written }
     {
-        match LenientUnitReader::try_new(alloc, &self.tables(), self.code()) {
+        let lent = self.lent();
+        match LenientUnitReader::try_new(alloc, &lent.tables(), self.code()) {
             Ok(reader) => read_typed(alloc, &reader, text),
             Err(error) => Err(error),
         }

@@ -11,6 +11,7 @@
 #![tactic(auto)]
 
 pub mod answering;
+mod asked_units;
 pub mod book;
 mod column_writing;
 pub mod compact_columns;
@@ -45,6 +46,7 @@ pub mod unit_formatter;
 mod unit_opening;
 pub mod unit_parts;
 pub mod unit_reading;
+mod unit_tables;
 pub mod unit_writing;
 pub mod unsigned;
 mod writing;

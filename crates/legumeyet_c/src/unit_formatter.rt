@@ -4,38 +4,20 @@
 ghost use Rattle.std.specs.Prelude.{◌≡◌, None, IsSome, slice_get};
 ghost use Rattle.legumeyet_c_values.specs.Choices.{grouping_of};
 ghost use Rattle.legumeyet_c_values.specs.Putting.{Answers};
-ghost use Rattle.legumeyet_c.specs.Kinds.{is_kept, unit_in};
+ghost use Rattle.legumeyet_c.specs.Kinds.{unit_in};
 ghost use Rattle.legumeyet_c.specs.Opening.{IsClosing, IsOpening};
 ghost use Rattle.legumeyet_c.specs.UnitOpening.{FindsUnit, IsUnitFindingFault, amount_asked, amount_held, currency_options_of, percent_asked, percent_held, styles, widths};
 ghost use Rattle.legumeyet_c.specs.Views.{book_content, book_open, unit_content, unit_open};
 
+use crate::asked_units::AskedAmount;
 use crate::handles::{BookHandle, UnitHandle};
-use crate::held_units::{HeldUnits, UnitPlace};
+use crate::held_units::HeldUnits;
 use crate::opening::close;
-use crate::unit_opening::{AskedUnit, open_unit};
+use crate::unit_opening::open_unit;
 use icu_decimal::options::GroupingStrategy;
-use icu_dimension::{
-    CurrencyCode, CurrencyFormatterOptions, CurrencyStyle, CurrencyWidth, PercentFormatterOptions,
-};
+use icu_dimension::{CurrencyCode, CurrencyFormatterOptions, CurrencyStyle, CurrencyWidth};
 use legumeyet_c_values::{CallError, answer, grouping_by};
-use locale_numbers::{Book, FormatterError};
 use std::alloc::Global;
-use std::marker::Model;
-
-// The code of a currency, and how its amounts are written.
-#[derive(Drop)]
-pub(crate) struct AskedAmount {
-    code: CurrencyCode,
-    options: CurrencyFormatterOptions,
-}
-
-impl Model for AskedAmount {
-    ghost use Rattle.legumeyet_c.specs.UnitOpening.{AskedAmount};
-
-    ghost Value = { AskedAmount };
-
-    ghost view = { λ a. record { code = a.code; options = a.options } };
-}
 
 // The style of a number.
 fn style_by(number: u32) -> Option<CurrencyStyle>
@@ -99,53 +81,11 @@ fn asked_by(
     }
 }
 
-impl AskedUnit for GroupingStrategy {
-    ghost found = { percent_held };
-
-    fn find(
-        self,
-        alloc: Global,
-        book: &'static Book,
-        tag: &str,
-    ) -> Result<HeldUnits, FormatterError> {
-        let options = PercentFormatterOptions {
-            grouping_strategy: Some(self),
-        };
-        match book.percent_formatter(alloc, tag, options) {
-            Ok(formatter) => Ok(HeldUnits {
-                place: UnitPlace::Percent(formatter),
-                reader: None,
-            }),
-            Err(error) => Err(error),
-        }
-    }
-}
-
-impl AskedUnit for AskedAmount {
-    ghost found = { amount_held };
-
-    fn find(
-        self,
-        alloc: Global,
-        book: &'static Book,
-        tag: &str,
-    ) -> Result<HeldUnits, FormatterError> {
-        match book.currency_formatter(alloc, tag, self.code.as_str(), self.options) {
-            Ok(formatter) => Ok(HeldUnits {
-                place: UnitPlace::Currency(formatter, self.code),
-                reader: None,
-            }),
-            Err(error) => Err(error),
-        }
-    }
-}
-
-/// Opens the formatter of percents for a locale tag: that of `en` writes 12.5 as `12.5%`, that of `tr` as `%12,5`. It
-/// borrows the tables of the book, which is kept. What the handle had open is closed, where the call returns 0, and else
-/// the handle is as it was; the book stays open.
+/// Opens the formatter of percents for a locale tag: that of `en` writes 12.5 as `12.5%`, that of `tr` as `%12,5`. What
+/// the handle had open is closed, where the call returns 0, and else the handle is as it was; the book stays open.
 ///
-/// Returns 0; 2, the book is closed; 15, it is not kept; 4, the grouping is above 3; 5, the text is no locale tag; 6, the
-/// book has no symbols, no digits or no percents for it; 1, out of memory, also in place of the last two.
+/// Returns 0; 2, the book is closed; 4, the grouping is above 3; 5, the text is no locale tag; 6, the book has no symbols,
+/// no digits or no percents for it; 1, out of memory, also in place of the last two.
 #[unsafe(no_mangle)]
 pub extern "C" fn legumeyet_percent_formatter_open(
     alloc: Global,
@@ -157,10 +97,8 @@ pub extern "C" fn legumeyet_percent_formatter_open(
     ensures same { book_content book.new ≡ book_content book.old }
     ensures told { Answers
         (IsOpening unit_in
-        (FindsUnit percent_held (book_open book.old) (is_kept (book_content book.old))
-        (percent_asked (grouping_of grouping)) tag.now)
-        (IsUnitFindingFault percent_held (book_open book.old) (is_kept (book_content book.old))
-        (percent_asked (grouping_of grouping)) tag.now)
+        (FindsUnit percent_held (book_open book.old) (percent_asked (grouping_of grouping)) tag.now)
+        (IsUnitFindingFault percent_held (book_open book.old) (percent_asked (grouping_of grouping)) tag.now)
         (unit_content formatter.old) (unit_content formatter.new)) result }
 {
     let asked = strategy_by(grouping);
@@ -169,12 +107,12 @@ pub extern "C" fn legumeyet_percent_formatter_open(
 }
 
 /// Opens the formatter of amounts in one currency for a locale tag, as in general or in accounting, by its symbol or its
-/// code: that of `de-CH` and `CHF` writes -5 as `CHF-5.00`. It borrows the tables of the book, which is kept. What the
-/// handle had open is closed, where the call returns 0, and else the handle is as it was; the book stays open.
+/// code: that of `de-CH` and `CHF` writes -5 as `CHF-5.00`. What the handle had open is closed, where the call returns 0,
+/// and else the handle is as it was; the book stays open.
 ///
-/// Returns 0; 2, the book is closed; 15, it is not kept; 4, the style or the width is above 1, or the grouping above 3;
-/// 14, the code is not three letters `A` to `Z`; 5, the text is no locale tag; 6, the book has no symbols, no digits or no
-/// currencies for it; 1, out of memory, also in place of the last two.
+/// Returns 0; 2, the book is closed; 4, the style or the width is above 1, or the grouping above 3; 14, the code is not
+/// three letters `A` to `Z`; 5, the text is no locale tag; 6, the book has no symbols, no digits or no currencies for it;
+/// 1, out of memory, also in place of the last two.
 #[unsafe(no_mangle)]
 pub extern "C" fn legumeyet_currency_formatter_open(
     alloc: Global,
@@ -189,9 +127,9 @@ pub extern "C" fn legumeyet_currency_formatter_open(
     ensures same { book_content book.new ≡ book_content book.old }
     ensures told { Answers
         (IsOpening unit_in
-        (FindsUnit amount_held (book_open book.old) (is_kept (book_content book.old))
+        (FindsUnit amount_held (book_open book.old)
         (amount_asked (currency_options_of style width grouping) code.now) tag.now)
-        (IsUnitFindingFault amount_held (book_open book.old) (is_kept (book_content book.old))
+        (IsUnitFindingFault amount_held (book_open book.old)
         (amount_asked (currency_options_of style width grouping) code.now) tag.now)
         (unit_content formatter.old) (unit_content formatter.new)) result }
 {

@@ -1,7 +1,7 @@
-//! Handles opened with what a kept book has for percents and amounts.
+//! Handles opened with what a book has for percents and amounts.
 
-ghost use Rattle.std.specs.Prelude.{◌≡◌, ◌⊎◌, Ok, Err, IfOk, IfErr};
-ghost use Rattle.legumeyet_c.specs.Kinds.{book_in, is_kept, unit_in};
+ghost use Rattle.std.specs.Prelude.{◌≡◌, ◌⊎◌, Ok, Err, IfOk, IfErr, IfSome};
+ghost use Rattle.legumeyet_c.specs.Kinds.{book_in, unit_in};
 ghost use Rattle.legumeyet_c.specs.Opening.{IsOpening, IsTagFault};
 ghost use Rattle.legumeyet_c.specs.UnitOpening.{FindsUnit, IsUnitFindingFault};
 
@@ -23,9 +23,15 @@ pub(crate) trait AskedUnit: Drop {
     // what a book has
     ghost found: { BookTables → Self → List ℕ → Result HeldUnit FormatterError };
 
-    /// What a kept book has for the tag, which it lends. `Tag`: it is no locale tag. `Table`: the book lacks a table for
-    /// it. `Memory`: out of memory.
-    fn find(
+    /// A copy of what the book has for the tag. `Tag`: it is no locale tag. `Table`: the book lacks a table for it.
+    /// `Memory`: out of memory.
+    fn find(self, alloc: Global, book: &Book, tag: &str) -> Result<HeldUnits, FormatterError>
+        ensures value { IfOk result (λ held. found book.now self tag.now ≡ Ok held) }
+        ensures fault { IfErr result (λ fault. (fault ≡ FormatterError.Memory)
+            ⊎ (found book.now self tag.now ≡ Err fault)) };
+
+    /// The same of a book that is kept for the rest of the run, whose tables are borrowed and not copied.
+    fn find_kept(
         self,
         alloc: Global,
         book: &'static Book,
@@ -36,20 +42,26 @@ pub(crate) trait AskedUnit: Drop {
             ⊎ (found book.now self tag.now ≡ Err fault)) };
 }
 
-// The same, with the errors of calls.
+// The same, with the errors of calls; where the book is kept, its tables are borrowed.
 fn find_for<A: AskedUnit>(
     alloc: Global,
-    book: &'static Book,
+    book: &Book,
+    kept: Option<&'static Book>,
     asked: A,
     tag: &[u8],
 ) -> Result<HeldUnits, CallError>
+    requires kept { IfSome kept (λ kept. book.now ≡ kept.now) }
     ensures value { IfOk result (λ held. A.found book.now asked tag.now ≡ Ok held) }
     ensures fault { IfErr result (λ error. IsTagFault (A.found book.now asked tag.now) tag.now error) }
 {
     let Ok(tag) = str::from_utf8(tag) else {
         return Err(CallError::Tag);
     };
-    match asked.find(alloc, book, tag) {
+    let found = match kept {
+        Some(kept) => asked.find_kept(alloc, kept, tag),
+        None => asked.find(alloc, book, tag),
+    };
+    match found {
         Ok(held) => Ok(held),
         Err(FormatterError::Tag) => Err(CallError::Tag),
         Err(FormatterError::Table) => Err(CallError::Table),
@@ -58,7 +70,7 @@ fn find_for<A: AskedUnit>(
     }
 }
 
-// What the book behind a handle has, where it is kept; the book stays as it is.
+// What the book behind a handle has; the book stays as it is.
 fn find_after<A: AskedUnit>(
     alloc: Global,
     book: &mut Handle,
@@ -66,33 +78,23 @@ fn find_after<A: AskedUnit>(
     tag: &[u8],
 ) -> Result<HeldUnits, CallError>
     ensures same { book.new.pointer.value ≡ book.old.pointer.value }
-    ensures value { IfOk result
-        (λ held. FindsUnit A.found (book_in book.old.pointer.value) (is_kept book.old.pointer.value) asked tag.now
-        held) }
+    ensures value { IfOk result (λ held. FindsUnit A.found (book_in book.old.pointer.value) asked tag.now held) }
     ensures fault { IfErr result
-        (λ error. IsUnitFindingFault A.found (book_in book.old.pointer.value) (is_kept book.old.pointer.value) asked
-        tag.now error) }
+        (λ error. IsUnitFindingFault A.found (book_in book.old.pointer.value) asked tag.now error) }
 {
     let Some(content) = book.take(alloc) else {
         return Err(CallError::Closed);
     };
-    let is_open = Book::held_by(&content).is_some();
-    let found = match (kept_in(&content), asked) {
-        (Some(kept), Ok(asked)) => find_for::<A>(alloc, kept, asked, tag),
+    let found = match (Book::held_by(&content), asked) {
+        (Some(held), Ok(asked)) => { find_for::<A>(alloc, held, kept_in(&content), asked, tag) }
         (Some(_), Err(error)) => Err(error),
-        (None, _) => {
-            if is_open {
-                Err(CallError::Unkept)
-            } else {
-                Err(CallError::Closed)
-            }
-        }
+        (None, _) => Err(CallError::Closed),
     };
     book.put(alloc, content);
     found
 }
 
-// Opens a handle with what the book after another one has, where it is kept; the book stays as it is.
+// Opens a handle with what the book after another one has; the book stays as it is.
 pub(crate) fn open_unit<A: AskedUnit>(
     alloc: Global,
     book: &mut Handle,
@@ -101,10 +103,9 @@ pub(crate) fn open_unit<A: AskedUnit>(
     handle: &mut Handle,
 ) -> Result<(), CallError>
     ensures same { book.new.pointer.value ≡ book.old.pointer.value }
-    ensures told { IsOpening unit_in
-        (FindsUnit A.found (book_in book.old.pointer.value) (is_kept book.old.pointer.value) asked tag.now)
-        (IsUnitFindingFault A.found (book_in book.old.pointer.value) (is_kept book.old.pointer.value) asked tag.now)
-        handle.old.pointer.value handle.new.pointer.value result }
+    ensures told { IsOpening unit_in (FindsUnit A.found (book_in book.old.pointer.value) asked tag.now)
+        (IsUnitFindingFault A.found (book_in book.old.pointer.value) asked tag.now) handle.old.pointer.value
+        handle.new.pointer.value result }
 {
     match find_after::<A>(alloc, book, asked, tag) {
         Ok(held) => put_after(alloc, handle, held, CallError::Memory),

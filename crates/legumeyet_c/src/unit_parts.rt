@@ -26,7 +26,8 @@ fn sink_of(alloc: Global, units: &HeldUnits, value: &Decimal) -> Result<PartsSin
     ensures fault { IfErr result (λ error. error ≡ CallError.Memory) }
 {
     let mut sink = PartsSink::new(alloc);
-    match units.tables().format(value).write_to(&mut sink) {
+    let lent = units.lent();
+    match lent.tables().format(value).write_to(&mut sink) {
         Ok(()) => Ok(sink),
         Err(_) => Err(CallError::Memory),
     }

@@ -34,7 +34,10 @@ fn write_changed(
 {
     text_law();
     match unit_number(units.fractions(), number, options) {
-        Ok(value) => put(&units.tables().format(&value), out, length),
+        Ok(value) => {
+            let lent = units.lent();
+            put(&lent.tables().format(&value), out, length)
+        }
         Err(error) => Err(error),
     }
 }

@@ -3,8 +3,7 @@ use Rattle.std.proofs.lemmas.Int.{to_z-of_z}
 use mir.Val.{SFits}
 use Rattle.legumeyet_c_values.specs.Choices.{grouping_of}
 use Rattle.legumeyet_c.specs.UnitOpening.{percent_asked, percent_held}
-use Rattle.legumeyet_c.specs.Kinds.{is_kept}
-use Rattle.legumeyet_c.specs.Views.{book_content, book_open, unit_content}
+use Rattle.legumeyet_c.specs.Views.{book_open, unit_content}
 use Rattle.legumeyet_c.proofs.UnitLemmas.{unit_opening_asked}
 use Rattle.legumeyet_c.proofs.unit_formatter.legumeyet_percent_formatter_open.Goals as goal
 
@@ -14,6 +13,6 @@ returns-clause-told c =
     record {
       outcome = c.open_unit.result;
       number = to_z-of_z w32 c.answer.result fits ∙ c.answer.ensures;
-      held = unit_opening_asked percent_held (book_open c.args.book.now) (is_kept (book_content c.args.book.now)) c.strategy_by-asked.result (percent_asked (grouping_of c.args.grouping)) c.args.tag.now
+      held = unit_opening_asked percent_held (book_open c.args.book.now) c.strategy_by-asked.result (percent_asked (grouping_of c.args.grouping)) c.args.tag.now
           (unit_content c.args.formatter.now) _ c.open_unit.result c.strategy_by-asked.ensures c.open_unit.ensures.told;
     }

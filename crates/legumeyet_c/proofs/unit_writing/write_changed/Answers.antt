@@ -17,7 +17,7 @@ returns-in-Ok c =
       value = c.in-Ok.value;
       gives = subst (λ (f : Option FractionInfo). GivesUnit f (unit_choices_of f c.args.options.now) (λ given. c.args.number ≡ Ok given) c.in-Ok.value) c.fractions.ensures c.in-Ok.ensures.value;
       said = is
-          ∙ ap (λ (s : WithSign UnitNumber). text_of (unit_decimal_events s)) (c.format.ensures ∙ ap (λ (u : UnitSettings). unit_formatted u c.in-Ok.value) c.tables.ensures)
+          ∙ ap (λ (s : WithSign UnitNumber). text_of (unit_decimal_events s)) (c.format.ensures ∙ ap (λ (u : UnitSettings). unit_formatted u c.in-Ok.value) (c.tables.ensures ∙ c.lent-lent.ensures))
           ∙ c.text_law.ensures.text held.settings c.in-Ok.value;
     })
     (λ error none. absurd none)
