@@ -430,12 +430,30 @@ static void money() {
     expect_error(LEGUMEYET_CLOSED, [&] { dollars.read_lenient("$5"); });
 }
 
-// Formatters of money that are refused; a book that is not kept, or has no units.
+// Formatters of a book that is not kept, which is closed before them.
+static void money_of(const char *path) {
+    Book book = Book::from_file(path);
+    CurrencyFormatter euros(book, "de", "EUR"), dollars(book, "en", "USD", CurrencyStyle::Accounting);
+    PercentFormatter turkish(book, "tr");
+    book = Book("[[],[],[],[],[]]");
+    expect(euros.format(1234.5), spaced("1.234,50_€"));
+    expect(dollars.format(-5) + turkish.format("12.5"), "($5.00)%12,5");
+    expect(named(dollars.format_parts("-1234.5")), "1($ 7$ 31,234 4, 5. 650 1) ");
+    expect(dollars.read("($5.00)") + ' ' + euros.read_lenient("EUR 1234,5") + ' ' + turkish.read_lenient("12,5"), "-5.00 1234.5 12.5");
+    expect_error(LEGUMEYET_TABLE, [&] { CurrencyFormatter(book, "de", "EUR"); });
+    CurrencyFormatter moved = std::move(euros);
+    const legumeyet::SharedUnitFormatter shared(std::move(moved));
+    std::string text;
+    std::thread([&] { text = shared.format(7); }).join();
+    expect(text, spaced("7,00_€"));
+}
+
+// Formatters of money that are refused; a book that has no units.
 static void no_money() {
     Book book(BOOK), kept(BOOK);
     kept.keep();
-    expect_error(LEGUMEYET_UNKEPT, [&] { CurrencyFormatter(book, "en", "EUR"); });
-    expect_error(LEGUMEYET_UNKEPT, [&] { PercentFormatter(book, "e", Grouping{4}); });
+    expect_error(LEGUMEYET_TABLE, [&] { CurrencyFormatter(book, "en", "EUR"); });
+    expect_error(LEGUMEYET_OPTION, [&] { PercentFormatter(book, "e", Grouping{4}); });
     expect_error(LEGUMEYET_TABLE, [&] { CurrencyFormatter(kept, "en", "EUR"); });
     expect_error(LEGUMEYET_TABLE, [&] { PercentFormatter(kept, "en"); });
     expect_error(LEGUMEYET_TAG, [] { CurrencyFormatter("e", "EUR"); });
@@ -517,6 +535,7 @@ int main(int count, char **words) {
     world();
     files(words[1]);
     money();
+    money_of(words[1]);
     no_money();
     percents();
     Book first(BOOK), book(std::move(first)); // `first` is closed by that

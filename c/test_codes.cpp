@@ -105,7 +105,7 @@ static void units() {
     expect_code(percents->try_format(1, Options().with_rounding(Rounding::Cash)).error(), Code::Option);
     expect_code(CurrencyFormatter::try_open("en", "usd").error(), Code::Code);
     auto book = Book::try_from_json("[[],[],[],[],[]]");
-    expect_code(PercentFormatter::try_open(*book, "en").error(), Code::Unkept);
+    expect_code(PercentFormatter::try_open(*book, "en").error(), Code::Table);
     expect_code(book->try_keep(), Code::Ok);
     expect_code(CurrencyFormatter::try_open(*book, "en", "USD").error(), Code::Table);
     expect(std::to_string(book->try_locales()->size()), "0");

@@ -1158,8 +1158,8 @@ class CompactDecimalFormatter : public inner::Formatter<legumeyet_compact_format
 #endif
 };
 
-// The formatter of percents for a locale tag. A percent is written as it is given: 12.5 as `12.5%`. It is of the world's book, or of another
-// that is kept: Code::Unkept of one that is not. Of amounts alone are Rounding::Cash and Rounding::None: Code::Option.
+// The formatter of percents for a locale tag. It may outlive its book. A percent is written as it is given: 12.5 as `12.5%`. Of amounts
+// alone are Rounding::Cash and Rounding::None: Code::Option.
 class PercentFormatter : public inner::UnitFormatter {
     friend class SharedUnitFormatter;
 
@@ -1191,9 +1191,9 @@ class PercentFormatter : public inner::UnitFormatter {
 #endif
 };
 
-// The formatter of amounts of money for a locale tag and the code of a currency, as `EUR`. It is of the world's book, or of another that is
-// kept: Code::Unkept of one that is not. Without a rounding an amount is rounded to the digits of its currency, half even, and shown down to
-// them: 5 dollars as `$5.00`. With Rounding::Cash they are those of the currency in cash, and with Rounding::None it is written as given.
+// The formatter of amounts of money for a locale tag and the code of a currency, as `EUR`. It may outlive its book. Without a rounding an
+// amount is rounded to the digits of its currency, half even, and shown down to them: 5 dollars as `$5.00`. With Rounding::Cash they are
+// those of the currency in cash, and with Rounding::None it is written as given.
 class CurrencyFormatter : public inner::UnitFormatter {
     friend class SharedUnitFormatter;
 

@@ -16,7 +16,7 @@ export type RoundingIncrement = 1 | 2 | 5 | 10 | 20 | 25 | 50 | 100 | 200 | 250 
 export type Locales = string | Intl.Locale | readonly (string | Intl.Locale)[];
 
 export interface FormatterOptions {
-  /** The tables; without it those of the world's book, or of `setWorld`. Percents and amounts have tables of a book that is kept. */
+  /** The tables; without it those of the world's book, or of `setWorld`. */
   book?: Book;
   /** `auto` without it, and `min2` of compact numbers. */
   useGrouping?: UseGrouping;
@@ -124,7 +124,7 @@ export class PercentFormatter extends Formatter<PercentFormatterOptions> {
   static supportedLocalesOf(locales: Locales, options?: PercentFormatterOptions): string[];
 }
 
-/** Writes amounts of money in a currency for a locale, and reads them back. Its book is kept. */
+/** Writes amounts of money in a currency for a locale, and reads them back. */
 export class CurrencyFormatter extends Formatter<CurrencyFormatterOptions> {
   constructor(locales: Locales | undefined, options: CurrencyFormatterOptions);
   /** The digits of the one number that is written so: `-€1,234.50` is `-1234.50` in English. */

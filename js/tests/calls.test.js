@@ -1,5 +1,7 @@
 // Each call well and badly.
 import assert from "node:assert/strict";
+import { readFileSync } from "node:fs";
+import { createRequire } from "node:module";
 import { test } from "node:test";
 import { Book, CompactDecimalFormatter, CurrencyFormatter, DecimalFormatter, ErrorNumber, LegumeyetError, PercentFormatter, version } from "legumeyet";
 import locales from "legumeyet/locales";
@@ -232,8 +234,12 @@ test("amounts and percents that are refused", () => {
   for (const code of ["eur", "EURO", "EU", "", "EÜR", "A1B", "\ud800UR", "\u0145UR"]) refuses(ErrorNumber.CODE, () => money("e", code), `: ${JSON.stringify(code)}`);
   refuses(ErrorNumber.TAG, () => money("de_DE", "EUR"), '"de_DE" is written "de-DE"');
   refuses(ErrorNumber.TABLE, () => money(["yy", "zz"], "EUR"), '"zz"');
-  refuses(ErrorNumber.UNKEPT, () => money("xx", "EUR", { book: new Book(JSON_OF_ONE) }));
-  refuses(ErrorNumber.UNKEPT, () => new PercentFormatter("xx", { book: new Book(JSON_OF_ONE) }));
+  refuses(ErrorNumber.TABLE, () => money("xx", "EUR", { book: new Book(JSON_OF_ONE) }));
+  refuses(ErrorNumber.TABLE, () => new PercentFormatter("xx", { book: new Book(JSON_OF_ONE) }));
+  const loose = new Book(readFileSync(createRequire(import.meta.url).resolve("legumeyet/world.json")));
+  const [euros, turkish] = [money("de", "EUR", { book: loose }), new PercentFormatter("tr", { book: loose })];
+  loose.close();
+  assert.deepEqual([euros.format("1234.5"), turkish.format(12.5), euros.readLenient("EUR 1234,5")], ["1.234,50\u00a0€", "%12,5", "1234.5"]);
   refuses(ErrorNumber.TABLE, () => money("xx", "EUR", { book: new Book(JSON_OF_ONE).keep() }));
   for (const wrong of [undefined, null, 5]) assert.throws(() => money("en", wrong), TypeError);
   assert.throws(() => new CurrencyFormatter("en"), TypeError);

@@ -254,10 +254,10 @@ class CompactDecimalFormatter(Open, _core.CompactDecimalFormatter):
 
 
 class PercentFormatter(Open, _core.UnitFormatter):
-    """The formatter of percents for a locale tag: of the world's book, or of one that is given first, and is kept. A percent is written as it
-    is given, so a ratio is multiplied by 100 first.
+    """The formatter of percents for a locale tag: of the world's book, or of one that is given first. It may outlive the book. A percent is
+    written as it is given, so a ratio is multiplied by 100 first.
 
-    Raises as `DecimalFormatter`, and `Error` 15 where the book is not kept.
+    Raises as `DecimalFormatter`.
 
     >>> PercentFormatter("en").format(12.5), PercentFormatter("tr").format(-12.5)
     ('12.5%', '-%12,5')
@@ -309,9 +309,9 @@ class PercentFormatter(Open, _core.UnitFormatter):
 
 class CurrencyFormatter(Open, _core.UnitFormatter):
     """The formatter of amounts of money for a locale tag and the code of a currency, three capitals: of the world's book, or of one that is
-    given first, and is kept. With `accounting` a negative amount is written as in accounts, and with `code` the currency by its code. An amount
-    is rounded to the digits of its currency, and with `cash` to those that it has in cash; `rounding` and `position` say otherwise, as
-    `format` has it.
+    given first, which it may outlive. With `accounting` a negative amount is written as in accounts, and with `code` the currency by its
+    code. An amount is rounded to the digits of its currency, and with `cash` to those that it has in cash; `rounding` and `position` say
+    otherwise, as `format` has it.
 
     Raises as `PercentFormatter`, and `Error` 14 where the text is no code of a currency.
 

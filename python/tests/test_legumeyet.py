@@ -867,11 +867,28 @@ class Calls(unittest.TestCase):
         self.assertEqual([(it.kind, text[it.start : it.end]) for it in parts], [(8, "%"), (3, "12"), (5, ","), (6, "6")])
         self.assertEqual(turkish.format_all([1, "2"]), ["%1,0", "%2,0"])
 
+    def test_units_of_a_book(self):
+        """Formatters of a book that is not kept outlive it, in threads and forked children too."""
+        with Book((pathlib.Path(__file__).parents[2] / "books/world.json").read_text(encoding="utf-8")) as book:
+            euros, turkish = CurrencyFormatter(book, "de", "EUR"), PercentFormatter(book, "tr")
+            dollars = CurrencyFormatter(book, "en", "USD", accounting=True)
+        self.assertEqual((euros.format(1234.5), dollars.format(-5), turkish.format(12.5)), ("1.234,50\xa0€", "($5.00)", "%12,5"))
+        self.assertEqual((dollars.read("($5.00)"), euros.read("EUR 1234,5", lenient=True)), (Decimal("-5.00"), Decimal("1234.5")))
+        self.refused(2, PercentFormatter, book, "tr")
+        euros.share()
+        with concurrent.futures.ThreadPoolExecutor(8) as pool:
+            self.assertEqual(set(pool.map(euros.format, [7] * 1000)), {"7,00\xa0€"})
+        child = os.fork()
+        if child == 0:
+            os._exit(euros.format(7) != "7,00\xa0€" or dollars.format(7) != "$7.00")
+        self.assertEqual(os.waitpid(child, 0)[1], 0)
+
     def test_units_that_are_refused(self):
         kept = Book(JSON)
         kept.keep()
-        self.refused(15, PercentFormatter, self.book, "e")
-        self.refused(15, CurrencyFormatter, self.book, "e", "eur")
+        self.refused(5, PercentFormatter, self.book, "e")
+        self.refused(14, CurrencyFormatter, self.book, "e", "eur")
+        self.refused(6, CurrencyFormatter, self.book, "en", "EUR")
         self.refused(6, PercentFormatter, kept, "en")
         self.refused(6, CurrencyFormatter, kept, "en", "EUR")
         self.refused(5, CurrencyFormatter, "e", "EUR")

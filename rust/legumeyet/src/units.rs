@@ -155,7 +155,7 @@ impl PercentFormatter {
         with_world(|book| PercentFormatter::from_book(book, tag, grouping))
     }
 
-    /// The formatter of a kept book's tag. Refused as `new`, and by `UNKEPT` where the book is not kept.
+    /// The formatter of a book's tag. Refused as `new`.
     pub fn from_book(book: &Book, tag: &str, grouping: Grouping) -> Result<PercentFormatter, Error> {
         // SAFETY: a text is memory of its length, and no other call has the book's handle.
         let open =
@@ -204,7 +204,7 @@ impl CurrencyFormatter {
         with_world(|book| CurrencyFormatter::from_book(book, tag, code, options))
     }
 
-    /// The formatter of a kept book's tag and a code. Refused as `new`, and by `UNKEPT` where the book is not kept.
+    /// The formatter of a book's tag and a code. Refused as `new`.
     pub fn from_book(book: &Book, tag: &str, code: &str, options: &CurrencyOptions) -> Result<CurrencyFormatter, Error> {
         let (style, width, grouping) = (options.style as u32, options.width as u32, options.grouping as u32);
         let (tag_at, code_at) = (tag.as_ptr(), code.as_ptr());

@@ -438,8 +438,16 @@ fn percents() {
 fn units_that_are_refused() {
     let (own, kept, options) = (book(), book(), CurrencyOptions::default());
     kept.keep().unwrap();
-    assert_eq!(PercentFormatter::from_book(&own, "e", Grouping::Auto).err(), Some(Error::UNKEPT));
-    assert_eq!(CurrencyFormatter::from_book(&own, "e", "eur", &options).err(), Some(Error::UNKEPT));
+    assert_eq!(PercentFormatter::from_book(&own, "e", Grouping::Auto).err(), Some(Error::TAG));
+    assert_eq!(CurrencyFormatter::from_book(&own, "e", "eur", &options).err(), Some(Error::CODE));
+    assert_eq!(CurrencyFormatter::from_book(&own, "en", "EUR", &options).err(), Some(Error::TABLE));
+    let loose = Book::world().unwrap();
+    let euros = CurrencyFormatter::from_book(&loose, "de", "EUR", &options).unwrap();
+    let turkish = PercentFormatter::from_book(&loose, "tr", Grouping::Auto).unwrap();
+    drop(loose);
+    assert_eq!(euros.format(1234.5, &Options::default()).unwrap(), "1.234,50\u{a0}€");
+    assert_eq!(euros.read_lenient("EUR 1234,5").unwrap(), "1234.5");
+    assert_eq!(thread::spawn(move || turkish.format(12.5, &Options::default())).join().unwrap().unwrap(), "%12,5");
     assert_eq!(PercentFormatter::from_book(&kept, "en", Grouping::Auto).err(), Some(Error::TABLE));
     assert_eq!(CurrencyFormatter::from_book(&kept, "en", "EUR", &options).err(), Some(Error::TABLE));
     for code in ["eur", "EURO", "EU", "", "EÜ", "A1B", "\0\0\0"] {
