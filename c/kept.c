@@ -30,6 +30,7 @@ static legumeyet_book book;
 static legumeyet_decimal_formatter own, plain;
 static legumeyet_compact_formatter own_short, short_english, long_english;
 static legumeyet_unit_formatter own_percents, own_dollars, percents, dollars;
+static legumeyet_answers answers;
 static const legumeyet_options AS_GIVEN = {0};
 static uint8_t out[64];
 static size_t length;
@@ -145,6 +146,27 @@ static void write_units(legumeyet_unit_formatter *percent, legumeyet_unit_format
     expect_text("-1234567890.5");
 }
 
+/* Lines that are answered together, with a room that is too small at first. What is refused is asked again, from the line that it was. */
+static void answer_lines(void) {
+    static const char LINES[] = "en\tplain\tauto\tkeep\t-\t-98765432109876543210.5\nen-a-aa-b-bb-u-nu-latn-x-y\tshort\tauto\tkeep\t-\t1650\nq\n"
+                                "en\tcurrency-USD\tauto\tkeep\t-\t1234.5\nen\tread-lenient\tauto\tkeep\t-\t 1234.5\nen\tplain";
+    static const char ANSWERS[] = "ok\t-98,765,432,109,876,543,210.5\nok\t1.6 k\t1.6c3\nerr\tshape\nok\t$1,234.50\nok\t1234.5\n";
+    static uint8_t all[sizeof ANSWERS];
+    size_t at = 0, to = 0, room = 0, read, written, needs;
+    int32_t error;
+    do {
+        error = legumeyet_answers_answer(&answers, TEXT(LINES + at), all + to, room - to, &read, &written, &needs);
+        refused += error == LEGUMEYET_MEMORY;
+        at += read;
+        to += written;
+        room += error == LEGUMEYET_TOO_SMALL && room < sizeof all;
+    } while (error == LEGUMEYET_MEMORY || (error == LEGUMEYET_TOO_SMALL && to + needs <= sizeof all));
+    expect("lines", error, LEGUMEYET_OK);
+    expect("what was read", (int64_t)at, (int64_t)(strrchr(LINES, '\n') + 1 - LINES));
+    expect("what was written", (int64_t)to, (int64_t)strlen(ANSWERS));
+    expect("their answers", memcmp(all, ANSWERS, to), 0);
+}
+
 /* Calls on a kept book answer as on any other. */
 static void use_kept_book(void) {
     TWICE(legumeyet_book_answer(&book, TEXT("en\tplain\tauto\tkeep\t-\t-1234.5"), out, sizeof out, &length));
@@ -167,6 +189,8 @@ int main(void) {
     borrowed = open_both(&plain, &short_english);
     if (held != 0 && refused == 0) expect("it borrows", 2 * borrowed < held, 1);
     open_units(&percents, &dollars);
+    TWICE(legumeyet_answers_open(&book, 2, &answers));
+    answer_lines();
     use_kept_book();
     write_all(&own, &own_short);
     write_all(&plain, &short_english);
@@ -174,9 +198,11 @@ int main(void) {
     write_units(&percents, &dollars);
     expect("the book", legumeyet_book_close(&book), LEGUMEYET_OK);
     expect("a closed book", legumeyet_book_keep(&book), LEGUMEYET_CLOSED);
+    answer_lines();
     write_all(&plain, &short_english);
     write_units(&own_percents, &own_dollars);
     write_units(&percents, &dollars);
+    expect("its answers", legumeyet_answers_close(&answers), LEGUMEYET_OK);
     expect("its formatter", legumeyet_unit_formatter_close(&own_percents), LEGUMEYET_OK);
     expect("its formatter", legumeyet_unit_formatter_close(&own_dollars), LEGUMEYET_OK);
     expect("its formatter", legumeyet_unit_formatter_close(&percents), LEGUMEYET_OK);

@@ -201,6 +201,12 @@ typedef struct {
     bool is_open;
 } legumeyet_unit_formatter;
 
+/* Answers to request lines, with the formatters that were used last. */
+typedef struct {
+    void *content;
+    bool is_open;
+} legumeyet_answers;
+
 /*
  * What is made of a number before it is written: it is rounded, then trimmed, then padded, and then its sign is chosen. Zeroed, the
  * number stays as it is, and an amount has the digits of its currency. Of LEGUMEYET_ROUND_KEEP, LEGUMEYET_ROUND_CASH and
@@ -311,6 +317,44 @@ int32_t legumeyet_book_locale(legumeyet_book *book, size_t index, uint8_t *out, 
  * Returns 0; LEGUMEYET_CLOSED; LEGUMEYET_MEMORY; LEGUMEYET_TOO_SMALL.
  */
 int32_t legumeyet_book_answer(legumeyet_book *book, const uint8_t *line, size_t line_length, uint8_t *out, size_t room, size_t *length);
+
+/*
+ * Opens answers to request lines by a book, with the `capacity` formatters that were used last: who has many lines of few tags does not
+ * make a formatter for each, as legumeyet_book_answer does. A formatter that is kept changes no answer.
+ *
+ * The book is kept, as by legumeyet_book_keep, and may be closed before the answers. What `answers` had open is closed, where the call
+ * returns 0.
+ *
+ * Returns 0; LEGUMEYET_CLOSED, of the book; LEGUMEYET_UNKEPT; LEGUMEYET_OPTION, of a capacity of 0; LEGUMEYET_MEMORY.
+ */
+int32_t legumeyet_answers_open(legumeyet_book *book, size_t capacity, legumeyet_answers *answers);
+
+/* Closes answers, and gives their memory back. Returns 0; LEGUMEYET_CLOSED, where they were closed already. */
+int32_t legumeyet_answers_close(legumeyet_answers *answers);
+
+/*
+ * Answers request lines, each ended by a line feed, in order: what is written is their answers, as legumeyet_book_answer has them, each
+ * ended by a line feed. What is after the last line feed of `lines` is not read: a caller passes it again with what follows it, and at the
+ * end of all adds a line feed where the last line has none.
+ *
+ * `read` is how many bytes of `lines` were answered, and `written` how many of `out` were written. `needs` is 0, but where the call returns
+ * LEGUMEYET_TOO_SMALL: then it is how many bytes the answer to the next line has with its line feed, which are more than are left, and
+ * these are its first ones. Otherwise the bytes of `out` after those that were written stay as they were. A caller takes what is written,
+ * and goes on from `read`:
+ *
+ *     do {
+ *         error = legumeyet_answers_answer(&answers, lines + at, length - at, out, sizeof out, &read, &written, &needs);
+ *         fwrite(out, 1, written, stdout);
+ *         at += read;
+ *     } while (error == LEGUMEYET_TOO_SMALL && needs <= sizeof out);
+ *
+ * After LEGUMEYET_MEMORY too, the lines before `read` are answered, and those after it can be passed again.
+ *
+ * Returns 0, where all lines that end were answered; LEGUMEYET_CLOSED, and then the three counts are 0; LEGUMEYET_MEMORY;
+ * LEGUMEYET_TOO_SMALL.
+ */
+int32_t legumeyet_answers_answer(legumeyet_answers *answers, const uint8_t *lines, size_t lines_length, uint8_t *out, size_t room,
+                                 size_t *read, size_t *written, size_t *needs);
 
 /*
  * Opens the formatter of plain numbers for a locale tag: that of `en` writes -1234.5 as `-1,234.5`, that of `ar-EG` as `-١٬٢٣٤٫٥`.

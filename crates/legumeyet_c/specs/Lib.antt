@@ -5,6 +5,7 @@ pub mod DecimalWriting
 pub mod HeldUnits
 pub mod Kinds
 pub mod Lent
+pub mod LineAnswering
 pub mod Locales
 pub mod Opening
 pub mod Owned

@@ -6,8 +6,9 @@ use Rattle.icu_decimal.specs.CompactTables.{CompactTables}
 use Rattle.icu_decimal.specs.PlainText.{Tables}
 use Rattle.locale_numbers.specs.Book.{BookTables}
 use Rattle.legumeyet_c.specs.HeldUnits.{HeldUnit}
-use Rattle.legumeyet_c.specs.Kinds.{book_in, compact_in, decimal_in, unit_in}
+use Rattle.legumeyet_c.specs.Kinds.{answers_in, book_in, compact_in, decimal_in, unit_in}
 use Rattle.legumeyet_c.specs.declared.content.Content.{Content}
+use Rattle.legumeyet_c.specs.declared.handles.AnswersHandle.{AnswersHandle}
 use Rattle.legumeyet_c.specs.declared.handles.BookHandle.{BookHandle}
 use Rattle.legumeyet_c.specs.declared.handles.CompactHandle.{CompactHandle}
 use Rattle.legumeyet_c.specs.declared.handles.DecimalHandle.{DecimalHandle}
@@ -25,6 +26,9 @@ compact_open handle = compact_in handle.handle.pointer.value
 abbrev pub unit_open : UnitHandle → Option HeldUnit
 unit_open handle = unit_in handle.handle.pointer.value
 
+abbrev pub answers_open : AnswersHandle → Option BookTables
+answers_open handle = answers_in handle.handle.pointer.value
+
 -- ---- of any kind
 
 abbrev pub book_content : BookHandle → Option Content
@@ -38,3 +42,6 @@ compact_content handle = handle.handle.pointer.value
 
 abbrev pub unit_content : UnitHandle → Option Content
 unit_content handle = handle.handle.pointer.value
+
+abbrev pub answers_content : AnswersHandle → Option Content
+answers_content handle = handle.handle.pointer.value

@@ -1,14 +1,15 @@
 //! What an open handle has.
 
 ghost use Rattle.std.specs.Prelude.{◌≡◌, IfSome, Some, None, false, is_some, option_map, refl};
-ghost use Rattle.legumeyet_c.specs.Kinds.{book_in, compact_in, decimal_in, is_kept, unit_in};
+ghost use Rattle.legumeyet_c.specs.Kinds.{answers_in, book_in, compact_in, decimal_in, is_kept, unit_in};
 
 use crate::compact_tables::HeldCompactTables;
 use crate::decimal_tables::DecimalTables;
+use crate::held_answers::HeldAnswers;
 use crate::held_units::HeldUnits;
 use locale_numbers::Book;
 
-/// What an open handle has: a book, or the tables of a formatter.
+/// What an open handle has: a book, the tables of a formatter, or what answers lines.
 #[derive(Drop)]
 pub enum Content {
     /// A book.
@@ -21,6 +22,8 @@ pub enum Content {
     Compact(HeldCompactTables),
     /// What percents or amounts are written with.
     Unit(HeldUnits),
+    /// What answers lines.
+    Answers(HeldAnswers),
     /// Nothing yet: no handle has it open.
     Nothing,
 }
@@ -57,6 +60,7 @@ pub(crate) fn kept_in(content: &Content) -> Option<&'static Book>
         | Content::Decimal(_)
         | Content::Compact(_)
         | Content::Unit(_)
+        | Content::Answers(_)
         | Content::Nothing => None,
     }
 }
@@ -68,7 +72,11 @@ impl Held for Book {
         match content {
             Content::Book(book) => Some(book),
             Content::Kept(book) => Some(*book),
-            Content::Decimal(_) | Content::Compact(_) | Content::Unit(_) | Content::Nothing => None,
+            Content::Decimal(_)
+            | Content::Compact(_)
+            | Content::Unit(_)
+            | Content::Answers(_)
+            | Content::Nothing => None,
         }
     }
 
@@ -89,6 +97,7 @@ impl Held for DecimalTables {
             | Content::Kept(_)
             | Content::Compact(_)
             | Content::Unit(_)
+            | Content::Answers(_)
             | Content::Nothing => None,
         }
     }
@@ -110,6 +119,7 @@ impl Held for HeldCompactTables {
             | Content::Kept(_)
             | Content::Decimal(_)
             | Content::Unit(_)
+            | Content::Answers(_)
             | Content::Nothing => None,
         }
     }
@@ -131,12 +141,35 @@ impl Held for HeldUnits {
             | Content::Kept(_)
             | Content::Decimal(_)
             | Content::Compact(_)
+            | Content::Answers(_)
             | Content::Nothing => None,
         }
     }
 
     fn into_content(self) -> Content {
         Content::Unit(self)
+    }
+
+    ghost closed = { refl };
+}
+
+impl Held for HeldAnswers {
+    ghost held_in = { answers_in };
+
+    fn held_by(content: &Content) -> Option<&HeldAnswers> {
+        match content {
+            Content::Answers(answers) => Some(answers),
+            Content::Book(_)
+            | Content::Kept(_)
+            | Content::Decimal(_)
+            | Content::Compact(_)
+            | Content::Unit(_)
+            | Content::Nothing => None,
+        }
+    }
+
+    fn into_content(self) -> Content {
+        Content::Answers(self)
     }
 
     ghost closed = { refl };

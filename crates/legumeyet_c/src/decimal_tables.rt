@@ -1,7 +1,6 @@
 //! What plain numbers are written with: tables of one's own, or those of a book that is kept.
 
 ghost use Rattle.std.specs.Prelude.{◌≡◌, IfOk, IfSome, IsErrOf};
-ghost use Rattle.icu_decimal.specs.BorrowedTables.{borrowed_tables};
 ghost use Rattle.icu_decimal.specs.HeldTables.{tables_of};
 ghost use Rattle.icu_decimal.specs.LenientReading.{MayAllocate, lenient_reading};
 ghost use Rattle.icu_decimal.specs.PlainReading.{IsAnswered};

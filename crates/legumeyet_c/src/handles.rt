@@ -10,6 +10,13 @@ pub struct BookHandle {
     pub handle: Handle,
 }
 
+/// Answers to request lines, or a closed handle: `legumeyet_answers`.
+#[repr(C)]
+pub struct AnswersHandle {
+    /// What is after it.
+    pub handle: Handle,
+}
+
 /// A formatter of plain numbers, or a closed handle: `legumeyet_decimal_formatter`.
 #[repr(C)]
 pub struct DecimalHandle {

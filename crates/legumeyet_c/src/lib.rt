@@ -1,4 +1,4 @@
-//! The C API: books and formatters behind handles, and texts in bytes of the caller's. `include/legumeyet.h` says what
+//! The C API: books, formatters and answers behind handles, and texts in bytes of the caller's. `include/legumeyet.h` says what
 //! each call does. A handle that has something of another kind open is closed to a call: 2, and it stays as it was,
 //! unless the call opens it.
 //!
@@ -27,10 +27,12 @@ mod decimal_tables;
 pub mod doubles;
 mod handle;
 mod handles;
+mod held_answers;
 mod held_units;
 pub mod information;
 pub mod keeping;
 mod lent;
+pub mod line_answers;
 pub mod locales;
 mod opening;
 pub mod parts;

@@ -111,6 +111,7 @@ fn read_content<R: Reader>(
         | Content::Kept(_)
         | Content::Compact(_)
         | Content::Unit(_)
+        | Content::Answers(_)
         | Content::Nothing => Err(CallError::Closed),
     }
 }

@@ -27,7 +27,11 @@ fn prepare(alloc: Global, content: &mut Content)
     match content {
         Content::Decimal(tables) => tables.keep_folds(alloc),
         Content::Unit(units) => units.keep_reader(alloc),
-        Content::Book(_) | Content::Kept(_) | Content::Compact(_) | Content::Nothing => (),
+        Content::Book(_)
+        | Content::Kept(_)
+        | Content::Compact(_)
+        | Content::Answers(_)
+        | Content::Nothing => (),
     }
 }
 

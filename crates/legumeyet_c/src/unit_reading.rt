@@ -108,6 +108,7 @@ fn ready_held<R: Reading>(alloc: Global, content: &mut Content)
         | Content::Kept(_)
         | Content::Decimal(_)
         | Content::Compact(_)
+        | Content::Answers(_)
         | Content::Nothing => (),
     }
 }

@@ -61,6 +61,9 @@ extern "C" {
     pub fn legumeyet_book_close(book: *mut Handle) -> i32;
     pub fn legumeyet_book_keep(book: *mut Handle) -> i32;
     pub fn legumeyet_book_answer(book: *mut Handle, line: *const u8, line_length: usize, out: *mut u8, room: usize, length: *mut usize) -> i32;
+    pub fn legumeyet_answers_open(book: *mut Handle, capacity: usize, answers: *mut Handle) -> i32;
+    pub fn legumeyet_answers_close(answers: *mut Handle) -> i32;
+    pub fn legumeyet_answers_answer(answers: *mut Handle, lines: *const u8, lines_length: usize, out: *mut u8, room: usize, read: *mut usize, written: *mut usize, needs: *mut usize) -> i32;
     pub fn legumeyet_book_locale_count(book: *mut Handle, count: *mut usize) -> i32;
     pub fn legumeyet_book_locale(book: *mut Handle, index: usize, out: *mut u8, room: usize, length: *mut usize) -> i32;
     pub fn legumeyet_decimal_formatter_open(book: *mut Handle, tag: *const u8, tag_length: usize, grouping: u32, formatter: *mut Handle) -> i32;
