@@ -914,7 +914,7 @@ template <class Handle, class Calls, class Base> class Formatter : Base {
     }
 
     // Adds the texts of many numbers to a column, of a range of doubles, integers or texts: as `format` has each, and sooner. Where one is
-    // refused the column has those before it, so that its size says which.
+    // refused the column has those before it, so that its size says which. The numbers are not texts of the column itself.
     template <class Numbers, std::enable_if_t<has_numbers<Numbers>, int> = 0>
     Code format_all_to(Column &into, Numbers &&numbers, const Options &options = {}) {
         using T = item_of<Numbers>;
