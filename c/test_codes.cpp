@@ -125,11 +125,23 @@ static void compact() {
     expect(legumeyet::world_locales().back(), "zu-ZA");
 }
 
+static void answers() {
+    auto answers = legumeyet::Answers::try_open(3);
+    if (!answers) return expect_code(answers.error(), Code::Ok);
+    expect_text(answers->try_answer("de\tplain\tauto\tkeep\t-\t1234.5\nx"), "ok\t1.234,5\nerr\tshape\n");
+    expect_code(legumeyet::Answers::try_open(0).error(), Code::Option);
+    auto book = Book::try_from_json("[[],[],[],[],[]]");
+    expect_code(legumeyet::Answers::try_open(*book).error(), Code::Unkept);
+    expect_code(book->try_keep(), Code::Ok);
+    expect_text(legumeyet::Answers::try_open(*book)->try_answer("de\tplain\tauto\tkeep\t-\t1"), "err\ttable\n");
+}
+
 int main(int count, char **words) {
     if (count != 2) return 1;
     books(words[1]);
     plain();
     units();
     compact();
+    answers();
     return wrong;
 }

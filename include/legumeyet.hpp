@@ -7,13 +7,14 @@
 //     short_german.format(1234567);                              // 1,2 Mio. with a no-break space
 //     legumeyet::CurrencyFormatter("de", "EUR").format(1234.5);  // 1.234,50 € with a no-break space
 //     german.format_all(std::vector<double>{1234.5, 0.25});      // a Column of 1.234,5 and 0,25
+//     legumeyet::Answers(16).answer(lines);                      // the answers to request lines
 //
 // Where a function of legumeyet.h returns an error, a call whose name begins with `try_` has it in its Result, `format_to` and `try_keep`
 // return it as a Code, and each other call throws it as an Error. A program that is compiled with -fno-exceptions has all but the last.
 // A call that makes a std::string or a std::vector may throw std::bad_alloc.
 //
-// Threads: a book or a formatter may go to another thread, and is used by one call at a time, also by a call that only reads, so no call
-// is const. A shared formatter, as SharedDecimalFormatter, is used by any number of threads at once, and its calls are const:
+// Threads: a book, a formatter or answers may go to another thread, and are used by one call at a time, also by a call that only reads, so no
+// call is const. A shared formatter, as SharedDecimalFormatter, is used by any number of threads at once, and its calls are const:
 //
 //     static const legumeyet::SharedDecimalFormatter german(legumeyet::DecimalFormatter("de"));
 #ifndef LEGUMEYET_HPP
@@ -655,6 +656,7 @@ inline std::vector<std::string_view> world_locales() {
 
 // A book of tables.
 class Book : inner::Owned<legumeyet_book, legumeyet_book_close> {
+    friend class Answers;
     friend class CompactDecimalFormatter;
     friend class CurrencyFormatter;
     friend class DecimalFormatter;
@@ -760,6 +762,62 @@ class World {
 };
 
 } // namespace inner
+
+// The answers to many request lines, by the formatters that were used last, as many as the capacity is: who has many lines of few tags
+// does not open a formatter for each, as Book::answer does. They may outlive their book.
+class Answers : inner::Owned<legumeyet_answers, legumeyet_answers_close> {
+    struct Unopened {};
+    explicit Answers(Unopened) noexcept {}
+
+    // Writes the answers to lines that all end after the `used` bytes of a text, which is made larger where it has too little room.
+    Code add(std::string_view lines, std::string &text, std::size_t &used) {
+        std::size_t done = 0;
+        for (;;) {
+            std::size_t read = 0, written = 0, needs = 0;
+            const auto code = static_cast<Code>(legumeyet_answers_answer(&handle, inner::bytes(lines) + done, lines.size() - done,
+                                                                         inner::bytes(&text[used]), text.size() - used, &read,
+                                                                         &written, &needs));
+            done += read;
+            used += written;
+            if (code != Code::TooSmall) return code;
+            text.resize(text.size() + std::max(text.size(), needs));
+        }
+    }
+
+  public:
+    static constexpr std::size_t CAPACITY = 512;
+
+    // By the world's book, which the process opens once and keeps. Code::Option of a capacity of 0.
+    static Result<Answers> try_open(std::size_t capacity = CAPACITY) {
+        return inner::World::with([&](Book &book) { return try_open(book, capacity); });
+    }
+
+    // By a book that is kept: Code::Unkept of another.
+    static Result<Answers> try_open(Book &book, std::size_t capacity = CAPACITY) noexcept {
+        Answers found{Unopened()};
+        const auto code = static_cast<Code>(legumeyet_answers_open(&book.handle, capacity, &found.handle));
+        if (code != Code::Ok) return code;
+        return found;
+    }
+
+    // The answers to the lines, in order, as Book::answer has them, each with a line feed. A last line without one is answered too.
+    Result<std::string> try_answer(std::string_view lines) {
+        const std::size_t whole = lines.rfind('\n') + 1; // 0 where no line ends
+        std::string text(lines.size() + inner::NEAR, ' ');
+        std::size_t used = 0;
+        Code code = add(lines.substr(0, whole), text, used);
+        if (code == Code::Ok && whole < lines.size()) code = add(std::string(lines.substr(whole)) += '\n', text, used);
+        if (code != Code::Ok) return code;
+        text.resize(used);
+        return text;
+    }
+
+#ifdef __cpp_exceptions
+    explicit Answers(std::size_t capacity = CAPACITY) : Answers(try_open(capacity).value()) {}
+    explicit Answers(Book &book, std::size_t capacity = CAPACITY) : Answers(try_open(book, capacity).value()) {}
+    std::string answer(std::string_view lines) { return try_answer(lines).value(); }
+#endif
+};
 
 template <class Formatter> class Formatted;
 

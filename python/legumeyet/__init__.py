@@ -16,8 +16,9 @@ Percents and amounts of money have formatters of their own:
 >>> PercentFormatter("tr").format(12.5), CurrencyFormatter("en", "USD").format(Decimal("-1234.5"))
 ('%12,5', '-$1,234.50')
 
-Books and formatters close themselves when they are no longer used; `with` and `close` close them sooner. Threads, signal handlers and forked
-children may use them: a call waits where another thread is inside `format_all`, for 4,096 numbers of it at most.
+Books, formatters and answers close themselves when they are no longer used; `with` and `close` close them sooner. Threads, signal handlers and
+forked children may use them: a call waits where another thread is inside `format_all`, for 4,096 numbers of it at most, or inside the `answer` of
+answers, for 65,536 bytes of lines.
 """
 from decimal import Decimal
 
@@ -26,11 +27,12 @@ try:
 except ImportError as error:
     raise ImportError(f"{error}: the wheel of tools/build_wheel has this module, and `pip install ./python` compiles it") from None
 from ._errors import ClosedError, Error, InputError, OutOfMemoryError
-from ._formatters import Book, CompactDecimalFormatter, CurrencyFormatter, DecimalFormatter, Part, PercentFormatter
+from ._formatters import Answers, Book, CompactDecimalFormatter, CurrencyFormatter, DecimalFormatter, Part, PercentFormatter
 from ._locales import minor, tag_of_locale_name, version, world_locales
 from ._options import Grouping, Kind, Rounding, Sign, TrailingZeros, Width
 
 __all__ = [
+    "Answers",
     "Book",
     "ClosedError",
     "CompactDecimalFormatter",

@@ -1,10 +1,10 @@
 /*
- * The module legumeyet._core: books and formatters of the library for C, which is linked into it. It uses what every CPython since 3.8 has.
+ * The module legumeyet._core: books, formatters and answers of the library for C, which is linked into it. It uses what every CPython since 3.8 has.
  *
  * A call holds the lock of the interpreter, the GIL, and runs nothing of Python while the library has a handle. So one call at a time has a handle,
- * whatever threads and signal handlers do. Two calls let go of the GIL: that which reads a book, whose handle nobody else has yet, and format_all,
- * for CHUNK numbers at a time. Its formatter is marked as busy until then, unless it is shared: of a shared one any number of threads may be inside
- * a call. Nothing else is shared by two interpreters.
+ * whatever threads and signal handlers do. Three calls let go of the GIL: that which reads a book, whose handle nobody else has yet; format_all, for
+ * CHUNK numbers at a time; and that which answers lines, for PIECE bytes of them. What these two use is marked as busy until then, unless it is a
+ * shared formatter: of such a one any number of threads may be inside a call. Nothing else is shared by two interpreters.
  */
 #define PY_SSIZE_T_CLEAN
 #define Py_LIMITED_API 0x03080000
@@ -34,6 +34,9 @@ enum { ROOM = 512, PLACES = 32, HIGHEST = 32767, LOWEST = -32768 };
  * before one more is taken, and how much room each text has at first, and all together at least. */
 enum { CHUNK = 4096, ASIDE = 64, DIGITS_AT_MOST = 1 << 20, EACH = 32, LEAST = 1 << 11 };
 
+/* How many bytes of lines are answered together, and from how many on other threads run meanwhile. */
+enum { PIECE = 1 << 16, PIECE_ASIDE = 1 << 10 };
+
 /* An exponent that no digits bring back to the magnitudes of the library. */
 static const long long FAR = 1000000000000000;
 
@@ -43,7 +46,7 @@ struct shared {
     uint32_t forks;            /* how often this process is a child of a fork since the module was imported */
     legumeyet_book world;      /* the world's book, kept, once a formatter was opened of a tag alone */
     PyObject *decimal;         /* decimal.Decimal */
-    PyObject *types[4];        /* Book, DecimalFormatter, CompactDecimalFormatter and UnitFormatter of this module */
+    PyObject *types[5];        /* Book, DecimalFormatter, CompactDecimalFormatter, UnitFormatter and Answers of this module */
     PyObject *error, *part;    /* legumeyet.Error and legumeyet.Part */
     PyObject *sign, *rounding; /* legumeyet.Sign and legumeyet.Rounding */
     PyObject *trailing_zeros;  /* legumeyet.TrailingZeros */
@@ -51,9 +54,9 @@ struct shared {
     PyObject *wrong_number;    /* the TypeError of what is no number */
 };
 
-enum kind { BOOK, DECIMAL, COMPACT, UNIT };
+enum kind { BOOK, DECIMAL, COMPACT, UNIT, ANSWERS };
 
-/* A book or a formatter. */
+/* A book, a formatter or answers. */
 struct open {
     PyObject_HEAD
     struct shared *shared; /* NULL before it is opened for the first time */
@@ -63,6 +66,7 @@ struct open {
         legumeyet_decimal_formatter decimal;
         legumeyet_compact_formatter compact;
         legumeyet_unit_formatter unit;
+        legumeyet_answers answers;
     } handle;
     union {
         legumeyet_shared_decimal_formatter decimal;
@@ -71,8 +75,8 @@ struct open {
     } shared_handle;           /* of a shared formatter, whose `handle` is closed then */
     bool is_shared;            /* whether it is one */
     legumeyet_options options; /* those of each call, where it has no others */
-    PyThread_type_lock next;   /* held by who waits for format_all: it does not go on before */
-    PyThread_type_lock lock;   /* held while format_all is without the GIL */
+    PyThread_type_lock next;   /* held by who waits for a call that is without the GIL: that does not go on before */
+    PyThread_type_lock lock;   /* held while a call is without the GIL */
     bool is_busy;              /* whether it is; written under the GIL */
     uint32_t forks;            /* `forks` of `shared` when it was last so */
 };
@@ -971,6 +975,92 @@ static PyObject *answer(PyObject *self, PyObject *line) {
     return text;
 }
 
+/* Lines that are to be answered, and the answers that were written. */
+struct lines {
+    const uint8_t *at;
+    size_t length;
+    uint8_t *out;
+    size_t room, written;
+};
+
+/* Answers the lines that end in the next PIECE bytes, or the next line where it is longer. It needs no GIL. Returns the number of the library. */
+static int32_t answer_piece(struct open *it, struct lines *all) {
+    size_t piece = all->length < PIECE ? all->length : PIECE, done = 0;
+    for (;;) {
+        size_t read = 0, written = 0, needs = 0;
+        int32_t number = legumeyet_answers_answer(&it->handle.answers, all->at, piece, all->out + all->written, all->room - all->written, &read,
+                                                  &written, &needs);
+        all->at += read;
+        all->length -= read;
+        all->written += written;
+        piece -= read;
+        done += read;
+        if (number == LEGUMEYET_TOO_SMALL) {
+            size_t room = 2 * all->room + needs;
+            uint8_t *out = realloc(all->out, room);
+            if (out == NULL) return LEGUMEYET_MEMORY;
+            all->out = out;
+            all->room = room;
+        } else if (number == LEGUMEYET_OK && done == 0 && piece < all->length) {
+            piece = all->length - piece < piece ? all->length : 2 * piece;
+        } else {
+            return number;
+        }
+    }
+}
+
+/* The same, without the GIL where there is much to do. Returns -1 with an error of Python. */
+static int32_t answer_aside(struct open *it, struct lines *all) {
+    int32_t number;
+    if (!is_ready(it)) return -1;
+    if (all->length < PIECE_ASIDE) return answer_piece(it, all);
+    if (!begin_part(it)) return -1;
+    Py_BEGIN_ALLOW_THREADS
+    number = answer_piece(it, all);
+    Py_END_ALLOW_THREADS
+    end_part(it);
+    return PyErr_CheckSignals() == 0 ? number : -1;
+}
+
+/* Answers lines that all end. It asks also where there is no line at all: what is closed refuses that. Returns false with an error. */
+static bool answer_whole(struct open *it, struct lines *all, const uint8_t *at, size_t length) {
+    int32_t number;
+    all->at = at;
+    all->length = length;
+    do number = answer_aside(it, all);
+    while (number == LEGUMEYET_OK && all->length > 0);
+    if (number > 0) refused(it->shared, number, -1);
+    return number == LEGUMEYET_OK;
+}
+
+/* The answers to lines, as bytes or as a str. A last line that does not end is answered too. */
+static PyObject *answer_lines(PyObject *self, PyObject *lines) {
+    struct open *it = (struct open *)self;
+    struct request asked = {.what = LINE};
+    struct lines all = {NULL, 0, NULL, LEAST, 0};
+    PyObject *answers = NULL;
+    size_t whole, rest;
+    if (!is_ready(it) || !take_text(&asked, lines)) return let_go(&asked), NULL;
+    for (whole = asked.length; whole > 0 && asked.at[whole - 1] != '\n';) whole--;
+    rest = asked.length - whole;
+    all.out = malloc(all.room);
+    if (rest > 0) asked.made = PyMem_Malloc(rest + 1);
+    if (all.out == NULL || (rest > 0 && asked.made == NULL)) {
+        PyErr_NoMemory();
+    } else if (answer_whole(it, &all, asked.at, whole)) {
+        if (rest > 0) {
+            memcpy(asked.made, asked.at + whole, rest);
+            asked.made[rest] = '\n';
+        }
+        if (rest == 0 || answer_whole(it, &all, (const uint8_t *)asked.made, rest + 1))
+            answers = PyBytes_Check(lines) ? PyBytes_FromStringAndSize((const char *)all.out, (Py_ssize_t)all.written)
+                                           : PyUnicode_DecodeUTF8((const char *)all.out, (Py_ssize_t)all.written, NULL);
+    }
+    free(all.out);
+    let_go(&asked);
+    return answers;
+}
+
 static PyObject *nothing_or(struct open *it, int32_t number) {
     return number == LEGUMEYET_OK ? (Py_INCREF(Py_None), Py_None) : refused(it->shared, number, -1);
 }
@@ -1026,6 +1116,8 @@ static void close_handle(struct open *it) {
         legumeyet_compact_formatter_close(&it->handle.compact);
     else if (it->kind == UNIT)
         legumeyet_unit_formatter_close(&it->handle.unit);
+    else if (it->kind == ANSWERS)
+        legumeyet_answers_close(&it->handle.answers);
     else
         legumeyet_book_close(&it->handle.book);
 }
@@ -1068,6 +1160,7 @@ static PyObject *is_open(PyObject *self, void *none) {
     if (it->is_shared) return PyBool_FromLong(it->shared_handle.unit.is_open);
     if (it->kind == DECIMAL) return PyBool_FromLong(it->handle.decimal.is_open);
     if (it->kind == COMPACT) return PyBool_FromLong(it->handle.compact.is_open);
+    if (it->kind == ANSWERS) return PyBool_FromLong(it->handle.answers.is_open);
     return PyBool_FromLong(it->kind == UNIT ? it->handle.unit.is_open : it->handle.book.is_open);
 }
 
@@ -1251,10 +1344,22 @@ static PyMethodDef unit_methods[] = {
      "[Decimal('5.00'), Decimal('5'), Decimal('-1234.5')]"},
     {NULL, NULL, 0, NULL}};
 
+static PyMethodDef answers_methods[] = {
+    CLOSE,
+    {"answer", answer_lines, METH_O,
+     "answer($self, lines, /)\n--\n\n"
+     "The answers to request lines, in order, as Book.answer has them, each with a line feed: bytes of bytes, and a str of a str. A last line\n"
+     "without one is answered too. Other threads run meanwhile.\n\n"
+     "Raises Error 2 where it is closed, 1 where memory was refused.\n\n"
+     ">>> Answers().answer('de\\tplain\\tauto\\tkeep\\t-\\t1234.5\\nfr\\tplain\\tauto\\tkeep\\t-\\t0.5\\n')\n"
+     "'ok\\t1.234,5\\nok\\t0,5\\n'"},
+    {NULL, NULL, 0, NULL}};
+
 static PyType_Slot book_slots[] = {{Py_tp_dealloc, dealloc}, {Py_tp_methods, book_methods}, {Py_tp_getset, properties}, {0, NULL}};
 static PyType_Slot decimal_slots[] = {{Py_tp_dealloc, dealloc}, {Py_tp_methods, decimal_methods}, {Py_tp_getset, properties}, {0, NULL}};
 static PyType_Slot compact_slots[] = {{Py_tp_dealloc, dealloc}, {Py_tp_methods, compact_methods}, {Py_tp_getset, properties}, {0, NULL}};
 static PyType_Slot unit_slots[] = {{Py_tp_dealloc, dealloc}, {Py_tp_methods, unit_methods}, {Py_tp_getset, properties}, {0, NULL}};
+static PyType_Slot answers_slots[] = {{Py_tp_dealloc, dealloc}, {Py_tp_methods, answers_methods}, {Py_tp_getset, properties}, {0, NULL}};
 
 #define OF(slots) sizeof(struct open), 0, Py_TPFLAGS_DEFAULT | Py_TPFLAGS_BASETYPE, slots
 static PyType_Spec specs[] = {
@@ -1262,6 +1367,7 @@ static PyType_Spec specs[] = {
     {"legumeyet._core.DecimalFormatter", OF(decimal_slots)},
     {"legumeyet._core.CompactDecimalFormatter", OF(compact_slots)},
     {"legumeyet._core.UnitFormatter", OF(unit_slots)},
+    {"legumeyet._core.Answers", OF(answers_slots)},
 };
 
 static struct shared *shared_of(PyObject *module) {
@@ -1372,6 +1478,18 @@ static PyObject *open_unit_formatter(PyObject *module, PyObject *arguments) {
     return PyLong_FromLong(number);
 }
 
+/* open_answers(answers, book or None, capacity): returns the number of the library. */
+static PyObject *open_answers(PyObject *module, PyObject *arguments) {
+    PyObject *object, *book;
+    struct shared *shared = shared_of(module);
+    struct open *it;
+    legumeyet_book *from;
+    Py_ssize_t capacity;
+    if (!PyArg_ParseTuple(arguments, "OOn", &object, &book, &capacity)) return NULL;
+    if ((it = take_object(shared, object, ANSWERS)) == NULL || (from = book_of(shared, book)) == NULL || !is_ready(it)) return NULL;
+    return PyLong_FromLong(legumeyet_answers_open(from, capacity < 0 ? 0 : (size_t)capacity, &it->handle.answers));
+}
+
 /* What a number of the library means. */
 static PyObject *error_text(PyObject *module, PyObject *number) {
     uint8_t out[ROOM];
@@ -1444,6 +1562,7 @@ static PyMethodDef functions[] = {
     {"open_book", open_book, METH_VARARGS, NULL},
     {"open_formatter", open_formatter, METH_VARARGS, NULL},
     {"open_unit_formatter", open_unit_formatter, METH_VARARGS, NULL},
+    {"open_answers", open_answers, METH_VARARGS, NULL},
     {"error_text", error_text, METH_O, NULL},
     {"tag_of_locale_name", tag_of_locale_name, METH_O, NULL},
     {"world_locales", world_locales, METH_NOARGS, NULL},
@@ -1455,14 +1574,14 @@ static PyMethodDef functions[] = {
 
 /* Makes the types, and imports Decimal. */
 static int fill(PyObject *module) {
-    static const char *const names[] = {"Book", "DecimalFormatter", "CompactDecimalFormatter", "UnitFormatter"};
+    static const char *const names[] = {"Book", "DecimalFormatter", "CompactDecimalFormatter", "UnitFormatter", "Answers"};
     struct shared *shared = PyMem_Malloc(sizeof *shared);
     PyObject *decimal;
     if (shared == NULL) return PyErr_NoMemory(), -1;
     memset(shared, 0, sizeof *shared);
     shared->count = 1;
     *(struct shared **)PyModule_GetState(module) = shared;
-    for (int kind = BOOK; kind <= UNIT; kind++) {
+    for (int kind = BOOK; kind <= ANSWERS; kind++) {
         PyObject *type = shared->types[kind] = PyType_FromSpec(&specs[kind]);
         if (type == NULL) return -1;
         Py_INCREF(type); /* what follows takes one over */
@@ -1475,10 +1594,11 @@ static int fill(PyObject *module) {
 }
 
 /* The objects of Python that are shared. */
-enum { SHARED = 12 };
+enum { SHARED = 13 };
 static void list_shared(struct shared *shared, PyObject **places[SHARED]) {
     PyObject **all[SHARED] = {&shared->error, &shared->decimal, &shared->types[0], &shared->types[1], &shared->types[2], &shared->types[3],
-                              &shared->part, &shared->sign, &shared->rounding, &shared->trailing_zeros, &shared->kind_of, &shared->wrong_number};
+                              &shared->types[4], &shared->part, &shared->sign, &shared->rounding, &shared->trailing_zeros, &shared->kind_of,
+                              &shared->wrong_number};
     memcpy(places, all, sizeof all);
 }
 
@@ -1512,7 +1632,7 @@ static void free_module(void *module) {
 enum { MULTIPLE_INTERPRETERS = 3, GIL_OF_ITS_OWN = 2 };
 static PyModuleDef_Slot steps[] = {{Py_mod_exec, fill}, {0, NULL}, {0, NULL}};
 static struct PyModuleDef definition = {
-    PyModuleDef_HEAD_INIT, "_core", "Books and formatters.", sizeof(struct shared *), functions, steps, traverse, clear, free_module};
+    PyModuleDef_HEAD_INIT, "_core", "Books, formatters and answers.", sizeof(struct shared *), functions, steps, traverse, clear, free_module};
 
 PyMODINIT_FUNC PyInit__core(void) {
     int major = 0, minor = 0;

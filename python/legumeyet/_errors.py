@@ -39,7 +39,7 @@ class InputError(Error, ValueError):
 
 
 class ClosedError(Error, RuntimeError):
-    """The book or the formatter is closed."""
+    """What is called is closed: a book, a formatter or answers."""
 
     __module__ = "legumeyet"
 

@@ -1,5 +1,6 @@
-"""Books and formatters."""
+"""Books, formatters and answers."""
 import os
+import sys
 from types import TracebackType
 from typing import TYPE_CHECKING, Any, Dict, NamedTuple, NoReturn, Optional, Tuple, Type, TypeVar, Union, overload
 
@@ -57,7 +58,7 @@ class Open:
 
     def __reduce_ex__(self, _protocol: Any) -> NoReturn:
         """Refuses a copy, by `copy` or by `pickle`: a second one with the same handle would close it for both."""
-        raise TypeError(f"a {type(self).__name__} is not copied: open another one")
+        raise TypeError(f"what is open, as {type(self).__name__}, is not copied: open another one")
 
     def __enter__(self: Self) -> Self:
         return self
@@ -397,3 +398,26 @@ class CurrencyFormatter(Open, _core.UnitFormatter):
             raise Error(CODE, f": {currency!r}")
         expect_opened(number, named)
         self._tag, self._currency = named, currency
+
+
+class Answers(Open, _core.Answers):
+    """The answers to many request lines, by the `capacity` formatters that were used last: who has many lines of few tags does not open a
+    formatter for each, as `Book.answer` does. They are of the world's book, or of one that is kept, which they may outlive.
+
+    Raises `Error` 2 where the book is closed, 15 where it is not kept, 1 where memory was refused, and a `ValueError` of a capacity below 1.
+
+    >>> with Answers() as answers:
+    ...     answers.answer("de\\tplain\\tauto\\tkeep\\t-\\t1234.5\\nde\\tplain\\tauto\\tkeep\\t-\\tx")
+    'ok\\t1.234,5\\nerr\\tnumber\\n'
+    """
+
+    __slots__ = ("__weakref__",)
+
+    def __init__(self, book: Optional[Book] = None, capacity: int = 512) -> None:
+        if not isinstance(capacity, int):
+            raise TypeError(f"capacity is an int, and not {type(capacity).__name__}")
+        if capacity < 1:
+            raise ValueError("capacity is at least 1")
+        number = _core.open_answers(self, book, min(capacity, sys.maxsize))
+        if number:
+            raise Error(number)

@@ -30,8 +30,8 @@ from fractions import Fraction
 
 import legumeyet
 from legumeyet import (
-    Book, ClosedError, CompactDecimalFormatter, CurrencyFormatter, DecimalFormatter, Error, Grouping, InputError, Kind, OutOfMemoryError,
-    PercentFormatter, Rounding, Sign, TrailingZeros, Width, _core, _errors, _formatters, _locales, _options,
+    Answers, Book, ClosedError, CompactDecimalFormatter, CurrencyFormatter, DecimalFormatter, Error, Grouping, InputError, Kind,
+    OutOfMemoryError, PercentFormatter, Rounding, Sign, TrailingZeros, Width, _core, _errors, _formatters, _locales, _options,
 )
 from legumeyet.__main__ import main
 
@@ -205,9 +205,9 @@ class Calls(unittest.TestCase):
                 self.assertEqual(pool.submit(written_in_german, Decimal("1234.5")).result(), "1.234,5")
 
     def test_no_copies(self):
-        for it in (self.book, self.english, self.short, CurrencyFormatter("de", "EUR"), PercentFormatter("de")):
+        for it in (self.book, self.english, self.short, CurrencyFormatter("de", "EUR"), PercentFormatter("de"), Answers()):
             for call in (copy.copy, copy.deepcopy, pickle.dumps):
-                self.assertRaises(TypeError, call, it)
+                self.assertRaisesRegex(TypeError, f"{type(it).__name__}, is not copied: open another", call, it)
         self.assertEqual(self.english.format(1234), "1,234")
 
     def test_signal_inside_a_call(self):
@@ -556,6 +556,132 @@ class Calls(unittest.TestCase):
         """
         subprocess.run([sys.executable, "-W", "ignore::DeprecationWarning", "-c", words], check=True, timeout=120)
 
+    def test_answers_to_many_lines(self):
+        """They are those of the book, in the order of the lines."""
+        world = Book.world()
+        world.keep()
+        numbers = ("1234567.891", "5.", "1e300", "٣", "", "1\r", "1\0", "\u2028")
+        lines = [f"{tag}\tplain\tauto\tkeep\t-\t{number}" for tag in ("de", "fr", "hi", "en", "de", "xx", "e") for number in numbers] + ["", "x", "\t"]
+        wanted = "".join(f"{world.answer(line)}\n" for line in lines)
+        text = "".join(f"{line}\n" for line in lines)
+        answers, few = Answers(), Answers(book=world, capacity=1)
+        world.close()
+        for it in (answers, few, Answers(None, 2)):
+            self.assertEqual(it.answer(text), wanted)
+            self.assertEqual(it.answer(text[:-1]), wanted)
+            self.assertEqual(it.answer(text.encode()), wanted.encode())
+            self.assertEqual((it.answer(""), it.answer(b""), it.answer("\n")), ("", b"", "err\tshape\n"))
+        self.assertEqual(answers.answer(text * 300), wanted * 300)
+        long = "de\tplain\tauto\tkeep\t-\t" + "1" * 30_000
+        self.assertEqual(answers.answer(long), f"{Book.world().answer(long)}\n")
+        for length in (100_000, 65_535, 65_536, 131_072, 1_000_000):
+            self.assertEqual(answers.answer("x" * length + "\n" + text), "err\tshape\n" + wanted)
+            self.assertEqual(answers.answer(text + "\0" * length), wanted + "err\tshape\n")
+        self.assertEqual((answers.answer(b"\xff\n"), answers.answer("\udcff")), (b"err\tshape\n", "err\tshape\n"))
+
+    def test_answers_that_are_refused(self):
+        self.refused(15, Answers, self.book)
+        self.book.keep()
+        for capacity in (0, -1, -(2**70)):
+            self.assertRaises(ValueError, Answers, self.book, capacity)
+        for capacity in (1.0, "1", None):
+            self.assertRaises(TypeError, Answers, self.book, capacity)
+        for book in (1, "de", self.english):
+            self.assertRaises(TypeError, Answers, book)
+        self.refused(1, Answers, self.book, 2**80)
+        answers = Answers(self.book, 10_000)
+        for lines in (None, 1, ["x"], bytearray(b"x\n"), memoryview(b"x\n")):
+            self.assertRaises(TypeError, answers.answer, lines)
+        self.assertEqual(repr(answers), "<Answers, open>")
+        with answers:
+            self.assertEqual(answers.answer("en\tplain\tauto\tkeep\t-\t1234"), "ok\t1,234\n")
+        answers.close()
+        self.assertEqual((answers.is_open, repr(answers)), (False, "<Answers, closed>"))
+        for lines in ("", "x", "x\n", b"x\n" * 10_000):
+            self.refused(2, answers.answer, lines)
+        self.book.close()
+        self.refused(2, Answers, self.book)
+        self.assertIsNone(weakref.ref(Answers())())
+
+    def test_answers_in_threads(self):
+        """Threads may use the same answers, each for its own lines."""
+        answers, wrong, lines = Answers(), [], {}
+        for tag in ("de", "en", "hi", "fr"):
+            lines[tag] = "".join(f"{tag}\tplain\tauto\tkeep\t-\t{it}\n" for it in range(10_000))
+        wanted = {tag: Answers().answer(text) for tag, text in lines.items()}
+
+        def many(tag):
+            wrong.extend(tag for _ in range(3) if answers.answer(lines[tag]) != wanted[tag])
+
+        def few(tag):
+            wrong.extend(tag for _ in range(3000) if answers.answer(f"{tag}\tplain\tauto\tkeep\t-\t12") != f"ok\t{'१२' if tag == 'mr' else '12'}\n")
+
+        threads = [threading.Thread(target=many, args=(tag,)) for tag in lines] + [threading.Thread(target=few, args=(tag,)) for tag in ("de", "mr")]
+        for it in threads:
+            it.start()
+        for it in threads:
+            it.join()
+        self.assertEqual(wrong, [])
+
+    def test_answers_that_are_closed_meanwhile(self):
+        answers, said = Answers(), []
+
+        def many():
+            try:
+                said.append(answers.answer("de\tplain\tauto\tkeep\t-\t12\n" * 400_000) == "ok\t12\n" * 400_000)
+            except ClosedError:
+                said.append(True)
+
+        thread = threading.Thread(target=many)
+        thread.start()
+        time.sleep(0.02)
+        answers.close()
+        thread.join()
+        self.assertEqual(said, [True])
+
+    def test_answers_and_children(self):
+        """A child of a process that has a thread inside answers has its own, or is told to open others."""
+        words = """if True:
+            import os, threading, time
+            from legumeyet import Answers
+            answers, line = Answers(), "de\\tplain\\tauto\\tkeep\\t-\\t1234\\n"
+            thread = threading.Thread(target=lambda: answers.answer(line * 500000))
+            thread.start()
+            for _ in range(30):
+                child = os.fork()
+                if child == 0:
+                    try:
+                        assert answers.answer(line) == "ok\\t1.234\\n"
+                    except RuntimeError as error:
+                        assert "forked" in str(error), error
+                    assert Answers().answer(line * 100) == "ok\\t1.234\\n" * 100
+                    os._exit(0)
+                assert os.waitpid(child, 0)[1] == 0
+                time.sleep(0.002)
+            thread.join()
+            assert answers.answer(line) == "ok\\t1.234\\n"
+        """
+        subprocess.run([sys.executable, "-W", "ignore::DeprecationWarning", "-c", words], check=True, timeout=120)
+
+    def test_interrupted_answers(self):
+        """A signal's handler runs between two pieces of the lines, and what it raises ends the call."""
+
+        def stop(*_):
+            raise KeyError
+
+        answers, line, said = Answers(), "de\tplain\tauto\tkeep\t-\t1234\n", None
+        before = signal.signal(signal.SIGALRM, stop)
+        try:
+            signal.setitimer(signal.ITIMER_REAL, 0.1)
+            said = answers.answer(line * 2_000_000)
+        except KeyError:
+            pass
+        finally:
+            signal.setitimer(signal.ITIMER_REAL, 0)
+            signal.signal(signal.SIGALRM, before)
+        self.assertIsNone(said)
+        self.assertEqual(answers.answer(line), "ok\t1.234\n")
+
     def test_interrupted_column(self):
         """A signal's handler runs between two parts of a column, and what it raises ends the call."""
 
@@ -711,7 +837,7 @@ class Calls(unittest.TestCase):
         self.assertEqual(str(CurrencyFormatter("ar-EG", "EGP").read("1234", lenient=True)), "1234")
 
     def test_what_was_never_opened(self):
-        for kind in (Book, DecimalFormatter, CompactDecimalFormatter, PercentFormatter, CurrencyFormatter):
+        for kind in (Book, DecimalFormatter, CompactDecimalFormatter, PercentFormatter, CurrencyFormatter, Answers):
             it = kind.__new__(kind)
             it.close()
             self.assertRegex(repr(it), "closed>$")
@@ -721,6 +847,10 @@ class Calls(unittest.TestCase):
         self.assertRaises(RuntimeError, DecimalFormatter, Book.__new__(Book), "en")
         self.assertRaises(RuntimeError, CurrencyFormatter, Book.__new__(Book), "en", "EUR")
         self.assertRaises(RuntimeError, Book.__new__(Book).locales)
+        self.assertRaises(RuntimeError, Answers, Book.__new__(Book))
+        self.assertRaises(TypeError, _core.Answers.answer, self.book, "x")
+        self.assertRaises(TypeError, _core.open_answers, self.book, None, 1)
+        self.assertEqual(_core.open_answers(Answers(), None, -1), 4)
         self.assertRaises(TypeError, _core.DecimalFormatter.format, self.short, 1)
         self.assertRaises(TypeError, _core.open_formatter, self.short, None, b"en", 0, -1, {})
         self.assertRaises(TypeError, _core.open_unit_formatter, self.short, None, b"en", None, 0, 0, 0, {})
@@ -804,7 +934,7 @@ class Calls(unittest.TestCase):
             own = {it.name for it in classes[name].body if isinstance(it, ast.FunctionDef)}
             return own.union(*(calls(base.id) for base in classes[name].bases))
 
-        for kind in (_core.Book, _core.DecimalFormatter, _core.CompactDecimalFormatter, _core.UnitFormatter):
+        for kind in (_core.Book, _core.DecimalFormatter, _core.CompactDecimalFormatter, _core.UnitFormatter, _core.Answers):
             self.assertEqual({it for it in vars(kind) if not it.startswith("__")}, calls(kind.__name__))
         functions = {it.name for it in hints.body if isinstance(it, ast.FunctionDef)}
         self.assertEqual({it for it, value in vars(_core).items() if callable(value) and not isinstance(value, type) and it[0] != "_"}, functions)
@@ -814,6 +944,7 @@ class Calls(unittest.TestCase):
             DecimalFormatter(Book(JSON), "en").format(1)
             CompactDecimalFormatter(Book(JSON), "en").format(1)
             CurrencyFormatter("en", "EUR").format(1)
+            Answers().answer("en\tplain\tauto\tkeep\t-\t1")
         gc.collect()
 
     def test_amounts(self):

@@ -14,7 +14,8 @@ pub struct Error(i32);
 impl Error {
     /// Memory was refused.
     pub const MEMORY: Error = Error(1);
-    /// A least count of digits is above 32767, or a rounding of amounts of money, as `Rounding::Cash`, is asked for of another number.
+    /// A least count of digits is above 32767, a rounding of amounts of money, as `Rounding::Cash`, is asked for of another number, or
+    /// the capacity of answers is 0.
     pub const OPTION: Error = Error(4);
     /// The text is no locale tag, as `e`, or as `de_DE`, which is written `de-DE`: `tag_of_locale_name`.
     pub const TAG: Error = Error(5);

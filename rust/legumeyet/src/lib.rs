@@ -68,6 +68,7 @@
 //! is_shared::<legumeyet::CurrencyFormatter>();
 //! ```
 
+mod answers;
 mod column;
 mod error;
 mod number;
@@ -78,6 +79,7 @@ mod sys;
 mod units;
 mod world;
 
+pub use answers::Answers;
 pub use column::{Column, ColumnError, Texts};
 pub use error::{Error, OpenError, UnknownWord, WriteError};
 pub use number::Number;

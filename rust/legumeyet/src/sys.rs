@@ -6,7 +6,7 @@ use std::os::raw::c_char;
 pub const OK: i32 = 0;
 pub const TOO_SMALL: i32 = 3;
 
-/// A book or a formatter: in C each is a type of its own with these fields.
+/// A book, a formatter or answers: in C each is a type of its own with these fields.
 #[repr(C)]
 pub struct Handle {
     content: *mut c_void,
