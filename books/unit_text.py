@@ -173,7 +173,7 @@ def currency_format(book, locale, system, style, code, is_cash=False):
 
 
 def is_readable(form):
-    """Whether each text is that of one number: the digits differ, none stands in an affix or a separator, the decimal
+    """Whether each text is that of one number: the digits differ, none is in an affix or a separator, the decimal
     separator is neither empty nor that of groups, and the three signs have other affixes."""
     pairs, symbols = [*form.affixes.values()], form.symbols
     around = [symbols.decimal, symbols.grouping, *(text for pair in pairs for text in pair)]
