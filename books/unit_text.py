@@ -1,6 +1,6 @@
 """The text of a percent and of an amount of money, and the number that such a text is.
 
-This is a definition: it goes by the tables of a book as look_up.py finds them, by docs/books.md ("Units") and by
+This is a definition: it goes by the tables of a book as look_up.py finds them, by docs/units.md and by
 docs/plain-text.md, and shares nothing with the program or with what makes the tables.
 """
 import re
