@@ -5,6 +5,7 @@
  *
  * usage: answers BOOK < LINES > ANSWERS
  */
+#include "expect.h"
 #include <legumeyet.h>
 #include <stdio.h>
 #include <stdlib.h>
@@ -18,13 +19,6 @@ static legumeyet_book book, closed_book;
 static legumeyet_answers answers, closed;
 static uint8_t out[ROOM];
 static size_t read, written, needs;
-static int wrong;
-
-static void expect(const char *what, int64_t got, int64_t wanted) {
-    if (got == wanted) return;
-    fprintf(stderr, "%s: %lld, and not %lld\n", what, (long long)got, (long long)wanted);
-    wrong = 1;
-}
 
 static void expect_counts(const char *what, size_t read_wanted, size_t written_wanted, size_t needs_wanted) {
     expect(what, (int64_t)read, (int64_t)read_wanted);

@@ -4,6 +4,7 @@
  * well when it is made again. It prints how many were refused; the status is 1 where something is otherwise. What a kept book has is
  * never given back, so no tool may look for lost memory here.
  */
+#include "expect.h"
 #include <legumeyet.h>
 #include <malloc.h>
 #include <stdio.h>
@@ -34,13 +35,7 @@ static legumeyet_answers answers;
 static const legumeyet_options AS_GIVEN = {0};
 static uint8_t out[64];
 static size_t length;
-static int refused, wrong;
-
-static void expect(const char *what, int64_t got, int64_t wanted) {
-    if (got == wanted) return;
-    printf("%s: %lld, and not %lld\n", what, (long long)got, (long long)wanted);
-    wrong = 1;
-}
+static int refused;
 
 static int is_refused(int32_t error) {
     if (error != LEGUMEYET_MEMORY) expect("a call", error, LEGUMEYET_OK);

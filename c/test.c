@@ -2,6 +2,7 @@
  * Calls each function of legumeyet.h well and badly, and prints what it answers otherwise than it should. The status is 1 where
  * something does.
  */
+#include "expect.h"
 #include <legumeyet.h>
 #include <stdio.h>
 #include <stdlib.h>
@@ -47,13 +48,6 @@ static legumeyet_compact_formatter short_english, long_english, closed_compact;
 static const legumeyet_options AS_GIVEN = {0};
 static uint8_t out[ROOM];
 static size_t length;
-static int wrong;
-
-static void expect(const char *what, int64_t got, int64_t wanted) {
-    if (got == wanted) return;
-    printf("%s: %lld, and not %lld\n", what, (long long)got, (long long)wanted);
-    wrong++;
-}
 
 /* The call was well and wrote this text, and nothing after it. */
 static void expect_text(const char *what, int32_t error, const char *text) {

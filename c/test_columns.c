@@ -2,6 +2,7 @@
  * Calls each function that writes a column, well and badly, and prints what each answers otherwise than it should. The status is 1 where
  * something does.
  */
+#include "expect.h"
 #include <legumeyet.h>
 #include <math.h>
 #include <stdio.h>
@@ -31,13 +32,6 @@ static legumeyet_shared_unit_formatter shared_euros, closed_shared_units;
 static const legumeyet_options AS_GIVEN = {0};
 static uint8_t out[ROOM];
 static size_t ends[ENDS], count, room = ROOM, ends_room = ENDS;
-static int wrong;
-
-static void expect(const char *what, int64_t got, int64_t wanted) {
-    if (got == wanted) return;
-    printf("%s: %lld, and not %lld\n", what, (long long)got, (long long)wanted);
-    wrong = 1;
-}
 
 static void clear(void) {
     size_t at;
@@ -54,7 +48,7 @@ static void expect_column(int32_t error, int32_t wanted, const char *const *text
     for (at = 0; at < wanted_count && at < count; at++) {
         size_t length = strlen(texts[at]);
         if (memcmp(out + end, texts[at], length) != 0) {
-            printf("%.*s, and not %s\n", (int)length, (const char *)out + end, texts[at]);
+            fprintf(stderr, "%.*s, and not %s\n", (int)length, (const char *)out + end, texts[at]);
             wrong = 1;
         }
         end += length;

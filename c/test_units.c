@@ -2,6 +2,7 @@
  * Calls each function of percents and amounts, and those of the locales of a book, well and badly, and prints what each answers otherwise
  * than it should. The status is 1 where something does.
  */
+#include "expect.h"
 #include <legumeyet.h>
 #include <math.h>
 #include <stdio.h>
@@ -28,19 +29,12 @@ static legumeyet_unit_formatter percents, euros, accounts, francs, closed;
 static const legumeyet_options AS_GIVEN = {0};
 static uint8_t out[ROOM];
 static size_t length;
-static int wrong;
-
-static void expect(const char *what, int64_t got, int64_t wanted) {
-    if (got == wanted) return;
-    printf("%s: %lld, and not %lld\n", what, (long long)got, (long long)wanted);
-    wrong = 1;
-}
 
 /* The call was well and wrote this text, and nothing after it. */
 static void expect_text(int32_t error, const char *text) {
     expect(text, error, LEGUMEYET_OK);
     if (length != strlen(text) || memcmp(out, text, length) != 0) {
-        printf("%.*s, and not %s\n", (int)(length < ROOM ? length : ROOM), (const char *)out, text);
+        fprintf(stderr, "%.*s, and not %s\n", (int)(length < ROOM ? length : ROOM), (const char *)out, text);
         wrong = 1;
     }
     expect("the byte after it", out[strlen(text)], '.');

@@ -3,6 +3,7 @@
  * It prints what is otherwise than it should be, and the status is 1 where something is. What a kept book has is never given back, so no
  * tool may look for lost memory here.
  */
+#include "expect.h"
 #include <legumeyet.h>
 #include <stdio.h>
 #include <string.h>
@@ -17,18 +18,11 @@ static legumeyet_book world;
 static const legumeyet_options AS_GIVEN = {0};
 static uint8_t out[ROOM];
 static size_t length;
-static int wrong;
-
-static void expect(const char *what, int64_t got, int64_t wanted) {
-    if (got == wanted) return;
-    printf("%s: %lld, and not %lld\n", what, (long long)got, (long long)wanted);
-    wrong = 1;
-}
 
 static void expect_text(const char *what, int32_t error, const char *text) {
     expect(what, error, LEGUMEYET_OK);
     if (length == strlen(text) && memcmp(out, text, length) == 0) return;
-    printf("%s: %.*s, and not %s\n", what, (int)length, (const char *)out, text);
+    fprintf(stderr, "%s: %.*s, and not %s\n", what, (int)length, (const char *)out, text);
     wrong = 1;
 }
 
