@@ -10,6 +10,8 @@ import tarfile
 
 from launching.common import COMMAND, TOP, Fault
 
+from .machines import X86
+
 TOP = pathlib.Path(TOP)
 HEADER = TOP / "include/legumeyet.h"
 
@@ -68,9 +70,9 @@ def committed(folder):
     return {os.path.relpath(path, folder): (TOP / path).read_bytes() for path in listed if path}
 
 
-def newest_glibc(*files):
-    """The newest version of glibc that programs and libraries ask for, as `2.34`."""
-    named = " ".join(said_by("objdump", "-T", it) for it in files)
+def newest_glibc(file, machine=X86):
+    """The newest version of glibc that a program or a library asks for, as `2.34`."""
+    named = said_by(machine.tool("objdump"), "-T", file)
     return max(re.findall(r"\bGLIBC_(\d+\.\d+)", named), key=lambda it: [int(number) for number in it.split(".")])
 
 
@@ -83,17 +85,18 @@ def program_of(named):
     return os.path.abspath(named)
 
 
-def library_of(named, folder, archive=None):
+def library_of(named, folder, archive=None, machine=X86):
     """The folder that a word names, or one with the library as tools/build_c makes it, of the archive of the proved crate or of another."""
     if named is not None:
         if not os.path.isfile(f"{named}/liblegumeyet.a"):
             raise Fault(f"{named} has no liblegumeyet.a: it is no folder of tools/build_c")
         return os.path.abspath(named)
-    words = ["--archive", os.path.abspath(archive)] if archive else []
-    ran = subprocess.run([TOP / "tools/build_c", *words, folder / "library"], stdin=subprocess.DEVNULL, check=False)
+    words = [*(["--archive", os.path.abspath(archive)] if archive else []), *([] if machine is X86 else [f"--{machine.debian}"])]
+    made = folder / f"library-{machine.debian}"
+    ran = subprocess.run([TOP / "tools/build_c", *words, made], stdin=subprocess.DEVNULL, check=False)
     if ran.returncode:
         raise Fault("tools/build_c made no library")
-    return str(folder / "library")
+    return str(made)
 
 
 def compressed(data):
