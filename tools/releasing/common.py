@@ -6,28 +6,50 @@ import os
 import pathlib
 import re
 import subprocess
+import sysconfig
 import tarfile
 
 from launching.common import COMMAND, TOP, Fault
 
+from .commands import first_lacking, lacking
 from .machines import X86
 
 TOP = pathlib.Path(TOP)
 HEADER = TOP / "include/legumeyet.h"
 
 
+def need(*commands):
+    """Raises a Fault where one of the commands is not there. So what takes minutes is not begun."""
+    lack = first_lacking(*commands)
+    if lack:
+        raise Fault(lack)
+
+
+def fault_in(said):
+    """The line of what a command said that tells why it failed: the first error, as compilers and linkers have it, or else the last line."""
+    lines = said.strip().decode(errors="replace").splitlines() or ["it said nothing"]
+    return next((it for it in lines if re.search(r"\berror:|\berror adding symbols|undefined reference", it)), lines[-1])
+
+
 def said_by(*words, **how):
-    """What a command says in its one line. Raises a Fault with its last words where it fails."""
+    """What a command says in its one line. Raises a Fault with the line that tells why where it fails."""
     words = [str(word) for word in words]
     try:
         ran = subprocess.run(words, cwd=TOP, stdin=subprocess.DEVNULL, stdout=subprocess.PIPE, stderr=subprocess.PIPE, check=False, **how)
     except FileNotFoundError:
-        raise Fault(f"the command {words[0]} is not on the PATH") from None
+        raise Fault(lacking(words[0])) from None
     if ran.returncode:
-        last = ((ran.stderr.strip() or ran.stdout.strip()).decode(errors="replace").splitlines() or ["it said nothing"])[-1]
-        name = os.path.basename(words[0])
-        raise Fault(last if last.startswith(f"{name}: ") else f"{name} failed: {last}")
+        why, name = fault_in(ran.stderr.strip() or ran.stdout), os.path.basename(words[0])
+        raise Fault(why if why.startswith(f"{name}: ") else f"{name} failed: {why}")
     return ran.stdout.decode().strip()
+
+
+def python_headers():
+    """The folder of the headers of this Python. Raises a Fault where they are not installed."""
+    include = sysconfig.get_paths()["include"]
+    if not os.path.isfile(f"{include}/Python.h"):
+        raise Fault(f"{include} has no Python.h: the headers of this Python are not installed; Debian has its own in the package python3-dev")
+    return include
 
 
 @functools.lru_cache
@@ -70,7 +92,7 @@ def committed(folder):
     return {os.path.relpath(path, folder): (TOP / path).read_bytes() for path in listed if path}
 
 
-def newest_glibc(file, machine=X86):
+def newest_glibc(file, machine):
     """The newest version of glibc that a program or a library asks for, as `2.34`."""
     named = said_by(machine.tool("objdump"), "-T", file)
     return max(re.findall(r"\bGLIBC_(\d+\.\d+)", named), key=lambda it: [int(number) for number in it.split(".")])
