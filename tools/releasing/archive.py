@@ -9,6 +9,8 @@ from launching.common import TOP, Fault, out_of, read_text, write_whole
 from .machines import X86
 
 CRATE = "legumeyet_c"
+# What a build proved, so that the one for the next machine only compiles: a proof is of no machine.
+PROVED = f"{out_of(CRATE)}/proved"
 
 
 def path_of(machine):
@@ -39,6 +41,7 @@ def command(toolchain, machine):
     for folder in [f"{kit.folder()}/rlibs", *[os.path.dirname(rlib(it)) for it in sources.below(CRATE)]]:
         words += ["-L", f"dependency={folder}"]
     words += ["--antt-project", f"{kit.folder()}/rattle/logic/antt-project.json", "--logic-built", f"{kit.folder()}/logic_built"]
+    words += ["--incremental", PROVED]
     words += ["--jobs", "2", "--toolchain", str(toolchain or f"{kit.folder()}/toolchain"), "-o", path_of(machine)]
     return [f"{kit.folder()}/bin/rattle", "build", *words]
 
