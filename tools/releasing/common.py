@@ -6,26 +6,50 @@ import os
 import pathlib
 import re
 import subprocess
+import sysconfig
 import tarfile
 
 from launching.common import COMMAND, TOP, Fault
+
+from .commands import first_lacking, lacking
+from .machines import X86
 
 TOP = pathlib.Path(TOP)
 HEADER = TOP / "include/legumeyet.h"
 
 
+def need(*commands):
+    """Raises a Fault where one of the commands is not there. So what takes minutes is not begun."""
+    lack = first_lacking(*commands)
+    if lack:
+        raise Fault(lack)
+
+
+def fault_in(said):
+    """The line of what a command said that tells why it failed: the first error, as compilers and linkers have it, or else the last line."""
+    lines = said.strip().decode(errors="replace").splitlines() or ["it said nothing"]
+    return next((it for it in lines if re.search(r"\berror:|\berror adding symbols|undefined reference", it)), lines[-1])
+
+
 def said_by(*words, **how):
-    """What a command says in its one line. Raises a Fault with its last words where it fails."""
+    """What a command says in its one line. Raises a Fault with the line that tells why where it fails."""
     words = [str(word) for word in words]
     try:
         ran = subprocess.run(words, cwd=TOP, stdin=subprocess.DEVNULL, stdout=subprocess.PIPE, stderr=subprocess.PIPE, check=False, **how)
     except FileNotFoundError:
-        raise Fault(f"the command {words[0]} is not on the PATH") from None
+        raise Fault(lacking(words[0])) from None
     if ran.returncode:
-        last = ((ran.stderr.strip() or ran.stdout.strip()).decode(errors="replace").splitlines() or ["it said nothing"])[-1]
-        name = os.path.basename(words[0])
-        raise Fault(last if last.startswith(f"{name}: ") else f"{name} failed: {last}")
+        why, name = fault_in(ran.stderr.strip() or ran.stdout), os.path.basename(words[0])
+        raise Fault(why if why.startswith(f"{name}: ") else f"{name} failed: {why}")
     return ran.stdout.decode().strip()
+
+
+def python_headers():
+    """The folder of the headers of this Python. Raises a Fault where they are not installed."""
+    include = sysconfig.get_paths()["include"]
+    if not os.path.isfile(f"{include}/Python.h"):
+        raise Fault(f"{include} has no Python.h: the headers of this Python are not installed; Debian has its own in the package python3-dev")
+    return include
 
 
 @functools.lru_cache
@@ -68,9 +92,9 @@ def committed(folder):
     return {os.path.relpath(path, folder): (TOP / path).read_bytes() for path in listed if path}
 
 
-def newest_glibc(*files):
-    """The newest version of glibc that programs and libraries ask for, as `2.34`."""
-    named = " ".join(said_by("objdump", "-T", it) for it in files)
+def newest_glibc(file, machine):
+    """The newest version of glibc that a program or a library asks for, as `2.34`."""
+    named = said_by(machine.tool("objdump"), "-T", file)
     return max(re.findall(r"\bGLIBC_(\d+\.\d+)", named), key=lambda it: [int(number) for number in it.split(".")])
 
 
@@ -83,17 +107,18 @@ def program_of(named):
     return os.path.abspath(named)
 
 
-def library_of(named, folder, archive=None):
+def library_of(named, folder, archive=None, machine=X86):
     """The folder that a word names, or one with the library as tools/build_c makes it, of the archive of the proved crate or of another."""
     if named is not None:
         if not os.path.isfile(f"{named}/liblegumeyet.a"):
             raise Fault(f"{named} has no liblegumeyet.a: it is no folder of tools/build_c")
         return os.path.abspath(named)
-    words = ["--archive", os.path.abspath(archive)] if archive else []
-    ran = subprocess.run([TOP / "tools/build_c", *words, folder / "library"], stdin=subprocess.DEVNULL, check=False)
+    words = [*(["--archive", os.path.abspath(archive)] if archive else []), *([] if machine is X86 else [f"--{machine.debian}"])]
+    made = folder / f"library-{machine.debian}"
+    ran = subprocess.run([TOP / "tools/build_c", *words, made], stdin=subprocess.DEVNULL, check=False)
     if ran.returncode:
         raise Fault("tools/build_c made no library")
-    return str(folder / "library")
+    return str(made)
 
 
 def compressed(data):

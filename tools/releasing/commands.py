@@ -1,0 +1,28 @@
+"""The commands that the scripts of a release call, and which package of Debian has one that is not there."""
+import shutil
+
+# The packages whose name is another one than the command's.
+PACKAGES = {
+    "cc": "gcc", "c++": "g++", "dpkg-deb": "dpkg", "qemu-aarch64-static": "qemu-user-static", "chroot": "coreutils", "unshare": "util-linux",
+    **dict.fromkeys(("ar", "ld", "objcopy", "objdump", "readelf", "strip"), "binutils"),
+}
+KNOWN = {*PACKAGES, "cargo", "debootstrap", "git", "lintian", "valgrind"}
+ARM64 = "aarch64-linux-gnu-"
+
+
+def package_of(command):
+    """Debian's package that has a command, or None where it is not known. The binutils for ARM come with the compilers for it."""
+    if command.startswith(ARM64):
+        return f"{'g++' if command == f'{ARM64}g++' else 'gcc'}-aarch64-linux-gnu"
+    return PACKAGES.get(command, command) if command in KNOWN else None
+
+
+def lacking(command):
+    """What is said of a command that is not there."""
+    package = package_of(command)
+    return f"the command {command} is not on the PATH{f': Debian has it in the package {package}' if package else ''}"
+
+
+def first_lacking(*commands):
+    """What is said of the first of the commands that is not there, or None where all are."""
+    return next((lacking(it) for it in commands if not shutil.which(it)), None)
