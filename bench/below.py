@@ -11,8 +11,11 @@ def main():
     words.add_argument("list")
     words.add_argument("crate")
     asked = words.parse_args()
-    with open(asked.list, encoding="utf-8") as text:
-        rows = [line.partition("#")[0].strip() for line in text]
+    try:
+        with open(asked.list, encoding="utf-8") as text:
+            rows = [line.partition("#")[0].strip() for line in text]
+    except (OSError, ValueError) as error:
+        words.error(f"{asked.list}: {getattr(error, 'strerror', None) or 'this is no text'}")
     lines = {row.partition(":")[0].split()[0]: row for row in rows if ":" in row}
     if asked.crate not in lines:
         words.error(f"{asked.list} has no crate {asked.crate}")

@@ -15,6 +15,10 @@ library=${1:-$made/c}
 }
 mkdir -p "$made"
 [ $# -gt 0 ] || "$top/tools/build_c" "$library"
+[ -f "$library/liblegumeyet.a" ] || {
+    echo "bench: $library has no library: tools/build_c $library makes it" >&2
+    exit 1
+}
 cat >"$made/english.json" <<'BOOK'
 [[["en","","latn","-","","+","",".",",",3,3,1]],[["latn","0123456789"]],[["en",[["one","i = 1 and v = 0"]]]],
 [["en","",[[3,3,[["other",["","K"]]]],[6,6,[["other",["","M"]]]],[9,9,[["other",["","B"]]]],[12,12,[["other",["","T"]]]]],null]],[]]

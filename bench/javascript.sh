@@ -8,7 +8,12 @@ top=$(cd "$(dirname "$0")/.." && pwd)
 here=$top/bench/javascript made=$top/bench/made
 turns=${2:-25}
 [ $# -gt 0 ] || "$top/tools/build_js" "$made/js" >/dev/null
-package=$(cd "${1:-$made/js/legumeyet}" && pwd)
+package=${1:-$made/js/legumeyet}
+[ -f "$package/legumeyet.wasm" ] || {
+    echo "bench: $package has no package: it is the folder legumeyet that tools/build_js leaves" >&2
+    exit 1
+}
+package=$(cd "$package" && pwd)
 node --version
 echo "digits call            here    Intl  ratio"
 node "$here/calls.js" "$package" "$turns" 1 7 18

@@ -13,6 +13,10 @@ library=${1:-$made/c} turns=${2:-25} digits="1 7 18"
 python=/usr/bin/python3
 mkdir -p "$made"
 [ $# -gt 0 ] || "$top/tools/build_c" "$library"
+[ -f "$library/liblegumeyet.a" ] || {
+    echo "bench: $library has no library: tools/build_c $library makes it" >&2
+    exit 1
+}
 "${CC:-cc}" -O2 -D_GNU_SOURCE "-I$library" -o "$made/languages" "$here/main.c" "$library/liblegumeyet.a"
 "$made/languages" "$turns" $digits >"$made/c.txt"
 node "$here/intl.js" "$turns" $digits >"$made/intl.txt"

@@ -80,6 +80,18 @@ export class Book extends Open {
   locales(): string[];
 }
 
+/**
+ * The answers to many request lines, by the formatters that were used last: who has many lines of few tags does not open a formatter for each, as
+ * `Book.answer` does.
+ */
+export class Answers extends Open {
+  /** By a book that is kept; without it by that of the world, or of `setWorld`. `capacity` is how many formatters are kept, 512 without it. */
+  constructor(book?: Book, capacity?: number);
+  /** The answers to the lines, in order, as `Book.answer` has them, each with a line feed. A last line without one is answered too. */
+  answer(lines: string): string;
+  answer(lines: Uint8Array): Uint8Array;
+}
+
 declare abstract class Formatter<Options> extends Open {
   /** The text of a number. It may be handed on without its formatter: `numbers.map(german.format)`. */
   readonly format: (number: Num) => string;

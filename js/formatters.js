@@ -1,8 +1,8 @@
 // Books and formatters, as classes in the manner of Intl.
 import {
-  ErrorNumber, LegumeyetError, NUMBERS, age, begun, calls, columnWritten, expected, got, inside, isPresent, partsWritten, put, written,
+  ErrorNumber, LegumeyetError, NUMBERS, age, begun, calls, columnWritten, expected, got, inside, isPresent, linesAnswered, partsWritten, put, written,
 } from "./instance.js";
-import { read as readOptions } from "./options.js";
+import { read as readOptions, whole } from "./options.js";
 
 // What the garbage collector takes is closed.
 const unused = typeof FinalizationRegistry === "undefined" ? null : new FinalizationRegistry(close);
@@ -145,6 +145,55 @@ export function setWorld(book) {
   return world;
 }
 
+// What the book that is named is opened again from; without one, that of the world.
+function sourceOf(book = world) {
+  if (book === null) throw new TypeError("no book is named, and there is no book of the world: setWorld(..) of legumeyet/core makes one");
+  return Book.source(book);
+}
+
+// Lines are answered in pieces of so many characters or bytes, or of one line where it is longer.
+const PIECE = 1 << 16;
+
+// Where the piece ends that begins at `start`.
+function pieceEnd(lines, feed, start) {
+  const most = start + PIECE;
+  if (most >= lines.length) return lines.length;
+  const last = lines.lastIndexOf(feed, most - 1);
+  const end = last < start ? lines.indexOf(feed, most) : last;
+  return end < 0 ? lines.length : end + 1;
+}
+
+function allAnswered(it, lines, feed) {
+  const texts = [];
+  atOf(it); // closed ones are refused also where there is no line
+  for (let start = 0; start < lines.length; ) {
+    const end = pieceEnd(lines, feed, start);
+    const at = atOf(it);
+    linesAnswered(at, calls.js_answers_answer, lines.slice(start, end), texts);
+    start = end;
+  }
+  return texts.join("");
+}
+
+/** The answers to many request lines, by a book that is kept and the `capacity` formatters that were used last. */
+export class Answers extends Open {
+  constructor(book, capacity = 512) {
+    const source = sourceOf(book);
+    const room = whole({ capacity }, "capacity", 1, 2 ** 32 - 1);
+    const handle = { at: 0, age: 0, close: "js_answers_close" };
+    const again = () => withBook(source, (from) => open(handle, (at) => calls.js_answers_open(from, room, at)));
+    again();
+    super(handle, again);
+  }
+
+  /** The answers to the lines, in order, each with a line feed: a text to a text, bytes to bytes. A last line without one is answered too. */
+  answer(lines) {
+    if (typeof lines === "string") return allAnswered(this, lines, "\n");
+    if (lines instanceof Uint8Array) return new TextEncoder().encode(allAnswered(this, plain(Uint8Array, lines), 10));
+    throw new TypeError("lines are a string or a Uint8Array");
+  }
+}
+
 function isLocale(it) {
   return typeof it === "string" || it instanceof Intl.Locale;
 }
@@ -265,9 +314,7 @@ class Formatter extends Open {
 
   constructor(kind, locales, options, fill) {
     const how = readOptions(kind, options);
-    const book = options.book === undefined ? world : options.book;
-    if (book === null) throw new TypeError("the option book is missing, and there is no book of the world: setWorld(..) of legumeyet/core makes one");
-    const source = Book.source(book);
+    const source = sourceOf(options.book);
     const asked = tagsOf(locales);
     if (asked.length === 0) throw new RangeError("no locale is asked for");
     const handle = { at: 0, age: 0, close: CLOSES[kind] };

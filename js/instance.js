@@ -270,6 +270,36 @@ export function columnWritten(at, call, column, texts) {
   expected(-error, `: the number at ${texts.length}`);
 }
 
+// The bytes of lines, with a line feed after the last. A line of a text that has half a pair of surrogates becomes another one that is none.
+function endedLines(lines) {
+  if (typeof lines === "string") {
+    const text = lines.endsWith("\n") ? lines : `${lines}\n`;
+    return encoder.encode(HALF.test(text) ? text.split("\n").map((line) => (HALF.test(line) ? "x" : line)).join("\n") : text);
+  }
+  if (lines[lines.length - 1] === 10) return lines;
+  const bytes = new Uint8Array(lines.length + 1);
+  bytes.set(lines);
+  bytes[lines.length] = 10;
+  return bytes;
+}
+
+/** Adds the answers that a call writes of a handle and lines, which are a text or bytes. A last line without a line feed is answered too. */
+export function linesAnswered(at, call, lines, texts) {
+  const bytes = endedLines(lines);
+  const error = inside(() => {
+    const size = putBytes(bytes);
+    let told = 0;
+    for (let done = 0; done < size && told === 0; told = calls.js_column_error()) {
+      done += call(at, done, size);
+      if (memory.length === 0) look();
+      texts.push(decoded(calls.js_column_out(), calls.js_column_length()));
+    }
+    calls.js_let_go();
+    return told;
+  });
+  expected(-error);
+}
+
 const KINDS = ["literal", "minusSign", "plusSign", "integer", "group", "decimal", "fraction", "currency", "percentSign"];
 
 // Whether parts may be inside one of this kind: groups in an integer, the unit in a sign that has affixes of its own.

@@ -15,5 +15,5 @@ loadSync(bytesOf("legumeyet.wasm"));
 setWorld(bytesOf("world.json"));
 
 export {
-  Book, CompactDecimalFormatter, CurrencyFormatter, DecimalFormatter, ErrorNumber, LegumeyetError, LoadError, PercentFormatter, version,
+  Answers, Book, CompactDecimalFormatter, CurrencyFormatter, DecimalFormatter, ErrorNumber, LegumeyetError, LoadError, PercentFormatter, version,
 } from "./core.js";

@@ -29,8 +29,8 @@ function chosen(options, name, table, otherwise) {
   return table[word];
 }
 
-// A whole number from `least` to `most`; undefined where the option is not given.
-function whole(options, name, least, most) {
+/** A whole number from `least` to `most`; undefined where the option is not given. */
+export function whole(options, name, least, most) {
   const number = options[name];
   if (number !== undefined && !(Number.isInteger(number) && number >= least && number <= most)) {
     throw new RangeError(`${name} is a whole number from ${least} to ${most}, and not ${String(number)}`);

@@ -45,6 +45,9 @@ number legumeyet_book_keep(handle *);
 number legumeyet_book_answer(handle *, const u8 *, u64, u8 *, u64, u64 *);
 number legumeyet_book_locale_count(handle *, u64 *);
 number legumeyet_book_locale(handle *, u64, u8 *, u64, u64 *);
+number legumeyet_answers_open(handle *, u64, handle *);
+number legumeyet_answers_close(handle *);
+number legumeyet_answers_answer(handle *, const u8 *, u64, u8 *, u64, u64 *, u64 *, u64 *);
 number legumeyet_decimal_formatter_open(handle *, const u8 *, u64, u32, handle *);
 number legumeyet_decimal_formatter_close(handle *);
 number legumeyet_decimal_formatter_format(handle *, const u8 *, u64, const options *, u8 *, u64, u64 *);
@@ -203,6 +206,31 @@ number js_book_locale_count(opened *it) {
 number js_book_locale(opened *it, u32 index) { WRITTEN(legumeyet_book_locale(&it->of, index, OUT)) }
 void js_book_close(opened *it) {
     legumeyet_book_close(&it->of);
+    free(it);
+}
+
+/* Answers to request lines. */
+number js_answers_open(opened *book, u32 capacity, opened *it) { return -legumeyet_answers_open(&book->of, capacity, &it->of); }
+/*
+ * Answers the lines from the byte `from` up to `end`, as many as have room, and one at least. Their answers are found at js_column_out(), with
+ * their length and why there are no more as of a column. Returns how many bytes of the lines were answered.
+ */
+number js_answers_answer(opened *it, u32 from, u32 end) {
+    const u8 *lines = text_in() + from;
+    u64 read = 0, written = 0, needs = 0;
+    free(large_out);
+    large_out = 0;
+    number error = legumeyet_answers_answer(&it->of, lines, end - from, column_out, TEXTS, &read, &written, &needs);
+    if (error == TOO_SMALL && read == 0) {
+        large_out = malloc((__SIZE_TYPE__)needs);
+        error = large_out ? legumeyet_answers_answer(&it->of, lines, end - from, large_out, needs, &read, &written, &needs) : MEMORY;
+    }
+    column_length = (u32)written;
+    column_error = error == TOO_SMALL ? 0 : error;
+    return (number)read;
+}
+void js_answers_close(opened *it) {
+    legumeyet_answers_close(&it->of);
     free(it);
 }
 

@@ -1,9 +1,9 @@
-// The native program's answers to seeded lines: by a book, and by formatters where they do what a line asks for. LINES names a folder that has, for
+// The native program's answers to seeded lines: by a book, by answers, and by formatters where they do what a line asks for. LINES names a folder that has, for
 // each book NAME.json, the lines and the answers, NAME.lines and NAME.answers.
 import assert from "node:assert/strict";
 import { readFileSync, readdirSync } from "node:fs";
 import { test } from "node:test";
-import { Book, CompactDecimalFormatter, DecimalFormatter, LegumeyetError } from "legumeyet";
+import { Answers, Book, CompactDecimalFormatter, DecimalFormatter, LegumeyetError } from "legumeyet";
 
 const FOLDER = process.env.LINES;
 const WORDS = { 5: "tag", 6: "table", 7: "number", 8: "limit", 9: "range", 10: "shape", 11: "unreadable", 12: "not-written", 13: "exponent" };
@@ -53,6 +53,12 @@ for (const file of FOLDER ? readdirSync(FOLDER).filter((it) => it.endsWith(".jso
     const book = new Book(readFileSync(`${FOLDER}/${file}`));
     assert.equal(lines.length, answers.length);
     lines.forEach((line, at) => assert.equal(book.answer(line), answers[at], String(line)));
+  });
+
+  test(`answers of ${name} are those of the native program, all lines together`, () => {
+    const book = new Book(readFileSync(`${FOLDER}/${file}`)).keep();
+    const [all, wanted] = ["lines", "answers"].map((it) => readFileSync(`${FOLDER}/${name}.${it}`));
+    for (const capacity of [1, 7, 512]) assert.ok(Buffer.from(new Answers(book, capacity).answer(all)).equals(wanted), `${capacity}`);
   });
 
   test(`formatters of ${name} say the same, of a book and of a kept one`, () => {

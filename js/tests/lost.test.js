@@ -5,7 +5,7 @@ import { createRequire } from "node:module";
 import { test } from "node:test";
 import { setFlagsFromString } from "node:v8";
 import { runInNewContext } from "node:vm";
-import { Book, CompactDecimalFormatter, CurrencyFormatter, DecimalFormatter, LegumeyetError, PercentFormatter } from "legumeyet";
+import { Answers, Book, CompactDecimalFormatter, CurrencyFormatter, DecimalFormatter, LegumeyetError, PercentFormatter } from "legumeyet";
 import { memorySize } from "legumeyet/core";
 
 // The package's own module of the instance, which is in no export.
@@ -53,6 +53,11 @@ const own = new DecimalFormatter("en", { book });
 const ofClosed = new Book(JSON_OF_ONE);
 const orphan = new DecimalFormatter("en", { book: ofClosed, useGrouping: false });
 ofClosed.close();
+const answers = new Answers();
+const kept = new Book(JSON_OF_ONE).keep();
+const few = new Answers(kept, 1);
+kept.close();
+const LINES = "en\tplain\tauto\tkeep\t-\t1234\nen\tshort\tauto\tkeep\t-\t1650\n";
 
 function areWell() {
   assert.equal(world.format("-1234567.5"), "-1.234.567,50");
@@ -64,7 +69,8 @@ function areWell() {
   assert.deepEqual(world.formatAll([1234567.5, "2"]), ["1.234.567,50", "2,00"]);
   assert.equal(orphan.format("1234"), "1234");
   assert.equal(book.answer("en\tplain\tauto\tkeep\t-\t1234"), "ok\t1,234");
-  assert.ok(ofClosed.closed);
+  for (const it of [answers, few]) assert.equal(it.answer(LINES), "ok\t1,234\nok\t1.6K\t1.6c3\n");
+  assert.ok(ofClosed.closed && kept.closed);
 }
 
 function trap() {
@@ -78,6 +84,7 @@ test("where the stack runs out inside a call, the next one is well", () => {
     () => new Book(JSON_OF_ONE).close(), () => orphan.format("1"), () => euros.formatToParts("-1234.5"), () => euros.read("1.234,50\u00a0€"), () => percents.format(5),
     () => new CurrencyFormatter("hi", { currency: "INR" }).close(), () => book.locales(),
     () => world.formatAll([1234567.5, 2]), () => euros.formatAll(["1234.5", "2"]), () => percents.formatAll(new BigInt64Array(3)),
+    () => answers.answer(LINES), () => few.answer(LINES), () => new Answers(undefined, 1).close(),
   ];
   let lost = 0;
   for (const call of calls) {
@@ -111,7 +118,7 @@ test("where memory is refused, the call says so, and its formatter stays", () =>
   const before = instance.age;
   for (let size = 1 << 30; size >= 1 << 11; size >>= 1) while (instance.calls.js_large_in(size) !== 0);
   instance.calls.js_let_go();
-  for (const call of [() => world.format("1".repeat(30000)), () => world.formatAll(["1".repeat(30000)]), () => world.read("x".repeat(1e6)), () => new Book(" ".repeat(1e6)), () => new Book(JSON_OF_ONE)]) {
+  for (const call of [() => world.format("1".repeat(30000)), () => world.formatAll(["1".repeat(30000)]), () => world.read("x".repeat(1e6)), () => answers.answer("x".repeat(1e6)), () => new Answers(undefined, 1 << 24), () => new Book(" ".repeat(1e6)), () => new Book(JSON_OF_ONE)]) {
     assert.throws(call, (error) => error instanceof LegumeyetError && error.number === 1);
   }
   assert.equal(world.format("-1234567.5"), "-1.234.567,50");
@@ -128,6 +135,7 @@ test("a book that is nested as deep as can be is refused", () => {
 test("what is dropped is closed", { timeout: 120000 }, async () => {
   const round = async () => {
     for (let i = 0; i < 20000; i += 1) new DecimalFormatter("en", { book });
+    for (let i = 0; i < 50; i += 1) new Answers(undefined, 1);
     gc();
     await new Promise((well) => setTimeout(well, 50));
   };

@@ -1,6 +1,6 @@
 // What `tsc --strict` has to take, and what it has to refuse: a line after `@ts-expect-error` is refused.
 import {
-  Book, CompactDecimalFormatter, CurrencyFormatter, DecimalFormatter, ErrorNumber, LegumeyetError, LoadError, PercentFormatter, version,
+  Answers, Book, CompactDecimalFormatter, CurrencyFormatter, DecimalFormatter, ErrorNumber, LegumeyetError, LoadError, PercentFormatter, version,
 } from "legumeyet";
 import type { CurrencyFormatterOptions, DecimalFormatterOptions, Part } from "legumeyet";
 import { load, loadSync, memorySize, setWorld } from "legumeyet/core";
@@ -17,6 +17,8 @@ const digits: string = german.read(german.readLenient("1"));
 const locale: string = german.resolvedOptions().locale;
 const short = new CompactDecimalFormatter("en", { compactDisplay: "short", book: new Book("[]") });
 const answer: string = new Book(new Uint8Array(0)).keep().answer(short.formatExact(short.shown(5)));
+const answered: string = new Answers().answer(new Answers(new Book("[]").keep(), 16).answer("x\n"));
+const bytes: Uint8Array = new Answers(undefined, 1).answer(new Uint8Array(1));
 const inAccounts: CurrencyFormatterOptions = { currency: "USD", currencySign: "accounting", currencyDisplay: "code", currencyDigits: "cash" };
 const dollars = new CurrencyFormatter(undefined, { ...inAccounts, maximumFractionDigits: 2 });
 const percent: string = new PercentFormatter("tr", options).read(dollars.readLenient(dollars.format(5)));
@@ -31,7 +33,7 @@ const loaded: Promise<void> = load(new Uint8Array(0));
 loadSync(new ArrayBuffer(0));
 const told: (string | number | null | undefined)[] = [
   digits, locale, answer, value, text, caret, ...supported, ...locales, field?.value, directionOf("de"), memorySize(), version(), world.closed ? 1 : 0, ErrorNumber.TAG,
-  new LegumeyetError(5).word, new LoadError("a", "fetch", "b").reason, parts[0]?.type, percent, ...types, ...listed, ErrorNumber.CODE,
+  new LegumeyetError(5).word, new LoadError("a", "fetch", "b").reason, parts[0]?.type, percent, answered, bytes.length, ...types, ...listed, ErrorNumber.CODE,
 ];
 export { told, loaded };
 
@@ -55,3 +57,7 @@ new CurrencyFormatter("de");
 new CurrencyFormatter("de", { currency: "EUR", currencyDisplay: "name" });
 // @ts-expect-error
 new PercentFormatter("de", { currency: "EUR" });
+// @ts-expect-error
+new Answers({ capacity: 5 });
+// @ts-expect-error
+new Answers().answer(["x"]);

@@ -1,9 +1,24 @@
 """Writes numbers for a locale, each on a line."""
 import argparse
+import errno
+import os
 import sys
 from typing import List
 
 from legumeyet import Book, CompactDecimalFormatter, DecimalFormatter, Error, Width, tag_of_locale_name
+
+
+def told(error: Exception) -> int:
+    """Says in a line why no more is written, and returns the status."""
+    said = str(error)
+    if isinstance(error, UnicodeEncodeError):
+        said = f"standard output, which is {error.encoding}, has no such character"
+    elif isinstance(error, OSError):
+        said = f"{error.filename or 'standard output'}: {error.strerror}"
+        if not error.filename:
+            os.dup2(os.open(os.devnull, os.O_WRONLY), 1)  # else Python writes what is left once more, at its end
+    print(f"legumeyet: {said}", file=sys.stderr)
+    return 1
 
 
 def main(given: List[str]) -> int:
@@ -19,6 +34,8 @@ def main(given: List[str]) -> int:
     said = words.parse_args(given)
     status = 0
     try:
+        if sys.stdout is None:
+            raise OSError(errno.EBADF, os.strerror(errno.EBADF))
         tag = tag_of_locale_name(said.tag)
         with Book.world() if said.book is None else Book.from_file(said.book) as book:
             formatter = DecimalFormatter(book, tag) if said.width is None else CompactDecimalFormatter(book, tag, width=said.width)
@@ -28,9 +45,9 @@ def main(given: List[str]) -> int:
             except Error as error:
                 print(f"{number}: {error.word}", file=sys.stderr)
                 status = 1
-    except (Error, OSError) as error:
-        print(f"legumeyet: {error}", file=sys.stderr)
-        return 1
+        sys.stdout.flush()
+    except (Error, OSError, UnicodeEncodeError) as error:
+        return told(error)
     return status
 
 

@@ -377,6 +377,17 @@ class Calls(unittest.TestCase):
                     self.assertEqual((main(words), out.getvalue()), (status, text))
                 self.assertEqual(bool(error.getvalue()), status == 1)
 
+    def test_program_whose_output_fails(self):
+        """It ends with one line, and no traceback."""
+        words = [sys.executable, "-m", "legumeyet", "ar-EG", "5"]
+        for script, said in [
+            ('exec "$@" >/dev/full', "standard output: No space left on device"), ('exec "$@" >&-', "standard output: Bad file descriptor"),
+            ('exec "$1" "$2" "$3" --book / "$4" "$5"', "/: Is a directory"),
+            ('PYTHONIOENCODING=ascii exec "$@"', "standard output, which is ascii, has no such character"),
+        ]:
+            ran = subprocess.run(["sh", "-c", script, "sh", *words], capture_output=True, check=False, encoding="utf-8")
+            self.assertEqual((ran.returncode, ran.stdout, ran.stderr), (1, "", f"legumeyet: {said}\n"))
+
     def test_kept(self):
         book = Book(JSON)
         book.keep()

@@ -1,10 +1,12 @@
 """The package for JavaScript: its files, the licences of what is inside, and the tar that `npm install` takes."""
 import json
 
+from launching.common import Fault
 from releasing.common import TOP, committed, version, write_tar
 from releasing.notices import licences
 
 NAME = "legumeyet"
+MODULE = b"\0asm"  # how each begins
 LEFT_OUT = ("module/", "tests/", "example.js")
 LOCALES = TOP / "books/world-locales.txt"
 LOCALES_TEXT = "// The tags of the locales of the world's book, in order.\nexport default {tags};\n"
@@ -22,6 +24,8 @@ def files_of(wasm):
     files = {name: data for name, data in committed("js").items() if not name.startswith(LEFT_OUT)}
     files["package.json"] = stamped_manifest(files["package.json"])
     files["legumeyet.wasm"] = wasm.read_bytes()
+    if not files["legumeyet.wasm"].startswith(MODULE):
+        raise Fault(f"{wasm} is no WebAssembly module")
     files["world.json"] = (TOP / "books/world.json").read_bytes()
     files["locales.js"] = LOCALES_TEXT.format(tags=json.dumps(LOCALES.read_text(encoding="ascii").split(), indent=1)).encode()
     return {**files, **licences()}
