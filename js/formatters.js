@@ -181,7 +181,8 @@ export class Answers extends Open {
     const source = sourceOf(book);
     const room = whole({ capacity }, "capacity", 1, 2 ** 32 - 1);
     const handle = { at: 0, age: 0, close: "js_answers_close" };
-    const again = () => withBook(source, (from) => open(handle, (at) => calls.js_answers_open(from, room, at)));
+    const hint = (number) => (number === ErrorNumber.UNKEPT ? ": keep() of the book comes first" : "");
+    const again = () => withBook(source, (from) => open(handle, (at) => calls.js_answers_open(from, room, at), hint));
     again();
     super(handle, again);
   }

@@ -75,6 +75,7 @@ test("no line, and lines that are no text", () => {
 test("what opens no answers", () => {
   const book = new Book(JSON_OF_ONE);
   refuses(ErrorNumber.UNKEPT, () => new Answers(book));
+  assert.throws(() => new Answers(book), /keep\(\)/);
   assert.equal(book.answer(lineOf("en", "1234")), "ok\t1,234");
   for (const capacity of [0, -1, 1.5, NaN, Infinity, 2 ** 32, "5", null, 5n, {}]) assert.throws(() => new Answers(world, capacity), RangeError);
   refuses(ErrorNumber.MEMORY, () => new Answers(world, 2 ** 32 - 1));
