@@ -5,20 +5,18 @@ ghost use Rattle.std.specs.Io.KnownBytes.{Appends};
 ghost use Rattle.legumeyet.specs.Output.{line_feed};
 
 use fixed_decimal::ParseError;
-use icu_decimal::options::{
-    CompactDecimalFormatterOptions, DecimalFormatterOptions, GroupingStrategy,
-};
+use icu_decimal::options::{CompactDecimalFormatterOptions, DecimalFormatterOptions};
 use icu_decimal::{CompactDecimalFormatter, DecimalFormatter, DecimalFormatterPreferences};
 use icu_dimension::{
-    CurrencyCode, CurrencyFormatter, CurrencyFormatterOptions, CurrencyStyle, CurrencyUsage,
-    CurrencyWidth, PercentFormatter, PercentFormatterOptions,
+    CurrencyCode, CurrencyFormatter, CurrencyFormatterOptions, CurrencyUsage, PercentFormatter,
+    PercentFormatterOptions,
 };
 use locale_numbers::prelude::{Book, Decimal, PartsSink, Writeable};
-use locale_numbers::{ProgramFault, RunError};
+use locale_numbers::{ProgramFault, RunError, amount_options};
 use locale_numbers_answers::{change, choose_sign, read_number};
 use locale_numbers_book::read_preferences;
 use locale_numbers_requests::{
-    AmountStyle, Form, PatternLength, Request, RoundingAsked, SignAsked, UnitAsked, read_request,
+    Form, PatternLength, Request, RoundingAsked, SignAsked, UnitAsked, read_request,
 };
 use std::alloc::{AllocError, Global};
 use std::io::Write;
@@ -147,20 +145,6 @@ fn fill_percent(
     match formatter.format(number).write_to(sink) {
         Ok(()) => Ok(()),
         Err(_) => Err(AllocError),
-    }
-}
-
-// How amounts in a style are written.
-fn amount_options(style: AmountStyle, grouping: GroupingStrategy) -> CurrencyFormatterOptions {
-    let (style, width) = match style {
-        AmountStyle::Standard => (CurrencyStyle::Standard, CurrencyWidth::Short),
-        AmountStyle::Accounting => (CurrencyStyle::Accounting, CurrencyWidth::Short),
-        AmountStyle::Code => (CurrencyStyle::Standard, CurrencyWidth::IsoCode),
-    };
-    CurrencyFormatterOptions {
-        style,
-        width,
-        grouping_strategy: Some(grouping),
     }
 }
 

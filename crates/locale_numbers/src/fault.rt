@@ -1,11 +1,14 @@
 //! Why the program ended before it had answered all lines, and with which status.
 
 ghost use Rattle.std.specs.Prelude.{◌≡◌, Some};
+ghost use Rattle.std.specs.IoError.{error_kind};
+ghost use Rattle.std.specs.declared.io.ErrorKind.TheVariants.{OutOfMemory};
+ghost use Rattle.locale_numbers.specs.Program.{IsOfFile};
 
 use locale_numbers_book::BookError;
 use locale_numbers_lines::RunError;
 use std::error::Error;
-use std::fmt;
+use std::{fmt, io};
 
 /// Why the program ended before it had answered all lines: `Usage` of the words `b` and `0`.
 ///
@@ -27,6 +30,22 @@ pub enum ProgramFault {
 
 impl ProgramFault {
     ghost use Rattle.locale_numbers.specs.Fault.{status_of};
+
+    /// The fault that a failed call on the book's file is.
+    ///
+    /// Of an error of the kind `OutOfMemory` it is `Book(BookError::Memory)`, of any other, as `NotFound`, `File`. Does
+    /// not allocate.
+    pub fn of_file(error: io::Error) -> ProgramFault
+        ensures of_file { IsOfFile result }
+        ensures memory { error_kind error ≡ OutOfMemory → result ≡ ProgramFault.Book BookError.Memory }
+        ensures file { ¬ (error_kind error ≡ OutOfMemory) → result ≡ ProgramFault.File }
+    {
+        if error.kind() == io::ErrorKind::OutOfMemory {
+            ProgramFault::Book(BookError::Memory)
+        } else {
+            ProgramFault::File
+        }
+    }
 
     /// The status with which the program ends: 2 for usage, 3 for the file, 4 for the book, 5 for
     /// a failed read or write, 6 for out of memory, wherever it arose.

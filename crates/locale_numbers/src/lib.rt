@@ -55,4 +55,5 @@ pub use program_run::program;
 pub use running::run;
 pub use starting::start;
 pub use tables::Tables;
+pub use unit_formatter::amount_options;
 pub use words::{Words, read_words};

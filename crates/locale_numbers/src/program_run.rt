@@ -1,8 +1,6 @@
 //! The program for given words: its book is read, then its lines are answered.
 
 ghost use Rattle.std.specs.Prelude.{◌≡◌, ◌≤◌, false, true, IfOk, IfErr, OnOk, IsErrOf, IsSome, IsNone};
-ghost use Rattle.std.specs.IoError.{error_kind};
-ghost use Rattle.std.specs.declared.io.ErrorKind.TheVariants.{OutOfMemory};
 ghost use Rattle.locale_numbers_lines.specs.Run.{WritesAll, WritesTold, WritesPart, WritesFirst, CountsLines, CountsMade, MayReadOnceAnswered};
 ghost use Rattle.locale_numbers_book.specs.Book.{BookTables};
 ghost use Rattle.locale_numbers.specs.Answer.{answer_of};
@@ -12,25 +10,12 @@ ghost use Rattle.locale_numbers.specs.Program.{Says, OfText, OfBook, IsRefusal, 
 use crate::fault::ProgramFault;
 use crate::running::run;
 use crate::words::Words;
-use locale_numbers_book::{Book, BookError, SAMPLE_BOOK, book_from};
+use locale_numbers_book::{Book, SAMPLE_BOOK, book_from};
 use locale_numbers_lines::{ByteReader, ByteWriter, Report, RunError};
 use std::alloc::Global;
+use std::fs;
 use std::io::Read;
 use std::rt::Files;
-use std::{fs, io};
-
-// The fault that a failed call on the book's file is: out of memory, or the file.
-fn file_fault(error: io::Error) -> ProgramFault
-    ensures of_file { IsOfFile result }
-    ensures memory { error_kind error ≡ OutOfMemory → result ≡ ProgramFault.Book BookError.Memory }
-    ensures file { ¬ (error_kind error ≡ OutOfMemory) → result ≡ ProgramFault.File }
-{
-    if error.kind() == io::ErrorKind::OutOfMemory {
-        ProgramFault::Book(BookError::Memory)
-    } else {
-        ProgramFault::File
-    }
-}
 
 // The file of a book, opened to be read; none where no path is named. It alone calls `rt`, which could
 // change files too.
@@ -42,7 +27,7 @@ fn opened<F: Files>(rt: &F, path: Option<&str>) -> Result<Option<F::File>, Progr
         None => Ok(None),
         Some(path) => match fs::open(rt, path) {
             Ok(file) => Ok(Some(file)),
-            Err(error) => Err(file_fault(error)),
+            Err(error) => Err(ProgramFault::of_file(error)),
         },
     }
 }
@@ -54,7 +39,7 @@ fn read_file<I: Read + Drop>(alloc: Global, mut file: I) -> Result<Vec<u8>, Prog
     let mut bytes = Vec::new(alloc);
     match file.read_to_end(&mut bytes) {
         Ok(_) => Ok(bytes),
-        Err(error) => Err(file_fault(error)),
+        Err(error) => Err(ProgramFault::of_file(error)),
     }
 }
 

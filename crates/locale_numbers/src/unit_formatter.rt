@@ -149,8 +149,10 @@ fn percents<'a, T: Tables>(
     )
 }
 
-// How amounts in a style are written.
-fn amount_options(style: AmountStyle, grouping: GroupingStrategy) -> CurrencyFormatterOptions
+/// The options of the formatter that writes amounts in a style, with a grouping.
+///
+/// Those of `AmountStyle::Code` write `EUR 5.00`: standard, by the ISO code. Does not allocate.
+pub fn amount_options(style: AmountStyle, grouping: GroupingStrategy) -> CurrencyFormatterOptions
     ensures { result ≡ options_of style grouping }
 {
     let (style, width) = match style {
