@@ -244,13 +244,24 @@ fits_form front bytes is = subst (λ f. IfSome f FitsForm) (sym is) (fits (reque
 
 -- ---- the front that came last
 
-both_true : (a b : Bool) → IsTrue (a && b) → IsTrue a × IsTrue b
-both_true true b is = (refl, is)
-both_true false b is = cc
+-- what holds of each key holds of a front's
+pub of_each : (holds : FormatterKey → Type 0) (front : Option Front) → ((key : FormatterKey) → holds key) → HasKeyThat holds front
+of_each holds None each = tt
+of_each holds (Some front) each = at front.key
+  where
+    at : (key : Option FormatterKey) → IfSome key holds
+    at None = tt
+    at (Some key) = each key
 
--- what holds of the key of the front that came last holds of this one's, where nothing changed as it was found
-pub still_held : (holds : FormatterKey → Type 0) (held same : Bool) (before after : Remembered (Option Front)) (front : Option Front)
-    → (IsTrue held → IfSome before.latest (HasKeyThat holds)) → (IsTrue same → after ≡ before) → after.latest ≡ Some front → IsTrue (held && same) → HasKeyThat holds front
-still_held holds held same before after front of unchanged latest is =
-    let two = both_true held same is in
-    subst (λ found. IfSome found (HasKeyThat holds)) (ap (λ (keys : Remembered (Option Front)). keys.latest) (sym (unchanged two.1)) ∙ latest) (of two.0)
+-- before there is one, anything
+pub right_of_none : (holds : FormatterKey → Type 0) (latest : Option (Option Front)) → latest ≡ None → IfSome latest (HasKeyThat holds)
+right_of_none holds latest none = subst (λ front. IfSome front (HasKeyThat holds)) (sym none) tt
+
+-- what is noted of the front that came last is right for this one, where nothing changed as it was found
+pub still_right : (holds : FormatterKey → Type 0) (held same : Bool) (before after : Remembered (Option Front)) (front : Option Front)
+    → IfSome before.latest (HasKeyThat (λ key. IsTrue held → holds key)) → (IsTrue same → after ≡ before) → after.latest ≡ Some front
+    → HasKeyThat (λ key. IsTrue (held && same) → holds key) front
+still_right holds false same before after front of unchanged latest = of_each (λ key. IsTrue false → holds key) front (λ key is. absurd (false≢true is))
+still_right holds true false before after front of unchanged latest = of_each (λ key. IsTrue false → holds key) front (λ key is. absurd (false≢true is))
+still_right holds true true before after front of unchanged latest =
+    subst (λ found. IfSome found (HasKeyThat (λ key. IsTrue true → holds key))) (ap (λ (keys : Remembered (Option Front)). keys.latest) (sym (unchanged refl)) ∙ latest) of

@@ -13,10 +13,10 @@ use Rattle.locale_numbers.specs.declared.formatter_key.FormatterKey.{FormatterKe
 use Rattle.locale_numbers.specs.declared.front.Front.{Front}
 use Rattle.locale_numbers.specs.declared.line_formatter.LineFormatter.{LineFormatter}
 
--- each formatter is the one of its key, and what was read of each front is what it asks; where it is noted so, the formatter that was
--- found last is that of the front that came last
+-- each formatter is the one of its key, and what was read of each front is what it asks; for the front that came last it is right what is
+-- noted: where the formatter that was found last is noted to be that of this front, it is
 abbrev pub IsSoundState : BookTables → Cached FormatterKey LineFormatter → Remembered (Option Front) → Bool → Type 0
 IsSoundState book formatters read is_held =
     IsSound (finds book) (IsKeptFor book) formatters
     × All (AreRead front_of) read.pairs
-    × (IsTrue is_held → IfSome read.latest (HasKeyThat (λ key. IsLatest (IsKeptFor book) key formatters)))
+    × IfSome read.latest (HasKeyThat (λ key. IsTrue is_held → IsLatest (IsKeptFor book) key formatters))

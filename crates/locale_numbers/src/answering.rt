@@ -1,6 +1,6 @@
 //! The answer of a book to a line.
 
-ghost use Rattle.std.specs.Prelude.{◌≡◌, ◌∷◌, ◌++◌, List, Option, Some, IfOk, IfSome, IsOk, IsTrue, OnOk, OnErr, string_bytes};
+ghost use Rattle.std.specs.Prelude.{◌≡◌, ◌∷◌, ◌++◌, List, Option, Some, IfOk, IfSome, IsOk, OnOk, OnErr, string_bytes};
 ghost use Rattle.locale_numbers_lines.specs.Growth.{Grows};
 ghost use Rattle.locale_numbers.specs.Answer.{answer_of};
 ghost use Rattle.locale_numbers_answers.specs.AnswerSink.{HasRoom};
@@ -28,20 +28,18 @@ use std::alloc::{AllocError, Global};
 // Writes the answer to a text after a front, after what `out` holds. It is tested as UTF-8 only where no number is
 // read.
 //
-// `value` is where a number is read, and `is_held` says whether the formatter that was found last is the front's.
-// `AllocError`: out of memory; a part of the answer may then be there.
+// `value` is where a number is read. `AllocError`: out of memory; a part of the answer may then be there.
 pub(crate) fn answer_after_front<'a, F: Formatters<'a>>(
     alloc: Global,
     value: &mut Decimal,
     formatters: &mut F,
-    is_held: &mut bool,
     front: &Option<Front>,
     text: &[u8],
     out: &mut String,
 ) -> Result<(), AllocError>
     requires ready { F.is_ready formatters.old }
     requires kind { IfSome front.now FitsForm }
-    requires held { IsTrue is_held.old → HasKeyThat (F.holds formatters.old) front.now }
+    requires right { HasKeyThat (F.is_right_for formatters.old) front.now }
     ensures text { OnOk result (string_bytes out.new
         ≡ string_bytes out.old ++ answer_after (F.book formatters.old) front.now text.now) }
     ensures err { OnErr result (Grows (string_bytes out.old) (string_bytes out.new)) }
@@ -56,8 +54,8 @@ pub(crate) fn answer_after_front<'a, F: Formatters<'a>>(
     ensures counted { OnOk result ((more : List (Option FormatterKey)) →
         F.counted_over formatters.old (key_after front.now text.now ∷ more) ≡ F.counted_over formatters.new more) }
     ensures same { F.book formatters.new ≡ F.book formatters.old }
-    ensures held { IsTrue is_held.new → HasKeyThat (F.holds formatters.new) front.now }
     ensures ready { F.is_ready formatters.new }
+    ensures right { HasKeyThat (F.is_right_for formatters.new) front.now }
 {
     let Some(front) = front else {
         return write_refusal(out, Refusal::Shape);
@@ -70,7 +68,6 @@ pub(crate) fn answer_after_front<'a, F: Formatters<'a>>(
             value,
             formatters,
             key,
-            is_held,
             front.sign,
             front.rounding,
             text,
@@ -80,26 +77,24 @@ pub(crate) fn answer_after_front<'a, F: Formatters<'a>>(
             let Some(text) = as_text(text) else {
                 return write_refusal(out, Refusal::Shape);
             };
-            *is_held = false;
             answer_exact(alloc, formatters, length, key, front.sign, text, out)
         }
         Form::Read => {
             let Some(text) = as_text(text) else {
                 return write_refusal(out, Refusal::Shape);
             };
-            answer_read(alloc, formatters, key, is_held, text, out)
+            answer_read(alloc, formatters, key, text, out)
         }
         Form::ReadLenient => {
             let Some(text) = as_text(text) else {
                 return write_refusal(out, Refusal::Shape);
             };
-            answer_lenient(alloc, formatters, key, is_held, text, out)
+            answer_lenient(alloc, formatters, key, text, out)
         }
         Form::Unit(_) => answer_unit(
             value,
             formatters,
             key,
-            is_held,
             front.sign,
             front.rounding,
             text,
@@ -109,26 +104,28 @@ pub(crate) fn answer_after_front<'a, F: Formatters<'a>>(
             let Some(text) = as_text(text) else {
                 return write_refusal(out, Refusal::Shape);
             };
-            answer_read_unit(alloc, formatters, key, is_held, front.rounding, text, out)
+            answer_read_unit(alloc, formatters, key, front.rounding, text, out)
         }
         Form::ReadLenientUnit(unit) => {
             let Some(text) = as_text(text) else {
                 return write_refusal(out, Refusal::Shape);
             };
             let unit = keyed_unit(&unit);
-            answer_lenient_unit(alloc, formatters, unit, key, is_held, text, out)
+            answer_lenient_unit(alloc, formatters, unit, key, text, out)
         }
     }
 }
 
-// Writes the answer to a line after what `out` holds. After an error a part of it may be there.
+// Writes the answer to a line after what `out` holds. After an error a part of it may be there. What `formatters` notes
+// is right for any key.
 fn answer_whole_line<'a, F: Formatters<'a>>(
     alloc: Global,
     formatters: &mut F,
     line: &[u8],
     out: &mut String,
 ) -> Result<(), AllocError>
-    requires { F.is_ready formatters.old }
+    requires ready { F.is_ready formatters.old }
+    requires right { (key : FormatterKey) → F.is_right_for formatters.old key }
     ensures text { OnOk result (
         string_bytes out.new ≡ string_bytes out.old ++ answer_of (F.book formatters.old) line.now) }
     ensures err { OnErr result (Grows (string_bytes out.old) (string_bytes out.new)) }
@@ -144,16 +141,7 @@ fn answer_whole_line<'a, F: Formatters<'a>>(
     let (front, text) = cut_text(line);
     let front = read_front(alloc, front)?;
     let mut value = Decimal::zero(alloc);
-    let mut is_held = false;
-    answer_after_front(
-        alloc,
-        &mut value,
-        formatters,
-        &mut is_held,
-        &front,
-        text,
-        out,
-    )
+    answer_after_front(alloc, &mut value, formatters, &front, text, out)
 }
 
 /// The answer of `book` to a request line, without a line feed.

@@ -34,7 +34,7 @@ impl<'a, T: Tables> Model for Answers<'a, T> {
 
     // What answers has what it keeps by its own tables, and answers as these do.
     ghost invariant = { λ s. IsAnswerer (T.book s.tables.now) (T.book s.answerer.kept.maker.tables.now)
-        s.answerer.kept.formatters s.answerer.read s.answerer.is_held };
+        s.answerer.kept.formatters s.answerer.read s.answerer.kept.is_held };
 }
 
 impl<'a, T: Tables> Answers<'a, T> {
@@ -49,6 +49,7 @@ impl<'a, T: Tables> Answers<'a, T> {
         let kept = CachedFormatters {
             maker: FormatterMaker { alloc, tables },
             formatters,
+            is_held: false,
         };
         Ok(Answers {
             tables,
@@ -56,7 +57,6 @@ impl<'a, T: Tables> Answers<'a, T> {
                 alloc,
                 kept,
                 read: ReadKeys::new(alloc)?,
-                is_held: false,
                 value: Decimal::zero(alloc),
             },
         })

@@ -14,6 +14,8 @@ pub(crate) struct CachedFormatters<'a, T: Tables> {
     pub maker: FormatterMaker<'a, T>,
     /// Those that were used last.
     pub formatters: FormatterCache<Hashed<FormatterKey>, LineFormatter<'a>>,
+    /// Whether the one that was found last is that of the front that came last.
+    pub is_held: bool,
 }
 
 impl<'a, T: Tables> Formatters<'a> for CachedFormatters<'a, T> {
@@ -36,8 +38,16 @@ impl<'a, T: Tables> Formatters<'a> for CachedFormatters<'a, T> {
 
     ghost holds = { λ s key. IsLatest (IsKeptFor (T.book s.maker.tables.now)) key s.formatters };
 
+    ghost is_right_for = { λ s key. IsTrue s.is_held
+        → IsLatest (IsKeptFor (T.book s.maker.tables.now)) key s.formatters };
+
     fn find(&mut self, key: &Hashed<FormatterKey>) -> Result<bool, AllocError> {
-        self.formatters.keep(&self.maker, key)
+        if self.is_held {
+            let _again = self.found(key); // for the proof
+            return Ok(true);
+        }
+        self.is_held = self.formatters.keep(&self.maker, key)?;
+        Ok(self.is_held)
     }
 
     fn found(&self, _key: &Hashed<FormatterKey>) -> &LineFormatter<'a> {

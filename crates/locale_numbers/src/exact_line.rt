@@ -31,6 +31,7 @@ fn write_exact_answer_of_key<'a, F: Formatters<'a>>(
     out: &mut String,
 ) -> Result<(), AllocError>
     requires ready { F.is_ready formatters.old }
+    requires right { F.is_right_for formatters.old key.now }
     requires compact { key.now.kind ≡ Kind.Compact length }
     ensures text { OnOk result (string_bytes out.new
         ≡ string_bytes out.old ++ exact_with (found_compact length (F.book formatters.old)
@@ -47,6 +48,7 @@ fn write_exact_answer_of_key<'a, F: Formatters<'a>>(
         F.counted_over formatters.old (Some key.now ∷ more) ≡ F.counted_over formatters.new more) }
     ensures same { F.book formatters.new ≡ F.book formatters.old }
     ensures ready { F.is_ready formatters.new }
+    ensures right { F.is_right_for formatters.new key.now }
 {
     let found = formatters.find(key)?;
     if !found {
@@ -74,6 +76,7 @@ pub(crate) fn answer_exact<'a, F: Formatters<'a>>(
     out: &mut String,
 ) -> Result<(), AllocError>
     requires ready { F.is_ready formatters.old }
+    requires right { F.is_right_for formatters.old key.now }
     requires compact { key.now.kind ≡ Kind.Compact length }
     ensures text { OnOk result (string_bytes out.new
         ≡ string_bytes out.old ++ exact_to (found_compact length (F.book formatters.old)
@@ -90,6 +93,7 @@ pub(crate) fn answer_exact<'a, F: Formatters<'a>>(
         ≡ F.counted_over formatters.new more) }
     ensures same { F.book formatters.new ≡ F.book formatters.old }
     ensures ready { F.is_ready formatters.new }
+    ensures right { F.is_right_for formatters.new key.now }
 {
     match read_compact(alloc, text) {
         Ok(value) => {

@@ -11,7 +11,8 @@ use crate::line_formatter::LineFormatter;
 use locale_numbers_cache::Hashed;
 use std::alloc::AllocError;
 
-// One that hands out formatters, made now or kept from earlier lines.
+// One that hands out formatters, made now or kept from earlier lines. It notes whether the one that was found last is
+// that of the line, and then looks for none.
 pub(crate) trait Formatters<'a> {
     // The book that has their tables, which no call changes.
     ghost book: { Self → BookTables };
@@ -28,16 +29,23 @@ pub(crate) trait Formatters<'a> {
     // The formatter that was found last is that of the key.
     ghost holds: { Self → FormatterKey → Type 0 };
 
-    /// Finds the formatter of a key; `false` where the book lacks one of its tables. The condition is that it is ready
-    /// to find one.
+    // What it notes is right for a line with the key: where it says that the formatter that was found last is that of
+    // the line, this is the key's.
+    ghost is_right_for: { Self → FormatterKey → Type 0 };
+
+    /// Finds the formatter of a key; `false` where the book lacks one of its tables. It looks for none where it notes
+    /// that the one that was found last is that of the line. The conditions are that it is ready to find one, and that
+    /// what it notes is right for the key.
     fn find(&mut self, key: &Hashed<FormatterKey>) -> Result<bool, AllocError>
-        requires { is_ready self.old }
+        requires ready { is_ready self.old }
+        requires right { is_right_for self.old key.now }
         ensures value { IfOk result (λ found. found ≡ finds (book self.old) key.now) }
         ensures formatter { IfOk result (λ found. IsTrue found → holds self.new key.now) }
         ensures counted { OnOk result ((more : List (Option FormatterKey)) →
             counted_over self.old (Some key.now ∷ more) ≡ counted_over self.new more) }
         ensures same { book self.new ≡ book self.old }
         ensures ready { is_ready self.new }
+        ensures right { is_right_for self.new key.now }
         ensures room { OnErr result (may_take_memory self.old key.now) };
 
     /// The formatter of a key. The condition is that it was found last. It does not allocate.

@@ -1,6 +1,6 @@
 //! The forms that read what people type of numbers with a unit: percents, and amounts of money.
 
-ghost use Rattle.std.specs.Prelude.{◌≡◌, ◌∷◌, ◌++◌, List, Option, Some, IsTrue, OnOk, OnErr, string_bytes};
+ghost use Rattle.std.specs.Prelude.{◌≡◌, ◌∷◌, ◌++◌, List, Option, Some, OnOk, OnErr, string_bytes};
 ghost use Rattle.locale_numbers_lines.specs.Growth.{Grows};
 ghost use Rattle.locale_numbers_answers.specs.LenientUnitAnswer.{lenient_unit_with, unit_reading_in_turn};
 ghost use Rattle.locale_numbers_answers.specs.ReadAnswer.{read_answer};
@@ -12,7 +12,6 @@ ghost use Rattle.locale_numbers.specs.declared.formatter_key.Kind.{Kind};
 
 use crate::formatter_key::{FormatterKey, KeyedUnit};
 use crate::formatters::Formatters;
-use crate::held::hold;
 use crate::lenient_unit_formatter::{LenientUnitFormatter, readers_in_turn};
 use crate::line_formatter::LineFormatter;
 use locale_numbers_answers::{write_lenient_unit_answer, write_refusal};
@@ -43,19 +42,17 @@ fn write_lenient_unit(
 
 // Writes the answer to a text with a unit that the formatter of a key reads leniently after what `out` holds.
 //
-// `is_held` says whether the formatter that was found last is the one of the key. `AllocError`: out of memory; a part
-// of the answer may then be there.
+// `AllocError`: out of memory; a part of the answer may then be there.
 pub(crate) fn answer_lenient_unit<'a, F: Formatters<'a>>(
     alloc: Global,
     formatters: &mut F,
     unit: KeyedUnit,
     key: &Hashed<FormatterKey>,
-    is_held: &mut bool,
     text: &str,
     out: &mut String,
 ) -> Result<(), AllocError>
     requires ready { F.is_ready formatters.old }
-    requires held { IsTrue is_held.old → F.holds formatters.old key.now }
+    requires right { F.is_right_for formatters.old key.now }
     requires unit { key.now.kind ≡ Kind.LenientUnit unit }
     ensures text { OnOk result (string_bytes out.new
         ≡ string_bytes out.old ++ lenient_unit_with (keyed_code unit key.now.code)
@@ -66,10 +63,10 @@ pub(crate) fn answer_lenient_unit<'a, F: Formatters<'a>>(
     ensures counted { OnOk result ((more : List (Option FormatterKey)) →
         F.counted_over formatters.old (Some key.now ∷ more) ≡ F.counted_over formatters.new more) }
     ensures same { F.book formatters.new ≡ F.book formatters.old }
-    ensures held { IsTrue is_held.new → F.holds formatters.new key.now }
     ensures ready { F.is_ready formatters.new }
+    ensures right { F.is_right_for formatters.new key.now }
 {
-    let found = hold(formatters, key, is_held)?;
+    let found = formatters.find(key)?;
     if !found {
         return write_refusal(out, Refusal::Table);
     }

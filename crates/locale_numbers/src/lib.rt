@@ -21,7 +21,6 @@ mod fault;
 mod formatter_key;
 mod formatters;
 mod front;
-mod held;
 pub mod laws;
 mod lenient_line;
 mod lenient_reader;

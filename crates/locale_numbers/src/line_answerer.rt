@@ -30,8 +30,6 @@ pub(crate) struct LineAnswerer<'a, T: Tables> {
     pub kept: CachedFormatters<'a, T>,
     /// The fronts of lines that were read, and what each asks.
     pub read: ReadKeys<Option<Front>>,
-    /// Whether the formatter that was found last is that of the front that came last.
-    pub is_held: bool,
     /// Where numbers are read: the memory of one serves the next.
     pub value: Decimal,
 }
@@ -40,7 +38,7 @@ impl<'a, T: Tables> LineAnswerer<'a, T> {
     // Puts the answer to a line after what `out` holds. `AllocError`: out of memory; a part of it may then be there.
     fn answer_line(&mut self, line: &[u8], out: &mut String) -> Result<(), AllocError>
         requires { IsSoundState (T.book self.old.kept.maker.tables.now) self.old.kept.formatters self.old.read
-            self.old.is_held }
+            self.old.kept.is_held }
         ensures text { OnOk result (string_bytes out.new
             ≡ string_bytes out.old ++ answer_of (T.book self.old.kept.maker.tables.now) line.now) }
         ensures made { OnOk result ((more : List (List ℕ)) →
@@ -50,7 +48,7 @@ impl<'a, T: Tables> LineAnswerer<'a, T> {
             self.new.kept.formatters (map key_of more)) }
         ensures same { T.book self.new.kept.maker.tables.now ≡ T.book self.old.kept.maker.tables.now }
         ensures ready { IsSoundState (T.book self.new.kept.maker.tables.now) self.new.kept.formatters self.new.read
-            self.new.is_held }
+            self.new.kept.is_held }
         ensures err { OnErr result (Grows (string_bytes out.old) (string_bytes out.new)) }
 
         // A request whose front was read lately, whose formatter is kept and whose text takes no memory, after the number
@@ -66,12 +64,12 @@ impl<'a, T: Tables> LineAnswerer<'a, T> {
         let (front, text) = cut_text(line);
         let reader = FrontReader { alloc: self.alloc };
         let same = self.read.find(&reader, front)?;
-        self.is_held &= same;
+        // the formatter of another front has to be looked for
+        self.kept.is_held &= same;
         answer_after_front(
             self.alloc,
             &mut self.value,
             &mut self.kept,
-            &mut self.is_held,
             self.read.latest(),
             text,
             out,
@@ -80,7 +78,8 @@ impl<'a, T: Tables> LineAnswerer<'a, T> {
 }
 
 impl<'a, T: Tables> Answerer for LineAnswerer<'a, T> {
-    ghost is_ready = { λ s. IsSoundState (T.book s.kept.maker.tables.now) s.kept.formatters s.read s.is_held };
+    ghost is_ready = { λ s. IsSoundState (T.book s.kept.maker.tables.now) s.kept.formatters s.read
+        s.kept.is_held };
 
     ghost answer_of = { λ s line. answer_of (T.book s.kept.maker.tables.now) line };
 

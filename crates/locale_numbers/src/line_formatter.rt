@@ -161,7 +161,7 @@ impl<'a, T: Tables> Maker<Hashed<FormatterKey>, LineFormatter<'a>> for Formatter
     }
 }
 
-// One that keeps the formatter that was found last, and no other.
+// One for one line: it keeps the formatter that was found, once there is one.
 #[derive(Drop)]
 pub(crate) struct OneFormatter<'a, T: Tables> {
     /// Where it may allocate.
@@ -172,9 +172,9 @@ pub(crate) struct OneFormatter<'a, T: Tables> {
     pub made: Option<LineFormatter<'a>>,
 }
 
-/// Each is made when it is asked for.
+/// It is made when it is asked for first.
 impl<'a, T: Tables> Formatters<'a> for OneFormatter<'a, T> {
-    ghost use Rattle.std.specs.Prelude.{⊤, MatchOption, refl};
+    ghost use Rattle.std.specs.Prelude.{⊤, IfSome, MatchOption, refl};
     ghost use Rattle.locale_numbers.specs.LineFormatters.{IsMadeFor};
 
     ghost book = { λ s. T.book s.tables.now };
@@ -187,7 +187,12 @@ impl<'a, T: Tables> Formatters<'a> for OneFormatter<'a, T> {
 
     ghost holds = { λ s key. MatchOption s.made ⊥ (λ made. IsMadeFor (T.book s.tables.now) key made) };
 
+    ghost is_right_for = { λ s key. IfSome s.made (λ made. IsMadeFor (T.book s.tables.now) key made) };
+
     fn find(&mut self, key: &Hashed<FormatterKey>) -> Result<bool, AllocError> {
+        if self.made.is_some() {
+            return Ok(true);
+        }
         self.made = formatter_by(self.alloc, self.tables, key.value(), false);
         Ok(self.made.is_some())
     }

@@ -1,6 +1,6 @@
 //! The forms that write a number.
 
-ghost use Rattle.std.specs.Prelude.{◌≡◌, ◌∷◌, ◌++◌, List, Option, Some, IsOk, IsTrue, OnOk, OnErr, string_bytes};
+ghost use Rattle.std.specs.Prelude.{◌≡◌, ◌∷◌, ◌++◌, List, Option, Some, IsOk, OnOk, OnErr, string_bytes};
 ghost use Rattle.locale_numbers_lines.specs.Growth.{Grows};
 ghost use Rattle.locale_numbers.specs.Answer.{answer_to};
 ghost use Rattle.locale_numbers_answers.specs.AnswerSink.{HasRoom};
@@ -13,7 +13,6 @@ ghost use Rattle.locale_numbers.specs.declared.formatter_key.FormatterKey.{Forma
 
 use crate::formatter_key::FormatterKey;
 use crate::formatters::Formatters;
-use crate::held::hold;
 use crate::line_formatter::LineFormatter;
 use fixed_decimal::{Decimal, ParseError};
 use locale_numbers_answers::{
@@ -50,12 +49,11 @@ fn write_answer_of_formatter(
 fn write_answer_of_key<'a, F: Formatters<'a>>(
     formatters: &mut F,
     key: &Hashed<FormatterKey>,
-    is_held: &mut bool,
     value: &mut Decimal,
     out: &mut String,
 ) -> Result<(), AllocError>
     requires ready { F.is_ready formatters.old }
-    requires held { IsTrue is_held.old → F.holds formatters.old key.now }
+    requires right { F.is_right_for formatters.old key.now }
     ensures text { OnOk result (string_bytes out.new
         ≡ string_bytes out.old ++ answer_of_kind key.now.kind key.now.code (F.book formatters.old)
         key.now.preferences key.now.grouping value.old) }
@@ -66,10 +64,10 @@ fn write_answer_of_key<'a, F: Formatters<'a>>(
     ensures counted { OnOk result ((more : List (Option FormatterKey)) →
         F.counted_over formatters.old (Some key.now ∷ more) ≡ F.counted_over formatters.new more) }
     ensures same { F.book formatters.new ≡ F.book formatters.old }
-    ensures held { IsTrue is_held.new → F.holds formatters.new key.now }
     ensures ready { F.is_ready formatters.new }
+    ensures right { F.is_right_for formatters.new key.now }
 {
-    let found = hold(formatters, key, is_held)?;
+    let found = formatters.find(key)?;
     if !found {
         return write_refusal(out, Refusal::Table);
     }
@@ -78,20 +76,18 @@ fn write_answer_of_key<'a, F: Formatters<'a>>(
 
 // Writes the answer to a number's text, with the formatter of a key, after what `out` holds. `value` is read again.
 //
-// `is_held` says whether the formatter that was found last is the one of the key. `AllocError`: out of memory; a part
-// of the answer may then be there.
+// `AllocError`: out of memory; a part of the answer may then be there.
 pub(crate) fn answer_number<'a, F: Formatters<'a>>(
     value: &mut Decimal,
     formatters: &mut F,
     key: &Hashed<FormatterKey>,
-    is_held: &mut bool,
     sign: SignAsked,
     rounding: RoundingAsked,
     text: &[u8],
     out: &mut String,
 ) -> Result<(), AllocError>
     requires ready { F.is_ready formatters.old }
-    requires held { IsTrue is_held.old → F.holds formatters.old key.now }
+    requires right { F.is_right_for formatters.old key.now }
     ensures text { OnOk result (string_bytes out.new
         ≡ string_bytes out.old ++ if_text text.now (answer_to
         (answer_of_kind key.now.kind key.now.code (F.book formatters.old) key.now.preferences key.now.grouping) sign rounding
@@ -110,13 +106,13 @@ pub(crate) fn answer_number<'a, F: Formatters<'a>>(
         F.counted_over formatters.old (key_if_text text.now (key_text key.now (reading_of text.now)) ∷ more)
         ≡ F.counted_over formatters.new more) }
     ensures same { F.book formatters.new ≡ F.book formatters.old }
-    ensures held { IsTrue is_held.new → F.holds formatters.new key.now }
     ensures ready { F.is_ready formatters.new }
+    ensures right { F.is_right_for formatters.new key.now }
 {
     match read_number(value, text) {
         Ok(()) => {
             change(value, rounding, sign)?;
-            write_answer_of_key(formatters, key, is_held, value, out)
+            write_answer_of_key(formatters, key, value, out)
         }
         Err(ParseError::Syntax) => write_refusal_or_shape(out, text, Refusal::Number),
         Err(ParseError::Limit) => write_refusal(out, Refusal::Limit),

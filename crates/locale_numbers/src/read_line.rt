@@ -1,6 +1,6 @@
 //! The form `read`: the number that a text was written from, as an answer.
 
-ghost use Rattle.std.specs.Prelude.{◌≡◌, ◌∷◌, ◌++◌, List, Option, Some, IsOk, IsTrue, OnOk, OnErr, string_bytes};
+ghost use Rattle.std.specs.Prelude.{◌≡◌, ◌∷◌, ◌++◌, List, Option, Some, IsOk, OnOk, OnErr, string_bytes};
 ghost use Rattle.locale_numbers_lines.specs.Growth.{Grows};
 ghost use Rattle.locale_numbers.specs.Answer.{found_in};
 ghost use Rattle.locale_numbers_answers.specs.AnswerSink.{HasRoom};
@@ -10,7 +10,6 @@ ghost use Rattle.locale_numbers.specs.declared.formatter_key.Kind.{Kind};
 
 use crate::formatter_key::FormatterKey;
 use crate::formatters::Formatters;
-use crate::held::hold;
 use crate::line_formatter::LineFormatter;
 use locale_numbers_answers::{write_read_answer, write_refusal};
 use locale_numbers_cache::Hashed;
@@ -19,18 +18,16 @@ use std::alloc::{AllocError, Global};
 
 // Writes the answer to a text that the formatter of a key reads back after what `out` holds.
 //
-// `is_held` says whether the formatter that was found last is the one of the key. `AllocError`: out of memory; a part
-// of the answer may then be there.
+// `AllocError`: out of memory; a part of the answer may then be there.
 pub(crate) fn answer_read<'a, F: Formatters<'a>>(
     alloc: Global,
     formatters: &mut F,
     key: &Hashed<FormatterKey>,
-    is_held: &mut bool,
     text: &str,
     out: &mut String,
 ) -> Result<(), AllocError>
     requires ready { F.is_ready formatters.old }
-    requires held { IsTrue is_held.old → F.holds formatters.old key.now }
+    requires right { F.is_right_for formatters.old key.now }
     requires plain { key.now.kind ≡ Kind.Plain }
     ensures text { OnOk result (string_bytes out.new
         ≡ string_bytes out.old ++ read_with (found_in (F.book formatters.old) key.now.preferences key.now.grouping)
@@ -47,10 +44,10 @@ pub(crate) fn answer_read<'a, F: Formatters<'a>>(
     ensures counted { OnOk result ((more : List (Option FormatterKey)) →
         F.counted_over formatters.old (Some key.now ∷ more) ≡ F.counted_over formatters.new more) }
     ensures same { F.book formatters.new ≡ F.book formatters.old }
-    ensures held { IsTrue is_held.new → F.holds formatters.new key.now }
     ensures ready { F.is_ready formatters.new }
+    ensures right { F.is_right_for formatters.new key.now }
 {
-    let found = hold(formatters, key, is_held)?;
+    let found = formatters.find(key)?;
     if !found {
         return write_refusal(out, Refusal::Table);
     }

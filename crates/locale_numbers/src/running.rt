@@ -88,12 +88,12 @@ pub fn run<T: Tables, R: ByteReader, W: ByteWriter>(
     let kept = CachedFormatters {
         maker: FormatterMaker { alloc, tables },
         formatters,
+        is_held: false,
     };
     let mut answerer = LineAnswerer {
         alloc,
         kept,
         read: ReadKeys::new(alloc)?,
-        is_held: false,
         value: Decimal::zero(alloc),
     };
     run_with(alloc, &mut answerer, reader, writer)

@@ -1,6 +1,6 @@
 //! The forms of numbers with a unit: percents, and amounts of money.
 
-ghost use Rattle.std.specs.Prelude.{◌≡◌, ◌∷◌, ◌++◌, List, Option, Some, IsOk, IsTrue, OnOk, OnErr, string_bytes};
+ghost use Rattle.std.specs.Prelude.{◌≡◌, ◌∷◌, ◌++◌, List, Option, Some, IsOk, OnOk, OnErr, string_bytes};
 ghost use Rattle.locale_numbers_lines.specs.Growth.{Grows};
 ghost use Rattle.locale_numbers_answers.specs.AnswerSink.{HasRoom};
 ghost use Rattle.locale_numbers_answers.specs.Changing.{ReadsMore};
@@ -15,7 +15,6 @@ ghost use Rattle.locale_numbers.specs.declared.formatter_key.FormatterKey.{Forma
 
 use crate::formatter_key::FormatterKey;
 use crate::formatters::Formatters;
-use crate::held::hold;
 use crate::line_formatter::LineFormatter;
 use crate::unit_formatter::UnitFormatter;
 use fixed_decimal::{Decimal, ParseError};
@@ -31,14 +30,13 @@ use std::alloc::{AllocError, Global};
 fn write_unit_of_key<'a, F: Formatters<'a>>(
     formatters: &mut F,
     key: &Hashed<FormatterKey>,
-    is_held: &mut bool,
     value: &mut Decimal,
     sign: SignAsked,
     rounding: RoundingAsked,
     out: &mut String,
 ) -> Result<(), AllocError>
     requires ready { F.is_ready formatters.old }
-    requires held { IsTrue is_held.old → F.holds formatters.old key.now }
+    requires right { F.is_right_for formatters.old key.now }
     requires unit { IsOfUnit key.now.kind }
     ensures text { OnOk result (string_bytes out.new
         ≡ string_bytes out.old ++ unit_with
@@ -53,10 +51,10 @@ fn write_unit_of_key<'a, F: Formatters<'a>>(
     ensures counted { OnOk result ((more : List (Option FormatterKey)) →
         F.counted_over formatters.old (Some key.now ∷ more) ≡ F.counted_over formatters.new more) }
     ensures same { F.book formatters.new ≡ F.book formatters.old }
-    ensures held { IsTrue is_held.new → F.holds formatters.new key.now }
     ensures ready { F.is_ready formatters.new }
+    ensures right { F.is_right_for formatters.new key.now }
 {
-    let found = hold(formatters, key, is_held)?;
+    let found = formatters.find(key)?;
     if !found {
         return write_refusal(out, Refusal::Table);
     }
@@ -74,20 +72,18 @@ fn write_unit_of_key<'a, F: Formatters<'a>>(
 // Writes the answer to a number's text with a unit, with the formatter of a key, after what `out` holds. `value` is
 // read again.
 //
-// `is_held` says whether the formatter that was found last is the one of the key. `AllocError`: out of memory; a part
-// of the answer may then be there.
+// `AllocError`: out of memory; a part of the answer may then be there.
 pub(crate) fn answer_unit<'a, F: Formatters<'a>>(
     value: &mut Decimal,
     formatters: &mut F,
     key: &Hashed<FormatterKey>,
-    is_held: &mut bool,
     sign: SignAsked,
     rounding: RoundingAsked,
     text: &[u8],
     out: &mut String,
 ) -> Result<(), AllocError>
     requires ready { F.is_ready formatters.old }
-    requires held { IsTrue is_held.old → F.holds formatters.old key.now }
+    requires right { F.is_right_for formatters.old key.now }
     requires unit { IsOfUnit key.now.kind }
     ensures text { OnOk result (string_bytes out.new
         ≡ string_bytes out.old ++ if_text text.now (unit_to
@@ -108,11 +104,11 @@ pub(crate) fn answer_unit<'a, F: Formatters<'a>>(
         F.counted_over formatters.old (key_if_text text.now (key_text key.now (reading_of text.now)) ∷ more)
         ≡ F.counted_over formatters.new more) }
     ensures same { F.book formatters.new ≡ F.book formatters.old }
-    ensures held { IsTrue is_held.new → F.holds formatters.new key.now }
     ensures ready { F.is_ready formatters.new }
+    ensures right { F.is_right_for formatters.new key.now }
 {
     match read_number(value, text) {
-        Ok(()) => write_unit_of_key(formatters, key, is_held, value, sign, rounding, out),
+        Ok(()) => write_unit_of_key(formatters, key, value, sign, rounding, out),
         Err(ParseError::Syntax) => write_refusal_or_shape(out, text, Refusal::Number),
         Err(ParseError::Limit) => write_refusal(out, Refusal::Limit),
         Err(ParseError::Memory) => Err(AllocError),
@@ -144,19 +140,17 @@ fn write_read_unit(
 
 // Writes the answer to a text with a unit that the formatter of a key reads back after what `out` holds.
 //
-// `is_held` says whether the formatter that was found last is the one of the key. `AllocError`: out of memory; a part
-// of the answer may then be there.
+// `AllocError`: out of memory; a part of the answer may then be there.
 pub(crate) fn answer_read_unit<'a, F: Formatters<'a>>(
     alloc: Global,
     formatters: &mut F,
     key: &Hashed<FormatterKey>,
-    is_held: &mut bool,
     rounding: RoundingAsked,
     text: &str,
     out: &mut String,
 ) -> Result<(), AllocError>
     requires ready { F.is_ready formatters.old }
-    requires held { IsTrue is_held.old → F.holds formatters.old key.now }
+    requires right { F.is_right_for formatters.old key.now }
     requires unit { IsOfUnit key.now.kind }
     ensures text { OnOk result (string_bytes out.new
         ≡ string_bytes out.old ++ read_unit_with
@@ -165,10 +159,10 @@ pub(crate) fn answer_read_unit<'a, F: Formatters<'a>>(
     ensures counted { OnOk result ((more : List (Option FormatterKey)) →
         F.counted_over formatters.old (Some key.now ∷ more) ≡ F.counted_over formatters.new more) }
     ensures same { F.book formatters.new ≡ F.book formatters.old }
-    ensures held { IsTrue is_held.new → F.holds formatters.new key.now }
     ensures ready { F.is_ready formatters.new }
+    ensures right { F.is_right_for formatters.new key.now }
 {
-    let found = hold(formatters, key, is_held)?;
+    let found = formatters.find(key)?;
     if !found {
         return write_refusal(out, Refusal::Table);
     }

@@ -26,7 +26,7 @@ returns-clause-text g c =
     let key = c.args.key.now in
     let made = c.in-LenientUnits.made in
     let reads = typed_is_made book key c.args.unit made c.requires.unit
-    (subst (λ b. IsMadeFor b key (LenientUnits made)) c.hold.ensures.same (subst (λ kept. IsMadeFor (g.F.Formatters.book c.hold.new.formatters) key kept) c.in-LenientUnits.is c.found.ensures.made)) in
+    (subst (λ b. IsMadeFor b key (LenientUnits made)) c.find.ensures.same (subst (λ kept. IsMadeFor (g.F.Formatters.book c.find.new.self) key kept) c.in-LenientUnits.is c.found.ensures.made)) in
     on_ok_by c.write_lenient_unit.result
     (λ p. p ∙ ap (λ answer. string_bytes c.args.out.now ++ answer)
     (sym (read_in_turn (found_keyed_unit c.args.unit key.code book key.preferences key.grouping) (found_keyed_unit c.args.unit key.code book (in_latin key.preferences) key.grouping)

@@ -1,14 +1,14 @@
 use Rattle.std.proofs.Common.{rules, IfOk, subst}
-use Rattle.std.proofs.lemmas.Bool.{false≢true}
 use Rattle.locale_numbers_lines.specs.Run.{CountsMade}
 use Rattle.locale_numbers.specs.FormatterKeys.{makes_by}
 use Rattle.locale_numbers.specs.Front.{front_of}
 use Rattle.locale_numbers.specs.contracts.formatter_key.FormatterKeyPartialEq.TheImpl as keys
+use Rattle.locale_numbers.proofs.FrontLemmas.{right_of_none}
 use Rattle.locale_numbers.proofs.SameKeyLemmas.{test_is}
 use Rattle.locale_numbers.proofs.running.run.Goals as goal
 
 pub run_with-requires-clause-can_answer : goal.run_with-requires-clause-can_answer
-run_with-requires-clause-can_answer g c = (search rules, c.in_ok-new.ensures.sound front_of, λ held. absurd (false≢true held))
+run_with-requires-clause-can_answer g c = (search rules, c.in_ok-new.ensures.sound front_of, right_of_none _ _ c.in_ok-new.ensures.none)
 
 pub returns-clause-made : goal.returns-clause-made
 returns-clause-made g c =

@@ -25,7 +25,7 @@ returns-clause-room g c = λ room quiet small.
     let found = found_keyed key.kind key.code book key.preferences key.grouping in
     let held = unit_held c.in-Units.made.numbers in
     let writes = unit_is_made book key c.in-Units.made c.requires.unit
-    (subst (λ b. IsMadeFor b key (Units c.in-Units.made)) c.hold.ensures.same (subst (λ kept. IsMadeFor (g.F.Formatters.book c.hold.new.formatters) key kept) c.in-Units.is c.found.ensures.made)) in
+    (subst (λ b. IsMadeFor b key (Units c.in-Units.made)) c.find.ensures.same (subst (λ kept. IsMadeFor (g.F.Formatters.book c.find.new.self) key kept) c.in-Units.is c.found.ensures.made)) in
     c.write_unit_answer.ensures.room
     (subst (λ answer. HasRoom c.args.out.now answer)
     (shown_by found held (settings_of c.parts.result.tables) c.parts.result.digits writes.found c.parts.ensures.settings c.parts.ensures.digits c.args.sign c.args.rounding c.args.value.now) room)

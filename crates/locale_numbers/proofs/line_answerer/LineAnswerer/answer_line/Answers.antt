@@ -10,7 +10,7 @@ use Rattle.locale_numbers.specs.Front.{answer_after, key_after}
 use Rattle.locale_numbers.specs.LineMemory.{IsRemembered}
 use Rattle.locale_numbers.specs.contracts.formatter_key.FormatterKeyPartialEq.TheImpl as keys
 use Rattle.locale_numbers.proofs.AnsweringLemmas.{grows_by_none, on_ok_by, one_of}
-use Rattle.locale_numbers.proofs.FrontLemmas.{answer_of_line, fits_form, key_of_line, still_held}
+use Rattle.locale_numbers.proofs.FrontLemmas.{answer_of_line, fits_form, key_of_line, still_right}
 use Rattle.locale_numbers.proofs.LineMemoryLemmas.{formatter_after, front_is_before, front_of_request, text_after}
 use Rattle.locale_numbers.proofs.line_answerer.LineAnswerer.answer_line.Goals as goal
 
@@ -22,7 +22,7 @@ answer_after_front-requires g c κs =
         c.requires.0,
         (
           fits_form c.latest.result.now c.cut_text.result.0.now (one_of _ _ _ c.latest.ensures c.in_ok-same.ensures.value),
-          still_held (λ key. IsLatest (IsKeptFor book) key c.args.self.now.kept.formatters) c.args.self.now.is_held c.in_ok-same.same c.args.self.now.read c.find.new.self c.latest.result.now
+          still_right (λ key. IsLatest (IsKeptFor book) key c.args.self.now.kept.formatters) c.args.self.now.kept.is_held c.in_ok-same.same c.args.self.now.read c.find.new.self c.latest.result.now
               c.requires.2 c.in_ok-same.ensures.same c.latest.ensures,
         ),
       ),
