@@ -1,5 +1,5 @@
 #!/bin/sh
-# Reads, rounds and prints decimals of up to 65536 digits. Prints what a digit costs, and how that stands to its cost at
+# Reads, rounds and prints decimals of up to 65536 digits. Prints what a digit costs, and how that compares with its cost at
 # 1024 digits: near 100% where the cost is linear. With a commit, it then builds one program over the crates as they are and
 # as they were at that commit, runs the two in turns, and prints the one over the other. It works on copies of the crates,
 # and proves and builds what is not there yet.

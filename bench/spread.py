@@ -3,7 +3,7 @@
 
 usage: bench/spread.py [LINES [BOOK]]
 
-The engine is Debian's package python3-distributed, with two workers of a cluster on this machine. The lines are cut behind
+The engine is Debian's package python3-distributed, with two workers of a cluster on this machine. The lines are cut after
 line feeds into blocks of some 1 MB, and each block is a task of its own. It prints the two times and whether the bytes are the same;
 the status is 1 where they are not.
 """
@@ -30,7 +30,7 @@ def program():
 
 
 def blocks(lines):
-    """The text in pieces that end behind a line feed."""
+    """The text in pieces that end with a line feed."""
     start = 0
     while start < len(lines):
         end = lines.find(b"\n", min(start + BLOCK, len(lines)) - 1) + 1 or len(lines)

@@ -57,14 +57,14 @@ def sizes_of(number):
 
 
 def apart(pair):
-    """The pair with a space between the placeholder and the number where they stand side by side."""
+    """The pair with a space between the placeholder and the number where they are side by side."""
     before, after = pair
     before = before + APART if before.endswith(PLACEHOLDER) else before
     return [before, APART + after if after.startswith(PLACEHOLDER) else after]
 
 
 def short_form(pairs, symbols):
-    """The two texts of a pattern, or six where a sign does not stand around the two as it does in these symbols."""
+    """The two texts of a pattern, or six where a sign is not around the two as it is in these symbols."""
     none, minus, plus = pairs
     around_none = lambda before, after: [before + none[0], none[1] + after]
     is_usual = minus == around_none(*symbols[0:2]) and plus == around_none(*symbols[2:4])

@@ -1,6 +1,6 @@
 """The text of a percent and of an amount of money, and the number that such a text is.
 
-This is a definition: it goes by the tables of a book as look_up.py finds them, by docs/books.md ("Units") and by
+This is a definition: it goes by the tables of a book as look_up.py finds them, by docs/units.md and by
 docs/plain-text.md, and shares nothing with the program or with what makes the tables.
 """
 import re
@@ -173,7 +173,7 @@ def currency_format(book, locale, system, style, code, is_cash=False):
 
 
 def is_readable(form):
-    """Whether each text is that of one number: the digits differ, none stands in an affix or a separator, the decimal
+    """Whether each text is that of one number: the digits differ, none is in an affix or a separator, the decimal
     separator is neither empty nor that of groups, and the three signs have other affixes."""
     pairs, symbols = [*form.affixes.values()], form.symbols
     around = [symbols.decimal, symbols.grouping, *(text for pair in pairs for text in pair)]

@@ -5,7 +5,7 @@ They are the worked examples of docs/requests.md, and each form, rounding and re
 NINES = "9" * 32768
 ZEROS = "0" * 32768
 
-# A request for a plain number under `en`, with what stands behind the grouping.
+# A request for a plain number under `en`, with what is after the grouping.
 ROWS = {
     "a plain number": [("en|plain|auto|keep|-|-987654.321", "ok|-987,654.321")],
     "an unknown system": [("EN-u-NU-wxyz|plain|auto|keep|-|1234", "ok|1,234")],

@@ -53,7 +53,7 @@ class Row(typing.NamedTuple):
 
 
 class Change(typing.NamedTuple):
-    """A line of a program of calls that change a receiver, with its answer and the receiver. Its last read stands before the
+    """A line of a program of calls that change a receiver, with its answer and the receiver. Its last read is before the
     call, which asks for no memory where it is silent."""
 
     name: str
@@ -116,7 +116,7 @@ def is_of_sink(case, ended):
 
 def is_told(case, ended):
     """Whether a row of books and runs says that memory was refused, to the call or to the writer that keeps what is written:
-    `memory` of a book, else the fault and what was written, which is whole answers, or behind a writer's fault a beginning."""
+    `memory` of a book, else the fault and what was written, which is whole answers, or after a writer's fault a beginning."""
     start = case.given.rstrip(b"\n") + b"\t"
     if (ended.status, ended.error) != (0, b"") or not ended.output.startswith(start):
         return False

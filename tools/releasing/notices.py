@@ -91,7 +91,7 @@ def check():
 
 
 def write():
-    """Writes the list anew. Raises a Fault without the kit."""
+    """Writes the list again. Raises a Fault without the kit."""
     if kit_folder() is None:
         raise Fault(f"the command {RT} of the Rattle kit is not on the PATH")
     (TOP / FOLDER / LIST).write_bytes(made()[LIST])
