@@ -1,4 +1,4 @@
--- Columns written behind a handle, by what is known of it and of the options.
+-- Columns written by a handle, by what is known of it and of the options.
 use Rattle.std.proofs.Common.{◌≡◌, ◌≢◌, ℕ, List, Option, Some, None, Result, Ok, Err, IfOk, IfErr, refl, sym, subst, inr}
 use Rattle.fixed_decimal.specs.Number.{Number}
 use Rattle.fixed_decimal.specs.SignedValue.{SignedValue}

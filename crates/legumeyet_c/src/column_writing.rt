@@ -1,4 +1,4 @@
-//! Columns written with what is behind a handle.
+//! Columns written with what a handle has open.
 
 ghost use Rattle.std.specs.Prelude.{◌≡◌, ◌≢◌, Some, None, Err, IfOk, IfErr, refl};
 ghost use Rattle.legumeyet_c_values.specs.Columns.{Given, IsGiven, IsGivenFault, given_in, room};
@@ -11,21 +11,21 @@ ghost use Rattle.legumeyet_c.specs.Kinds.{compact_in, decimal_in, unit_in};
 ghost use Rattle.legumeyet_c.specs.Writing.{IsWritingFault, Writes};
 
 use crate::compact_writing::CompactText;
-use crate::content::{Content, Held};
+use crate::content::{Content, ContentKind};
 use crate::decimal_formatter::DecimalText;
 use crate::handle::Handle;
 use crate::held_units::HeldUnits;
 use crate::lent::SharedHandle;
 use crate::unit_writing;
-use crate::writing::{Form, write_value};
+use crate::writing::{NumberForm, write_value};
 use fixed_decimal::Decimal;
 use legumeyet_c_values::{CallError, Choices, Column, NumberWriter, Options, answer, write_column};
 use std::alloc::Global;
 
 // Tables with what is made of each number.
 #[derive(Drop)]
-struct ChangedWriter<'a, F: Form<Number = Decimal>> {
-    tables: &'a F::Tables,
+struct ChangedWriter<'a, F: NumberForm<Number = Decimal>> {
+    tables: &'a F::Kind,
     choices: Choices,
 }
 
@@ -43,7 +43,7 @@ fn changed(choices: Choices, number: Result<Decimal, CallError>) -> Result<Decim
     }
 }
 
-impl<'a, F: Form<Number = Decimal>> NumberWriter for ChangedWriter<'a, F> {
+impl<'a, F: NumberForm<Number = Decimal>> NumberWriter for ChangedWriter<'a, F> {
     ghost says = { λ w given text. Writes F.says (Some w.tables.now) (Gives (Some w.choices) (IsGiven given)) text };
 
     ghost fails = { λ w given error. IsWritingFault F.fails (Some w.tables.now) (Gives (Some w.choices) (IsGiven given))
@@ -83,9 +83,9 @@ impl<'a> NumberWriter for UnitWriter<'a> {
 }
 
 // Writes a column by tables.
-fn write_changed<F: Form<Number = Decimal>>(
+fn write_changed<F: NumberForm<Number = Decimal>>(
     alloc: Global,
-    tables: &F::Tables,
+    tables: &F::Kind,
     column: Column<'_>,
     options: &Options,
     out: &mut [u8],
@@ -108,7 +108,7 @@ fn write_changed<F: Form<Number = Decimal>>(
 }
 
 // Writes a column with what a content has.
-fn write_held<F: Form<Number = Decimal>>(
+fn write_held<F: NumberForm<Number = Decimal>>(
     alloc: Global,
     content: &Content,
     column: Column<'_>,
@@ -117,10 +117,10 @@ fn write_held<F: Form<Number = Decimal>>(
     ends: &mut [usize],
     count: &mut usize,
 ) -> Result<(), CallError>
-    ensures { IsColumnOf F.says F.fails (F.Tables.held_in (Some content.now)) options.now (given_in column.entry)
+    ensures { IsColumnOf F.says F.fails (F.Kind.open_in (Some content.now)) options.now (given_in column.entry)
         (room out.old ends.old count.old) (room out.new ends.new count.new) result }
 {
-    match F::Tables::held_by(content) {
+    match F::Kind::of_content(content) {
         Some(tables) => write_changed::<F>(alloc, tables, column, options, out, ends, count),
         None => {
             *count = 0;
@@ -129,7 +129,7 @@ fn write_held<F: Form<Number = Decimal>>(
     }
 }
 
-// A kind of formatter, which writes columns.
+// What is written of the numbers of a column.
 pub(crate) trait ColumnForm {
     ghost use Rattle.std.specs.Prelude.{List, Option, Result};
     ghost use Rattle.legumeyet_c_values.specs.Columns.{Given, Room};
@@ -212,7 +212,7 @@ impl ColumnForm for UnitText {
         ends: &mut [usize],
         count: &mut usize,
     ) -> Result<(), CallError> {
-        let Some(units) = HeldUnits::held_by(content) else {
+        let Some(units) = HeldUnits::of_content(content) else {
             *count = 0;
             return Err(CallError::Closed);
         };
@@ -233,7 +233,7 @@ impl ColumnForm for UnitText {
     ghost closed = { λ options numbers before. record { cause = refl; untouched = refl } };
 }
 
-// Writes a column with what is behind a handle, which stays as it is.
+// Writes a column with what a handle has open, which stays as it is.
 fn write_after<F: ColumnForm>(
     alloc: Global,
     handle: &mut Handle,
@@ -256,7 +256,7 @@ fn write_after<F: ColumnForm>(
     written
 }
 
-// Answers a call that writes a column with what is behind a handle, which stays as it is.
+// Answers a call that writes a column with what a handle has open, which stays as it is.
 pub(crate) fn answer_column<F: ColumnForm>(
     alloc: Global,
     handle: &mut Handle,

@@ -13,8 +13,8 @@ returns g c =
     record {
       put = λ given ok err.
           put_by _ _ _ _ _
-          (value_says g.F.Form.says (Some tables) (Gives (Some choices) (IsGiven given)) value (c.changed-value.ensures.value given ok))
-          (value_fault g.F.Form.fails (Some tables) (Gives (Some choices) (IsGiven given)) (IsChangeFault (Some choices) (IsGiven given) (IsGivenFault given)) value
+          (value_says g.F.NumberForm.says (Some tables) (Gives (Some choices) (IsGiven given)) value (c.changed-value.ensures.value given ok))
+          (value_fault g.F.NumberForm.fails (Some tables) (Gives (Some choices) (IsGiven given)) (IsChangeFault (Some choices) (IsGiven given) (IsGivenFault given)) value
           (c.changed-value.ensures.value given ok) (c.changed-value.ensures.fault given ok err))
           c.write_value.ensures;
     }
