@@ -26,7 +26,10 @@ fn prepare(alloc: Global, content: &mut Content)
 {
     match content {
         Content::Decimal(tables) => tables.keep_folds(alloc),
-        Content::Unit(units) => units.keep_reader(alloc),
+        Content::Unit(units) => {
+            units.keep_exact_reader(alloc);
+            units.keep_typed_reader(alloc)
+        }
         Content::Book(_)
         | Content::Kept(_)
         | Content::Compact(_)

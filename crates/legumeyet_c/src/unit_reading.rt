@@ -42,7 +42,7 @@ impl UnitReading for Exact {
     ghost reads = { IsExactUnit };
 
     fn ready(alloc: Global, units: &mut HeldUnits) {
-        units.keep_reader(alloc)
+        units.keep_exact_reader(alloc)
     }
 
     fn read(alloc: Global, units: &HeldUnits, text: &str) -> Result<Decimal, ReadError> {
@@ -56,7 +56,9 @@ pub(crate) struct Lenient;
 impl UnitReading for Lenient {
     ghost reads = { IsTypedUnit };
 
-    fn ready(_alloc: Global, _units: &mut HeldUnits) {}
+    fn ready(alloc: Global, units: &mut HeldUnits) {
+        units.keep_typed_reader(alloc)
+    }
 
     fn read(alloc: Global, units: &HeldUnits, text: &str) -> Result<Decimal, ReadError> {
         units.read_lenient(alloc, text)
