@@ -610,7 +610,8 @@ int32_t legumeyet_unit_formatter_format_parts(legumeyet_unit_formatter *formatte
  * Reads a text back as the one number that the formatter writes so, and writes it as digits: in English with euros `-€1,234.50` as
  * `-1234.50`. How many digits the currency has is not looked at: `€1.5` is 1.5.
  *
- * A formatter puts the affixes of the signs together at the first call, and keeps them so until it is closed.
+ * A formatter of a kept book puts the affixes of the signs together at the first call, and keeps them so until it is closed. Another one,
+ * or one to which memory for that is refused, puts them together for each text.
  *
  * Returns 0; LEGUMEYET_CLOSED; LEGUMEYET_UTF8; LEGUMEYET_UNREADABLE; LEGUMEYET_NOT_WRITTEN, as of `$1.00`; LEGUMEYET_MEMORY of any text;
  * LEGUMEYET_TOO_SMALL.
@@ -625,7 +626,8 @@ int32_t legumeyet_unit_formatter_read(legumeyet_unit_formatter *formatter, const
  * `5` and `-5`; `$5`, `€1,23` and `5 euros` are not.
  *
  * docs/units.md of the repository has the rule. Nothing is dropped or guessed: another unit is none of the formatter's, and a number is
- * grouped wholly or not at all.
+ * grouped wholly or not at all. A formatter of a kept book folds its symbols, affixes and unit at the first call, and keeps them so until
+ * it is closed. Another one, or one to which memory for that is refused, folds them for each text.
  *
  * Returns as legumeyet_unit_formatter_read; LEGUMEYET_UNREADABLE also where two numbers may have one text once the symbols, the affixes
  * and the unit are folded.

@@ -1,32 +1,32 @@
--- Columns written behind a handle, by what is known of it and of the options.
-use Rattle.std.proofs.Common.{◌≡◌, ◌≢◌, ℕ, List, Option, Some, None, Result, Ok, Err, IfOk, IfErr, refl, sym, subst, inr}
+-- Columns written by a handle, by what is known of it and of the options.
+use Rattle.std.proofs.Common.{◌≡◌, ◌≢◌, ℕ, List, Option, Some, None, Result, Err, refl, sym, subst, inl, inr}
 use Rattle.fixed_decimal.specs.Number.{Number}
 use Rattle.fixed_decimal.specs.SignedValue.{SignedValue}
-use Rattle.legumeyet_c_values.specs.Choices.{Changes, IsChangeRefused}
+use Rattle.icu_dimension.specs.UnitText.{UnitSettings}
+use Rattle.icu_dimension.specs.declared.FractionInfo.{FractionInfo}
+use Rattle.legumeyet_c_values.specs.Choices.{IsChangeRefused}
 use Rattle.legumeyet_c_values.specs.Columns.{Given, IsColumn, IsGiven, IsGivenFault, IsWrittenColumn, Room, option_fault, room}
 use Rattle.legumeyet_c_values.specs.Numbers.{Gives, IsChangeFault}
 use Rattle.legumeyet_c_values.specs.declared.CallError.{CallError}
 use Rattle.legumeyet_c_values.specs.declared.CallError.TheVariants.{Closed, TooSmall, UnknownOption}
 use Rattle.legumeyet_c_values.specs.declared.Choices.{Choices}
+use Rattle.legumeyet_c_values.specs.Units.{IsUnitChangeFault, IsUnitRefused, unit_choices_of}
 use Rattle.legumeyet_c_values.specs.declared.Options.{Options}
-use Rattle.legumeyet_c.specs.ColumnWriting.{IsColumnOf}
+use Rattle.legumeyet_c_values.specs.declared.UnitChoices.{UnitChoices}
+use Rattle.legumeyet_c.specs.ColumnWriting.{IsColumnOf, IsUnitColumn}
+use Rattle.legumeyet_c.specs.HeldUnits.{HeldUnit}
+use Rattle.legumeyet_c.specs.UnitWriting.{IsUnitText, SaysUnit}
 use Rattle.legumeyet_c.specs.Writing.{IsWritingFault, Writes}
 
--- ---- a number that is given, changed
-
-pub given_changed : (choices : Choices) (given : Given) (value : SignedValue Number) (outcome : Result (SignedValue Number) CallError) → IsGiven given value
-    → IfOk outcome (λ changed. Changes choices value changed) → IfOk outcome (Gives (Some choices) (IsGiven given))
-given_changed choices given value (Ok changed) is changes = record { given = value; given_is = is; changes = changes }
-given_changed choices given value (Err error) is changes = tt
-
-pub given_refused : (choices : Choices) (given : Given) (value : SignedValue Number) (outcome : Result (SignedValue Number) CallError) → IsGiven given value
-    → IfErr outcome (λ error. IsChangeRefused choices value error) → IfErr outcome (IsChangeFault (Some choices) (IsGiven given) (IsGivenFault given))
-given_refused choices given value (Ok changed) is refused = tt
-given_refused choices given value (Err error) is refused = inr (record { given = value; given_is = is; refused = refused })
+-- ---- not that a text is too long
 
 -- no refusal of a change is that a text is too long
 pub change_refused_other : (choices : Choices) (value : SignedValue Number) (error : CallError) → IsChangeRefused choices value error → error ≢ TooSmall
 change_refused_other choices value error refused = λ same. subst (λ (e : CallError). IsChangeRefused choices value e) same refused
+
+pub unit_refused_other : (fractions : Option FractionInfo) (choices : UnitChoices) (value : SignedValue Number) (error : CallError) → IsUnitRefused fractions choices value error → error ≢ TooSmall
+unit_refused_other fractions choices value error (inl is) = λ same. absurd (cc (is.0, same))
+unit_refused_other fractions choices value error (inr fitted) = change_refused_other choices.choices fitted.fitted error fitted.refused
 
 -- ---- tables
 
@@ -64,3 +64,37 @@ pub column_closed : {T : Type 0} (says : T → SignedValue Number → List ℕ �
     → open_tables ≡ None → IsColumnOf says fails open_tables options numbers (room bytes ends count) (room bytes ends 0) (Err Closed)
 column_closed {T} says fails open_tables options numbers bytes ends count is =
     column_open says fails open_tables None options numbers (room bytes ends count) (room bytes ends 0) (Err Closed) is (record { cause = refl; untouched = refl })
+
+-- ---- units
+
+unit_column_known : (settings : UnitSettings) (fractions : Option FractionInfo) (known : Option UnitChoices) (choices : UnitChoices) (numbers : List Given) (before after : Room)
+    (outcome : Result (Unit {0}) CallError) → known ≡ Some choices
+    → IsWrittenColumn (λ given text. SaysUnit IsUnitText settings fractions (Some choices) (IsGiven given) text)
+    (λ given error. IsUnitChangeFault fractions (Some choices) (IsGiven given) (IsGivenFault given) error) numbers before after outcome
+    → IsColumn (option_fault known) (λ given text. SaysUnit IsUnitText settings fractions known (IsGiven given) text)
+    (λ given error. IsUnitChangeFault fractions known (IsGiven given) (IsGivenFault given) error) numbers before after outcome
+unit_column_known settings fractions known choices numbers before after outcome is written =
+    subst
+    (λ (o : Option UnitChoices). IsColumn (option_fault o) (λ given text. SaysUnit IsUnitText settings fractions o (IsGiven given) text)
+    (λ given error. IsUnitChangeFault fractions o (IsGiven given) (IsGivenFault given) error) numbers before after outcome)
+    (sym is) written
+
+-- by units that are open, and options that are known
+pub unit_column : (open_units : Option HeldUnit) (units : HeldUnit) (settings : UnitSettings) (fractions : Option FractionInfo) (options : Options) (choices : UnitChoices) (numbers : List Given)
+    (before after : Room) (outcome : Result (Unit {0}) CallError)
+    → open_units ≡ Some units → settings ≡ units.settings → fractions ≡ units.fractions → unit_choices_of fractions options ≡ Some choices
+    → IsWrittenColumn (λ given text. SaysUnit IsUnitText settings fractions (Some choices) (IsGiven given) text)
+    (λ given error. IsUnitChangeFault fractions (Some choices) (IsGiven given) (IsGivenFault given) error) numbers before after outcome
+    → IsUnitColumn open_units options numbers before after outcome
+unit_column open_units units settings fractions options choices numbers before after outcome is settings_are fractions_are known written =
+    subst (λ (o : Option HeldUnit). IsUnitColumn o options numbers before after outcome) (sym is)
+    (subst
+    (λ (s : UnitSettings). IsColumn (option_fault (unit_choices_of units.fractions options))
+    (λ given text. SaysUnit IsUnitText s units.fractions (unit_choices_of units.fractions options) (IsGiven given) text)
+    (λ given error. IsUnitChangeFault units.fractions (unit_choices_of units.fractions options) (IsGiven given) (IsGivenFault given) error) numbers before after outcome)
+    settings_are
+    (subst
+    (λ (f : Option FractionInfo). IsColumn (option_fault (unit_choices_of f options)) (λ given text. SaysUnit IsUnitText settings f (unit_choices_of f options) (IsGiven given) text)
+    (λ given error. IsUnitChangeFault f (unit_choices_of f options) (IsGiven given) (IsGivenFault given) error) numbers before after outcome)
+    fractions_are
+    (unit_column_known settings fractions (unit_choices_of fractions options) choices numbers before after outcome known written)))

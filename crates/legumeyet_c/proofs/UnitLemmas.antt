@@ -1,4 +1,4 @@
--- What is written with a unit behind a handle, opened and read, and faults that are not that a text is too long.
+-- What is written with a unit by a handle, opened and read, and faults that are not that a text is too long.
 use Rattle.std.proofs.Common.{◌≡◌, ◌≢◌, ◌↔◌, ℕ, Bool, true, false, List, Option, Some, None, Result, Ok, Err, IfOk, IfErr, IsErrOf, refl, sym, subst, inl, inr}
 use Rattle.fixed_decimal.specs.Number.{Number}
 use Rattle.fixed_decimal.specs.SignedValue.{SignedValue}
@@ -99,7 +99,7 @@ pub unit_read_other : (reads : HeldUnit → List ℕ → PlainReading → Type 0
 unit_read_other reads None text error is = λ same. absurd (cc (is, same))
 unit_read_other reads (Some held) text error caused = λ same. subst (λ (e : CallError). IsUnitUnread reads held text e) same caused
 
--- ---- behind a handle
+-- ---- of a handle
 
 -- what was written by units was written by the handle that has them open
 pub unit_open_put : (open_units units : Option HeldUnit) (options : Options) (number : Result (SignedValue Number) CallError) (before after : List ℕ) (was told : ℕ) (outcome : Result (Unit {0}) CallError)

@@ -1,4 +1,4 @@
--- What is written behind a handle, and faults that are not that a text is too long.
+-- What is written by a handle, and faults that are not that a text is too long.
 use Rattle.std.proofs.Common.{◌≡◌, ◌≢◌, ℕ, List, Option, Some, None, Result, Ok, Err, IfOk, IfErr, refl, sym, subst, inl, inr}
 use Rattle.icu_decimal.specs.PlainReading.{PlainReading}
 use Rattle.icu_decimal.specs.PlainText.{Tables}

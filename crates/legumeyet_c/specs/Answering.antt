@@ -1,4 +1,4 @@
--- What the book behind a handle answers to a request line, or why it answers nothing.
+-- What the book of a handle answers to a request line, or why it answers nothing.
 -- Defined in include/legumeyet.h, and docs/requests.md, "Answer line".
 -- Cited by `legumeyet_book_answer`.
 use Rattle.std.specs.Prelude.{◌≡◌, ℕ, List, Option, Some, None}

@@ -1,4 +1,4 @@
--- What a formatter behind a handle writes for the numbers of a column, each as the call for one number does, and why it writes none.
+-- What the formatter of a handle writes for the numbers of a column, each as the call for one number does, and why it writes none.
 -- Defined in include/legumeyet.h, and docs/c-api.md, "Columns".
 -- Cited by the exports that write columns.
 use Rattle.std.specs.Prelude.{ℕ, List, Option, Result}

@@ -1,4 +1,4 @@
--- What a text is read back as by the formatter behind a handle, or why it is not read.
+-- What a text is read back as by the formatter of a handle, or why it is not read.
 -- Defined in include/legumeyet.h, and docs/reading.md, "Reading" and "Lenient reading".
 -- Cited by `legumeyet_decimal_formatter_read` and `legumeyet_decimal_formatter_read_lenient`.
 use Rattle.std.specs.Prelude.{◌≡◌, ℕ, List, Option, Some, None, IsUtf8}

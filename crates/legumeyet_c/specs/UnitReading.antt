@@ -27,7 +27,7 @@ IsTypedReading texts text (decimal v) = (is_leniently_unit_readable_by texts ≡
 abbrev pub IsTypedUnit : HeldUnit → List ℕ → PlainReading → Type 0
 IsTypedUnit held text reading = IsTypedReading (lenient_texts held.settings held.code) text reading
 
--- ---- by the formatter behind a handle
+-- ---- by the formatter of a handle
 
 -- a text in UTF-8 is read as this by a formatter: as one number, or as none
 pub record HasUnitReading (reads : HeldUnit → List ℕ → PlainReading → Type 0) (held : HeldUnit) (text : List ℕ) (reading : PlainReading) : Type 0 where

@@ -1,4 +1,4 @@
--- What a formatter behind a handle writes for a value, a text or one with its parts, or why it writes nothing.
+-- What the formatter of a handle writes for a value, a text or one with its parts, or why it writes nothing.
 -- Defined in include/legumeyet.h.
 -- Cited by the exports that write numbers; DecimalWriting.antt and CompactWriting.antt have what they say.
 use Rattle.std.specs.Prelude.{◌≡◌, ◌⊎◌, ℕ, ℤ, List, Option, Some, None, Result, Ok, Err}

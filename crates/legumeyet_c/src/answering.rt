@@ -5,7 +5,7 @@ ghost use Rattle.legumeyet_c_values.specs.Putting.{Answers, IsPut};
 ghost use Rattle.legumeyet_c.specs.Answering.{IsAnswerFault, SaysAnswer};
 ghost use Rattle.legumeyet_c.specs.Views.{book_content, book_open};
 
-use crate::content::Held;
+use crate::content::ContentKind;
 use crate::handles::BookHandle;
 use legumeyet_c_values::{CallError, answer, put_bytes};
 use locale_numbers::Book;
@@ -22,7 +22,7 @@ fn answer_of(alloc: Global, book: &Book, line: &[u8]) -> Result<Vec<u8>, CallErr
     }
 }
 
-// The answer of the book behind a handle, which stays as it is.
+// The answer of the book of a handle, which stays as it is.
 fn answer_after(alloc: Global, book: &mut BookHandle, line: &[u8]) -> Result<Vec<u8>, CallError>
     ensures same { book_content book.new ≡ book_content book.old }
     ensures value { IfOk result (λ text. SaysAnswer (book_open book.old) line.now text.items) }
@@ -31,7 +31,7 @@ fn answer_after(alloc: Global, book: &mut BookHandle, line: &[u8]) -> Result<Vec
     let Some(content) = book.handle.take(alloc) else {
         return Err(CallError::Closed);
     };
-    let found = match Book::held_by(&content) {
+    let found = match Book::of_content(&content) {
         Some(held) => answer_of(alloc, held, line),
         None => Err(CallError::Closed),
     };

@@ -1,91 +1,96 @@
-//! Columns written with what is behind a handle.
+//! Columns written with what a handle has.
 
-ghost use Rattle.std.specs.Prelude.{◌≡◌, ◌≢◌, Some, None, Err, IfOk, IfErr, refl};
+ghost use Rattle.std.specs.Prelude.{◌≡◌, Some, None, Err, refl};
+ghost use Rattle.std.proofs.Common.{inl};
 ghost use Rattle.legumeyet_c_values.specs.Columns.{Given, IsGiven, IsGivenFault, given_in, room};
 ghost use Rattle.legumeyet_c_values.specs.Numbers.{Gives, IsChangeFault};
 ghost use Rattle.legumeyet_c_values.specs.Putting.{Answers};
-ghost use Rattle.legumeyet_c.specs.ColumnWriting.{IsColumnOf, IsGivenUnitFault, IsUnitColumn, WritesGivenUnit};
+ghost use Rattle.legumeyet_c_values.specs.Units.{IsUnitChangeFault};
+ghost use Rattle.legumeyet_c.specs.ColumnWriting.{IsColumnOf, IsUnitColumn};
 ghost use Rattle.legumeyet_c.specs.CompactWriting.{IsCompactFault, IsCompactText};
 ghost use Rattle.legumeyet_c.specs.DecimalWriting.{HasNoFault, IsDecimalText};
 ghost use Rattle.legumeyet_c.specs.Kinds.{compact_in, decimal_in, unit_in};
+ghost use Rattle.legumeyet_c.specs.UnitWriting.{IsUnitText, SaysUnit};
 ghost use Rattle.legumeyet_c.specs.Writing.{IsWritingFault, Writes};
 
 use crate::compact_writing::CompactText;
-use crate::content::{Content, Held};
+use crate::content::{Content, ContentKind};
 use crate::decimal_formatter::DecimalText;
 use crate::handle::Handle;
 use crate::held_units::HeldUnits;
 use crate::lent::SharedHandle;
-use crate::unit_writing;
-use crate::writing::{Form, write_value};
+use crate::unit_tables::LentUnitTables;
+use crate::writing::NumberForm;
 use fixed_decimal::Decimal;
-use legumeyet_c_values::{CallError, Choices, Column, NumberWriter, Options, answer, write_column};
+use icu_dimension::FractionInfo;
+use icu_dimension::laws::units::text_law;
+use legumeyet_c_values::{
+    CallError, Choices, Column, NumberWriter, Options, UnitChoices, answer, put, write_column,
+};
 use std::alloc::Global;
 
 // Tables with what is made of each number.
 #[derive(Drop)]
-struct ChangedWriter<'a, F: Form<Number = Decimal>> {
-    tables: &'a F::Tables,
+struct ChangedWriter<'a, F: NumberForm<Number = Decimal>> {
+    tables: &'a F::Kind,
     choices: Choices,
 }
 
-// A number, where there is one, changed.
-fn changed(choices: Choices, number: Result<Decimal, CallError>) -> Result<Decimal, CallError>
-    requires { IfErr number (λ error. error ≢ CallError.TooSmall) }
-    ensures value { (given : Given) → IfOk number (IsGiven given) → IfOk result (Gives (Some choices) (IsGiven given)) }
-    ensures fault { (given : Given) → IfOk number (IsGiven given) → IfErr number (IsGivenFault given)
-        → IfErr result (IsChangeFault (Some choices) (IsGiven given) (IsGivenFault given)) }
-    ensures other { IfErr result (λ error. error ≢ CallError.TooSmall) }
-{
-    match number {
-        Ok(value) => choices.changed(value),
-        Err(error) => Err(error),
-    }
-}
-
-impl<'a, F: Form<Number = Decimal>> NumberWriter for ChangedWriter<'a, F> {
+impl<'a, F: NumberForm<Number = Decimal>> NumberWriter for ChangedWriter<'a, F> {
     ghost says = { λ w given text. Writes F.says (Some w.tables.now) (Gives (Some w.choices) (IsGiven given)) text };
 
     ghost fails = { λ w given error. IsWritingFault F.fails (Some w.tables.now) (Gives (Some w.choices) (IsGiven given))
         (IsChangeFault (Some w.choices) (IsGiven given) (IsGivenFault given)) error };
 
+    ghost faults = { λ w given error fault. inl (inl fault) };
+
     fn write(
         &self,
-        number: Result<Decimal, CallError>,
+        number: &mut Decimal,
         out: &mut [u8],
         length: &mut usize,
     ) -> Result<(), CallError> {
-        let value = changed(self.choices, number);
-        write_value::<F>(self.tables, &value, out, length)
+        match self.choices.change(number) {
+            Ok(()) => F::write(self.tables, number, out, length),
+            Err(error) => Err(error),
+        }
     }
 }
 
-// A content that has a unit, with options.
+// What percents or amounts are written with, with what is made of each number.
 #[derive(Drop)]
 struct UnitWriter<'a> {
-    content: &'a Content,
-    options: &'a Options,
+    lent: LentUnitTables<'a>,
+    fractions: Option<FractionInfo>,
+    choices: UnitChoices,
 }
 
 impl<'a> NumberWriter for UnitWriter<'a> {
-    ghost says = { λ w given text. WritesGivenUnit (unit_in (Some w.content.now)) w.options.now given text };
+    ghost says = { λ w given text. SaysUnit IsUnitText w.lent w.fractions (Some w.choices) (IsGiven given) text };
 
-    ghost fails = { λ w given error. IsGivenUnitFault (unit_in (Some w.content.now)) w.options.now given error };
+    ghost fails = { λ w given error. IsUnitChangeFault w.fractions (Some w.choices) (IsGiven given) (IsGivenFault given)
+        error };
+
+    ghost faults = { λ w given error fault. inl fault };
 
     fn write(
         &self,
-        number: Result<Decimal, CallError>,
+        number: &mut Decimal,
         out: &mut [u8],
         length: &mut usize,
     ) -> Result<(), CallError> {
-        unit_writing::write_held(self.content, number, self.options, out, length)
+        text_law();
+        match self.choices.change(self.fractions, number) {
+            Ok(()) => put(&self.lent.tables().format(number), out, length),
+            Err(error) => Err(error),
+        }
     }
 }
 
 // Writes a column by tables.
-fn write_changed<F: Form<Number = Decimal>>(
+fn write_changed<F: NumberForm<Number = Decimal>>(
     alloc: Global,
-    tables: &F::Tables,
+    tables: &F::Kind,
     column: Column<'_>,
     options: &Options,
     out: &mut [u8],
@@ -108,7 +113,7 @@ fn write_changed<F: Form<Number = Decimal>>(
 }
 
 // Writes a column with what a content has.
-fn write_held<F: Form<Number = Decimal>>(
+fn write_held<F: NumberForm<Number = Decimal>>(
     alloc: Global,
     content: &Content,
     column: Column<'_>,
@@ -117,10 +122,10 @@ fn write_held<F: Form<Number = Decimal>>(
     ends: &mut [usize],
     count: &mut usize,
 ) -> Result<(), CallError>
-    ensures { IsColumnOf F.says F.fails (F.Tables.held_in (Some content.now)) options.now (given_in column.entry)
+    ensures { IsColumnOf F.says F.fails (F.Kind.open_in (Some content.now)) options.now (given_in column.entry)
         (room out.old ends.old count.old) (room out.new ends.new count.new) result }
 {
-    match F::Tables::held_by(content) {
+    match F::Kind::of_content(content) {
         Some(tables) => write_changed::<F>(alloc, tables, column, options, out, ends, count),
         None => {
             *count = 0;
@@ -129,7 +134,7 @@ fn write_held<F: Form<Number = Decimal>>(
     }
 }
 
-// A kind of formatter, which writes columns.
+// What is written of the numbers of a column.
 pub(crate) trait ColumnForm {
     ghost use Rattle.std.specs.Prelude.{List, Option, Result};
     ghost use Rattle.legumeyet_c_values.specs.Columns.{Given, Room};
@@ -212,28 +217,27 @@ impl ColumnForm for UnitText {
         ends: &mut [usize],
         count: &mut usize,
     ) -> Result<(), CallError> {
-        let Some(units) = HeldUnits::held_by(content) else {
+        let Some(units) = HeldUnits::of_content(content) else {
             *count = 0;
             return Err(CallError::Closed);
         };
-        if options.unit_choices(units.fractions()).is_none() {
+        let fractions = units.fractions();
+        let Some(choices) = options.unit_choices(fractions) else {
             *count = 0;
             return Err(CallError::UnknownOption);
-        }
-        write_column(
-            alloc,
-            &UnitWriter { content, options },
-            column,
-            out,
-            ends,
-            count,
-        )
+        };
+        let writer = UnitWriter {
+            lent: units.lent(),
+            fractions,
+            choices,
+        };
+        write_column(alloc, &writer, column, out, ends, count)
     }
 
     ghost closed = { λ options numbers before. record { cause = refl; untouched = refl } };
 }
 
-// Writes a column with what is behind a handle, which stays as it is.
+// Writes a column with what a handle has open, which stays as it is.
 fn write_after<F: ColumnForm>(
     alloc: Global,
     handle: &mut Handle,
@@ -256,7 +260,7 @@ fn write_after<F: ColumnForm>(
     written
 }
 
-// Answers a call that writes a column with what is behind a handle, which stays as it is.
+// Answers a call that writes a column with what a handle has open, which stays as it is.
 pub(crate) fn answer_column<F: ColumnForm>(
     alloc: Global,
     handle: &mut Handle,

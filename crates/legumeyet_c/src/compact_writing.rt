@@ -11,7 +11,7 @@ ghost use Rattle.legumeyet_c.specs.Writing.{IsNumberWritingFault, IsScaledWritin
 
 use crate::compact_tables::HeldCompactTables;
 use crate::handles::CompactHandle;
-use crate::writing::{Form, write_after};
+use crate::writing::{NumberForm, write_after};
 use fixed_decimal::{CompactDecimal, Decimal};
 use icu_decimal::CompactDecimalFormatter;
 use legumeyet_c_values::{
@@ -22,8 +22,8 @@ use std::alloc::{AllocError, Global};
 // The compact text of a number.
 pub(crate) struct CompactText;
 
-impl Form for CompactText {
-    type Tables = HeldCompactTables;
+impl NumberForm for CompactText {
+    type Kind = HeldCompactTables;
 
     type Number = Decimal;
 
@@ -69,8 +69,8 @@ fn shown_by(
 // The value that this text shows.
 pub(crate) struct ShownText;
 
-impl Form for ShownText {
-    type Tables = HeldCompactTables;
+impl NumberForm for ShownText {
+    type Kind = HeldCompactTables;
 
     type Number = Decimal;
 
@@ -98,8 +98,8 @@ impl Form for ShownText {
 // The text of a significand with an exponent.
 pub(crate) struct ExactText;
 
-impl Form for ExactText {
-    type Tables = HeldCompactTables;
+impl NumberForm for ExactText {
+    type Kind = HeldCompactTables;
 
     type Number = CompactDecimal;
 

@@ -29,24 +29,24 @@ pub enum Content {
 }
 
 // What the handles of one kind have open.
-pub(crate) trait Held: Drop {
+pub(crate) trait ContentKind: Drop {
     ghost use Rattle.std.specs.Prelude.{Option};
     ghost use Rattle.legumeyet_c.specs.declared.content.Content.{Content};
 
     // what it has open: nothing where it is closed, or has a content of another kind
-    ghost held_in: { Option Content → Option Self };
+    ghost open_in: { Option Content → Option Self };
 
     /// What a content has, where it is of this kind.
-    fn held_by(content: &Content) -> Option<&Self>
-        ensures { option_map (λ held. held.now) result ≡ held_in (Some content.now) };
+    fn of_content(content: &Content) -> Option<&Self>
+        ensures { option_map (λ held. held.now) result ≡ open_in (Some content.now) };
 
     /// The content that has it.
     fn into_content(self) -> Content
-        ensures held { held_in (Some result) ≡ Some self }
+        ensures held { open_in (Some result) ≡ Some self }
         ensures unkept { is_kept (Some result) ≡ false };
 
     // a closed one has nothing open
-    ghost closed: { held_in None ≡ None };
+    ghost closed: { open_in None ≡ None };
 }
 
 // The book of a content, where it is kept.
@@ -65,10 +65,10 @@ pub(crate) fn kept_in(content: &Content) -> Option<&'static Book>
     }
 }
 
-impl Held for Book {
-    ghost held_in = { book_in };
+impl ContentKind for Book {
+    ghost open_in = { book_in };
 
-    fn held_by(content: &Content) -> Option<&Book> {
+    fn of_content(content: &Content) -> Option<&Book> {
         match content {
             Content::Book(book) => Some(book),
             Content::Kept(book) => Some(*book),
@@ -87,10 +87,10 @@ impl Held for Book {
     ghost closed = { refl };
 }
 
-impl Held for DecimalTables {
-    ghost held_in = { decimal_in };
+impl ContentKind for DecimalTables {
+    ghost open_in = { decimal_in };
 
-    fn held_by(content: &Content) -> Option<&DecimalTables> {
+    fn of_content(content: &Content) -> Option<&DecimalTables> {
         match content {
             Content::Decimal(tables) => Some(tables),
             Content::Book(_)
@@ -109,10 +109,10 @@ impl Held for DecimalTables {
     ghost closed = { refl };
 }
 
-impl Held for HeldCompactTables {
-    ghost held_in = { compact_in };
+impl ContentKind for HeldCompactTables {
+    ghost open_in = { compact_in };
 
-    fn held_by(content: &Content) -> Option<&HeldCompactTables> {
+    fn of_content(content: &Content) -> Option<&HeldCompactTables> {
         match content {
             Content::Compact(tables) => Some(tables),
             Content::Book(_)
@@ -131,10 +131,10 @@ impl Held for HeldCompactTables {
     ghost closed = { refl };
 }
 
-impl Held for HeldUnits {
-    ghost held_in = { unit_in };
+impl ContentKind for HeldUnits {
+    ghost open_in = { unit_in };
 
-    fn held_by(content: &Content) -> Option<&HeldUnits> {
+    fn of_content(content: &Content) -> Option<&HeldUnits> {
         match content {
             Content::Unit(units) => Some(units),
             Content::Book(_)
@@ -153,10 +153,10 @@ impl Held for HeldUnits {
     ghost closed = { refl };
 }
 
-impl Held for HeldAnswers {
-    ghost held_in = { answers_in };
+impl ContentKind for HeldAnswers {
+    ghost open_in = { answers_in };
 
-    fn held_by(content: &Content) -> Option<&HeldAnswers> {
+    fn of_content(content: &Content) -> Option<&HeldAnswers> {
         match content {
             Content::Answers(answers) => Some(answers),
             Content::Book(_)

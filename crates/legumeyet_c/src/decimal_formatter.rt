@@ -13,7 +13,7 @@ ghost use Rattle.legumeyet_c.specs.Writing.{IsNumberWritingFault, IsScaledWritin
 use crate::decimal_tables::DecimalTables;
 use crate::handles::{BookHandle, DecimalHandle};
 use crate::opening::{Found, close, open};
-use crate::writing::{Form, write_after};
+use crate::writing::{NumberForm, write_after};
 use fixed_decimal::Decimal;
 use icu_decimal::options::GroupingStrategy;
 use legumeyet_c_values::{
@@ -56,8 +56,8 @@ impl Found for DecimalTables {
 // The text of a number.
 pub(crate) struct DecimalText;
 
-impl Form for DecimalText {
-    type Tables = DecimalTables;
+impl NumberForm for DecimalText {
+    type Kind = DecimalTables;
 
     type Number = Decimal;
 

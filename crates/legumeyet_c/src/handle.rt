@@ -1,4 +1,4 @@
-//! What is behind each handle of C: a pointer to its content, or nothing.
+//! What each handle of C has open: a pointer to its content, or nothing.
 
 ghost use Rattle.std.specs.Prelude.{◌≡◌, Option, Some, None, option_map, is_some, true};
 ghost use Rattle.legumeyet_c.specs.declared.content.Content.{Content};

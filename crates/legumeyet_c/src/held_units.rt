@@ -1,9 +1,10 @@
 //! What percents and amounts of money are written with: tables of one's own, or those of a book that is kept.
 
-ghost use Rattle.std.specs.Prelude.{◌≡◌, true, IfOk, IfSome, IsErrOf};
+ghost use Rattle.std.specs.Prelude.{◌≡◌, true, codes, IfOk, IfSome, IsErrOf};
 ghost use Rattle.icu_decimal.specs.PlainReading.{decimal, not_written, unreadable};
+ghost use Rattle.icu_dimension.specs.HeldFormatters.{settings_of_currency, settings_of_percent};
 ghost use Rattle.icu_dimension.specs.UnitReading.{IsUnitReading, reader_texts};
-ghost use Rattle.icu_dimension_lenient.specs.LenientUnits.{is_leniently_unit_readable_by};
+ghost use Rattle.icu_dimension_lenient.specs.LenientUnits.{is_leniently_unit_readable_by, lenient_texts};
 ghost use Rattle.legumeyet_c.specs.HeldUnits.{unit_at};
 ghost use Rattle.legumeyet_c.specs.UnitReading.{IsExactUnit, IsTypedReading, IsTypedUnit};
 
@@ -31,9 +32,41 @@ pub(crate) enum UnitPlace {
     OwnCurrency(Box<OwnedUnitTables>, CurrencyCode, FractionInfo),
 }
 
+// The reader of what people type of percents. `None`: out of memory, or texts can't be told apart.
+fn typed_percents(
+    alloc: Global,
+    formatter: &PercentFormatter<'static>,
+) -> Option<LenientUnitReader<'static>>
+    ensures texts { IfSome result (λ reader. reader ≡ lenient_texts (settings_of_percent formatter.now) (codes "%")) }
+    ensures readable { IfSome result (λ reader. is_leniently_unit_readable_by reader ≡ true) }
+{
+    match formatter.lenient_reader(alloc) {
+        Ok(reader) => Some(reader),
+        Err(_) => None,
+    }
+}
+
+// The reader of what people type of amounts of a code, which is that of the formatter.
+fn typed_amounts(
+    alloc: Global,
+    formatter: &CurrencyFormatter<'static>,
+    code: CurrencyCode,
+) -> Option<LenientUnitReader<'static>>
+    ensures texts { IfSome result (λ reader. reader ≡ lenient_texts (settings_of_currency formatter.now) code) }
+    ensures readable { IfSome result (λ reader. is_leniently_unit_readable_by reader ≡ true) }
+{
+    if formatter.code() != code {
+        return None; // for the proof
+    }
+    match formatter.lenient_reader(alloc) {
+        Ok(reader) => Some(reader),
+        Err(_) => None,
+    }
+}
+
 impl UnitPlace {
     // The reader of what is written with it, to be kept. `None`: out of memory, or the tables are its own.
-    fn reader(&self, alloc: Global) -> Option<UnitReader<'static>>
+    fn exact_reader(&self, alloc: Global) -> Option<UnitReader<'static>>
         ensures { IfSome result (λ reader. reader ≡ reader_texts (unit_at self.now).settings) }
     {
         let made = match self {
@@ -46,26 +79,44 @@ impl UnitPlace {
             Err(_) => None,
         }
     }
+
+    // The reader of what people type of it, to be kept. `None`: out of memory, texts can't be told apart, or the tables are
+    // its own.
+    fn typed_reader(&self, alloc: Global) -> Option<LenientUnitReader<'static>>
+        ensures texts { IfSome result
+            (λ reader. reader ≡ lenient_texts (unit_at self.now).settings (unit_at self.now).code) }
+        ensures readable { IfSome result (λ reader. is_leniently_unit_readable_by reader ≡ true) }
+    {
+        match self {
+            UnitPlace::Percent(formatter) => typed_percents(alloc, formatter),
+            UnitPlace::Currency(formatter, code) => typed_amounts(alloc, formatter, *code),
+            UnitPlace::OwnPercent(_) | UnitPlace::OwnCurrency(..) => None,
+        }
+    }
 }
 
-/// What a handle writes numbers with a unit with, and the reader of them, where it is of a kept book, from the first text
-/// on that is read.
+/// What a handle writes numbers with a unit with, and where it is of a kept book the reader of them, and that of what
+/// people type, each from the first text on that is read so.
 #[derive(Drop)]
 pub struct HeldUnits {
     place: UnitPlace,
-    reader: Option<Box<UnitReader<'static>>>,
+    exact: Option<Box<UnitReader<'static>>>,
+    typed: Option<Box<LenientUnitReader<'static>>>,
 }
 
 impl Model for HeldUnits {
-    ghost use Rattle.std.specs.Prelude.{◌≡◌, IfSome};
+    ghost use Rattle.std.specs.Prelude.{◌≡◌, true, IfSome};
     ghost use Rattle.icu_dimension.specs.UnitReading.{reader_texts};
+    ghost use Rattle.icu_dimension_lenient.specs.LenientUnits.{is_leniently_unit_readable_by, lenient_texts};
     ghost use Rattle.legumeyet_c.specs.HeldUnits.{HeldUnit, unit_at};
 
     ghost Value = { HeldUnit };
 
     ghost view = { λ u. unit_at u.place };
 
-    ghost invariant = { λ u. IfSome u.reader (λ reader. reader.value ≡ reader_texts (unit_at u.place).settings) };
+    ghost invariant = { λ u. IfSome u.exact (λ reader. reader.value ≡ reader_texts (unit_at u.place).settings)
+        × IfSome u.typed (λ reader. reader.value ≡ lenient_texts (unit_at u.place).settings (unit_at u.place).code)
+        × IfSome u.typed (λ reader. is_leniently_unit_readable_by reader.value ≡ true) };
 }
 
 // The number whose text this is, by a reader.
@@ -99,7 +150,8 @@ impl HeldUnits {
     {
         HeldUnits {
             place,
-            reader: None,
+            exact: None,
+            typed: None,
         }
     }
 
@@ -138,15 +190,30 @@ impl HeldUnits {
     }
 
     // Puts the affixes of the signs together, unless they are, where they can be kept and memory is not refused.
-    pub(crate) fn keep_reader(&mut self, alloc: Global)
+    pub(crate) fn keep_exact_reader(&mut self, alloc: Global)
         ensures { self.new ≡ self.old }
     {
         let _pattern: Option<&UnitPattern> = None; // for the proof
         let _symbol: Option<&CurrencySymbol> = None; // for the proof
-        if self.reader.is_none() {
-            if let Some(reader) = self.place.reader(alloc) {
+        if self.exact.is_none() {
+            if let Some(reader) = self.place.exact_reader(alloc) {
                 if let Ok(reader) = Box::new(alloc, reader) {
-                    self.reader = Some(reader);
+                    self.exact = Some(reader);
+                }
+            }
+        }
+    }
+
+    // Folds the symbols, the affixes and the unit, unless they are, where they can be kept and memory is not refused.
+    pub(crate) fn keep_typed_reader(&mut self, alloc: Global)
+        ensures { self.new ≡ self.old }
+    {
+        let _pattern: Option<&UnitPattern> = None; // for the proof
+        let _symbol: Option<&CurrencySymbol> = None; // for the proof
+        if self.typed.is_none() {
+            if let Some(reader) = self.place.typed_reader(alloc) {
+                if let Ok(reader) = Box::new(alloc, reader) {
+                    self.typed = Some(reader);
                 }
             }
         }
@@ -158,7 +225,7 @@ impl HeldUnits {
         ensures unreadable { IsErrOf result ReadError.Unreadable → IsExactUnit self.now text.now unreadable }
         ensures not_written { IsErrOf result ReadError.NotWritten → IsExactUnit self.now text.now not_written }
     {
-        if let Some(reader) = &self.reader {
+        if let Some(reader) = &self.exact {
             return read_by(alloc, reader, text);
         }
         let lent = self.lent();
@@ -168,8 +235,8 @@ impl HeldUnits {
         }
     }
 
-    // The number that was typed, with its unit or without.
-    pub(crate) fn read_lenient(&self, alloc: Global, text: &str) -> Result<Decimal, ReadError>
+    // The number that was typed, with its unit or without, by a reader that is made for it.
+    fn read_typed_once(&self, alloc: Global, text: &str) -> Result<Decimal, ReadError>
         ensures value { IfOk result (λ v. IsTypedUnit self.now text.now (decimal v)) }
         ensures unreadable { IsErrOf result ReadError.Unreadable → IsTypedUnit self.now text.now unreadable }
         ensures not_written { IsErrOf result ReadError.NotWritten → IsTypedUnit self.now text.now not_written }
@@ -178,6 +245,18 @@ impl HeldUnits {
         match LenientUnitReader::try_new(alloc, &lent.tables(), self.code()) {
             Ok(reader) => read_typed(alloc, &reader, text),
             Err(error) => Err(error),
+        }
+    }
+
+    // The same by the reader that is kept, where there is one.
+    pub(crate) fn read_lenient(&self, alloc: Global, text: &str) -> Result<Decimal, ReadError>
+        ensures value { IfOk result (λ v. IsTypedUnit self.now text.now (decimal v)) }
+        ensures unreadable { IsErrOf result ReadError.Unreadable → IsTypedUnit self.now text.now unreadable }
+        ensures not_written { IsErrOf result ReadError.NotWritten → IsTypedUnit self.now text.now not_written }
+    {
+        match &self.typed {
+            Some(reader) => read_typed(alloc, reader, text),
+            None => self.read_typed_once(alloc, text),
         }
     }
 }

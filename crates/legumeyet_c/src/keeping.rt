@@ -6,7 +6,7 @@ ghost use Rattle.legumeyet_c.specs.Kinds.{book_in};
 ghost use Rattle.legumeyet_c.specs.Opening.{IsKeeping};
 ghost use Rattle.legumeyet_c.specs.Views.{book_content, book_open};
 
-use crate::content::{Content, Held};
+use crate::content::{Content, ContentKind};
 use crate::handle::Handle;
 use crate::handles::BookHandle;
 use legumeyet_c_values::{CallError, answer};
@@ -30,7 +30,7 @@ fn keep(alloc: Global, content: Box<Content>) -> (Box<Content>, Result<(), CallE
     match Box::new(alloc, Content::Nothing) {
         Ok(mut block) => {
             let leaked: &'static Content = Box::leak(content);
-            let Some(book) = Book::held_by(leaked) else {
+            let Some(book) = Book::of_content(leaked) else {
                 unreachable!()
             };
             drop(Box::replace(&mut block, Content::Kept(book)));
@@ -40,7 +40,7 @@ fn keep(alloc: Global, content: Box<Content>) -> (Box<Content>, Result<(), CallE
     }
 }
 
-// Keeps the book behind a handle.
+// Keeps the book of a handle.
 fn keep_after(alloc: Global, book: &mut Handle) -> Result<(), CallError>
     ensures same { book_in book.new.pointer.value ≡ book_in book.old.pointer.value }
     ensures told { IsKeeping book.old.pointer.value book.new.pointer.value result }

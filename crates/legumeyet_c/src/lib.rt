@@ -1,4 +1,4 @@
-//! The C API: books, formatters and answers behind handles, and texts in bytes of the caller's. `include/legumeyet.h` says what
+//! The C API: books, formatters and answers in handles, and texts in bytes of the caller's. `include/legumeyet.h` says what
 //! each call does. A handle that has something of another kind open is closed to a call: 2, and it stays as it was,
 //! unless the call opens it.
 //!

@@ -8,7 +8,7 @@ ghost use Rattle.legumeyet_c.specs.LineAnswering.{AreAnswered, FindsAnswers, IsA
 ghost use Rattle.legumeyet_c.specs.Opening.{IsClosing, IsOpening};
 ghost use Rattle.legumeyet_c.specs.Views.{answers_content, answers_open, book_content, book_open};
 
-use crate::content::{Content, Held, kept_in};
+use crate::content::{Content, ContentKind, kept_in};
 use crate::handle::Handle;
 use crate::handles::{AnswersHandle, BookHandle};
 use crate::held_answers::HeldAnswers;
@@ -31,7 +31,7 @@ fn answers_of(alloc: Global, book: &'static Book, capacity: usize) -> Result<Hel
     }
 }
 
-// Those of the book behind a handle, where it is kept; the book stays as it is.
+// Those of the book of a handle, where it is kept; the book stays as it is.
 fn answers_after(
     alloc: Global,
     book: &mut Handle,
@@ -46,7 +46,7 @@ fn answers_after(
     let Some(content) = book.take(alloc) else {
         return Err(CallError::Closed);
     };
-    let is_open = Book::held_by(&content).is_some();
+    let is_open = Book::of_content(&content).is_some();
     let found = match kept_in(&content) {
         Some(kept) => answers_of(alloc, kept, capacity),
         None => {
@@ -61,7 +61,7 @@ fn answers_after(
     found
 }
 
-// Opens a handle with those of the book after another one, where it is kept; the book stays as it is.
+// Opens a handle with those of the book of another one, where it is kept; the book stays as it is.
 fn open_answers(
     alloc: Global,
     book: &mut Handle,
@@ -151,8 +151,8 @@ fn answer_held(
     }
 }
 
-// Answers lines with what is behind a handle, which stays as it is.
-fn answer_behind(
+// Answers lines with what a handle has open, which stays as it is.
+fn answer_after(
     alloc: Global,
     handle: &mut Handle,
     lines: &[u8],
@@ -194,5 +194,5 @@ pub extern "C" fn legumeyet_answers_answer(
         (AreAnswered (answers_open answers.old) lines.now (buffers out.old read.old written.old needs.old)
         (buffers out.new read.new written.new needs.new)) result }
 {
-    answer(answer_behind(alloc, &mut answers.handle, lines, out, read, written, needs))
+    answer(answer_after(alloc, &mut answers.handle, lines, out, read, written, needs))
 }

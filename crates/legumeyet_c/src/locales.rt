@@ -6,7 +6,7 @@ ghost use Rattle.legumeyet_c.specs.Kinds.{book_in};
 ghost use Rattle.legumeyet_c.specs.Locales.{IsCounting, IsLocaleFault, SaysLocale};
 ghost use Rattle.legumeyet_c.specs.Views.{book_content, book_open};
 
-use crate::content::{Content, Held};
+use crate::content::{Content, ContentKind};
 use crate::handles::BookHandle;
 use legumeyet_c_values::{CallError, answer, put};
 use locale_numbers::Book;
@@ -16,7 +16,7 @@ use std::alloc::Global;
 fn count_in(content: &Content, count: &mut usize) -> Result<(), CallError>
     ensures { IsCounting (book_in (Some content.now)) count.old count.new result }
 {
-    match Book::held_by(content) {
+    match Book::of_content(content) {
         Some(book) => {
             *count = book.locale_count();
             Ok(())
@@ -35,7 +35,7 @@ fn write_locale(
     ensures { IsPut (SaysLocale (book_in (Some content.now)) index) (IsLocaleFault (book_in (Some content.now)) index)
         out.old out.new length.old length.new result }
 {
-    match Book::held_by(content) {
+    match Book::of_content(content) {
         Some(book) => match book.locale(index) {
             Some(locale) => put(locale, out, length),
             None => Err(CallError::UnknownOption),

@@ -4,14 +4,14 @@ ghost use Rattle.std.specs.Prelude.{◌≡◌, ◌⊎◌, Err, None, IfOk, IfErr
 ghost use Rattle.legumeyet_c.specs.Kinds.{book_in};
 ghost use Rattle.legumeyet_c.specs.Opening.{Finds, IsClosing, IsFindingFault, IsOpening, IsTagFault};
 
-use crate::content::{Held, kept_in};
+use crate::content::{ContentKind, kept_in};
 use crate::handle::Handle;
 use legumeyet_c_values::CallError;
 use locale_numbers::{Book, FormatterError};
 use std::alloc::Global;
 
 // What a book has for a tag: a copy, or what is borrowed of a book that is kept.
-pub(crate) trait Found: Held {
+pub(crate) trait Found: ContentKind {
     ghost use Rattle.std.specs.Prelude.{List, Result, ℕ};
     ghost use Rattle.locale_numbers.specs.Book.{BookTables};
     ghost use Rattle.locale_numbers.specs.declared.FormatterError.{FormatterError};
@@ -77,7 +77,7 @@ fn find_for<T: Found>(
     }
 }
 
-// What the book behind a handle has for a tag, where a choice is known; the book stays as it is.
+// What the book of a handle has for a tag, where a choice is known; the book stays as it is.
 fn find_after<T: Found>(
     alloc: Global,
     book: &mut Handle,
@@ -92,7 +92,7 @@ fn find_after<T: Found>(
     let Some(content) = book.take(alloc) else {
         return Err(CallError::Closed);
     };
-    let found = match (Book::held_by(&content), choice) {
+    let found = match (Book::of_content(&content), choice) {
         (Some(held), Some(choice)) => { find_for::<T>(alloc, held, kept_in(&content), choice, tag) }
         (Some(_), None) => Err(CallError::UnknownOption),
         (None, _) => Err(CallError::Closed),
@@ -101,15 +101,15 @@ fn find_after<T: Found>(
     found
 }
 
-// Puts a content behind a handle, and closes what it had open, of whatever kind. The error that is given: out of
+// Puts a content into a handle, and closes what it had open, of whatever kind. The error that is given: out of
 // memory.
-pub(crate) fn put_after<T: Held>(
+pub(crate) fn put_after<T: ContentKind>(
     alloc: Global,
     handle: &mut Handle,
     held: T,
     fault: CallError,
 ) -> Result<(), CallError>
-    ensures { IsOpening T.held_in (λ opened. opened ≡ held) (λ error. error ≡ fault) handle.old.pointer.value
+    ensures { IsOpening T.open_in (λ opened. opened ≡ held) (λ error. error ≡ fault) handle.old.pointer.value
         handle.new.pointer.value result }
 {
     match Box::new(alloc, held.into_content()) {
@@ -121,7 +121,7 @@ pub(crate) fn put_after<T: Held>(
     }
 }
 
-// Opens a handle with what the book after another one has for a tag, where a choice is known; the book stays as it
+// Opens a handle with what the book of another one has for a tag, where a choice is known; the book stays as it
 // is.
 pub(crate) fn open<T: Found>(
     alloc: Global,
@@ -131,7 +131,7 @@ pub(crate) fn open<T: Found>(
     handle: &mut Handle,
 ) -> Result<(), CallError>
     ensures same { book.new.pointer.value ≡ book.old.pointer.value }
-    ensures told { IsOpening T.held_in (Finds T.finds (book_in book.old.pointer.value) choice tag.now)
+    ensures told { IsOpening T.open_in (Finds T.finds (book_in book.old.pointer.value) choice tag.now)
         (IsFindingFault T.found (book_in book.old.pointer.value) choice tag.now) handle.old.pointer.value
         handle.new.pointer.value result }
 {
@@ -142,16 +142,16 @@ pub(crate) fn open<T: Found>(
 }
 
 // Closes a handle. `Closed`: it was closed already, or has a content of another kind, which it keeps.
-pub(crate) fn close<T: Held>(alloc: Global, handle: &mut Handle) -> Result<(), CallError>
-    ensures closed { T.held_in handle.new.pointer.value ≡ None }
-    ensures gone { IsSome (T.held_in handle.old.pointer.value) → handle.new.pointer.value ≡ None }
-    ensures told { IsClosing (T.held_in handle.old.pointer.value) result }
-    ensures same { T.held_in handle.old.pointer.value ≡ None → handle.new.pointer.value ≡ handle.old.pointer.value }
+pub(crate) fn close<T: ContentKind>(alloc: Global, handle: &mut Handle) -> Result<(), CallError>
+    ensures closed { T.open_in handle.new.pointer.value ≡ None }
+    ensures gone { IsSome (T.open_in handle.old.pointer.value) → handle.new.pointer.value ≡ None }
+    ensures told { IsClosing (T.open_in handle.old.pointer.value) result }
+    ensures same { T.open_in handle.old.pointer.value ≡ None → handle.new.pointer.value ≡ handle.old.pointer.value }
 {
     let Some(content) = handle.take(alloc) else {
         return Err(CallError::Closed);
     };
-    if T::held_by(&content).is_none() {
+    if T::of_content(&content).is_none() {
         handle.put(alloc, content);
         return Err(CallError::Closed);
     }

@@ -7,7 +7,7 @@ ghost use Rattle.legumeyet_c.specs.DecimalWriting.{IsDecimalAnnotated, WantsMemo
 ghost use Rattle.legumeyet_c.specs.Views.{decimal_content, decimal_open};
 ghost use Rattle.legumeyet_c.specs.Writing.{IsNumberWritingFault, IsValueFault, WritesNumber, WritesValue};
 
-use crate::content::{Content, Held};
+use crate::content::{Content, ContentKind};
 use crate::decimal_tables::DecimalTables;
 use crate::handle::Handle;
 use crate::handles::DecimalHandle;
@@ -18,7 +18,7 @@ use std::alloc::Global;
 use writeable::{PartsSink, Writeable};
 
 // Tables whose texts of numbers have parts.
-pub(crate) trait Annotates: Held {
+pub(crate) trait Annotates: ContentKind {
     ghost use Rattle.legumeyet_c_values.specs.declared.CallError.{CallError};
     ghost use Rattle.fixed_decimal.specs.Number.{Number};
     ghost use Rattle.fixed_decimal.specs.SignedValue.{SignedValue};
@@ -66,17 +66,17 @@ pub(crate) fn annotated_in<T: Annotates>(
     number: &Result<Decimal, CallError>,
 ) -> Result<PartsSink, CallError>
     ensures value { IfOk result
-        (λ sink. WritesValue T.says (T.held_in (Some content.now)) number.now (held_text sink)) }
-    ensures fault { IfErr result (λ error. IsValueFault T.fails (T.held_in (Some content.now)) number.now error) }
+        (λ sink. WritesValue T.says (T.open_in (Some content.now)) number.now (held_text sink)) }
+    ensures fault { IfErr result (λ error. IsValueFault T.fails (T.open_in (Some content.now)) number.now error) }
 {
-    match (T::held_by(content), number) {
+    match (T::of_content(content), number) {
         (Some(tables), Ok(value)) => tables.annotated(alloc, value),
         (Some(_), Err(error)) => Err(*error),
         (None, _) => Err(CallError::Closed),
     }
 }
 
-// The text, with its parts, of a number, where there is one, with what is behind a handle, which stays as it is.
+// The text, with its parts, of a number, where there is one, with what a handle has open, which stays as it is.
 fn annotated_after<T: Annotates>(
     alloc: Global,
     handle: &mut Handle,
@@ -84,8 +84,8 @@ fn annotated_after<T: Annotates>(
 ) -> Result<PartsSink, CallError>
     ensures same { handle.new.pointer.value ≡ handle.old.pointer.value }
     ensures value { IfOk result
-        (λ sink. WritesValue T.says (T.held_in handle.old.pointer.value) number.now (held_text sink)) }
-    ensures fault { IfErr result (λ error. IsValueFault T.fails (T.held_in handle.old.pointer.value) number.now error) }
+        (λ sink. WritesValue T.says (T.open_in handle.old.pointer.value) number.now (held_text sink)) }
+    ensures fault { IfErr result (λ error. IsValueFault T.fails (T.open_in handle.old.pointer.value) number.now error) }
 {
     let Some(content) = handle.take(alloc) else {
         return Err(CallError::Closed);
@@ -95,7 +95,7 @@ fn annotated_after<T: Annotates>(
     found
 }
 
-// Writes a number, where there is one, and its parts, with what is behind a handle, which stays as it is.
+// Writes a number, where there is one, and its parts, with what a handle has open, which stays as it is.
 pub(crate) fn write_parts<T: Annotates>(
     alloc: Global,
     handle: &mut Handle,
@@ -107,8 +107,8 @@ pub(crate) fn write_parts<T: Annotates>(
 ) -> Result<(), CallError>
     requires { IfErr number.now (λ error. error ≢ CallError.TooSmall) }
     ensures same { handle.new.pointer.value ≡ handle.old.pointer.value }
-    ensures told { IsPutInParts (WritesValue T.says (T.held_in handle.old.pointer.value) number.now)
-        (IsValueFault T.fails (T.held_in handle.old.pointer.value) number.now)
+    ensures told { IsPutInParts (WritesValue T.says (T.open_in handle.old.pointer.value) number.now)
+        (IsValueFault T.fails (T.open_in handle.old.pointer.value) number.now)
         (given out.old length.old intervals.old count.old) (given out.new length.new intervals.new count.new) result }
 {
     match annotated_after::<T>(alloc, handle, number) {

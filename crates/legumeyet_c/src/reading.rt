@@ -18,7 +18,7 @@ use legumeyet_c_values::{CallError, answer, put};
 use std::alloc::Global;
 
 // How a text is read. A type that holds nothing stands for it.
-pub(crate) trait Reader {
+pub(crate) trait DecimalReading {
     ghost use Rattle.std.specs.Prelude.{List, ℕ};
     ghost use Rattle.icu_decimal.specs.PlainReading.{PlainReading};
     ghost use Rattle.icu_decimal.specs.PlainText.{Tables};
@@ -42,7 +42,7 @@ pub(crate) trait Reader {
 // As the formatter writes numbers.
 pub(crate) struct Exact;
 
-impl Reader for Exact {
+impl DecimalReading for Exact {
     ghost reading = { plain_reading };
 
     ghost allocates = { HasManyDigits };
@@ -57,7 +57,7 @@ impl Reader for Exact {
 // As people type them.
 pub(crate) struct Lenient;
 
-impl Reader for Lenient {
+impl DecimalReading for Lenient {
     ghost reading = { lenient_reading };
 
     ghost allocates = { MayAllocate };
@@ -72,7 +72,7 @@ impl Reader for Lenient {
 }
 
 // The number that is written so with tables.
-pub(crate) fn read_with<R: Reader>(
+pub(crate) fn read_with<R: DecimalReading>(
     alloc: Global,
     tables: &DecimalTables,
     text: &[u8],
@@ -92,7 +92,7 @@ pub(crate) fn read_with<R: Reader>(
 }
 
 // The number that is written so with what a content has.
-fn read_content<R: Reader>(
+fn read_content<R: DecimalReading>(
     alloc: Global,
     content: &mut Content,
     text: &[u8],
@@ -116,8 +116,8 @@ fn read_content<R: Reader>(
     }
 }
 
-// The number that the formatter behind a handle writes so; the handle stays as it is.
-fn read_behind<R: Reader>(
+// The number that the formatter of a handle writes so; the handle stays as it is.
+fn read_after<R: DecimalReading>(
     alloc: Global,
     formatter: &mut DecimalHandle,
     text: &[u8],
@@ -155,7 +155,7 @@ pub extern "C" fn legumeyet_decimal_formatter_read(
         (IsReadFault plain_reading HasManyDigits (decimal_open formatter.old) text.now) out.old out.new length.old
         length.new) result }
 {
-    match read_behind::<Exact>(alloc, formatter, text) {
+    match read_after::<Exact>(alloc, formatter, text) {
         Ok(value) => answer(put(&value, out, length)),
         Err(error) => error.number(),
     }
@@ -180,7 +180,7 @@ pub extern "C" fn legumeyet_decimal_formatter_read_lenient(
         (IsReadFault lenient_reading MayAllocate (decimal_open formatter.old) text.now) out.old out.new length.old
         length.new) result }
 {
-    match read_behind::<Lenient>(alloc, formatter, text) {
+    match read_after::<Lenient>(alloc, formatter, text) {
         Ok(value) => answer(put(&value, out, length)),
         Err(error) => error.number(),
     }

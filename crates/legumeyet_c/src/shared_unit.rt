@@ -19,7 +19,7 @@ use crate::lent::SharedHandle;
 use crate::shared_handles::SharedUnitHandle;
 use crate::sharing::{close_shared, share};
 use crate::unit_parts::annotated_held;
-use crate::unit_reading::{Exact, Lenient, Reading, read_held};
+use crate::unit_reading::{Exact, Lenient, UnitReading, read_held};
 use crate::unit_writing::write_held;
 use fixed_decimal::Decimal;
 use legumeyet_c_values::{
@@ -70,7 +70,7 @@ fn annotated_shared(
 }
 
 // The number that a text with its unit is read as.
-fn read_shared<R: Reading>(
+fn read_shared<R: UnitReading>(
     alloc: Global,
     shared: &SharedHandle,
     text: &[u8],

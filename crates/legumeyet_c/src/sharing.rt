@@ -8,13 +8,13 @@ ghost use Rattle.legumeyet_c.specs.Opening.{IsClosing};
 ghost use Rattle.legumeyet_c.specs.Reading.{IsReadFault, ReadsBack};
 ghost use Rattle.legumeyet_c.specs.Writing.{IsValueFault, WritesValue};
 
-use crate::content::{Content, Held};
+use crate::content::{Content, ContentKind};
 use crate::decimal_tables::DecimalTables;
 use crate::handle::Handle;
 use crate::lent::SharedHandle;
 use crate::parts::{Annotates, annotated_in};
-use crate::reading::{Reader, read_with};
-use crate::writing::{Form, write_held};
+use crate::reading::{DecimalReading, read_with};
+use crate::writing::{NumberForm, write_held};
 use fixed_decimal::Decimal;
 use legumeyet_c_values::{CallError, Interval, put_parts};
 use std::alloc::Global;
@@ -26,7 +26,10 @@ fn prepare(alloc: Global, content: &mut Content)
 {
     match content {
         Content::Decimal(tables) => tables.keep_folds(alloc),
-        Content::Unit(units) => units.keep_reader(alloc),
+        Content::Unit(units) => {
+            units.keep_exact_reader(alloc);
+            units.keep_typed_reader(alloc)
+        }
         Content::Book(_)
         | Content::Kept(_)
         | Content::Compact(_)
@@ -37,21 +40,21 @@ fn prepare(alloc: Global, content: &mut Content)
 
 // Shares what a handle has open, and leaves the handle closed. `Closed`: it was closed already, or has a content of
 // another kind, which it keeps.
-pub(crate) fn share<T: Held>(
+pub(crate) fn share<T: ContentKind>(
     alloc: Global,
     handle: &mut Handle,
     shared: &mut SharedHandle,
 ) -> Result<(), CallError>
-    ensures value { IsSome (T.held_in handle.old.pointer.value) → shared.new.lent.value ≡ handle.old.pointer.value }
-    ensures gone { IsSome (T.held_in handle.old.pointer.value) → handle.new.pointer.value ≡ None }
-    ensures told { IsClosing (T.held_in handle.old.pointer.value) result }
-    ensures same { T.held_in handle.old.pointer.value ≡ None → handle.new.pointer.value ≡ handle.old.pointer.value }
-    ensures unshared { T.held_in handle.old.pointer.value ≡ None → shared.new.lent.value ≡ shared.old.lent.value }
+    ensures value { IsSome (T.open_in handle.old.pointer.value) → shared.new.lent.value ≡ handle.old.pointer.value }
+    ensures gone { IsSome (T.open_in handle.old.pointer.value) → handle.new.pointer.value ≡ None }
+    ensures told { IsClosing (T.open_in handle.old.pointer.value) result }
+    ensures same { T.open_in handle.old.pointer.value ≡ None → handle.new.pointer.value ≡ handle.old.pointer.value }
+    ensures unshared { T.open_in handle.old.pointer.value ≡ None → shared.new.lent.value ≡ shared.old.lent.value }
 {
     let Some(mut content) = handle.take(alloc) else {
         return Err(CallError::Closed);
     };
-    if T::held_by(&content).is_none() {
+    if T::of_content(&content).is_none() {
         handle.put(alloc, content);
         return Err(CallError::Closed);
     }
@@ -62,14 +65,14 @@ pub(crate) fn share<T: Held>(
 
 // Closes a shared handle; what it had stays. `Closed`: it was closed already, or has a content of another kind, which
 // it keeps.
-pub(crate) fn close_shared<T: Held>(shared: &mut SharedHandle) -> Result<(), CallError>
-    ensures closed { T.held_in shared.new.lent.value ≡ None }
-    ensures gone { IsSome (T.held_in shared.old.lent.value) → shared.new.lent.value ≡ None }
-    ensures told { IsClosing (T.held_in shared.old.lent.value) result }
-    ensures same { T.held_in shared.old.lent.value ≡ None → shared.new.lent.value ≡ shared.old.lent.value }
+pub(crate) fn close_shared<T: ContentKind>(shared: &mut SharedHandle) -> Result<(), CallError>
+    ensures closed { T.open_in shared.new.lent.value ≡ None }
+    ensures gone { IsSome (T.open_in shared.old.lent.value) → shared.new.lent.value ≡ None }
+    ensures told { IsClosing (T.open_in shared.old.lent.value) result }
+    ensures same { T.open_in shared.old.lent.value ≡ None → shared.new.lent.value ≡ shared.old.lent.value }
 {
     let is_open = match shared.content() {
-        Some(content) => T::held_by(content).is_some(),
+        Some(content) => T::of_content(content).is_some(),
         None => false,
     };
     if !is_open {
@@ -80,15 +83,15 @@ pub(crate) fn close_shared<T: Held>(shared: &mut SharedHandle) -> Result<(), Cal
 }
 
 // Writes a number, where there is one, with what is shared.
-pub(crate) fn write_shared<F: Form>(
+pub(crate) fn write_shared<F: NumberForm>(
     shared: &SharedHandle,
     number: &Result<F::Number, CallError>,
     out: &mut [u8],
     length: &mut usize,
 ) -> Result<(), CallError>
     requires { IfErr number.now (λ error. error ≢ CallError.TooSmall) }
-    ensures { IsPut (WritesValue F.says (F.Tables.held_in shared.now.lent.value) number.now)
-        (IsValueFault F.fails (F.Tables.held_in shared.now.lent.value) number.now) out.old out.new length.old length.new
+    ensures { IsPut (WritesValue F.says (F.Kind.open_in shared.now.lent.value) number.now)
+        (IsValueFault F.fails (F.Kind.open_in shared.now.lent.value) number.now) out.old out.new length.old length.new
         result }
 {
     match shared.content() {
@@ -104,8 +107,8 @@ fn annotated_shared<T: Annotates>(
     number: &Result<Decimal, CallError>,
 ) -> Result<PartsSink, CallError>
     ensures value { IfOk result
-        (λ sink. WritesValue T.says (T.held_in shared.now.lent.value) number.now (held_text sink)) }
-    ensures fault { IfErr result (λ error. IsValueFault T.fails (T.held_in shared.now.lent.value) number.now error) }
+        (λ sink. WritesValue T.says (T.open_in shared.now.lent.value) number.now (held_text sink)) }
+    ensures fault { IfErr result (λ error. IsValueFault T.fails (T.open_in shared.now.lent.value) number.now error) }
 {
     match shared.content() {
         Some(content) => annotated_in::<T>(alloc, content, number),
@@ -124,8 +127,8 @@ pub(crate) fn write_shared_parts<T: Annotates>(
     count: &mut usize,
 ) -> Result<(), CallError>
     requires { IfErr number.now (λ error. error ≢ CallError.TooSmall) }
-    ensures { IsPutInParts (WritesValue T.says (T.held_in shared.now.lent.value) number.now)
-        (IsValueFault T.fails (T.held_in shared.now.lent.value) number.now)
+    ensures { IsPutInParts (WritesValue T.says (T.open_in shared.now.lent.value) number.now)
+        (IsValueFault T.fails (T.open_in shared.now.lent.value) number.now)
         (given out.old length.old intervals.old count.old) (given out.new length.new intervals.new count.new) result }
 {
     match annotated_shared::<T>(alloc, shared, number) {
@@ -135,7 +138,7 @@ pub(crate) fn write_shared_parts<T: Annotates>(
 }
 
 // The number that the formatter that is shared writes so, or that was typed so.
-pub(crate) fn read_shared<R: Reader>(
+pub(crate) fn read_shared<R: DecimalReading>(
     alloc: Global,
     shared: &SharedHandle,
     text: &[u8],
@@ -147,7 +150,7 @@ pub(crate) fn read_shared<R: Reader>(
     let Some(content) = shared.content() else {
         return Err(CallError::Closed);
     };
-    match DecimalTables::held_by(content) {
+    match DecimalTables::of_content(content) {
         Some(tables) => read_with::<R>(alloc, tables, text),
         None => Err(CallError::Closed),
     }

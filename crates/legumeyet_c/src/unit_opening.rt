@@ -5,7 +5,7 @@ ghost use Rattle.legumeyet_c.specs.Kinds.{book_in, unit_in};
 ghost use Rattle.legumeyet_c.specs.Opening.{IsOpening, IsTagFault};
 ghost use Rattle.legumeyet_c.specs.UnitOpening.{FindsUnit, IsUnitFindingFault};
 
-use crate::content::{Held, kept_in};
+use crate::content::{ContentKind, kept_in};
 use crate::handle::Handle;
 use crate::held_units::HeldUnits;
 use crate::opening::put_after;
@@ -70,7 +70,7 @@ fn find_for<A: AskedUnit>(
     }
 }
 
-// What the book behind a handle has; the book stays as it is.
+// What the book of a handle has; the book stays as it is.
 fn find_after<A: AskedUnit>(
     alloc: Global,
     book: &mut Handle,
@@ -85,7 +85,7 @@ fn find_after<A: AskedUnit>(
     let Some(content) = book.take(alloc) else {
         return Err(CallError::Closed);
     };
-    let found = match (Book::held_by(&content), asked) {
+    let found = match (Book::of_content(&content), asked) {
         (Some(held), Ok(asked)) => { find_for::<A>(alloc, held, kept_in(&content), asked, tag) }
         (Some(_), Err(error)) => Err(error),
         (None, _) => Err(CallError::Closed),
@@ -94,7 +94,7 @@ fn find_after<A: AskedUnit>(
     found
 }
 
-// Opens a handle with what the book after another one has; the book stays as it is.
+// Opens a handle with what the book of another one has; the book stays as it is.
 pub(crate) fn open_unit<A: AskedUnit>(
     alloc: Global,
     book: &mut Handle,

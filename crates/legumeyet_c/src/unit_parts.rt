@@ -9,7 +9,7 @@ ghost use Rattle.legumeyet_c.specs.Kinds.{unit_in};
 ghost use Rattle.legumeyet_c.specs.UnitWriting.{IsUnitAnnotated, IsUnitPartsFault, WritesUnit};
 ghost use Rattle.legumeyet_c.specs.Views.{unit_content, unit_open};
 
-use crate::content::{Content, Held};
+use crate::content::{Content, ContentKind};
 use crate::handle::Handle;
 use crate::handles::UnitHandle;
 use crate::held_units::HeldUnits;
@@ -67,13 +67,13 @@ pub(crate) fn annotated_held(
         (λ error. IsUnitPartsFault (unit_in (Some content.now)) options.now (λ given. number ≡ Ok given)
         (λ fault. number ≡ Err fault) error) }
 {
-    match HeldUnits::held_by(content) {
+    match HeldUnits::of_content(content) {
         Some(units) => annotated(alloc, units, number, options),
         None => Err(CallError::Closed),
     }
 }
 
-// The same with what is behind a handle, which stays as it is.
+// The same with what a handle has open, which stays as it is.
 fn annotated_after(
     alloc: Global,
     handle: &mut Handle,

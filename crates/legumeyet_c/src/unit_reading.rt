@@ -7,7 +7,7 @@ ghost use Rattle.legumeyet_c.specs.Kinds.{unit_in};
 ghost use Rattle.legumeyet_c.specs.UnitReading.{HasUnitReading, IsExactUnit, IsTypedUnit, IsUnitReadFault, IsUnitUnread, ReadsUnit, SaysUnitRead};
 ghost use Rattle.legumeyet_c.specs.Views.{unit_content, unit_open};
 
-use crate::content::{Content, Held};
+use crate::content::{Content, ContentKind};
 use crate::handles::UnitHandle;
 use crate::held_units::HeldUnits;
 use fixed_decimal::Decimal;
@@ -16,7 +16,7 @@ use legumeyet_c_values::{CallError, answer, put};
 use std::alloc::Global;
 
 // How a text with a unit is read. A type that holds nothing stands for it.
-pub(crate) trait Reading {
+pub(crate) trait UnitReading {
     ghost use Rattle.std.specs.Prelude.{List, ℕ};
     ghost use Rattle.icu_decimal.specs.PlainReading.{PlainReading};
     ghost use Rattle.legumeyet_c.specs.HeldUnits.{HeldUnit};
@@ -38,11 +38,11 @@ pub(crate) trait Reading {
 // As the formatter writes numbers.
 pub(crate) struct Exact;
 
-impl Reading for Exact {
+impl UnitReading for Exact {
     ghost reads = { IsExactUnit };
 
     fn ready(alloc: Global, units: &mut HeldUnits) {
-        units.keep_reader(alloc)
+        units.keep_exact_reader(alloc)
     }
 
     fn read(alloc: Global, units: &HeldUnits, text: &str) -> Result<Decimal, ReadError> {
@@ -53,10 +53,12 @@ impl Reading for Exact {
 // As people type them.
 pub(crate) struct Lenient;
 
-impl Reading for Lenient {
+impl UnitReading for Lenient {
     ghost reads = { IsTypedUnit };
 
-    fn ready(_alloc: Global, _units: &mut HeldUnits) {}
+    fn ready(alloc: Global, units: &mut HeldUnits) {
+        units.keep_typed_reader(alloc)
+    }
 
     fn read(alloc: Global, units: &HeldUnits, text: &str) -> Result<Decimal, ReadError> {
         units.read_lenient(alloc, text)
@@ -64,7 +66,7 @@ impl Reading for Lenient {
 }
 
 // The number that a text is read as.
-fn read_with<R: Reading>(
+fn read_with<R: UnitReading>(
     alloc: Global,
     units: &HeldUnits,
     text: &[u8],
@@ -84,7 +86,7 @@ fn read_with<R: Reading>(
 }
 
 // The same with what a content has.
-pub(crate) fn read_held<R: Reading>(
+pub(crate) fn read_held<R: UnitReading>(
     alloc: Global,
     content: &Content,
     text: &[u8],
@@ -92,14 +94,14 @@ pub(crate) fn read_held<R: Reading>(
     ensures value { IfOk result (λ value. ReadsUnit R.reads (unit_in (Some content.now)) text.now value) }
     ensures fault { IfErr result (λ error. IsUnitReadFault R.reads (unit_in (Some content.now)) text.now error) }
 {
-    match HeldUnits::held_by(content) {
+    match HeldUnits::of_content(content) {
         Some(units) => read_with::<R>(alloc, units, text),
         None => Err(CallError::Closed),
     }
 }
 
 // Readies the units that a content has, where it has some.
-fn ready_held<R: Reading>(alloc: Global, content: &mut Content)
+fn ready_held<R: UnitReading>(alloc: Global, content: &mut Content)
     ensures { content.new ≡ content.old }
 {
     match content {
@@ -113,8 +115,8 @@ fn ready_held<R: Reading>(alloc: Global, content: &mut Content)
     }
 }
 
-// The same with what is behind a handle, which stays as it is.
-fn read_behind<R: Reading>(
+// The same with what a handle has open, which stays as it is.
+fn read_after<R: UnitReading>(
     alloc: Global,
     formatter: &mut UnitHandle,
     text: &[u8],
@@ -150,7 +152,7 @@ pub extern "C" fn legumeyet_unit_formatter_read(
         (IsPut (SaysUnitRead IsExactUnit (unit_open formatter.old) text.now)
         (IsUnitReadFault IsExactUnit (unit_open formatter.old) text.now) out.old out.new length.old length.new) result }
 {
-    match read_behind::<Exact>(alloc, formatter, text) {
+    match read_after::<Exact>(alloc, formatter, text) {
         Ok(value) => answer(put(&value, out, length)),
         Err(error) => error.number(),
     }
@@ -175,7 +177,7 @@ pub extern "C" fn legumeyet_unit_formatter_read_lenient(
         (IsPut (SaysUnitRead IsTypedUnit (unit_open formatter.old) text.now)
         (IsUnitReadFault IsTypedUnit (unit_open formatter.old) text.now) out.old out.new length.old length.new) result }
 {
-    match read_behind::<Lenient>(alloc, formatter, text) {
+    match read_after::<Lenient>(alloc, formatter, text) {
         Ok(value) => answer(put(&value, out, length)),
         Err(error) => error.number(),
     }

@@ -8,7 +8,7 @@ ghost use Rattle.legumeyet_c.specs.Kinds.{unit_in};
 ghost use Rattle.legumeyet_c.specs.UnitWriting.{IsUnitText, IsUnitWritingFault, WritesUnit};
 ghost use Rattle.legumeyet_c.specs.Views.{unit_content, unit_open};
 
-use crate::content::{Content, Held};
+use crate::content::{Content, ContentKind};
 use crate::handle::Handle;
 use crate::handles::UnitHandle;
 use crate::held_units::HeldUnits;
@@ -55,13 +55,13 @@ pub(crate) fn write_held(
         (IsUnitWritingFault (unit_in (Some content.now)) options.now (λ given. number ≡ Ok given)
         (λ fault. number ≡ Err fault)) out.old out.new length.old length.new result }
 {
-    match HeldUnits::held_by(content) {
+    match HeldUnits::of_content(content) {
         Some(units) => write_changed(units, number, options, out, length),
         None => Err(CallError::Closed),
     }
 }
 
-// Writes a number, where there is one, with what is behind a handle, which stays as it is.
+// Writes a number, where there is one, with what a handle has open, which stays as it is.
 fn write_after(
     alloc: Global,
     handle: &mut Handle,

@@ -1,15 +1,19 @@
 -- The first number of a column, how what is written of it grows by a number, and what is left where it ends.
-use Rattle.std.proofs.Common.{◌≡◌, ◌≢◌, ℕ, suc, ◌+◌, ◌-◌, ◌≤◌, ◌<◌, ◌==◌, Bool, true, false, if◌then◌else◌, List, [], ◌∷◌, ◌++◌, length, map, take, drop, set, get_or, Ok, Err, refl, sym, ◌∙◌, ap, subst, inl, inr, arith}
+use Rattle.std.proofs.Common.{◌≡◌, ◌≢◌, ℕ, suc, ◌+◌, ◌-◌, ◌≤◌, ◌<◌, ◌==◌, Bool, true, false, if◌then◌else◌, List, [], ◌∷◌, ◌++◌, length, map, take, drop, set, get_or, Result, Ok, Err, refl, sym, ◌∙◌, ap, subst, inl, inr, arith}
 use Rattle.std.proofs.lemmas.List.{append-nil, append_assoc, drop-drop, drop_all, drop_at, drop_more, length-append, length-drop, length_push, set_at, take_at, take_rest}
 use Rattle.std.specs.List.{concat, onto_first}
 use borrow.Rule.Slice.PartMut.{put_mid}
+use Rattle.fixed_decimal.specs.Number.{Number}
+use Rattle.fixed_decimal.specs.SignedValue.{SignedValue}
 use Rattle.locale_numbers_lines.specs.Lines.{HasNoFeed, lines_of}
 use Rattle.locale_numbers_lines.specs.Progress.{FirstLine}
 use Rattle.locale_numbers_lines.proofs.LinesLemmas.{lines_of-ended, lines_of-none}
-use Rattle.legumeyet_c_values.specs.Columns.{EachSays, Given, IsWrittenColumn, OfFirst, Reaches, Room, ends_from, room, spelled, spelled_lines}
+use Rattle.legumeyet_c_values.specs.Columns.{EachSays, Given, IsGiven, IsGivenFault, IsWrittenColumn, OfFirst, Reaches, Room, double, ends_from, room, scaled, spelled, spelled_lines}
+use Rattle.legumeyet_c_values.specs.Numbers.{IsDoubleFault, IsNumberFault, IsScaledFault}
 use Rattle.legumeyet_c_values.specs.Putting.{IsCut, IsPut, IsWhole}
 use Rattle.legumeyet_c_values.specs.declared.call_error.CallError.{CallError}
 use Rattle.legumeyet_c_values.specs.declared.call_error.CallError.TheVariants.{TooSmall}
+use Rattle.legumeyet_c_values.proofs.PuttingLemmas.{put_refused}
 
 -- ---- the first number
 
@@ -22,6 +26,27 @@ of_first give holds (y ∷ xs) x some first = first
 pub map_rest : {X : Type 0} (give : X → Given) (xs : List X) → map give (take (length xs - 1) (drop 1 xs)) ≡ drop 1 (map give xs)
 map_rest give [] = refl
 map_rest give (x ∷ xs) = ap (λ (l : _). map give l) (take_rest (x ∷ xs) 1)
+
+-- what is given first gives no number
+given_other : (given : Given) (error : CallError) → IsGivenFault given error → error ≢ TooSmall
+given_other (double number) error caused = λ same. subst (λ (e : CallError). IsDoubleFault number e) same caused
+given_other (scaled mantissa exponent) error caused = λ same. subst (λ (e : CallError). IsScaledFault mantissa exponent e) same caused
+given_other (spelled text) error caused = λ same. subst (λ (e : CallError). IsNumberFault text e) same caused
+
+pub first_refused : (says : Given → List ℕ → Type 0) (fails : Given → CallError → Type 0) (numbers : List Given) (out : List ℕ) (told : ℕ) (error : CallError)
+    → ((given : Given) → IsGivenFault given error → fails given error) → OfFirst (λ given. IsGivenFault given error) numbers
+    → OfFirst (λ given. IsPut (says given) (fails given) out out told told (Err error)) numbers
+first_refused says fails [] out told error faults caused = absurd caused
+first_refused says fails (given ∷ numbers) out told error faults caused =
+    put_refused (says given) (fails given) out told error (given_other given error caused) (faults given caused)
+
+-- what is given first is written
+pub first_put : (says : Given → List ℕ → Type 0) (fails : Given → CallError → Type 0) (numbers : List Given) (value : SignedValue Number) (before after : List ℕ) (was told : ℕ)
+    (outcome : Result (Unit {0}) CallError)
+    → ((given : Given) → IsGiven given value → IsPut (says given) (fails given) before after was told outcome) → OfFirst (λ given. IsGiven given value) numbers
+    → OfFirst (λ given. IsPut (says given) (fails given) before after was told outcome) numbers
+first_put says fails [] value before after was told outcome writes first = absurd first
+first_put says fails (given ∷ numbers) value before after was told outcome writes first = writes given first
 
 onto_some : (byte : ℕ) (lines : List (List ℕ)) → onto_first byte lines ≢ []
 onto_some byte [] = λ is. absurd (cc is)

@@ -1,11 +1,12 @@
 -- Numbers that are given: changed as options say, and faults that are not that a text is too long.
-use Rattle.std.proofs.Common.{arith, ◌≡◌, ◌≢◌, ℕ, ℤ, List, Option, Some, None, Result, Ok, Err, IfOk, IfErr, IsTrue, refl, sym, subst, inl, inr}
+use Rattle.std.proofs.Common.{arith, ◌≡◌, ◌≢◌, ℕ, ℤ, List, Option, Some, None, Result, Ok, Err, IfOk, IfErr, OnOk, IsTrue, refl, sym, subst, inl, inr}
+use Rattle.std.specs.Prelude.{pos}
 use Rattle.std.specs.Float.{float_is_finite}
 use Rattle.std.specs.Float.Ieee.{Float}
-use Rattle.fixed_decimal.specs.Number.{Number}
+use Rattle.fixed_decimal.specs.Number.{IsNumber, Number}
 use Rattle.fixed_decimal.specs.SignedText.{ReadsSigned}
-use Rattle.fixed_decimal.specs.Shifts.{KeepsPlaces}
-use Rattle.fixed_decimal.specs.SignedValue.{SignedValue}
+use Rattle.fixed_decimal.specs.Shifts.{IsShifted, KeepsPlaces}
+use Rattle.fixed_decimal.specs.SignedValue.{OnAbsolute, SignedValue}
 use Rattle.fixed_decimal.specs.WholeNumbers.{IsSignedWhole}
 use Rattle.fixed_decimal.proofs.SignedReadOnceLemmas.{signed_is_text, signed_not_beyond}
 use Rattle.legumeyet_c_values.specs.Choices.{Changes, IsChangeRefused, no_change}
@@ -67,11 +68,27 @@ refuses chosen choices is_given fault old (Err error) is given refused =
     subst (λ (c : Option Choices). IsChangeFault c is_given fault error) (sym is)
     (inr (record { given = old; given_is = given; refused = refused }))
 
+-- a number that is not moved
+pub unmoved : (number : Number) → IsNumber number → IsShifted (pos 0) number number
+unmoved number is = let low = is.low in let ones = is.ones in record { count = refl; low = omega arith; high = omega arith }
+
 -- a whole number that cannot be moved so far by a power of ten
 pub moved_fails : (mantissa exponent : ℤ) (whole : SignedValue Number) (error : CallError)
     → IsSignedWhole mantissa whole → (error ≡ Limit) × (¬ (KeepsPlaces exponent whole.absolute)) → IsScaledFault mantissa exponent error
 moved_fails mantissa exponent whole error is beyond =
     subst (λ (e : CallError). IsScaledFault mantissa exponent e) (sym beyond.0) (record { whole = whole; is_whole = is; beyond = beyond.1 })
+
+-- the same of the outcome of a move
+pub moved_scales : (mantissa exponent : ℤ) (whole value : SignedValue Number) (outcome : Result (Unit {0}) CallError)
+    → IsSignedWhole mantissa whole → OnOk outcome (OnAbsolute (IsShifted exponent) whole value) → OnOk outcome (IsScaled mantissa exponent value)
+moved_scales mantissa exponent whole value (Ok done) is shifted = record { whole = whole; is_whole = is; shifted = shifted }
+moved_scales mantissa exponent whole value (Err error) is shifted = tt
+
+pub moved_refused : (mantissa exponent : ℤ) (whole : SignedValue Number) (outcome : Result (Unit {0}) CallError)
+    → IsSignedWhole mantissa whole → IfErr outcome (λ error. (error ≡ Limit) × (¬ (KeepsPlaces exponent whole.absolute)))
+    → IfErr outcome (λ error. IsScaledFault mantissa exponent error)
+moved_refused mantissa exponent whole (Ok done) is beyond = tt
+moved_refused mantissa exponent whole (Err error) is beyond = moved_fails mantissa exponent whole error is beyond
 
 -- why the digits of a finite double give no number, which spell one
 pub digits_fail : (number : Float) (text : List ℕ) (error : CallError) → IsTrue (float_is_finite number) → SpellsDouble number text → ReadsSome text → IsNumberFault text error

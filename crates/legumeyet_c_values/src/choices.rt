@@ -258,17 +258,28 @@ fn sign(value: &mut Decimal, sign: Option<SignDisplay>)
 }
 
 impl Choices {
-    /// The number rounded, then trimmed, then padded, and then with the sign that is chosen by what that left: 9.75 at -1
-    /// to the even one, with `Always`, is `+9.8`. `Memory`: out of memory, which only multiples of 25 take.
+    /// Rounds a number, then trims it, then pads it, and then gives it the sign that is chosen by what that left: 9.75 at
+    /// -1 to the even one, with `Always`, is `+9.8`. `Memory`: out of memory, which only multiples of 25 take.
+    pub fn change(self, value: &mut Decimal) -> Result<(), CallError>
+        ensures value { OnOk result (Changes self value.old value.new) }
+        ensures fault { IfErr result (λ error. IsChangeRefused self value.old error) }
+    {
+        round(value, self)?;
+        trim(value, self.zeros);
+        pad_start(&mut value.absolute, self.start);
+        pad_end(&mut value.absolute, self.end);
+        sign(value, self.sign);
+        Ok(())
+    }
+
+    /// The number changed so. `Memory`: as of `change`.
     pub fn changed(self, mut value: Decimal) -> Result<Decimal, CallError>
         ensures value { IfOk result (λ changed. Changes self value changed) }
         ensures fault { IfErr result (λ error. IsChangeRefused self value error) }
     {
-        round(&mut value, self)?;
-        trim(&mut value, self.zeros);
-        pad_start(&mut value.absolute, self.start);
-        pad_end(&mut value.absolute, self.end);
-        sign(&mut value, self.sign);
-        Ok(value)
+        match self.change(&mut value) {
+            Ok(()) => Ok(value),
+            Err(error) => Err(error),
+        }
     }
 }

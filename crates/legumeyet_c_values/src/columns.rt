@@ -1,13 +1,13 @@
 //! Many numbers into memory of the caller's: their texts one after the other, and where each ends.
 
-ghost use Rattle.std.specs.Prelude.{◌≡◌, ◌≢◌, ◌∷◌, [], MatchOption, drop, true, false, IfOk, IfErr};
+ghost use Rattle.std.specs.Prelude.{◌≡◌, ◌≢◌, ◌∷◌, [], MatchOption, drop, true, false, IfErr, OnOk};
 ghost use Rattle.locale_numbers_lines.specs.Lines.{HasNoFeed};
 ghost use Rattle.locale_numbers_lines.specs.Progress.{FirstLine};
 ghost use Rattle.legumeyet_c_values.specs.Columns.{IsGiven, IsGivenFault, IsWrittenColumn, OfFirst, given_in, integers, room, spelled, spelled_lines};
 ghost use Rattle.legumeyet_c_values.specs.Putting.{IsPut};
 
 use crate::call_error::CallError;
-use crate::numbers::{read_double, read_number, scaled};
+use crate::numbers::{assign_double, assign_scaled, assign_text};
 use fixed_decimal::Decimal;
 use memchr::memchr;
 use std::alloc::Global;
@@ -46,20 +46,21 @@ fn first_line(bytes: &[u8]) -> (&[u8], &[u8])
     }
 }
 
-// The first integer times the power of ten, and the others.
-fn first_integer(
+// Replaces a number by the first integer times the power of ten. Also the others.
+fn first_integer<'a>(
     alloc: Global,
-    mantissas: &[i64],
+    mantissas: &'a [i64],
     exponent: i16,
-) -> (Result<Decimal, CallError>, Column<'_>)
+    number: &mut Decimal,
+) -> (Result<(), CallError>, Column<'a>)
     requires { integers mantissas.now exponent ≢ [] }
-    ensures value { OfFirst (λ given. IfOk result.0 (IsGiven given)) (integers mantissas.now exponent) }
+    ensures value { OfFirst (λ given. OnOk result.0 (IsGiven given number.new)) (integers mantissas.now exponent) }
     ensures fault { OfFirst (λ given. IfErr result.0 (IsGivenFault given)) (integers mantissas.now exponent) }
     ensures rest { given_in result.1 ≡ drop 1 (integers mantissas.now exponent) }
 {
     let mantissa = mantissas[0];
-    let number = scaled(alloc, mantissa, exponent);
-    (number, Column::Integers(&mantissas[1..], exponent))
+    let outcome = assign_scaled(alloc, number, mantissa, exponent);
+    (outcome, Column::Integers(&mantissas[1..], exponent))
 }
 
 impl<'a> Column<'a> {
@@ -75,22 +76,24 @@ impl<'a> Column<'a> {
         }
     }
 
-    // The first number, and the others.
-    fn split_first(self, alloc: Global) -> (Result<Decimal, CallError>, Column<'a>)
+    // Replaces a number by the first one, where that is one. Also the others.
+    fn split_first(self, alloc: Global, number: &mut Decimal) -> (Result<(), CallError>, Column<'a>)
         requires { given_in self ≢ [] }
-        ensures value { OfFirst (λ given. IfOk result.0 (IsGiven given)) (given_in self.entry) }
+        ensures value { OfFirst (λ given. OnOk result.0 (IsGiven given number.new)) (given_in self.entry) }
         ensures fault { OfFirst (λ given. IfErr result.0 (IsGivenFault given)) (given_in self.entry) }
         ensures rest { given_in result.1 ≡ drop 1 (given_in self.entry) }
     {
         match self {
             Column::Doubles(numbers) => {
-                let number = read_double(alloc, numbers[0]);
-                (number, Column::Doubles(&numbers[1..]))
+                let outcome = assign_double(number, numbers[0]);
+                (outcome, Column::Doubles(&numbers[1..]))
             }
-            Column::Integers(mantissas, exponent) => first_integer(alloc, mantissas, exponent),
+            Column::Integers(mantissas, exponent) => {
+                first_integer(alloc, mantissas, exponent, number)
+            }
             Column::Texts(lines) => {
                 let (line, rest) = first_line(lines);
-                (read_number(alloc, line), Column::Texts(rest))
+                (assign_text(number, line), Column::Texts(rest))
             }
         }
     }
@@ -99,7 +102,7 @@ impl<'a> Column<'a> {
 /// What writes a number to bytes: a formatter with options.
 pub trait NumberWriter {
     ghost use Rattle.std.specs.Prelude.{List, ℕ};
-    ghost use Rattle.legumeyet_c_values.specs.Columns.{Given};
+    ghost use Rattle.legumeyet_c_values.specs.Columns.{Given, IsGivenFault};
     ghost use Rattle.legumeyet_c_values.specs.declared.call_error.CallError.{CallError};
 
     // what is written of what is given
@@ -108,24 +111,28 @@ pub trait NumberWriter {
     // why nothing is
     ghost fails: { Self → Given → CallError → Type 0 };
 
-    /// Writes the text of a number, where there is one, to the front of the bytes, and tells its length. `TooSmall`: it is
-    /// longer than the bytes.
+    // why no number is given is a reason
+    ghost faults: { (writer : Self) (given : Given) (error : CallError) → IsGivenFault given error
+        → fails writer given error };
+
+    /// Changes a number as the options ask for, writes its text to the front of the bytes, and tells its length.
+    /// `TooSmall`: it is longer than the bytes.
     fn write(
         &self,
-        number: Result<Decimal, CallError>,
+        number: &mut Decimal,
         out: &mut [u8],
         length: &mut usize,
     ) -> Result<(), CallError>
-        requires other { IfErr number (λ error. error ≢ CallError.TooSmall) }
-        ensures put { (given : Given) → IfOk number (IsGiven given) → IfErr number (IsGivenFault given)
+        ensures put { (given : Given) → IsGiven given number.old
             → IsPut (says self.now given) (fails self.now given) out.old out.new length.old length.new result };
 }
 
-// Writes the first number that is left of a column.
+// Writes the first number that is left of a column, in place of another one.
 fn write_first<W: NumberWriter>(
     alloc: Global,
     writer: &W,
     left: &mut Column<'_>,
+    number: &mut Decimal,
     out: &mut [u8],
     length: &mut usize,
 ) -> Result<(), CallError>
@@ -135,9 +142,12 @@ fn write_first<W: NumberWriter>(
         (given_in left.old) }
     ensures rest { given_in left.new ≡ drop 1 (given_in left.old) }
 {
-    let (number, rest) = left.split_first(alloc);
+    let (outcome, rest) = left.split_first(alloc, number);
     *left = rest;
-    writer.write(number, out, length)
+    match outcome {
+        Ok(()) => writer.write(number, out, length),
+        Err(error) => Err(error),
+    }
 }
 
 /// Writes the numbers of a column, and tells where the text of each ends, and how many were written: of 1.5 and -2 the
@@ -158,13 +168,21 @@ pub fn write_column<W: NumberWriter>(
 {
     *count = 0;
     let mut left = column;
+    let mut value = Decimal::zero(alloc);
     let mut end = 0;
     'number: while !left.is_empty() {
         if *count >= ends.len() {
             return Err(CallError::TooSmall);
         }
         let mut length = 0;
-        write_first(alloc, writer, &mut left, &mut out[end..], &mut length)?;
+        write_first(
+            alloc,
+            writer,
+            &mut left,
+            &mut value,
+            &mut out[end..],
+            &mut length,
+        )?;
         end += length;
         ends[*count] = end;
         *count += 1;

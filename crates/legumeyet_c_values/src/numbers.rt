@@ -29,6 +29,19 @@ pub fn read_number(alloc: Global, text: &[u8]) -> Result<Decimal, CallError>
     }
 }
 
+// Replaces a number by the one that a text spells.
+pub(crate) fn assign_text(number: &mut Decimal, text: &[u8]) -> Result<(), CallError>
+    ensures value { OnOk result (ReadsSigned text.now number.new) }
+    ensures fault { IfErr result (λ error. IsNumberFault text.now error) }
+{
+    match number.assign_from_utf8(text) {
+        Ok(()) => Ok(()),
+        Err(ParseError::Syntax) => Err(CallError::Number),
+        Err(ParseError::Limit) => Err(CallError::Limit),
+        Err(ParseError::Memory) => Err(CallError::Memory),
+    }
+}
+
 // The compact number that a text spells.
 fn read_compact(alloc: Global, text: &[u8]) -> Result<CompactDecimal, CallError>
     ensures value { IfOk result (λ value. ReadsCompact text.now value) }
@@ -87,6 +100,10 @@ fn move_by(whole: &mut Decimal, exponent: i16) -> Result<(), CallError>
     ensures fault { IfErr result
         (λ error. (error ≡ CallError.Limit) × (¬ (KeepsPlaces exponent whole.old.absolute))) }
 {
+    if exponent == 0 {
+        let _range = whole.absolute.magnitude_range(); // for the proof
+        return Ok(());
+    }
     if keeps_places(&whole.absolute, exponent) {
         whole.absolute.multiply_pow10(exponent);
         Ok(())
@@ -107,6 +124,23 @@ pub fn scaled(alloc: Global, mantissa: i64, exponent: i16) -> Result<Decimal, Ca
         Ok(()) => Ok(whole),
         Err(error) => Err(error),
     }
+}
+
+// Replaces a number by an integer times a power of ten.
+pub(crate) fn assign_scaled(
+    alloc: Global,
+    number: &mut Decimal,
+    mantissa: i64,
+    exponent: i16,
+) -> Result<(), CallError>
+    ensures value { OnOk result (IsScaled mantissa exponent number.new) }
+    ensures fault { IfErr result (λ error. IsScaledFault mantissa exponent error) }
+{
+    let Ok(whole) = Decimal::from_i64(alloc, mantissa) else {
+        return Err(CallError::Memory);
+    };
+    *number = whole;
+    move_by(number, exponent)
 }
 
 /// An integer without a sign times a power of ten: 1.5 of 15 and -1.
@@ -139,18 +173,33 @@ fn digits_of(buffer: &mut Buffer, number: f64) -> &str
     }
 }
 
+// Replaces a number by that of a double's digits, without the zero after the point of a whole one.
+pub(crate) fn assign_double(number: &mut Decimal, double: f64) -> Result<(), CallError>
+    ensures value { OnOk result (IsOfDouble double number.new) }
+    ensures fault { IfErr result (λ error. IsDoubleFault double error) }
+{
+    if !double.is_finite() {
+        return Err(CallError::Number);
+    }
+    let mut buffer = Buffer::new();
+    match assign_text(number, digits_of(&mut buffer, double).as_bytes()) {
+        Ok(()) => {
+            number.absolute.trim_end();
+            Ok(())
+        }
+        Err(error) => Err(error),
+    }
+}
+
 /// The number of a double's digits, without the zero after the point of a whole one: 5 of 5.0. `Number`: it is not
 /// finite.
 pub fn read_double(alloc: Global, number: f64) -> Result<Decimal, CallError>
     ensures value { IfOk result (λ value. IsOfDouble number value) }
     ensures fault { IfErr result (λ error. IsDoubleFault number error) }
 {
-    if !number.is_finite() {
-        return Err(CallError::Number);
-    }
-    let mut buffer = Buffer::new();
-    match read_number(alloc, digits_of(&mut buffer, number).as_bytes()) {
-        Ok(value) => Ok(value.trimmed_end()),
+    let mut value = Decimal::zero(alloc);
+    match assign_double(&mut value, number) {
+        Ok(()) => Ok(value),
         Err(error) => Err(error),
     }
 }

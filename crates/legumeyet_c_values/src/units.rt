@@ -1,6 +1,6 @@
 //! Numbers with a unit, changed as options ask for.
 
-ghost use Rattle.std.specs.Prelude.{◌≡◌, Ok, Err, Some, None, IfOk, IfErr};
+ghost use Rattle.std.specs.Prelude.{◌≡◌, Ok, Err, Some, None, IfOk, IfErr, OnOk};
 ghost use Rattle.legumeyet_c_values.specs.Units.{ChangesUnit, FitsAs, GivesUnit, IsUnitChangeFault, IsUnitRefused, MayGrowTo, amount_choices_of, unit_choices_of, unrounded};
 
 use crate::call_error::CallError;
@@ -58,31 +58,36 @@ impl Options {
 }
 
 // Rounds a number to the digits of a currency, where that is asked for.
-fn fitted(
+fn fit(
     fractions: Option<FractionInfo>,
     usage: Option<CurrencyUsage>,
-    value: Decimal,
-) -> Result<Decimal, CallError>
-    ensures value { IfOk result (λ fitted. FitsAs fractions usage value fitted) }
+    value: &mut Decimal,
+) -> Result<(), CallError>
+    ensures value { OnOk result (FitsAs fractions usage value.old value.new) }
     ensures fault { IfErr result (λ error. (error ≡ CallError.Memory) × MayGrowTo fractions usage) }
 {
     match (fractions, usage) {
-        (Some(fractions), Some(usage)) => match fractions.fraction(usage).rounded(value) {
-            Ok(rounded) => Ok(rounded),
+        (Some(fractions), Some(usage)) => match fractions.fraction(usage).round(value) {
+            Ok(()) => Ok(()),
             Err(_) => Err(CallError::Memory),
         },
-        (Some(_), None) | (None, _) => Ok(value),
+        (Some(_), None) | (None, _) => Ok(()),
     }
 }
 
 impl UnitChoices {
-    // The number rounded to the digits of a currency, and then changed.
-    fn changed(self, fractions: Option<FractionInfo>, value: Decimal) -> Result<Decimal, CallError>
-        ensures value { IfOk result (λ changed. ChangesUnit fractions self value changed) }
-        ensures fault { IfErr result (λ error. IsUnitRefused fractions self value error) }
+    /// Rounds a number to the digits of a currency, where it has some, and then changes it as any number is. `Memory`:
+    /// out of memory, which only multiples of 25 take.
+    pub fn change(
+        self,
+        fractions: Option<FractionInfo>,
+        value: &mut Decimal,
+    ) -> Result<(), CallError>
+        ensures value { OnOk result (ChangesUnit fractions self value.old value.new) }
+        ensures fault { IfErr result (λ error. IsUnitRefused fractions self value.old error) }
     {
-        match fitted(fractions, self.usage, value) {
-            Ok(fitted) => self.choices.changed(fitted),
+        match fit(fractions, self.usage, value) {
+            Ok(()) => self.choices.change(value),
             Err(error) => Err(error),
         }
     }
@@ -105,7 +110,10 @@ pub fn unit_number(
         return Err(CallError::UnknownOption);
     };
     match number {
-        Ok(value) => choices.changed(fractions, value),
+        Ok(mut value) => match choices.change(fractions, &mut value) {
+            Ok(()) => Ok(value),
+            Err(error) => Err(error),
+        },
         Err(error) => Err(error),
     }
 }

@@ -6,4 +6,4 @@ use Rattle.legumeyet_c.proofs.line_answers.legumeyet_answers_answer.Goals as goa
 pub returns-clause-told : goal.returns-clause-told
 returns-clause-told c =
     let fits : SFits w32 c.answer.result = search rules in
-    record { outcome = c.answer_behind.result; number = to_z-of_z w32 c.answer.result fits ∙ c.answer.ensures; held = c.answer_behind.ensures.told }
+    record { outcome = c.answer_after.result; number = to_z-of_z w32 c.answer.result fits ∙ c.answer.ensures; held = c.answer_after.ensures.told }

@@ -7,7 +7,7 @@ use Rattle.legumeyet_c.proofs.sharing.write_shared_parts.Goals as goal
 
 pub returns-in-Ok : goal.returns-in-Ok
 returns-in-Ok g c =
-    let open_tables = g.T.Held.held_in c.args.shared.now.lent.value in
+    let open_tables = g.T.ContentKind.open_in c.args.shared.now.lent.value in
     parts_by _ _ _
     (λ text is. subst (λ (t : AnnotatedText). WritesValue g.T.Annotates.says open_tables c.args.number.now t) (sym is) c.in-Ok.ensures.value)
     (λ error none. absurd none)
@@ -15,6 +15,6 @@ returns-in-Ok g c =
 
 pub returns-in-Err : goal.returns-in-Err
 returns-in-Err g c =
-    let open_tables = g.T.Held.held_in c.args.shared.now.lent.value in
+    let open_tables = g.T.ContentKind.open_in c.args.shared.now.lent.value in
     let other = value_fault_other g.T.Annotates.fails open_tables c.args.number.now c.in-Err.error g.met.T.Annotates.other c.requires c.in-Err.ensures.fault in
     parts_refused _ _ _ _ other c.in-Err.ensures.fault

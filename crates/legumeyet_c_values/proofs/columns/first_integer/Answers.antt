@@ -1,4 +1,4 @@
-use Rattle.std.proofs.Common.{ℤ, List, ◌-◌, length, take, drop, get_or, IfOk, IfErr, w16, w64, ◌∙◌, ap, rules}
+use Rattle.std.proofs.Common.{ℤ, List, ◌-◌, length, take, drop, get_or, IfErr, OnOk, w16, w64, ◌∙◌, ap, rules}
 use Rattle.std.proofs.lemmas.Int.{to_z-of_z}
 use Rattle.std.specs.Prelude.{pos}
 use mir.Val.{SFits}
@@ -12,8 +12,8 @@ returns-clause-value c =
     let fits : SFits w64 first = search rules in
     let mantissa = to_z-of_z w64 first fits in
     let exponent = to_z-of_z w16 c.args.exponent c.ranges.exponent in
-    of_first (λ m. scaled m c.args.exponent) (λ given. IfOk c.scaled-number.result (IsGiven given)) c.args.mantissas.now (pos 0) c.requires
-    (simp (mantissa, exponent) at c.scaled-number.ensures.value)
+    of_first (λ m. scaled m c.args.exponent) (λ given. OnOk c.assign_scaled-outcome.result (IsGiven given c.assign_scaled-outcome.new.number)) c.args.mantissas.now (pos 0) c.requires
+    (simp (mantissa, exponent) at c.assign_scaled-outcome.ensures.value)
 
 pub returns-clause-fault : goal.returns-clause-fault
 returns-clause-fault c =
@@ -21,8 +21,8 @@ returns-clause-fault c =
     let fits : SFits w64 first = search rules in
     let mantissa = to_z-of_z w64 first fits in
     let exponent = to_z-of_z w16 c.args.exponent c.ranges.exponent in
-    of_first (λ m. scaled m c.args.exponent) (λ given. IfErr c.scaled-number.result (IsGivenFault given)) c.args.mantissas.now (pos 0) c.requires
-    (simp (mantissa, exponent) at c.scaled-number.ensures.fault)
+    of_first (λ m. scaled m c.args.exponent) (λ given. IfErr c.assign_scaled-outcome.result (IsGivenFault given)) c.args.mantissas.now (pos 0) c.requires
+    (simp (mantissa, exponent) at c.assign_scaled-outcome.ensures.fault)
 
 pub returns-clause-rest : goal.returns-clause-rest
 returns-clause-rest c =

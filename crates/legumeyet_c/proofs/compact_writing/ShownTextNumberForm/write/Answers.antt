@@ -6,7 +6,7 @@ use Rattle.writeable.proofs.AnnotatedTextLemmas.{text_of_bytes}
 use Rattle.legumeyet_c_values.specs.declared.CallError.TheVariants.{Memory}
 use Rattle.legumeyet_c_values.proofs.PuttingLemmas.{put_by, put_refused}
 use Rattle.legumeyet_c.specs.CompactWriting.{IsShownFault}
-use Rattle.legumeyet_c.proofs.compact_writing.ShownTextForm.write.Goals as goal
+use Rattle.legumeyet_c.proofs.compact_writing.ShownTextNumberForm.write.Goals as goal
 
 pub returns-then-not-can_format : goal.returns-then-not-can_format
 returns-then-not-can_format c = put_refused _ _ _ _ _ (λ same. absurd (cc same)) (search rules)

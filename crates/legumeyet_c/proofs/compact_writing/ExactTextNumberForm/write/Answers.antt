@@ -8,7 +8,7 @@ use Rattle.icu_decimal.specs.Pattern.{InPattern}
 use Rattle.icu_decimal.specs.PlainText.{PlainNumber}
 use Rattle.icu_decimal.proofs.CompactTextLemmas.{exact_text_is, no_exact_text}
 use Rattle.legumeyet_c_values.proofs.PuttingLemmas.{put_by, put_refused}
-use Rattle.legumeyet_c.proofs.compact_writing.ExactTextForm.write.Goals as goal
+use Rattle.legumeyet_c.proofs.compact_writing.ExactTextNumberForm.write.Goals as goal
 
 pub returns-then-not-exponent_in_range : goal.returns-then-not-exponent_in_range
 returns-then-not-exponent_in_range c = put_refused _ _ _ _ _ (λ same. absurd (cc same)) (search rules)

@@ -5,7 +5,7 @@ use Rattle.icu_decimal.specs.CompactText.{CompactNumber, compact_decimal_events,
 use Rattle.locale_numbers.proofs.CompactAnswerLemmas.{compact_is}
 use Rattle.writeable.specs.AnnotatedText.{text_of}
 use Rattle.legumeyet_c_values.proofs.PuttingLemmas.{put_by, put_refused}
-use Rattle.legumeyet_c.proofs.compact_writing.CompactTextForm.write.Goals as goal
+use Rattle.legumeyet_c.proofs.compact_writing.CompactTextNumberForm.write.Goals as goal
 
 pub returns-in-Ok : goal.returns-in-Ok
 returns-in-Ok c =

@@ -4,7 +4,7 @@ use Rattle.icu_decimal.specs.PlainText.{PlainNumber, Tables, decimal_events, for
 use Rattle.icu_decimal.proofs.TextLemmas.{decimal_is_text}
 use Rattle.writeable.specs.AnnotatedText.{text_of}
 use Rattle.legumeyet_c_values.proofs.PuttingLemmas.{put_by}
-use Rattle.legumeyet_c.proofs.decimal_formatter.DecimalTextForm.write.Goals as goal
+use Rattle.legumeyet_c.proofs.decimal_formatter.DecimalTextNumberForm.write.Goals as goal
 
 pub returns : goal.returns
 returns c =

@@ -5,7 +5,7 @@ use Rattle.icu_decimal.specs.PlainReading.{decimal, not_written}
 use Rattle.icu_dimension.specs.UnitText.{UnitSettings}
 use Rattle.icu_dimension_lenient.specs.LenientUnits.{LenientTexts, lenient_texts}
 use Rattle.legumeyet_c.specs.UnitReading.{IsTypedReading}
-use Rattle.legumeyet_c.proofs.held_units.HeldUnits.read_lenient.Goals as goal
+use Rattle.legumeyet_c.proofs.held_units.HeldUnits.read_typed_once.Goals as goal
 
 pub returns-in-Ok-clause-value : goal.returns-in-Ok-clause-value
 returns-in-Ok-clause-value c =
