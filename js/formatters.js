@@ -157,7 +157,7 @@ export function setWorld(book) {
 
 // What the book that is named is opened again from; without one, that of the world.
 function sourceOf(book = world) {
-  if (book === null) throw new TypeError("no book is named, and there is no book of the world: setWorld(..) of legumeyet/core makes one");
+  if (book === null && world === null) throw new TypeError("no book is named, and there is no book of the world: setWorld(..) of legumeyet/core makes one");
   return Book.source(book);
 }
 

@@ -93,7 +93,7 @@ test("options that are none", () => {
   assert.throws(() => new CompactDecimalFormatter("en", { compactDisplay: "medium" }), RangeError);
   assert.throws(() => new CompactDecimalFormatter("en", { maximumFractionDigits: 2 }), RangeError);
   for (const options of [null, "x", 5]) assert.throws(() => new DecimalFormatter("en", options), TypeError);
-  for (const book of [null, "{}", en, {}]) assert.throws(() => new DecimalFormatter("en", { book }), TypeError);
+  for (const book of [null, "{}", en, {}]) assert.throws(() => new DecimalFormatter("en", { book }), { name: "TypeError", message: "book is a Book" });
 });
 
 test("resolved options", () => {

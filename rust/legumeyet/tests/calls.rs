@@ -378,7 +378,7 @@ fn amounts() {
         formatter.write_to(&mut written, number, &as_given).unwrap();
         assert_eq!(written, text);
         assert_eq!(formatter.format_parts(number, &as_given).unwrap().0, text);
-        assert_eq!(formatter.format(&formatter.read(text).unwrap(), &as_given).unwrap(), text);
+        assert_eq!(formatter.format(formatter.read(text).unwrap(), &as_given).unwrap(), text);
     }
     let dollars = CurrencyFormatter::with_options("en", "USD", &CurrencyOptions::default().style(CurrencyStyle::Accounting)).unwrap();
     assert_eq!(dollars.format(-5, &as_given).unwrap(), "($5.00)");
