@@ -6,7 +6,7 @@ import { FieldText } from "./field.js";
 
 const RIGHT_TO_LEFT = new Set(["Adlm", "Arab", "Hebr", "Mand", "Nkoo", "Rohg", "Samr", "Syrc", "Thaa", "Yezi"]);
 const OPENING = ["locale", "currency", "percent"];
-const HANDED_ON = ["placeholder", "readonly", "autocomplete", "enterkeyhint"];
+const HANDED_ON = ["placeholder", "readonly", "autocomplete", "enterkeyhint", "inputmode"];
 const STYLE = `
   :host { display: inline-block }
   :host([hidden]) { display: none }

@@ -200,6 +200,9 @@ test("a page of one's own takes the field in a line", async () => {
   const price = 'document.querySelector("[name=price]")';
   assert.deepEqual(await page.evaluate(`[${price}.text, ${price}.value, ${price}.form === document.forms[0], [...new FormData(document.forms[0])].join()]`), ["1.234,50", "1234.50", true, "price,1234.50"]);
   assert.equal(await page.evaluate('document.getElementById("bare").locale'), "hi");
+  const modes = `["bare", "off"].map((it) => document.getElementById(it).shadowRoot.querySelector("input").inputMode)`;
+  await page.evaluate('document.getElementById("off").setAttribute("inputmode", "text")');
+  assert.deepEqual(await page.evaluate(modes), ["decimal", "text"]);
   assert.equal(await page.evaluate('document.getElementById("off").shadowRoot.querySelector("input").disabled'), true);
   assert.deepEqual((await page.told("textbox")).map((it) => it.name).filter((it) => it !== "").sort(), ["Bare", "Price"]);
   await page.evaluate(`${price}.disabled = true`);
