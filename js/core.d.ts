@@ -1,4 +1,5 @@
 // The classes over a module and a book of one's own.
+export {}; // so that what has no `export` below, as Open, is not exported
 
 declare global {
   interface SymbolConstructor {

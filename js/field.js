@@ -58,7 +58,8 @@ export class FieldText {
     this.#formatter = formatter;
     this.#latin = latin;
     this.#digits = new Map(digits.map((it, at) => [it, String(9 - at)]));
-    this.#decimal = parts.find(({ type }) => type === "decimal").value;
+    this.#decimal = parts.find(({ type }) => type === "decimal")?.value;
+    if (this.#decimal === undefined) throw new RangeError("the formatter of a field shows a fraction as it is: it rounds no number, and is not compact");
     this.#unit = parts.find(({ type }) => type === "currency" || type === "percentSign")?.value ?? "";
     this.text = "";
   }

@@ -13,16 +13,26 @@ function close(handle) {
   handle.at = 0;
 }
 
+// What a call returned that opens what a handle has; also where there was no memory for the text that it is given.
+function filled(at, fill) {
+  try {
+    return inside(() => {
+      const result = fill(at);
+      calls.js_let_go();
+      return result;
+    });
+  } catch (error) {
+    if (error instanceof LegumeyetError) return -error.number;
+    throw error;
+  }
+}
+
 // Opens a handle in the present instance; `fill` opens what it has, and returns what the call returned.
 function open(handle, fill, hint) {
   const at = inside(() => calls.js_new());
   if (at === 0) throw new LegumeyetError(ErrorNumber.MEMORY);
-  const told = inside(() => {
-    const result = fill(at);
-    calls.js_let_go();
-    if (result < 0) calls[handle.close](at);
-    return result;
-  });
+  const told = filled(at, fill);
+  if (told < 0) inside(() => calls[handle.close](at));
   expected(told, hint?.(-told));
   handle.at = at;
   handle.age = age;
@@ -93,7 +103,7 @@ export class Book extends Open {
   /** The answer to a request line, a text or its bytes. */
   answer(line) {
     if (typeof line !== "string" && !(line instanceof Uint8Array)) throw new TypeError("a line is a string or a Uint8Array");
-    return written(atOf(this), calls.js_book_answer, line);
+    return written(atOf(this), calls.js_book_answer, typeof line === "string" ? line : plain(Uint8Array, line));
   }
 
   /** The tags of the locales that the book has symbols of, in its order. Others have the tables of their parents. */
@@ -123,17 +133,17 @@ function openBook(source, handle) {
   });
 }
 
-// Calls with a handle of a book. Of one that was closed since, which a formatter is opened from again, another is opened meanwhile.
+// Calls with a handle of a book. Of one that was closed since, which a formatter is opened from again, another is opened meanwhile; where it is
+// kept, once for each instance, since its memory is never given back.
 function withBook(source, use) {
-  const { handle } = source;
+  const handle = source.handle.at === 0 ? (source.other ??= { ...source.handle }) : source.handle;
   if (handle.at !== 0 && isPresent(handle.age)) return use(handle.at);
   begun();
-  const other = handle.at === 0 ? { ...handle } : handle;
-  openBook(source, other);
+  openBook(source, handle);
   try {
-    return use(other.at);
+    return use(handle.at);
   } finally {
-    if (other !== handle) close(other);
+    if (handle === source.other && !source.isKept) close(handle);
   }
 }
 
@@ -147,7 +157,7 @@ export function setWorld(book) {
 
 // What the book that is named is opened again from; without one, that of the world.
 function sourceOf(book = world) {
-  if (book === null) throw new TypeError("no book is named, and there is no book of the world: setWorld(..) of legumeyet/core makes one");
+  if (book === null && world === null) throw new TypeError("no book is named, and there is no book of the world: setWorld(..) of legumeyet/core makes one");
   return Book.source(book);
 }
 

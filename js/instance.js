@@ -82,17 +82,28 @@ function begin(instance) {
 }
 
 function take(from, instance) {
-  if (calls !== null) return;
-  module = from;
+  if (module !== null) return;
   begin(instance);
   for (const number of Object.values(ErrorNumber)) said.set(number, got(calls.js_error_text(number)));
+  module = from; // not before: after another module the right one may be given
+}
+
+/** The bytes of a file that was asked for: of the response, or of the promise of one. Throws a LoadError. */
+export async function fetched(file, asked) {
+  try {
+    const response = await asked;
+    if (response.ok) return new Uint8Array(await response.arrayBuffer());
+    throw new Error(`${response.status} ${response.statusText}`.trim());
+  } catch (error) {
+    throw new LoadError(file, "fetch", error.message, error);
+  }
 }
 
 /** Takes the module: its bytes, a WebAssembly.Module, or the response to a request for it. A second call does nothing. Throws a LoadError. */
 export async function load(source) {
   if (module !== null) return;
+  const given = typeof Response !== "undefined" && source instanceof Response ? await fetched("legumeyet.wasm", source) : source;
   try {
-    const given = typeof Response !== "undefined" && source instanceof Response ? await source.arrayBuffer() : source;
     const compiled = given instanceof WebAssembly.Module ? given : await WebAssembly.compile(given);
     take(compiled, await WebAssembly.instantiate(compiled, {}));
   } catch (error) {

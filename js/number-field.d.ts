@@ -12,12 +12,12 @@ export class NumberField extends HTMLElement {
   currency: string | null;
   /** Whether it is of percents; a currency comes first. */
   percent: boolean;
+  name: string | null;
   required: boolean;
   disabled: boolean;
   /** What is shown. */
   readonly text: string;
   readonly formatter: DecimalFormatter | PercentFormatter | CurrencyFormatter | null;
-  readonly name: string | null;
   readonly type: "number-field";
   readonly form: HTMLFormElement | null;
   readonly validity: ValidityState;

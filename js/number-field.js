@@ -6,7 +6,7 @@ import { FieldText } from "./field.js";
 
 const RIGHT_TO_LEFT = new Set(["Adlm", "Arab", "Hebr", "Mand", "Nkoo", "Rohg", "Samr", "Syrc", "Thaa", "Yezi"]);
 const OPENING = ["locale", "currency", "percent"];
-const HANDED_ON = ["placeholder", "readonly", "autocomplete", "enterkeyhint"];
+const HANDED_ON = ["placeholder", "readonly", "autocomplete", "enterkeyhint", "inputmode"];
 const STYLE = `
   :host { display: inline-block }
   :host([hidden]) { display: none }
@@ -16,6 +16,11 @@ const STYLE = `
   input[aria-invalid="true"] { border-color: #b3261e; outline-color: #b3261e }
   p { color: #b3261e; font-size: 0.8em; margin: 0.2em 0 0; min-block-size: 1.2em }
   p:empty { display: none }`;
+// One for all fields, which no policy of styles forbids.
+const SHEET = new CSSStyleSheet();
+SHEET.replaceSync(STYLE);
+// Writes the digits of a number, as `value` has them.
+const DIGITS = new DecimalFormatter("en", { useGrouping: false });
 
 /** The direction in which a locale is written: `rtl` or `ltr`. */
 export function directionOf(locale) {
@@ -42,15 +47,14 @@ export class NumberField extends HTMLElement {
   constructor() {
     super();
     const root = this.attachShadow({ mode: "open", delegatesFocus: true });
-    const style = document.createElement("style");
-    style.textContent = STYLE;
+    root.adoptedStyleSheets = [SHEET];
     Object.assign(this.#input, { type: "text", inputMode: "decimal", autocomplete: "off", spellcheck: false, id: "input" });
     this.#input.setAttribute("part", "input");
     this.#input.setAttribute("aria-describedby", "message");
-    Object.assign(this.#message, { id: "message" });
+    Object.assign(this.#message, { id: "message", lang: "en" });
     this.#message.setAttribute("part", "message");
     this.#message.setAttribute("aria-live", "polite");
-    root.append(style, this.#input, this.#message);
+    root.append(this.#input, this.#message);
     this.#listen();
   }
 
@@ -60,19 +64,22 @@ export class NumberField extends HTMLElement {
     input.addEventListener("compositionstart", () => {
       this.#isComposing = true;
       this.#left = this.#leftBySelection();
+      this.#remember();
     });
     input.addEventListener("compositionend", () => {
       this.#isComposing = false;
       this.#edited();
+      this.#tell("input"); // the events of the composition came before its number
     });
     input.addEventListener("input", () => this.#isComposing || this.#edited());
     input.addEventListener("change", () => this.#changed());
     input.addEventListener("keydown", (event) => this.#pressed(event));
+    input.addEventListener("focus", () => this.#label()); // labels may have changed
   }
 
   connectedCallback() {
-    this.#open();
     this.#label();
+    this.#open();
   }
 
   attributeChangedCallback(name, before, now) {
@@ -117,15 +124,29 @@ export class NumberField extends HTMLElement {
   #begins(event) {
     if (this.#isComposing) return;
     this.#left = event.inputType.startsWith("insert") ? this.#leftBySelection() : undefined;
-    const { value, selectionStart: caret } = this.#input;
-    this.#before.push([value, caret]);
+    this.#remember();
+  }
+
+  // Keeps what the field is before an edit, for undo.
+  #remember() {
+    const { value, selectionStart } = this.#input;
+    this.#before.push([value, selectionStart]);
     this.#undone = [];
   }
 
   #edited() {
     const { value, selectionStart } = this.#input;
-    this.#shows(this.#field.edited(value, selectionStart, this.#left));
+    this.#shows(this.#read(value, selectionStart, this.#left));
     this.#left = undefined;
+  }
+
+  // What the field makes of a text. Where no formatter was opened, as of a locale without tables, no text is a number.
+  #read(text, caret, left) {
+    return this.#field?.edited(text, caret, left) ?? { value: null, text, caret };
+  }
+
+  #tell(name) {
+    this.dispatchEvent(new Event(name, { bubbles: true }));
   }
 
   #shows({ value, text, caret }) {
@@ -142,7 +163,7 @@ export class NumberField extends HTMLElement {
   // What undo and redo would do by themselves, had the text not been written anew.
   #pressed(event) {
     const key = event.key.toLowerCase();
-    if (!(event.ctrlKey || event.metaKey) || event.altKey || (key !== "z" && key !== "y")) return;
+    if (!(event.ctrlKey || event.metaKey) || event.altKey || (key !== "z" && key !== "y") || this.#input.readOnly) return;
     event.preventDefault();
     const isUndo = key === "z" && !event.shiftKey;
     const [from, to] = isUndo ? [this.#before, this.#undone] : [this.#undone, this.#before];
@@ -150,37 +171,40 @@ export class NumberField extends HTMLElement {
     const { value, selectionStart } = this.#input;
     to.push([value, selectionStart]);
     const [text, caret] = from.pop();
-    this.#shows(this.#field.edited(text, caret, { front: 0, back: 0 }));
-    this.#input.value = this.#field.text;
+    this.#shows(this.#read(text, caret, { front: 0, back: 0 }));
     this.#input.setSelectionRange(caret, caret);
-    this.dispatchEvent(new Event("input", { bubbles: true }));
+    this.#tell("input");
   }
 
   #changed() {
     this.#judge();
     this.#say(this.#internals.validationMessage);
-    this.dispatchEvent(new Event("change", { bubbles: true }));
+    this.#tell("change");
   }
 
   // Tells the form what it sends, and whether the text is a number.
   #judge() {
     const isNone = this.#input.value.trim() !== "" && this.#value === "";
     const isMissing = this.required && this.#value === "";
-    const example = this.#formatter?.format("1234.5") ?? "";
-    const message = isNone ? `This is no number as it is written here: ${example}` : isMissing ? "A number is missing." : "";
-    this.#internals.setFormValue(this.#value === "" ? null : this.#value, this.#input.value);
+    const none = this.#formatter === null ? "Numbers of this locale can't be read." : `This is no number as it is written here: ${this.#formatter.format("1234.5")}`;
+    const message = isNone ? none : isMissing ? "A number is missing." : "";
+    // what the browser keeps is the number, since the text may be another one in another locale
+    if (this.#value === "") this.#internals.setFormValue(null, `text ${this.#input.value}`);
+    else this.#internals.setFormValue(this.#value, `number ${this.#value}`);
     this.#internals.setValidity({ badInput: isNone, valueMissing: isMissing && !isNone }, message, this.#input);
+    this.#input.setAttribute("aria-required", String(this.required));
   }
 
   #say(message) {
     this.#message.textContent = message;
     this.#input.setAttribute("aria-invalid", String(message !== ""));
-    this.#input.setAttribute("aria-required", String(this.required));
   }
 
+  // Undo ends here: a text of before may be another number in the locale of now.
   #put(value) {
     this.#input.value = this.#field?.put(value) ?? "";
-    this.#value = value;
+    this.#value = value === "" ? "" : DIGITS.format(value);
+    [this.#before, this.#undone] = [[], []];
     if (this.#field) this.#judge();
     this.#say("");
   }
@@ -189,7 +213,7 @@ export class NumberField extends HTMLElement {
   get value() { return this.#value; }
   set value(value) {
     this.#isTouched = true;
-    this.#put(String(value));
+    this.#put(String(value ?? ""));
   }
 
   /** What is shown. */
@@ -207,6 +231,7 @@ export class NumberField extends HTMLElement {
   get disabled() { return this.hasAttribute("disabled"); }
   set disabled(isDisabled) { this.toggleAttribute("disabled", Boolean(isDisabled)); }
   get name() { return this.getAttribute("name"); }
+  set name(name) { name === null ? this.removeAttribute("name") : this.setAttribute("name", name); }
   get form() { return this.#internals.form; }
   get type() { return "number-field"; }
   get validity() { return this.#internals.validity; }
@@ -223,8 +248,11 @@ export class NumberField extends HTMLElement {
     this.#isTouched = false;
     this.#put(this.getAttribute("value") ?? "");
   }
-  formStateRestoreCallback(text) {
-    if (this.#field) this.#shows(this.#field.edited(text, text.length, { front: 0, back: 0 }));
+  // `kept` is as #judge has it, or what the browser fills in by itself.
+  formStateRestoreCallback(kept, reason) {
+    const [, kind, rest] = reason === "restore" ? kept.match(/^(text|number) (.*)$/s) : [null, "text", kept];
+    if (kind === "text") this.#shows(this.#read(rest, rest.length, { front: 0, back: 0 }));
+    else this.value = rest;
   }
 }
 

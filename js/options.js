@@ -69,6 +69,7 @@ function roundingOf(kind, options) {
   if (given !== 1 && most !== undefined && most !== least) throw new RangeError("roundingIncrement asks for as many fraction digits at least as at most");
   const { increment, tens } = withoutTens(given);
   if (position <= 0 && position + tens > 0) throw new RangeError(`roundingIncrement ${given} is above the ones there: position says so otherwise`);
+  if (position + tens > MOST) throw new RangeError(`roundingIncrement ${given} is above ten to the power ${MOST} there`);
   const isTrimmed = most !== undefined && most !== (least ?? 0);
   const shown = tens > 0 && position < 0 ? -position : 0;
   return {

@@ -3,7 +3,8 @@
  *
  * A result below 0 is less the number of an error; else it is the length of the text that was written, or 0. A text of at most ROOM
  * bytes is put at js_in() and found at js_out(). A larger one is put at js_large_in(size), and found at js_large_out(); js_let_go() frees
- * both. A column of numbers is put at js_column_in(), and its texts are found at js_column_out(). In the memory of the module a pointer of the library takes eight bytes, as on the machine that its layouts were computed for.
+ * both. A column of numbers is put at js_column_in(), and its texts are found at js_column_out(). In the memory of the module a pointer of
+ * the library takes eight bytes, as on the machine that its layouts were computed for.
  */
 typedef unsigned char u8;
 typedef unsigned short u16;

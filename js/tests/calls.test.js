@@ -85,6 +85,7 @@ test("options that are none", () => {
     [{ position: 0, roundingMode: "half-even" }, "roundingMode"], [{ roundingMode: "floor" }, "position"], [{ position: 1.5 }, "position"], [{ position: 40000 }, "position"],
     [{ maximumFractionDigits: -1 }, "maximumFractionDigits"], [{ minimumFractionDigits: 3, maximumFractionDigits: 2 }, "minimumFractionDigits"], [{ minimumIntegerDigits: 0 }, "minimumIntegerDigits"],
     [{ position: 0, maximumFractionDigits: 0 }, "position"], [{ maximumFractionDigits: 2, roundingIncrement: 5 }, "roundingIncrement"], [{ position: -2, roundingIncrement: 3 }, "roundingIncrement"], [{ position: -2, roundingIncrement: 5000 }, "roundingIncrement"],
+    [{ position: 32767, roundingIncrement: 10 }, "roundingIncrement"],
     [{ maximumFractionDigits: 0, minimumFractionDigits: 0, roundingIncrement: 50 }, "roundingIncrement"],
     [{ style: "percent" }, "style"], [{ compactDisplay: "short" }, "compactDisplay"],
   ];
@@ -92,7 +93,7 @@ test("options that are none", () => {
   assert.throws(() => new CompactDecimalFormatter("en", { compactDisplay: "medium" }), RangeError);
   assert.throws(() => new CompactDecimalFormatter("en", { maximumFractionDigits: 2 }), RangeError);
   for (const options of [null, "x", 5]) assert.throws(() => new DecimalFormatter("en", options), TypeError);
-  for (const book of [null, "{}", en, {}]) assert.throws(() => new DecimalFormatter("en", { book }), TypeError);
+  for (const book of [null, "{}", en, {}]) assert.throws(() => new DecimalFormatter("en", { book }), { name: "TypeError", message: "book is a Book" });
 });
 
 test("resolved options", () => {
@@ -318,6 +319,9 @@ test("answers", () => {
   assert.equal(book.answer(new TextEncoder().encode(line)), "ok\t-1_234;5");
   assert.equal(book.answer(`xx\tplain\tauto\tkeep\t-\t${"1".repeat(3000)}`).length, 3 + 3999);
   for (const wrong of ["", "\ud800", new Uint8Array([0xff])]) assert.equal(book.answer(wrong), "err\tshape");
+  class Short extends Uint8Array { get length() { return 5; } }
+  assert.equal(book.answer(new Short(100000)), "err\tshape");
+  assert.equal(book.answer(line), "ok\t-1_234;5");
   assert.throws(() => book.answer(5), TypeError);
 });
 

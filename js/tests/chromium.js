@@ -9,7 +9,7 @@ const TYPES = { ".html": "text/html; charset=utf-8", ".js": "text/javascript", "
 const WORDS = ["--headless=new", "--no-sandbox", "--disable-gpu", "--disable-dev-shm-usage", "--hide-scrollbars", "--window-size=900,760", "--remote-debugging-pipe"];
 const KEYS = { Backspace: 8, Tab: 9, Enter: 13, End: 35, Home: 36, ArrowLeft: 37, ArrowRight: 39, Delete: 46 };
 
-/** Serves the files of a folder. `headers` goes with each; `instead` has the bytes of a path, or null where there is none. */
+/** Serves the files of a folder. `headers` goes with each; `instead` has the bytes of a path, or null where there is none, and may be changed. */
 export async function serve(folder, { headers = {}, instead = {} } = {}) {
   const server = createServer((asked, answer) => {
     const path = decodeURIComponent(new URL(asked.url, "http://x").pathname);
@@ -24,7 +24,7 @@ export async function serve(folder, { headers = {}, instead = {} } = {}) {
   });
   await new Promise((well) => server.listen(0, "127.0.0.1", well));
   server.unref();
-  return { at: `http://127.0.0.1:${server.address().port}`, close: () => server.close() };
+  return { at: `http://127.0.0.1:${server.address().port}`, instead, close: () => server.close() };
 }
 
 // Messages over pipes, each with a NUL at its end.

@@ -1,7 +1,7 @@
 // What a field shows after each key; `<` is a step to the left, `~` a deletion of the character before the caret.
 import assert from "node:assert/strict";
 import { test } from "node:test";
-import { CurrencyFormatter, DecimalFormatter, PercentFormatter } from "legumeyet";
+import { CompactDecimalFormatter, CurrencyFormatter, DecimalFormatter, PercentFormatter } from "legumeyet";
 import { FieldText } from "legumeyet/field";
 
 function typed(locale, keys, open = (it) => new DecimalFormatter(it)) {
@@ -61,6 +61,12 @@ test("a paste is read as it is", () => {
   // what is said to be left and is not counts for nothing
   field.put("1234");
   assert.deepEqual(field.edited("9,8765", 6, { front: 5, back: 0 }), { value: null, text: "9,8765", caret: 6 });
+});
+
+test("a formatter that shows no fraction is refused", () => {
+  for (const it of [new DecimalFormatter("en", { position: 0 }), new CurrencyFormatter("en", { currency: "JPY" }), new CompactDecimalFormatter("en")]) {
+    assert.throws(() => new FieldText(it), RangeError);
+  }
 });
 
 test("a deletion of a separator alone moves the caret past it", () => {

@@ -1,5 +1,6 @@
 // Nothing is lost: where JavaScript's stack runs out inside a call, where a call traps, and where formatters are dropped.
 import assert from "node:assert/strict";
+import { readFileSync } from "node:fs";
 import { pathToFileURL } from "node:url";
 import { createRequire } from "node:module";
 import { test } from "node:test";
@@ -107,6 +108,17 @@ test("after a trap there is a new instance", () => {
   }
 });
 
+test("a kept book that was closed is opened once in a new instance", () => {
+  const all = new Book(readFileSync(new URL("world.json", pathToFileURL(root)))).keep();
+  const formatters = Array.from({ length: 20 }, () => new DecimalFormatter("de", { book: all }));
+  all.close();
+  trap();
+  assert.equal(formatters[0].format("1234"), "1.234");
+  const before = memorySize();
+  for (const it of formatters) assert.equal(it.format("1234"), "1.234");
+  assert.ok(memorySize() <= before + (1 << 20), `${before} ${memorySize()}`);
+});
+
 test("a refused call keeps its instance", () => {
   const before = instance.age;
   for (const call of [() => world.format("5."), () => world.read("x"), () => new DecimalFormatter("zz"), () => new Book("["), () => short.format("9".repeat(32768))]) assert.throws(call, LegumeyetError);
@@ -118,13 +130,36 @@ test("where memory is refused, the call says so, and its formatter stays", () =>
   const before = instance.age;
   for (let size = 1 << 30; size >= 1 << 11; size >>= 1) while (instance.calls.js_large_in(size) !== 0);
   instance.calls.js_let_go();
+  const next = () => {
+    const at = instance.calls.js_new();
+    instance.calls.js_book_close(at);
+    return at;
+  };
+  const isRefused = (error) => error instanceof LegumeyetError && error.number === 1;
+  const free = next();
+  assert.throws(() => new Book(" ".repeat(1e6)), isRefused);
+  assert.equal(next(), free, "a handle was lost");
   for (const call of [() => world.format("1".repeat(30000)), () => world.formatAll(["1".repeat(30000)]), () => world.read("x".repeat(1e6)), () => answers.answer("x".repeat(1e6)), () => new Answers(undefined, 1 << 24), () => new Book(" ".repeat(1e6)), () => new Book(JSON_OF_ONE)]) {
-    assert.throws(call, (error) => error instanceof LegumeyetError && error.number === 1);
+    assert.throws(call, isRefused);
   }
   assert.equal(world.format("-1234567.5"), "-1.234.567,50");
   assert.equal(instance.age, before);
   trap();
   areWell();
+});
+
+test("after what is no module the right one may be given", async () => {
+  const { LoadError, load, loadSync, memorySize: size } = await import(new URL("instance.js?fresh", pathToFileURL(root)));
+  const empty = new Uint8Array([0, 0x61, 0x73, 0x6d, 1, 0, 0, 0]);
+  const rows = [[new Uint8Array(0), "module"], [empty, "module"], [new WebAssembly.Module(empty), "module"], [new Response("", { status: 404 }), "fetch"], [new Response("x"), "module"]];
+  for (const [source, reason] of rows) {
+    const isTold = (error) => error instanceof LoadError && error.file === "legumeyet.wasm" && error.reason === reason;
+    await assert.rejects(load(source), isTold);
+    if (!(source instanceof Response)) assert.throws(() => loadSync(source), isTold);
+  }
+  assert.equal(size(), 0);
+  await load(readFileSync(root));
+  assert.ok(size() > 0);
 });
 
 test("a book that is nested as deep as can be is refused", () => {

@@ -9,13 +9,14 @@ const READY = "document.documentElement?.dataset.ready !== undefined";
 const OWN = `<!doctype html><html lang="hi"><meta charset="utf-8"><script type="module" src="number-field.js"></script>
 <form><label>Price <number-field name="price" locale="de" value="1234.50"></number-field></label><number-field id="bare" aria-label="Bare"></number-field>
 <fieldset disabled><number-field id="off" name="off" value="5"></number-field></fieldset></form>`;
+const NO_LOCALE = '<!doctype html><html lang="zz"><meta charset="utf-8"><script type="module" src="number-field.js"></script><form><number-field id="number"></number-field></form>';
 
 let browser = null;
 let page = null;
 let server = null;
 
 before(async () => {
-  server = await serve(PACKAGE, { instead: { "/own.html": OWN, "/worker.js": 'import { DecimalFormatter } from "./index.js"; postMessage(new DecimalFormatter("hi").format("123456789.5"));' } });
+  server = await serve(PACKAGE, { headers: { "cache-control": "no-store" }, instead: { "/own.html": OWN, "/no-locale.html": NO_LOCALE, "/worker.js": 'import { DecimalFormatter } from "./index.js"; postMessage(new DecimalFormatter("hi").format("123456789.5"));' } });
   browser = await begin(CHROMIUM);
   page = browser.page;
 });
@@ -90,6 +91,16 @@ test("undo and redo", async () => {
   await page.press("z", 2);
   await page.press("z", 10);
   assert.equal(await state(), "1,234| 1234");
+  // a text of before would be another number in the locale of now; and what is only read stays
+  const number = 'document.getElementById("number")';
+  for (const [now, wanted] of [[`${number}.locale = "de"`, "1234"], [`${number}.value = "5"`, "5"], [`${number}.setAttribute("readonly", "")`, "1234"]]) {
+    await fresh("en");
+    await page.type("1234");
+    await page.evaluate(now);
+    await page.press("z", 2);
+    assert.equal(await page.evaluate(`${number}.value`), wanted, now);
+    await page.evaluate(`${number}.removeAttribute("readonly")`);
+  }
 });
 
 test("pasting", async () => {
@@ -117,6 +128,9 @@ test("composition", async () => {
   assert.equal((await state()).split("|")[0], "12３４");
   await page.send("Input.insertText", { text: "３４５" });
   assert.equal(await state(), "12,345| 12345");
+  assert.equal(await page.evaluate('document.getElementById("value").textContent'), "12345");
+  await page.press("z", 2);
+  assert.equal(await state(), "12| 12");
 });
 
 test("the form", async () => {
@@ -149,6 +163,10 @@ test("labels and what a screen reader is told", async () => {
   assert.equal(field.value, "12,34,567.5");
   assert.ok(field.focused && field.required && field.invalid !== "true", JSON.stringify(field));
   assert.deepEqual((await page.told("combobox")).map((it) => it.name), ["Locale"]);
+  for (const isRequired of [false, true]) {
+    await page.evaluate(`document.getElementById("number").required = ${isRequired}`);
+    assert.equal((await page.told("textbox"))[0].required ?? false, isRequired);
+  }
   await page.evaluate("document.activeElement.blur()");
   await page.evaluate("document.querySelector('label[for=number]').click()");
   assert.equal(await page.evaluate("document.activeElement.id"), "number");
@@ -182,6 +200,9 @@ test("a page of one's own takes the field in a line", async () => {
   const price = 'document.querySelector("[name=price]")';
   assert.deepEqual(await page.evaluate(`[${price}.text, ${price}.value, ${price}.form === document.forms[0], [...new FormData(document.forms[0])].join()]`), ["1.234,50", "1234.50", true, "price,1234.50"]);
   assert.equal(await page.evaluate('document.getElementById("bare").locale'), "hi");
+  const modes = `["bare", "off"].map((it) => document.getElementById(it).shadowRoot.querySelector("input").inputMode)`;
+  await page.evaluate('document.getElementById("off").setAttribute("inputmode", "text")');
+  assert.deepEqual(await page.evaluate(modes), ["decimal", "text"]);
   assert.equal(await page.evaluate('document.getElementById("off").shadowRoot.querySelector("input").disabled'), true);
   assert.deepEqual((await page.told("textbox")).map((it) => it.name).filter((it) => it !== "").sort(), ["Bare", "Price"]);
   await page.evaluate(`${price}.disabled = true`);
@@ -189,10 +210,42 @@ test("a page of one's own takes the field in a line", async () => {
   await page.evaluate(`${price}.disabled = false`);
   await page.evaluate(`${price}.value = "-5"`);
   assert.equal(await page.evaluate(`${price}.text`), "-5");
+  for (const [value, wanted] of [['"1e3"', ["1.000", "1000", "1000"]], ["1e21", ["1.000.000.000.000.000.000.000", "1000000000000000000000", "1000000000000000000000"]], ["null", ["", "", null]], ['"-5"', ["-5", "-5", "-5"]]]) {
+    assert.deepEqual(await page.evaluate(`(() => { ${price}.value = ${value}; return [${price}.text, ${price}.value, new FormData(document.forms[0]).get("price")]; })()`), wanted, value);
+  }
+  assert.equal(await page.evaluate(`(() => { "use strict"; const it = document.getElementById("bare"); it.name = "bare"; return it.getAttribute("name"); })()`), "bare");
+  await page.evaluate(`document.querySelector("label").firstChild.textContent = "Cost "; ${price}.focus()`);
+  assert.ok((await page.told("textbox")).some((it) => it.name === "Cost"));
   await page.evaluate(`${price}.locale = "sv"`);
   assert.equal(await page.evaluate(`${price}.text`), "\u22125");
   assert.match(await page.evaluate(`(() => { try { ${price}.value = "x"; } catch (error) { return error.message; } })()`), /^7: /);
   assert.match(await page.evaluate(`(() => { try { ${price}.locale = "zz"; } catch (error) { return error.message; } return ${price}.text; })()`), /\u22125|^6: /);
+});
+
+test("where the browser goes back the number is the same", async () => {
+  for (const [keys, wanted] of [["1234", ["1234", "1,234", false]], ["1,2345", ["1.2345", "1.2345", false]], ["12x", ["", "12x", true]]]) {
+    const price = 'document.querySelector("[name=price]")';
+    const isReady = 'customElements.get("number-field") !== undefined';
+    await page.open(`${server.at}/own.html`, isReady);
+    await page.evaluate(`${price}.focus(); ${price}.shadowRoot.querySelector("input").select()`);
+    await page.type(keys);
+    // the page that is gone back to is in another language
+    server.instead["/own.html"] = OWN.replace('locale="de"', 'locale="en"');
+    await page.open(`${server.at}/page/page.css`, "customElements.get('number-field') === undefined");
+    await page.evaluate("history.back()");
+    await page.until(isReady);
+    await page.until(`${price}.text !== "1,234.50"`);
+    assert.deepEqual(await page.evaluate(`[${price}.value, ${price}.text, ${price}.validity.badInput]`), wanted, keys);
+    server.instead["/own.html"] = OWN;
+  }
+});
+
+test("where a locale has no tables a text is no number", async () => {
+  await page.open(`${server.at}/no-locale.html`, 'customElements.get("number-field") !== undefined');
+  await page.evaluate('document.getElementById("number").focus()');
+  await page.type("12");
+  assert.equal(await state(), "12| ");
+  assert.equal(await page.evaluate("document.forms[0].checkValidity()"), false);
 });
 
 test("a module worker writes too", async () => {
@@ -211,7 +264,8 @@ test("what does not load says which file, and why", async () => {
     assert.match(await page.evaluate('document.getElementById("fault").textContent'), wanted);
     other.close();
   }
-  const other = await serve(PACKAGE, { headers: { "content-security-policy": "script-src 'self' 'wasm-unsafe-eval'; style-src 'self' 'unsafe-inline'" } });
+  const other = await serve(PACKAGE, { headers: { "content-security-policy": "script-src 'self' 'wasm-unsafe-eval'; style-src 'self'" } });
   await page.open(`${other.at}/page/index.html`, READY);
+  assert.equal(await page.evaluate(`getComputedStyle(${input}).boxSizing`), "border-box");
   other.close();
 });

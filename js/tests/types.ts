@@ -61,3 +61,7 @@ new PercentFormatter("de", { currency: "EUR" });
 new Answers({ capacity: 5 });
 // @ts-expect-error
 new Answers().answer(["x"]);
+// @ts-expect-error
+export { Formatter } from "legumeyet/core";
+// @ts-expect-error
+export { Open } from "legumeyet/core";

@@ -22,11 +22,7 @@ fn named_folder() -> Option<PathBuf> {
     let named = names.iter().find_map(|name| env::var_os(name).filter(|it| !it.is_empty()))?;
     let folder = folder_of(Path::new(&named));
     let is_there = folder.is_absolute() && folder.join("liblegumeyet.a").is_file();
-    assert!(
-        is_there,
-        "LEGUMEYET_LIBRARY is the absolute path of a folder that has liblegumeyet.a, and {} is not",
-        folder.display()
-    );
+    assert!(is_there, "LEGUMEYET_LIBRARY is the absolute path of a folder that has liblegumeyet.a, and {} is not", folder.display());
     Some(folder)
 }
 
@@ -36,7 +32,20 @@ fn own_folder() -> Option<PathBuf> {
     Some(Path::new(&crate_folder).join("lib").join(target)).filter(|it| it.join("liblegumeyet.a").is_file())
 }
 
-/// The words that pkg-config says for the linker, where it knows the library: PKG_CONFIG names another command, and PKG_CONFIG_PATH folders.
+/// The words of a text of pkg-config: what is behind a backslash, as a space in a path, belongs to its word.
+fn words_of(text: &str) -> Vec<String> {
+    let (mut words, mut chars) = (vec![String::new()], text.chars());
+    while let Some(it) = chars.next() {
+        match it {
+            '\\' => words.last_mut().unwrap().extend(chars.next()),
+            _ if it.is_whitespace() => words.push(String::new()),
+            _ => words.last_mut().unwrap().push(it),
+        }
+    }
+    words
+}
+
+/// What pkg-config says for the linker, where it knows the library: PKG_CONFIG names another command, and PKG_CONFIG_PATH folders.
 fn said_by_pkg_config() -> Option<String> {
     ["PKG_CONFIG", "PKG_CONFIG_PATH", "PKG_CONFIG_LIBDIR"].iter().for_each(|name| println!("cargo:rerun-if-env-changed={name}"));
     if env::var_os("HOST") != env::var_os("TARGET") {
@@ -56,7 +65,9 @@ fn main() {
         }
         None => {
             let said = said_by_pkg_config().unwrap_or_default();
-            said.split_whitespace().filter_map(|it| it.strip_prefix("-L")).for_each(|it| println!("cargo:rustc-link-search=native={it}"));
+            for folder in words_of(&said).iter().filter_map(|it| it.strip_prefix("-L")) {
+                println!("cargo:rustc-link-search=native={folder}");
+            }
             println!("cargo:rustc-link-lib=legumeyet");
         }
     }

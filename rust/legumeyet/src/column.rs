@@ -77,8 +77,12 @@ impl Column {
 impl ops::Index<usize> for Column {
     type Output = str;
 
+    #[track_caller]
     fn index(&self, at: usize) -> &str {
-        self.get(at).expect("the place of a text")
+        match self.get(at) {
+            Some(text) => text,
+            None => panic!("there is no text at {at}: there are {}", self.len()),
+        }
     }
 }
 
@@ -127,8 +131,11 @@ impl iter::FusedIterator for Texts<'_> {}
 /// # Ok::<(), Error>(())
 /// ```
 #[derive(Clone, Debug, PartialEq, Eq)]
+#[non_exhaustive]
 pub struct ColumnError {
+    /// Why the number was refused.
     pub error: Error,
+    /// The texts of those before it.
     pub column: Column,
 }
 

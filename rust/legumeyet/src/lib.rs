@@ -194,11 +194,12 @@ impl DecimalFormatter {
 
     /// Shares the formatter: any number of threads use it at once, and it stays for the rest of the program: its memory is never given back.
     /// So share those that a program uses until it ends, and not one for each request.
+    #[must_use = "it stays for the rest of the program"]
     pub fn share(self) -> SharedDecimalFormatter {
         SharedDecimalFormatter::of(&self.0)
     }
 
-    /// The text of a number. Refused by `NUMBER`, `LIMIT`, `MEMORY`.
+    /// The text of a number. Refused by `OPTION`, `NUMBER`, `LIMIT`, `MEMORY`.
     pub fn format<'a>(&self, number: impl Into<Number<'a>>, options: &Options) -> Result<String, Error> {
         let (number, options) = (number.into(), options.numbers());
         written(|out, room, length| self.call(&number, &options, out, room, length))
@@ -221,7 +222,8 @@ impl DecimalFormatter {
         }
     }
 
-    /// The text of the number `mantissa` times ten to the power `exponent`: 500 and -2 are `5.00`. Refused by `LIMIT`, `MEMORY`.
+    /// The text of the number `mantissa` times ten to the power `exponent`: 500 and -2 are `5.00`. Refused by `OPTION`, `LIMIT`,
+    /// `MEMORY`.
     pub fn format_i64(&self, mantissa: i64, exponent: i16, options: &Options) -> Result<String, Error> {
         let options = options.numbers();
         // SAFETY: as for `Book::answer`.
@@ -310,11 +312,12 @@ impl CompactDecimalFormatter {
     }
 
     /// Shares the formatter, as `DecimalFormatter::share` does.
+    #[must_use = "it stays for the rest of the program"]
     pub fn share(self) -> SharedCompactDecimalFormatter {
         SharedCompactDecimalFormatter::of(&self.0)
     }
 
-    /// The text of a number: -1172700 is `-1.2M` in short English. Refused by `NUMBER`, `LIMIT`, `RANGE`, `MEMORY`.
+    /// The text of a number: -1172700 is `-1.2M` in short English. Refused by `OPTION`, `NUMBER`, `LIMIT`, `RANGE`, `MEMORY`.
     pub fn format<'a>(&self, number: impl Into<Number<'a>>, options: &Options) -> Result<String, Error> {
         let (number, options) = (number.into(), options.numbers());
         written(|out, room, length| self.call(&number, &options, out, room, length))
@@ -337,7 +340,7 @@ impl CompactDecimalFormatter {
         }
     }
 
-    /// The text of the number `mantissa` times ten to the power `exponent`. Refused by `LIMIT`, `RANGE`, `MEMORY`.
+    /// The text of the number `mantissa` times ten to the power `exponent`. Refused by `OPTION`, `LIMIT`, `RANGE`, `MEMORY`.
     pub fn format_i64(&self, mantissa: i64, exponent: i16, options: &Options) -> Result<String, Error> {
         let options = options.numbers();
         // SAFETY: as for `Book::answer`.
@@ -369,7 +372,7 @@ impl CompactDecimalFormatter {
     }
 
     /// The text of a significand with an exponent, its digits as they are: `-1.20c6` is `-1.20M` in short English. The options change
-    /// the significand. Refused by `NUMBER`, `LIMIT`, `RANGE`, `EXPONENT`, `MEMORY`.
+    /// the significand. Refused by `OPTION`, `NUMBER`, `LIMIT`, `RANGE`, `EXPONENT`, `MEMORY`.
     pub fn format_exact(&self, number: &str, options: &Options) -> Result<String, Error> {
         let options = options.numbers();
         // SAFETY: as for `Book::answer`.

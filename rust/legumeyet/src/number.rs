@@ -47,6 +47,12 @@ impl<'a> From<&'a String> for Number<'a> {
     }
 }
 
+impl From<String> for Number<'_> {
+    fn from(text: String) -> Self {
+        Number(Of::Digits(Cow::Owned(text)))
+    }
+}
+
 impl<'a> From<Cow<'a, str>> for Number<'a> {
     fn from(text: Cow<'a, str>) -> Number<'a> {
         Number(Of::Digits(text))

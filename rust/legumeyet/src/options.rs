@@ -37,7 +37,7 @@ words!(CurrencyStyle: "standard" Standard, "accounting" Accounting);
 words!(CurrencyWidth: "symbol" Symbol, "code" Code);
 
 /// When grouping separators are written.
-#[derive(Clone, Copy, Debug, Default, PartialEq, Eq)]
+#[derive(Clone, Copy, Debug, Default, PartialEq, Eq, Hash)]
 #[non_exhaustive]
 pub enum Grouping {
     /// Where the sizes of the locale place them: `1,234,567`.
@@ -52,7 +52,7 @@ pub enum Grouping {
 }
 
 /// Which patterns compact numbers are written in.
-#[derive(Clone, Copy, Debug, Default, PartialEq, Eq)]
+#[derive(Clone, Copy, Debug, Default, PartialEq, Eq, Hash)]
 #[non_exhaustive]
 pub enum Width {
     /// `1.6K`.
@@ -63,7 +63,7 @@ pub enum Width {
 }
 
 /// How a negative amount of money is written.
-#[derive(Clone, Copy, Debug, Default, PartialEq, Eq)]
+#[derive(Clone, Copy, Debug, Default, PartialEq, Eq, Hash)]
 #[non_exhaustive]
 pub enum CurrencyStyle {
     /// `-$5.00`.
@@ -74,7 +74,7 @@ pub enum CurrencyStyle {
 }
 
 /// What a currency is written as.
-#[derive(Clone, Copy, Debug, Default, PartialEq, Eq)]
+#[derive(Clone, Copy, Debug, Default, PartialEq, Eq, Hash)]
 #[non_exhaustive]
 pub enum CurrencyWidth {
     /// Its symbol, or its code where it has none: `$5.00`.
@@ -85,7 +85,7 @@ pub enum CurrencyWidth {
 }
 
 /// What amounts of money are written with. By default they are of the standard style, with the symbol and with separators.
-#[derive(Clone, Copy, Debug, Default, PartialEq, Eq)]
+#[derive(Clone, Copy, Debug, Default, PartialEq, Eq, Hash)]
 #[non_exhaustive]
 pub struct CurrencyOptions {
     /// How a negative amount is written.
@@ -117,7 +117,7 @@ impl CurrencyOptions {
 }
 
 /// Which sign is written; it is chosen by what the rounding left.
-#[derive(Clone, Copy, Debug, Default, PartialEq, Eq)]
+#[derive(Clone, Copy, Debug, Default, PartialEq, Eq, Hash)]
 #[non_exhaustive]
 pub enum Sign {
     /// The one of the number as it was given: `+5` stays `+5`.
@@ -136,7 +136,7 @@ pub enum Sign {
 }
 
 /// What a part of a text is.
-#[derive(Clone, Copy, Debug, PartialEq, Eq)]
+#[derive(Clone, Copy, Debug, PartialEq, Eq, Hash)]
 #[non_exhaustive]
 pub enum Kind {
     MinusSign,
@@ -180,7 +180,7 @@ impl Kind {
 /// assert_eq!("half-even".parse(), Ok(Rounding::HalfEven));
 /// assert_eq!(Rounding::HalfEven.to_string(), "half-even");
 /// ```
-#[derive(Clone, Copy, Debug, Default, PartialEq, Eq)]
+#[derive(Clone, Copy, Debug, Default, PartialEq, Eq, Hash)]
 #[non_exhaustive]
 pub enum Rounding {
     /// It is not rounded; an amount of money is rounded to the digits of its currency, a tie to the even one.
@@ -211,7 +211,7 @@ pub enum Rounding {
 }
 
 /// Of what a number is rounded to a multiple, at the position.
-#[derive(Clone, Copy, Debug, Default, PartialEq, Eq)]
+#[derive(Clone, Copy, Debug, Default, PartialEq, Eq, Hash)]
 #[non_exhaustive]
 pub enum Increment {
     /// Of one: each digit.
@@ -224,7 +224,7 @@ pub enum Increment {
 }
 
 /// What becomes of the zeros at the end of the fraction digits.
-#[derive(Clone, Copy, Debug, Default, PartialEq, Eq)]
+#[derive(Clone, Copy, Debug, Default, PartialEq, Eq, Hash)]
 #[non_exhaustive]
 pub enum TrailingZeros {
     /// They stay: `1.50`.
@@ -250,7 +250,7 @@ pub enum TrailingZeros {
 /// assert_eq!(german.format("1.23", &twentieths)?, "1,25");
 /// # Ok::<(), legumeyet::Error>(())
 /// ```
-#[derive(Clone, Copy, Debug, Default, PartialEq, Eq)]
+#[derive(Clone, Copy, Debug, Default, PartialEq, Eq, Hash)]
 #[non_exhaustive]
 pub struct Options {
     /// Which sign is written.

@@ -149,7 +149,7 @@ impl SharedCompactDecimalFormatter {
         })
     }
 
-    /// The text of a significand with an exponent: `-1.20c6` is `-1.20M` in short English. Refused by `NUMBER`, `LIMIT`, `RANGE`,
+    /// The text of a significand with an exponent: `-1.20c6` is `-1.20M` in short English. Refused by `OPTION`, `NUMBER`, `LIMIT`, `RANGE`,
     /// `EXPONENT`, `MEMORY`.
     pub fn format_exact(&self, number: &str, options: &Options) -> Result<String, Error> {
         let options = options.numbers();

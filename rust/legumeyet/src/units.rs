@@ -66,6 +66,7 @@ macro_rules! calls_of {
     ($type:ident, $shared:ident) => {
         impl $type {
             /// Shares the formatter, as `DecimalFormatter::share` does.
+            #[must_use = "it stays for the rest of the program"]
             pub fn share(self) -> $shared {
                 $shared::of(&self.0 .0)
             }
@@ -96,17 +97,6 @@ macro_rules! calls_of {
             /// The text of `format` with its parts, by bytes, in order of their beginning. Refused as `format`.
             pub fn format_parts<'a>(&self, number: impl Into<Number<'a>>, options: &Options) -> Result<(String, Parts), Error> {
                 self.0.format_parts(&number.into(), options)
-            }
-
-            /// The number that is written so, as digits. How many digits the currency has is not looked at. Refused by `UNREADABLE`,
-            /// `NOT_WRITTEN`, `MEMORY`.
-            pub fn read(&self, text: &str) -> Result<String, Error> {
-                self.0.read(text)
-            }
-
-            /// The number that somebody typed, with its unit or code on either side or without it, as digits. Refused as `read`.
-            pub fn read_lenient(&self, text: &str) -> Result<String, Error> {
-                self.0.read_lenient(text)
             }
         }
     };
@@ -162,6 +152,16 @@ impl PercentFormatter {
             |formatter| unsafe { sys::legumeyet_percent_formatter_open(book.0.at(), tag.as_ptr(), tag.len(), grouping as u32, formatter) };
         Unit::open(open).map(PercentFormatter)
     }
+
+    /// The number that is written so, as digits: `-12.5%` is `-12.5` in English. Refused by `UNREADABLE`, `NOT_WRITTEN`, `MEMORY`.
+    pub fn read(&self, text: &str) -> Result<String, Error> {
+        self.0.read(text)
+    }
+
+    /// The number that somebody typed, with the sign of percents on either side or without it, as digits. Refused as `read`.
+    pub fn read_lenient(&self, text: &str) -> Result<String, Error> {
+        self.0.read_lenient(text)
+    }
 }
 
 /// The formatter of amounts of money for a locale tag and the code of a currency, three capitals. It may outlive the book.
@@ -213,5 +213,16 @@ impl CurrencyFormatter {
             sys::legumeyet_currency_formatter_open(book.0.at(), tag_at, tag.len(), code_at, code.len(), style, width, grouping, formatter)
         };
         Unit::open(open).map(CurrencyFormatter)
+    }
+
+    /// The number that is written so, as digits. How many digits the currency has is not looked at. Refused by `UNREADABLE`,
+    /// `NOT_WRITTEN`, `MEMORY`.
+    pub fn read(&self, text: &str) -> Result<String, Error> {
+        self.0.read(text)
+    }
+
+    /// The number that somebody typed, with the currency or its code on either side or without it, as digits. Refused as `read`.
+    pub fn read_lenient(&self, text: &str) -> Result<String, Error> {
+        self.0.read_lenient(text)
     }
 }

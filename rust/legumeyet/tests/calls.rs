@@ -4,7 +4,7 @@ use legumeyet::{
     Book, CompactDecimalFormatter, CurrencyFormatter, CurrencyOptions, CurrencyStyle, CurrencyWidth, DecimalFormatter, Error, Grouping,
     Increment, Kind, OpenError, Options, PercentFormatter, Rounding, Sign, TrailingZeros, UnknownWord, Width, WriteError,
 };
-use std::{env, fmt, fs, io, process, thread};
+use std::{collections::HashMap, env, fmt, fs, io, process, thread};
 
 const JSON: &str = r#"[[["en","","latn","-","","+","",".",",",3,3,1],["bad","","latn","","","+","",".",",",3,3,1]],
 [["latn","0123456789"]],[["en",[]]],[["en","",[[3,3,[["other",["","K"]]]],[6,6,[["other",["","M"]]]]],null]],
@@ -38,7 +38,7 @@ fn numbers() {
     for (number, error) in [("5.", Error::NUMBER), ("", Error::NUMBER), ("1\0", Error::NUMBER), ("1e40000", Error::LIMIT)] {
         assert_eq!(english.format(number, &Options::default()), Err(error), "{number}");
     }
-    assert_eq!(english.format(&"9".repeat(40000), &Options::default()), Err(Error::LIMIT));
+    assert_eq!(english.format("9".repeat(40000), &Options::default()), Err(Error::LIMIT));
     assert_eq!(english.format_i64(10, i16::MAX, &Options::default()), Err(Error::LIMIT));
 }
 
@@ -51,7 +51,9 @@ fn numbers_of_all_types() {
     }
     assert_eq!(english.format(u64::MAX, &as_given).unwrap(), "18,446,744,073,709,551,615");
     assert_eq!(english.format(1234usize, &as_given).unwrap(), "1,234");
-    assert_eq!(english.format(&String::from("1.50"), &as_given).unwrap(), "1.50");
+    let text = String::from("1.50");
+    assert_eq!(english.format(&text, &as_given).unwrap(), "1.50");
+    assert_eq!(english.format(text, &as_given).unwrap(), "1.50");
     for (number, text) in [
         (0.1, "0.1"),
         (5.0, "5"),
@@ -95,7 +97,7 @@ fn writes() {
     english.write_to(&mut text, 1234, &as_given).unwrap();
     short.write_to(&mut text, "-1172700", &as_given).unwrap();
     assert_eq!(text, "it is 1,234-1.2M");
-    english.write_to(&mut text, &"1".repeat(1000), &as_given).unwrap();
+    english.write_to(&mut text, "1".repeat(1000), &as_given).unwrap();
     assert_eq!(text.len(), 16 + 1333);
     let mut short = Short(String::new(), 4);
     assert_eq!(english.write_to(&mut short, "5.", &as_given), Err(WriteError::Number(Error::NUMBER)));
@@ -154,14 +156,9 @@ fn reads_leniently() {
 #[test]
 fn reads_units_leniently() {
     let (euros, percents) = (CurrencyFormatter::new("en", "EUR").unwrap(), PercentFormatter::new("tr").unwrap());
-    for (text, number) in [
-        ("-€1,234.50", "-1234.50"),
-        (" €1234.5 ", "1234.5"),
-        ("1,234.5 €", "1234.5"),
-        ("EUR 5", "5"),
-        ("5 EUR", "5"),
-        ("-5", "-5"),
-    ] {
+    for (text, number) in
+        [("-€1,234.50", "-1234.50"), (" €1234.5 ", "1234.5"), ("1,234.5 €", "1234.5"), ("EUR 5", "5"), ("5 EUR", "5"), ("-5", "-5")]
+    {
         assert_eq!(euros.read_lenient(text).as_deref(), Ok(number), "{text}");
     }
     for text in ["$5.00", "€1,23", "5 euros", ""] {
@@ -188,6 +185,8 @@ fn newer_options() {
     assert_eq!(english.format(1, &Options::default().minimum_integer_digits(32768)), Err(Error::OPTION));
     assert_eq!("25".parse(), Ok(Increment::TwentyFive));
     assert_eq!(TrailingZeros::Trim.to_string(), "trim");
+    let by_options = HashMap::from([((Options::default(), CurrencyOptions::default()), 0), ((trimmed, CurrencyOptions::default()), 1)]);
+    assert_eq!(by_options[&(trimmed, CurrencyOptions::default())], 1);
     assert!(legumeyet::minor() >= 1);
 }
 
@@ -223,7 +222,7 @@ fn parts() {
     let texts: Vec<_> = parts.iter().map(|(kind, range)| (*kind, &text[range.clone()])).collect();
     let wanted = [(Kind::MinusSign, "-"), (Kind::Integer, "1,234"), (Kind::Group, ","), (Kind::Decimal, "."), (Kind::Fraction, "5")];
     assert_eq!(texts, wanted);
-    let (text, parts) = english.format_parts(&"1".repeat(1000), &Options::default()).unwrap();
+    let (text, parts) = english.format_parts("1".repeat(1000), &Options::default()).unwrap();
     assert_eq!((text.len(), parts.len()), (1333, 334));
     assert_eq!(english.format_parts("5.", &Options::default()), Err(Error::NUMBER));
 }
@@ -379,7 +378,7 @@ fn amounts() {
         formatter.write_to(&mut written, number, &as_given).unwrap();
         assert_eq!(written, text);
         assert_eq!(formatter.format_parts(number, &as_given).unwrap().0, text);
-        assert_eq!(formatter.format(&formatter.read(text).unwrap(), &as_given).unwrap(), text);
+        assert_eq!(formatter.format(formatter.read(text).unwrap(), &as_given).unwrap(), text);
     }
     let dollars = CurrencyFormatter::with_options("en", "USD", &CurrencyOptions::default().style(CurrencyStyle::Accounting)).unwrap();
     assert_eq!(dollars.format(-5, &as_given).unwrap(), "($5.00)");

@@ -19,6 +19,7 @@ fn numbers() {
     assert_eq!(&english.format_all([u64::MAX], &AS_GIVEN()).unwrap()[0], "18,446,744,073,709,551,615");
     assert_eq!(&english.format_all(vec![0.25; 3], &AS_GIVEN()).unwrap()[2], "0.25");
     let texts = vec![String::from("1"), String::from("2")];
+    assert_eq!(english.format_all(texts.clone(), &AS_GIVEN()).unwrap().as_str(), "12");
     assert_eq!(english.format_all(&texts, &AS_GIVEN().sign(Sign::Always)).unwrap().as_str(), "+1+2");
     let rounded = AS_GIVEN().rounded(Rounding::HalfEven, -1);
     assert_eq!(english.format_doubles(&[9.65, 1.0], &rounded).unwrap().as_str(), "9.61.0");
