@@ -250,7 +250,7 @@ export class NumberField extends HTMLElement {
   }
   // `kept` is as #judge has it, or what the browser fills in by itself.
   formStateRestoreCallback(kept, reason) {
-    const [, kind, rest] = reason === "restore" ? kept.match(/^(text|number) (.*)$/s) : [null, "text", kept];
+    const [, kind, rest] = (reason === "restore" && kept.match(/^(text|number) (.*)$/s)) || [null, "text", kept];
     if (kind === "text") this.#shows(this.#read(rest, rest.length, { front: 0, back: 0 }));
     else this.value = rest;
   }
