@@ -60,6 +60,37 @@ template <class Call> static void expect_error(std::string_view wanted, Call cal
 
 static const double NONE = std::numeric_limits<double>::quiet_NaN();
 
+// Every second number from a place on, as a row of a table that has its columns one after the other.
+struct Row {
+    struct iterator {
+        using iterator_category = std::forward_iterator_tag;
+        using value_type = double;
+        using difference_type = std::ptrdiff_t;
+        using pointer = const double *;
+        using reference = const double &;
+        const double *at = nullptr;
+        const double &operator*() const { return *at; }
+        iterator &operator++() { return at += 2, *this; }
+        iterator operator++(int) { return {std::exchange(at, at + 2)}; }
+        bool operator==(const iterator &other) const { return at == other.at; }
+        bool operator!=(const iterator &other) const { return at != other.at; }
+    };
+    const double *first;
+    std::size_t count;
+    const double *data() const { return first; }
+    std::size_t size() const { return count; }
+    iterator begin() const { return {first}; }
+    iterator end() const { return {first + 2 * count}; }
+};
+
+// What is read where it is, and what is not.
+static_assert(inner::is_memory_of<double, std::vector<double> &> && inner::is_memory_of<double, const std::vector<double>>);
+static_assert(inner::is_memory_of<int64_t, std::array<int64_t, 3>> && inner::is_memory_of<double, const double (&)[3]>);
+static_assert(!inner::is_memory_of<double, Row> && !inner::is_memory_of<double, std::list<double>> && !inner::is_memory_of<int64_t, std::vector<int>>);
+#if __cplusplus >= 202002L
+static_assert(inner::is_memory_of<double, std::span<const double>> && inner::is_memory_of<int64_t, std::span<int64_t, 2>>);
+#endif
+
 static void ranges(DecimalFormatter &english) {
     const double some[] = {1234.5, -7, 0.25};
     const int64_t whole[] = {1234, INT64_MIN, INT64_MAX};
@@ -73,6 +104,8 @@ static void ranges(DecimalFormatter &english) {
            "1|18,446,744,073,709,551,615|1,000|18,446,744,073,709,551,615|");
     expect(barred(english.format_all(std::array<int8_t, 3>{-128, 0, 127})), "-128|0|127|");
     expect(barred(english.format_all(std::list<long long>{-1234, 5})), "-1,234|5|");
+    const double table[] = {1, 2, 3, 4, 5, 6};
+    expect(barred(english.format_all(Row{table, 3})) + barred(english.format_all(Row{table + 1, 2})), "1|3|5|2|4|");
     expect(barred(english.format_all(std::vector<std::string>{"1e3", "-0.50", "+5"})), "1,000|-0.50|+5|");
     expect(barred(english.format_all(std::deque<const char *>{"1e3", "7"})), "1,000|7|");
     expect(barred(english.format_all(some, Options().with_rounding(Rounding::HalfEven, -1).with_sign(Sign::Always))), "+1,234.5|-7.0|+0.2|");

@@ -624,12 +624,20 @@ class Column {
 
 namespace inner {
 
-// What a range has, and whether it has that in one piece of memory.
-template <class Numbers> using item_of = std::remove_cv_t<std::remove_reference_t<decltype(*std::begin(std::declval<Numbers &>()))>>;
+// What a range has, and whether it has that in one piece of memory: one with a stride may have `data` and `size` too.
+template <class Numbers> using iterator_of = decltype(std::begin(std::declval<Numbers &>()));
+template <class Numbers> using item_of = std::remove_cv_t<std::remove_reference_t<decltype(*std::declval<iterator_of<Numbers> &>())>>;
+#ifdef __cpp_lib_concepts
+template <class T, class Iterator> inline constexpr bool is_contiguous = std::contiguous_iterator<Iterator>;
+#else
+template <class T, class Iterator>
+inline constexpr bool is_contiguous = std::is_pointer_v<Iterator> || std::is_same_v<Iterator, typename std::vector<T>::iterator> ||
+                                      std::is_same_v<Iterator, typename std::vector<T>::const_iterator>;
+#endif
 template <class T, class Numbers, class = void> inline constexpr bool is_memory_of = false;
 template <class T, class Numbers>
 inline constexpr bool is_memory_of<T, Numbers, std::void_t<decltype(std::data(std::declval<Numbers &>()), std::size(std::declval<Numbers &>()))>> =
-    std::is_convertible_v<decltype(std::data(std::declval<Numbers &>())), const T *>;
+    std::is_convertible_v<decltype(std::data(std::declval<Numbers &>())), const T *> && is_contiguous<T, iterator_of<Numbers>>;
 
 // Whether a type is of ranges of numbers: of doubles, of integers, or of texts.
 template <class Numbers, class = void> inline constexpr bool has_numbers = false;
