@@ -16,14 +16,16 @@
 using namespace legumeyet;
 
 // Whether a formatter takes a column of this type.
-template <class, class Numbers> constexpr bool takes = false;
-template <class Numbers>
-constexpr bool takes<std::void_t<decltype(std::declval<DecimalFormatter &>().format_all(std::declval<Numbers>()))>, Numbers> = true;
-template <class Numbers> constexpr bool takes_all = takes<void, Numbers>;
+template <class, class... Numbers> constexpr bool takes = false;
+template <class... Numbers>
+constexpr bool takes<std::void_t<decltype(std::declval<DecimalFormatter &>().format_all(std::declval<Numbers>()...))>, Numbers...> = true;
+template <class... Numbers> constexpr bool takes_all = takes<void, Numbers...>;
 static_assert(takes_all<std::vector<double>> && takes_all<std::vector<double> &> && takes_all<const std::vector<int64_t> &>);
 static_assert(takes_all<std::array<int, 3>> && takes_all<std::list<double>> && takes_all<const double (&)[3]> && takes_all<uint8_t (&)[2]>);
 static_assert(takes_all<std::vector<std::string>> && takes_all<std::deque<std::string_view>> && takes_all<const char *const (&)[2]>);
 static_assert(!takes_all<std::vector<float>> && !takes_all<std::vector<bool>> && !takes_all<std::vector<long double>> && !takes_all<std::string>);
+static_assert(takes_all<const double *, int> && takes_all<const int64_t *, std::size_t, Options> && takes_all<double (&)[3], unsigned>);
+static_assert(!takes_all<const double *, double> && !takes_all<const double *, Options> && !takes_all<const int *, int> && !takes_all<double *>);
 static_assert(!takes_all<const char *> && !takes_all<double> && !takes_all<std::vector<void *>> && !takes_all<std::vector<std::vector<double>>>);
 static_assert(std::is_copy_constructible_v<Column> && std::is_nothrow_move_constructible_v<Column>);
 #if __cplusplus >= 202002L
@@ -98,6 +100,7 @@ static void ranges(DecimalFormatter &english) {
     expect(barred(english.format_all(some, 3)), all);
     expect(barred(english.format_all(whole, 3)), of_whole);
     expect(barred(english.format_all(some)) + barred(english.format_all(whole)), all + of_whole);
+    expect(barred(english.format_all(some, {})) + barred(english.format_all(whole, {})), all + of_whole);
     expect(barred(english.format_all(std::vector<double>(some, some + 3))), all);
     expect(barred(english.format_all(std::list<double>(some, some + 3))), all);
     expect(barred(english.format_all(std::vector<uint64_t>{1, UINT64_MAX, 1000, UINT64_MAX})),

@@ -645,6 +645,16 @@ template <class Numbers>
 inline constexpr bool has_numbers<Numbers, std::void_t<item_of<Numbers>>> =
     std::is_same_v<item_of<Numbers>, double> || is_number<item_of<Numbers>> || is_text<item_of<Numbers>>;
 
+// How many numbers are behind a pointer. `{}` is no such count, so beside an array it is options.
+class Count {
+    std::size_t count;
+
+  public:
+    template <class T, std::enable_if_t<std::is_convertible_v<T, std::size_t> && !std::is_floating_point_v<T>, int> = 0>
+    Count(T it) noexcept : count(static_cast<std::size_t>(it)) {}
+    operator std::size_t() const noexcept { return count; }
+};
+
 } // namespace inner
 
 // The tag of a locale's name as LANG and setlocale give it: `de-DE` of `de_DE.UTF-8`; legumeyet_tag_of_locale_name has the rule. A null
@@ -993,10 +1003,10 @@ template <class Handle, class Calls, class Base> class Formatter : Base {
         else
             return add_gathered<std::conditional_t<std::is_same_v<T, double>, double, int64_t>>(into, numbers, options);
     }
-    Code format_all_to(Column &into, const double *numbers, std::size_t count, const Options &options = {}) {
+    Code format_all_to(Column &into, const double *numbers, Count count, const Options &options = {}) {
         return add_doubles(into, numbers, count, static_cast<legumeyet_options>(options));
     }
-    Code format_all_to(Column &into, const int64_t *numbers, std::size_t count, const Options &options = {}) {
+    Code format_all_to(Column &into, const int64_t *numbers, Count count, const Options &options = {}) {
         return add_integers(into, numbers, count, static_cast<legumeyet_options>(options));
     }
 
@@ -1005,10 +1015,10 @@ template <class Handle, class Calls, class Base> class Formatter : Base {
     Result<Column> try_format_all(Numbers &&numbers, const Options &options = {}) {
         return column_of([&](Column &it) { return format_all_to(it, numbers, options); });
     }
-    Result<Column> try_format_all(const double *numbers, std::size_t count, const Options &options = {}) {
+    Result<Column> try_format_all(const double *numbers, Count count, const Options &options = {}) {
         return column_of([&](Column &it) { return format_all_to(it, numbers, count, options); });
     }
-    Result<Column> try_format_all(const int64_t *numbers, std::size_t count, const Options &options = {}) {
+    Result<Column> try_format_all(const int64_t *numbers, Count count, const Options &options = {}) {
         return column_of([&](Column &it) { return format_all_to(it, numbers, count, options); });
     }
 
@@ -1032,10 +1042,10 @@ template <class Handle, class Calls, class Base> class Formatter : Base {
     Column format_all(Numbers &&numbers, const Options &options = {}) {
         return whole_column_of([&](Column &it) { return format_all_to(it, numbers, options); });
     }
-    Column format_all(const double *numbers, std::size_t count, const Options &options = {}) {
+    Column format_all(const double *numbers, Count count, const Options &options = {}) {
         return whole_column_of([&](Column &it) { return format_all_to(it, numbers, count, options); });
     }
-    Column format_all(const int64_t *numbers, std::size_t count, const Options &options = {}) {
+    Column format_all(const int64_t *numbers, Count count, const Options &options = {}) {
         return whole_column_of([&](Column &it) { return format_all_to(it, numbers, count, options); });
     }
 #endif
@@ -1340,14 +1350,14 @@ template <class Handle, class Calls> class SharedFormatter : Formatter<Handle, C
     Code format_all_to(Column &into, Numbers &&numbers, const Options &options = {}) const {
         return calling().format_all_to(into, numbers, options);
     }
-    template <class T> Code format_all_to(Column &into, const T *numbers, std::size_t count, const Options &options = {}) const {
+    template <class T> Code format_all_to(Column &into, const T *numbers, Count count, const Options &options = {}) const {
         return calling().format_all_to(into, numbers, count, options);
     }
     template <class Numbers, std::enable_if_t<has_numbers<Numbers>, int> = 0>
     Result<Column> try_format_all(Numbers &&numbers, const Options &options = {}) const {
         return calling().try_format_all(numbers, options);
     }
-    template <class T> Result<Column> try_format_all(const T *numbers, std::size_t count, const Options &options = {}) const {
+    template <class T> Result<Column> try_format_all(const T *numbers, Count count, const Options &options = {}) const {
         return calling().try_format_all(numbers, count, options);
     }
     Result<Annotated> try_format_parts(const Digits &number, const Options &options = {}) const {
@@ -1365,7 +1375,7 @@ template <class Handle, class Calls> class SharedFormatter : Formatter<Handle, C
     Column format_all(Numbers &&numbers, const Options &options = {}) const {
         return calling().format_all(numbers, options);
     }
-    template <class T> Column format_all(const T *numbers, std::size_t count, const Options &options = {}) const {
+    template <class T> Column format_all(const T *numbers, Count count, const Options &options = {}) const {
         return calling().format_all(numbers, count, options);
     }
 #endif
