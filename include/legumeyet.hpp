@@ -157,11 +157,29 @@ enum class Kind : uint32_t {
 
 namespace inner {
 
+// Whether a type is of integers that numbers are given as: not of characters, and not bool.
+template <class T>
+inline constexpr bool is_number = std::is_integral_v<T> && sizeof(T) <= sizeof(int64_t) && !std::is_same_v<T, bool> &&
+                                  !std::is_same_v<T, char> && !std::is_same_v<T, wchar_t> && !std::is_same_v<T, char16_t> &&
+#ifdef __cpp_char8_t
+                                  !std::is_same_v<T, char8_t> &&
+#endif
+                                  !std::is_same_v<T, char32_t>;
+
+// Whether an integer is one of the type.
+template <class To, class From> constexpr bool fits(From number) noexcept {
+    const To narrow = static_cast<To>(number);
+    return static_cast<From>(narrow) == number && (narrow < To{}) == (number < From{});
+}
+
 // Options with another field.
 template <class Options, class T> constexpr Options with(Options options, T Options::*field, T it) noexcept {
     options.*field = it;
     return options;
 }
+
+// A least count of digits, or one that each call refuses where it has no room in its field.
+template <class T> constexpr uint16_t least(T count) noexcept { return fits<uint16_t>(count) ? static_cast<uint16_t>(count) : UINT16_MAX; }
 
 } // namespace inner
 
@@ -178,18 +196,22 @@ struct Options {
     uint16_t minimum_integer_digits = 0;
     uint16_t minimum_fraction_digits = 0;
 
-    // The same with another choice.
+    // The same with another choice. An integer that has no room in its field is refused by the call that is given the options: Code::Option.
     constexpr Options with_sign(Sign it) const noexcept { return inner::with(*this, &Options::sign, it); }
-    constexpr Options with_rounding(Rounding it, int16_t at = 0) const noexcept {
-        return inner::with(inner::with(*this, &Options::rounding, it), &Options::position, at);
+    template <class T = int, std::enable_if_t<inner::is_number<T>, int> = 0>
+    constexpr Options with_rounding(Rounding it, T at = 0) const noexcept {
+        const Rounding known = inner::fits<int16_t>(at) ? it : Rounding{UINT32_MAX};
+        return inner::with(inner::with(*this, &Options::rounding, known), &Options::position, static_cast<int16_t>(at));
     }
     constexpr Options with_trailing_zeros(TrailingZeros it) const noexcept { return inner::with(*this, &Options::trailing_zeros, it); }
     constexpr Options with_increment(Increment it) const noexcept { return inner::with(*this, &Options::increment, it); }
-    constexpr Options with_minimum_integer_digits(uint16_t count) const noexcept {
-        return inner::with(*this, &Options::minimum_integer_digits, count);
+    template <class T, std::enable_if_t<inner::is_number<T>, int> = 0>
+    constexpr Options with_minimum_integer_digits(T count) const noexcept {
+        return inner::with(*this, &Options::minimum_integer_digits, inner::least(count));
     }
-    constexpr Options with_minimum_fraction_digits(uint16_t count) const noexcept {
-        return inner::with(*this, &Options::minimum_fraction_digits, count);
+    template <class T, std::enable_if_t<inner::is_number<T>, int> = 0>
+    constexpr Options with_minimum_fraction_digits(T count) const noexcept {
+        return inner::with(*this, &Options::minimum_fraction_digits, inner::least(count));
     }
 
     // The same for legumeyet.h.
@@ -227,15 +249,6 @@ template <class Call, class Use> Code with_text(Call call, Use use) {
     return code;
 }
 
-// Whether a type is of integers that numbers are given as: not of characters, and not bool.
-template <class T>
-inline constexpr bool is_number = std::is_integral_v<T> && sizeof(T) <= sizeof(int64_t) && !std::is_same_v<T, bool> &&
-                                  !std::is_same_v<T, char> && !std::is_same_v<T, wchar_t> && !std::is_same_v<T, char16_t> &&
-#ifdef __cpp_char8_t
-                                  !std::is_same_v<T, char8_t> &&
-#endif
-                                  !std::is_same_v<T, char32_t>;
-
 // Whether a type is of texts.
 template <class T> inline constexpr bool is_text = std::is_convertible_v<const T &, std::string_view> && !std::is_null_pointer_v<T>;
 
@@ -243,12 +256,6 @@ template <class T> inline constexpr bool is_text = std::is_convertible_v<const T
 // digits than a double.
 template <class T>
 inline constexpr bool is_refused = std::is_null_pointer_v<T> || (std::is_arithmetic_v<T> && !is_number<T> && !std::is_same_v<T, double>);
-
-// Whether an integer is one of the type.
-template <class To, class From> constexpr bool fits(From number) noexcept {
-    const To narrow = static_cast<To>(number);
-    return static_cast<From>(narrow) == number && (narrow < To{}) == (number < From{});
-}
 
 } // namespace inner
 
