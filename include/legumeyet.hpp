@@ -9,9 +9,9 @@
 //     german.format_all(std::vector<double>{1234.5, 0.25});      // a Column of 1.234,5 and 0,25
 //     legumeyet::Answers(16).answer(lines);                      // the answers to request lines
 //
-// Where a function of legumeyet.h returns an error, a call whose name begins with `try_` has it in its Result, `format_to` and `try_keep`
-// return it as a Code, and each other call throws it as an Error. A program that is compiled with -fno-exceptions has all but the last.
-// A call that makes a std::string or a std::vector may throw std::bad_alloc.
+// Where a function of legumeyet.h returns an error, a call whose name begins with `try_` has it in its Result, and `format_to` in its
+// FormatToResult; `format_all_to` and `try_keep` return it as a Code, and each other call throws it as an Error. A program that is compiled
+// with -fno-exceptions has all but the last. A call that makes a std::string or a std::vector may throw std::bad_alloc.
 //
 // Threads: a book, a formatter or answers may go to another thread, and are used by one call at a time, also by a call that only reads, so no
 // call is const. A shared formatter, as SharedDecimalFormatter, is used by any number of threads at once, and its calls are const:
@@ -999,7 +999,7 @@ template <class Handle, class Calls, class Base> class Formatter : Base {
     // Adds the texts of many numbers to a column, of a range of doubles, integers or texts: as `format` has each, and sooner. Where one is
     // refused the column has those before it, so that its size says which. The numbers are not texts of the column itself.
     template <class Numbers, std::enable_if_t<has_numbers<Numbers>, int> = 0>
-    Code format_all_to(Column &into, Numbers &&numbers, const Options &options = {}) {
+    [[nodiscard]] Code format_all_to(Column &into, Numbers &&numbers, const Options &options = {}) {
         using T = item_of<Numbers>;
         if constexpr (is_text<T>)
             return add_texts(into, numbers, options);
@@ -1010,10 +1010,10 @@ template <class Handle, class Calls, class Base> class Formatter : Base {
         else
             return add_gathered<std::conditional_t<std::is_same_v<T, double>, double, int64_t>>(into, numbers, options);
     }
-    Code format_all_to(Column &into, const double *numbers, Count count, const Options &options = {}) {
+    [[nodiscard]] Code format_all_to(Column &into, const double *numbers, Count count, const Options &options = {}) {
         return add_doubles(into, numbers, count, static_cast<legumeyet_options>(options));
     }
-    Code format_all_to(Column &into, const int64_t *numbers, Count count, const Options &options = {}) {
+    [[nodiscard]] Code format_all_to(Column &into, const int64_t *numbers, Count count, const Options &options = {}) {
         return add_integers(into, numbers, count, static_cast<legumeyet_options>(options));
     }
 
@@ -1354,10 +1354,10 @@ template <class Handle, class Calls> class SharedFormatter : Formatter<Handle, C
     Formatted<Calling> operator()(Number number, const Options &options = {}) const &noexcept { return calling()(number, options); }
     Result<std::string> try_format(Number number, const Options &options = {}) const { return calling().try_format(number, options); }
     template <class Numbers, std::enable_if_t<has_numbers<Numbers>, int> = 0>
-    Code format_all_to(Column &into, Numbers &&numbers, const Options &options = {}) const {
+    [[nodiscard]] Code format_all_to(Column &into, Numbers &&numbers, const Options &options = {}) const {
         return calling().format_all_to(into, numbers, options);
     }
-    template <class T> Code format_all_to(Column &into, const T *numbers, Count count, const Options &options = {}) const {
+    template <class T> [[nodiscard]] Code format_all_to(Column &into, const T *numbers, Count count, const Options &options = {}) const {
         return calling().format_all_to(into, numbers, count, options);
     }
     template <class Numbers, std::enable_if_t<has_numbers<Numbers>, int> = 0>
