@@ -16,14 +16,16 @@
 using namespace legumeyet;
 
 // Whether a formatter takes a column of this type.
-template <class, class Numbers> constexpr bool takes = false;
-template <class Numbers>
-constexpr bool takes<std::void_t<decltype(std::declval<DecimalFormatter &>().format_all(std::declval<Numbers>()))>, Numbers> = true;
-template <class Numbers> constexpr bool takes_all = takes<void, Numbers>;
+template <class, class... Numbers> constexpr bool takes = false;
+template <class... Numbers>
+constexpr bool takes<std::void_t<decltype(std::declval<DecimalFormatter &>().format_all(std::declval<Numbers>()...))>, Numbers...> = true;
+template <class... Numbers> constexpr bool takes_all = takes<void, Numbers...>;
 static_assert(takes_all<std::vector<double>> && takes_all<std::vector<double> &> && takes_all<const std::vector<int64_t> &>);
 static_assert(takes_all<std::array<int, 3>> && takes_all<std::list<double>> && takes_all<const double (&)[3]> && takes_all<uint8_t (&)[2]>);
 static_assert(takes_all<std::vector<std::string>> && takes_all<std::deque<std::string_view>> && takes_all<const char *const (&)[2]>);
 static_assert(!takes_all<std::vector<float>> && !takes_all<std::vector<bool>> && !takes_all<std::vector<long double>> && !takes_all<std::string>);
+static_assert(takes_all<const double *, int> && takes_all<const int64_t *, std::size_t, Options> && takes_all<double (&)[3], unsigned>);
+static_assert(!takes_all<const double *, double> && !takes_all<const double *, Options> && !takes_all<const int *, int> && !takes_all<double *>);
 static_assert(!takes_all<const char *> && !takes_all<double> && !takes_all<std::vector<void *>> && !takes_all<std::vector<std::vector<double>>>);
 static_assert(std::is_copy_constructible_v<Column> && std::is_nothrow_move_constructible_v<Column>);
 #if __cplusplus >= 202002L
@@ -60,6 +62,37 @@ template <class Call> static void expect_error(std::string_view wanted, Call cal
 
 static const double NONE = std::numeric_limits<double>::quiet_NaN();
 
+// Every second number from a place on, as a row of a table that has its columns one after the other.
+struct Row {
+    struct iterator {
+        using iterator_category = std::forward_iterator_tag;
+        using value_type = double;
+        using difference_type = std::ptrdiff_t;
+        using pointer = const double *;
+        using reference = const double &;
+        const double *at = nullptr;
+        const double &operator*() const { return *at; }
+        iterator &operator++() { return at += 2, *this; }
+        iterator operator++(int) { return {std::exchange(at, at + 2)}; }
+        bool operator==(const iterator &other) const { return at == other.at; }
+        bool operator!=(const iterator &other) const { return at != other.at; }
+    };
+    const double *first;
+    std::size_t count;
+    const double *data() const { return first; }
+    std::size_t size() const { return count; }
+    iterator begin() const { return {first}; }
+    iterator end() const { return {first + 2 * count}; }
+};
+
+// What is read where it is, and what is not.
+static_assert(inner::is_memory_of<double, std::vector<double> &> && inner::is_memory_of<double, const std::vector<double>>);
+static_assert(inner::is_memory_of<int64_t, std::array<int64_t, 3>> && inner::is_memory_of<double, const double (&)[3]>);
+static_assert(!inner::is_memory_of<double, Row> && !inner::is_memory_of<double, std::list<double>> && !inner::is_memory_of<int64_t, std::vector<int>>);
+#if __cplusplus >= 202002L
+static_assert(inner::is_memory_of<double, std::span<const double>> && inner::is_memory_of<int64_t, std::span<int64_t, 2>>);
+#endif
+
 static void ranges(DecimalFormatter &english) {
     const double some[] = {1234.5, -7, 0.25};
     const int64_t whole[] = {1234, INT64_MIN, INT64_MAX};
@@ -67,12 +100,15 @@ static void ranges(DecimalFormatter &english) {
     expect(barred(english.format_all(some, 3)), all);
     expect(barred(english.format_all(whole, 3)), of_whole);
     expect(barred(english.format_all(some)) + barred(english.format_all(whole)), all + of_whole);
+    expect(barred(english.format_all(some, {})) + barred(english.format_all(whole, {})), all + of_whole);
     expect(barred(english.format_all(std::vector<double>(some, some + 3))), all);
     expect(barred(english.format_all(std::list<double>(some, some + 3))), all);
     expect(barred(english.format_all(std::vector<uint64_t>{1, UINT64_MAX, 1000, UINT64_MAX})),
            "1|18,446,744,073,709,551,615|1,000|18,446,744,073,709,551,615|");
     expect(barred(english.format_all(std::array<int8_t, 3>{-128, 0, 127})), "-128|0|127|");
     expect(barred(english.format_all(std::list<long long>{-1234, 5})), "-1,234|5|");
+    const double table[] = {1, 2, 3, 4, 5, 6};
+    expect(barred(english.format_all(Row{table, 3})) + barred(english.format_all(Row{table + 1, 2})), "1|3|5|2|4|");
     expect(barred(english.format_all(std::vector<std::string>{"1e3", "-0.50", "+5"})), "1,000|-0.50|+5|");
     expect(barred(english.format_all(std::deque<const char *>{"1e3", "7"})), "1,000|7|");
     expect(barred(english.format_all(some, Options().with_rounding(Rounding::HalfEven, -1).with_sign(Sign::Always))), "+1,234.5|-7.0|+0.2|");

@@ -68,6 +68,11 @@ static_assert(noexcept(std::declval<DecimalFormatter &>().format_to(nullptr, 0, 
 static_assert(noexcept(DecimalFormatter::try_open(std::declval<Book &>(), std::string_view())) && noexcept(Book::try_world()));
 static_assert(Options().with_rounding(Rounding::Floor, -2).with_sign(Sign::Never).position == -2);
 
+// Whether options take an argument as the position of a rounding.
+template <class, class T> constexpr bool rounds = false;
+template <class T> constexpr bool rounds<std::void_t<decltype(Options().with_rounding(Rounding::Floor, std::declval<T>()))>, T> = true;
+static_assert(rounds<void, int> && rounds<void, int16_t> && rounds<void, uint64_t> && !rounds<void, double> && !rounds<void, bool>);
+
 static const std::string BOOK = R"([[["en","","latn","-","","+","",".",",",3,3,1],["bad","","latn","","","+","",".",",",3,3,1]],
 [["latn","0123456789"]],[["en",[]]],[["en","",[[3,3,[["other",["","K"]]]],[6,6,[["other",["","M"]]]]],null]],
 [["en","",[[3,3,[["other",[""," thousand"]]]]],null]]])";
@@ -140,6 +145,12 @@ static void formats(DecimalFormatter &english) {
     expect_error(LEGUMEYET_LIMIT, [&] { english.format(std::string(40000, '9')); });
     expect_error(LEGUMEYET_LIMIT, [&] { english.format(10, INT16_MAX); });
     expect_error(LEGUMEYET_OPTION, [&] { english.format("1", Options().with_sign(Sign{6})); });
+    for (int position : {-65536, -32769, 32768, 70000})
+        expect_error(LEGUMEYET_OPTION, [&] { english.format(5, 0, Options().with_rounding(Rounding::HalfEven, position)); });
+    for (int count : {-1, 32768, 65536, 70000}) {
+        expect_error(LEGUMEYET_OPTION, [&] { english.format(5, 0, Options().with_minimum_integer_digits(count)); });
+        expect_error(LEGUMEYET_OPTION, [&] { english.format(5, 0, Options().with_minimum_fraction_digits(count)); });
+    }
 }
 
 #if __cplusplus >= 202002L

@@ -69,7 +69,7 @@ extern "C" {
 /* The minor version, which rises when a function or a number is added. */
 #define LEGUMEYET_MINOR 4
 
-/* The two arguments that a text with a NUL at its end is given by. */
+/* The two arguments that a text with a NUL at its end is given by. The text is evaluated twice. */
 #define LEGUMEYET_TEXT(text) (const uint8_t *)(text), strlen(text)
 
 /* What a call returns. */
@@ -310,8 +310,8 @@ int32_t legumeyet_book_locale(legumeyet_book *book, size_t index, uint8_t *out, 
 
 /*
  * Answers a request line, without its line feed: `en`, `plain`, `auto`, `keep`, `-`, `-987654.321` with tabs between by `ok`, a tab and
- * `-987,654.321`. For a line that is refused the text is `err`, a tab and a word, and the call returns 0. The page locale_numbers(1) of
- * `man` has the six fields, and docs/requests.md of the repository all about them. Each call makes a formatter: who writes many numbers
+ * `-987,654.321`. For a line that is refused the text is `err`, a tab and a word, and the call returns 0. The page legumeyet(1) of `man`
+ * has the six fields, and docs/requests.md of the repository all about them. Each call makes a formatter: who writes many numbers
  * of one tag opens one.
  *
  * Returns 0; LEGUMEYET_CLOSED; LEGUMEYET_MEMORY; LEGUMEYET_TOO_SMALL.

@@ -9,9 +9,9 @@
 //     german.format_all(std::vector<double>{1234.5, 0.25});      // a Column of 1.234,5 and 0,25
 //     legumeyet::Answers(16).answer(lines);                      // the answers to request lines
 //
-// Where a function of legumeyet.h returns an error, a call whose name begins with `try_` has it in its Result, `format_to` and `try_keep`
-// return it as a Code, and each other call throws it as an Error. A program that is compiled with -fno-exceptions has all but the last.
-// A call that makes a std::string or a std::vector may throw std::bad_alloc.
+// Where a function of legumeyet.h returns an error, a call whose name begins with `try_` has it in its Result, and `format_to` in its
+// FormatToResult; `format_all_to` and `try_keep` return it as a Code, and each other call throws it as an Error. A program that is compiled
+// with -fno-exceptions has all but the last. A call that makes a std::string or a std::vector may throw std::bad_alloc.
 //
 // Threads: a book, a formatter or answers may go to another thread, and are used by one call at a time, also by a call that only reads, so no
 // call is const. A shared formatter, as SharedDecimalFormatter, is used by any number of threads at once, and its calls are const:
@@ -157,11 +157,29 @@ enum class Kind : uint32_t {
 
 namespace inner {
 
+// Whether a type is of integers that numbers are given as: not of characters, and not bool.
+template <class T>
+inline constexpr bool is_number = std::is_integral_v<T> && sizeof(T) <= sizeof(int64_t) && !std::is_same_v<T, bool> &&
+                                  !std::is_same_v<T, char> && !std::is_same_v<T, wchar_t> && !std::is_same_v<T, char16_t> &&
+#ifdef __cpp_char8_t
+                                  !std::is_same_v<T, char8_t> &&
+#endif
+                                  !std::is_same_v<T, char32_t>;
+
+// Whether an integer is one of the type.
+template <class To, class From> constexpr bool fits(From number) noexcept {
+    const To narrow = static_cast<To>(number);
+    return static_cast<From>(narrow) == number && (narrow < To{}) == (number < From{});
+}
+
 // Options with another field.
 template <class Options, class T> constexpr Options with(Options options, T Options::*field, T it) noexcept {
     options.*field = it;
     return options;
 }
+
+// A least count of digits, or one that each call refuses where it has no room in its field.
+template <class T> constexpr uint16_t least(T count) noexcept { return fits<uint16_t>(count) ? static_cast<uint16_t>(count) : UINT16_MAX; }
 
 } // namespace inner
 
@@ -178,18 +196,22 @@ struct Options {
     uint16_t minimum_integer_digits = 0;
     uint16_t minimum_fraction_digits = 0;
 
-    // The same with another choice.
+    // The same with another choice. An integer that has no room in its field is refused by the call that is given the options: Code::Option.
     constexpr Options with_sign(Sign it) const noexcept { return inner::with(*this, &Options::sign, it); }
-    constexpr Options with_rounding(Rounding it, int16_t at = 0) const noexcept {
-        return inner::with(inner::with(*this, &Options::rounding, it), &Options::position, at);
+    template <class T = int, std::enable_if_t<inner::is_number<T>, int> = 0>
+    constexpr Options with_rounding(Rounding it, T at = 0) const noexcept {
+        const Rounding known = inner::fits<int16_t>(at) ? it : Rounding{UINT32_MAX};
+        return inner::with(inner::with(*this, &Options::rounding, known), &Options::position, static_cast<int16_t>(at));
     }
     constexpr Options with_trailing_zeros(TrailingZeros it) const noexcept { return inner::with(*this, &Options::trailing_zeros, it); }
     constexpr Options with_increment(Increment it) const noexcept { return inner::with(*this, &Options::increment, it); }
-    constexpr Options with_minimum_integer_digits(uint16_t count) const noexcept {
-        return inner::with(*this, &Options::minimum_integer_digits, count);
+    template <class T, std::enable_if_t<inner::is_number<T>, int> = 0>
+    constexpr Options with_minimum_integer_digits(T count) const noexcept {
+        return inner::with(*this, &Options::minimum_integer_digits, inner::least(count));
     }
-    constexpr Options with_minimum_fraction_digits(uint16_t count) const noexcept {
-        return inner::with(*this, &Options::minimum_fraction_digits, count);
+    template <class T, std::enable_if_t<inner::is_number<T>, int> = 0>
+    constexpr Options with_minimum_fraction_digits(T count) const noexcept {
+        return inner::with(*this, &Options::minimum_fraction_digits, inner::least(count));
     }
 
     // The same for legumeyet.h.
@@ -227,15 +249,6 @@ template <class Call, class Use> Code with_text(Call call, Use use) {
     return code;
 }
 
-// Whether a type is of integers that numbers are given as: not of characters, and not bool.
-template <class T>
-inline constexpr bool is_number = std::is_integral_v<T> && sizeof(T) <= sizeof(int64_t) && !std::is_same_v<T, bool> &&
-                                  !std::is_same_v<T, char> && !std::is_same_v<T, wchar_t> && !std::is_same_v<T, char16_t> &&
-#ifdef __cpp_char8_t
-                                  !std::is_same_v<T, char8_t> &&
-#endif
-                                  !std::is_same_v<T, char32_t>;
-
 // Whether a type is of texts.
 template <class T> inline constexpr bool is_text = std::is_convertible_v<const T &, std::string_view> && !std::is_null_pointer_v<T>;
 
@@ -243,12 +256,6 @@ template <class T> inline constexpr bool is_text = std::is_convertible_v<const T
 // digits than a double.
 template <class T>
 inline constexpr bool is_refused = std::is_null_pointer_v<T> || (std::is_arithmetic_v<T> && !is_number<T> && !std::is_same_v<T, double>);
-
-// Whether an integer is one of the type.
-template <class To, class From> constexpr bool fits(From number) noexcept {
-    const To narrow = static_cast<To>(number);
-    return static_cast<From>(narrow) == number && (narrow < To{}) == (number < From{});
-}
 
 } // namespace inner
 
@@ -624,18 +631,36 @@ class Column {
 
 namespace inner {
 
-// What a range has, and whether it has that in one piece of memory.
-template <class Numbers> using item_of = std::remove_cv_t<std::remove_reference_t<decltype(*std::begin(std::declval<Numbers &>()))>>;
+// What a range has, and whether it has that in one piece of memory: one with a stride may have `data` and `size` too.
+template <class Numbers> using iterator_of = decltype(std::begin(std::declval<Numbers &>()));
+template <class Numbers> using item_of = std::remove_cv_t<std::remove_reference_t<decltype(*std::declval<iterator_of<Numbers> &>())>>;
+#ifdef __cpp_lib_concepts
+template <class T, class Iterator> inline constexpr bool is_contiguous = std::contiguous_iterator<Iterator>;
+#else
+template <class T, class Iterator>
+inline constexpr bool is_contiguous = std::is_pointer_v<Iterator> || std::is_same_v<Iterator, typename std::vector<T>::iterator> ||
+                                      std::is_same_v<Iterator, typename std::vector<T>::const_iterator>;
+#endif
 template <class T, class Numbers, class = void> inline constexpr bool is_memory_of = false;
 template <class T, class Numbers>
 inline constexpr bool is_memory_of<T, Numbers, std::void_t<decltype(std::data(std::declval<Numbers &>()), std::size(std::declval<Numbers &>()))>> =
-    std::is_convertible_v<decltype(std::data(std::declval<Numbers &>())), const T *>;
+    std::is_convertible_v<decltype(std::data(std::declval<Numbers &>())), const T *> && is_contiguous<T, iterator_of<Numbers>>;
 
 // Whether a type is of ranges of numbers: of doubles, of integers, or of texts.
 template <class Numbers, class = void> inline constexpr bool has_numbers = false;
 template <class Numbers>
 inline constexpr bool has_numbers<Numbers, std::void_t<item_of<Numbers>>> =
     std::is_same_v<item_of<Numbers>, double> || is_number<item_of<Numbers>> || is_text<item_of<Numbers>>;
+
+// How many numbers are behind a pointer. `{}` is no such count, so beside an array it is options.
+class Count {
+    std::size_t count;
+
+  public:
+    template <class T, std::enable_if_t<std::is_convertible_v<T, std::size_t> && !std::is_floating_point_v<T>, int> = 0>
+    Count(T it) noexcept : count(static_cast<std::size_t>(it)) {}
+    operator std::size_t() const noexcept { return count; }
+};
 
 } // namespace inner
 
@@ -974,7 +999,7 @@ template <class Handle, class Calls, class Base> class Formatter : Base {
     // Adds the texts of many numbers to a column, of a range of doubles, integers or texts: as `format` has each, and sooner. Where one is
     // refused the column has those before it, so that its size says which. The numbers are not texts of the column itself.
     template <class Numbers, std::enable_if_t<has_numbers<Numbers>, int> = 0>
-    Code format_all_to(Column &into, Numbers &&numbers, const Options &options = {}) {
+    [[nodiscard]] Code format_all_to(Column &into, Numbers &&numbers, const Options &options = {}) {
         using T = item_of<Numbers>;
         if constexpr (is_text<T>)
             return add_texts(into, numbers, options);
@@ -985,10 +1010,10 @@ template <class Handle, class Calls, class Base> class Formatter : Base {
         else
             return add_gathered<std::conditional_t<std::is_same_v<T, double>, double, int64_t>>(into, numbers, options);
     }
-    Code format_all_to(Column &into, const double *numbers, std::size_t count, const Options &options = {}) {
+    [[nodiscard]] Code format_all_to(Column &into, const double *numbers, Count count, const Options &options = {}) {
         return add_doubles(into, numbers, count, static_cast<legumeyet_options>(options));
     }
-    Code format_all_to(Column &into, const int64_t *numbers, std::size_t count, const Options &options = {}) {
+    [[nodiscard]] Code format_all_to(Column &into, const int64_t *numbers, Count count, const Options &options = {}) {
         return add_integers(into, numbers, count, static_cast<legumeyet_options>(options));
     }
 
@@ -997,10 +1022,10 @@ template <class Handle, class Calls, class Base> class Formatter : Base {
     Result<Column> try_format_all(Numbers &&numbers, const Options &options = {}) {
         return column_of([&](Column &it) { return format_all_to(it, numbers, options); });
     }
-    Result<Column> try_format_all(const double *numbers, std::size_t count, const Options &options = {}) {
+    Result<Column> try_format_all(const double *numbers, Count count, const Options &options = {}) {
         return column_of([&](Column &it) { return format_all_to(it, numbers, count, options); });
     }
-    Result<Column> try_format_all(const int64_t *numbers, std::size_t count, const Options &options = {}) {
+    Result<Column> try_format_all(const int64_t *numbers, Count count, const Options &options = {}) {
         return column_of([&](Column &it) { return format_all_to(it, numbers, count, options); });
     }
 
@@ -1024,10 +1049,10 @@ template <class Handle, class Calls, class Base> class Formatter : Base {
     Column format_all(Numbers &&numbers, const Options &options = {}) {
         return whole_column_of([&](Column &it) { return format_all_to(it, numbers, options); });
     }
-    Column format_all(const double *numbers, std::size_t count, const Options &options = {}) {
+    Column format_all(const double *numbers, Count count, const Options &options = {}) {
         return whole_column_of([&](Column &it) { return format_all_to(it, numbers, count, options); });
     }
-    Column format_all(const int64_t *numbers, std::size_t count, const Options &options = {}) {
+    Column format_all(const int64_t *numbers, Count count, const Options &options = {}) {
         return whole_column_of([&](Column &it) { return format_all_to(it, numbers, count, options); });
     }
 #endif
@@ -1329,17 +1354,17 @@ template <class Handle, class Calls> class SharedFormatter : Formatter<Handle, C
     Formatted<Calling> operator()(Number number, const Options &options = {}) const &noexcept { return calling()(number, options); }
     Result<std::string> try_format(Number number, const Options &options = {}) const { return calling().try_format(number, options); }
     template <class Numbers, std::enable_if_t<has_numbers<Numbers>, int> = 0>
-    Code format_all_to(Column &into, Numbers &&numbers, const Options &options = {}) const {
+    [[nodiscard]] Code format_all_to(Column &into, Numbers &&numbers, const Options &options = {}) const {
         return calling().format_all_to(into, numbers, options);
     }
-    template <class T> Code format_all_to(Column &into, const T *numbers, std::size_t count, const Options &options = {}) const {
+    template <class T> [[nodiscard]] Code format_all_to(Column &into, const T *numbers, Count count, const Options &options = {}) const {
         return calling().format_all_to(into, numbers, count, options);
     }
     template <class Numbers, std::enable_if_t<has_numbers<Numbers>, int> = 0>
     Result<Column> try_format_all(Numbers &&numbers, const Options &options = {}) const {
         return calling().try_format_all(numbers, options);
     }
-    template <class T> Result<Column> try_format_all(const T *numbers, std::size_t count, const Options &options = {}) const {
+    template <class T> Result<Column> try_format_all(const T *numbers, Count count, const Options &options = {}) const {
         return calling().try_format_all(numbers, count, options);
     }
     Result<Annotated> try_format_parts(const Digits &number, const Options &options = {}) const {
@@ -1357,7 +1382,7 @@ template <class Handle, class Calls> class SharedFormatter : Formatter<Handle, C
     Column format_all(Numbers &&numbers, const Options &options = {}) const {
         return calling().format_all(numbers, options);
     }
-    template <class T> Column format_all(const T *numbers, std::size_t count, const Options &options = {}) const {
+    template <class T> Column format_all(const T *numbers, Count count, const Options &options = {}) const {
         return calling().format_all(numbers, count, options);
     }
 #endif

@@ -73,8 +73,9 @@ def make_out(name=LINES):
 
 
 def fault_of(error):
-    """The line of an error of the system."""
-    named = f"{error.filename}: " if error.filename else ""
+    """The line of an error of the system. Of two files it names the one that was to be written."""
+    file = error.filename2 or error.filename
+    named = f"{file}: " if file else ""
     return Fault(f"{named}{error.strerror or error}")
 
 

@@ -1,4 +1,5 @@
 """The version of what is released, the commit that it is made of, tars, and commands that end in one line."""
+import contextlib
 import functools
 import gzip
 import io
@@ -119,6 +120,18 @@ def library_of(named, folder, archive=None, machine=X86):
     if ran.returncode:
         raise Fault("tools/build_c made no library")
     return str(made)
+
+
+@contextlib.contextmanager
+def whole(path):
+    """The path of a file beside its place, which is put there where all went well, and else removed: so there is never half of it."""
+    part = f"{path}.{os.getpid()}.part"
+    try:
+        yield part
+        os.replace(part, path)
+    finally:
+        if os.path.lexists(part):
+            os.remove(part)
 
 
 def compressed(data):

@@ -5,7 +5,7 @@ import shutil
 
 from launching.common import write_whole
 
-from .common import TOP, header_version
+from .common import TOP, header_version, whole
 
 HEADERS = ("legumeyet.h", "legumeyet.hpp")
 STATIC, SHARED, PC = "liblegumeyet.a", "liblegumeyet.so", "legumeyet.pc"
@@ -26,10 +26,9 @@ def named():
 
 
 def copy(source, target):
-    """Copies a file beside its place and renames it, so that there is never half of it."""
-    part = f"{target}.{os.getpid()}.part"
-    shutil.copyfile(source, part)
-    os.replace(part, target)
+    """Copies a file, so that there is never half of it."""
+    with whole(target) as part:
+        shutil.copyfile(source, part)
 
 
 def put_libraries(made, folder):
