@@ -33,13 +33,17 @@ def program_of(name):
 OUT = out_of(LINES)
 
 
-def say(text):
-    """Writes one line to standard error, where there is one."""
-    line = f"locale_numbers: {' '.join(str(text).split())}\n"
+def tell(said):
+    """Writes bytes to standard error, where there is one that takes them."""
     try:
-        os.write(2, line.encode(errors="backslashreplace"))
+        os.write(2, said)
     except OSError:
         pass
+
+
+def say(text):
+    """Writes one line to standard error."""
+    tell(f"locale_numbers: {' '.join(str(text).split())}\n".encode(errors="backslashreplace"))
 
 
 def write_all(output):

@@ -12,7 +12,7 @@ import subprocess
 import tempfile
 import threading
 
-from .common import COMMAND, OUTPUT, write_all
+from .common import COMMAND, OUTPUT, tell, write_all
 
 MIB = 1 << 20
 PIECE = MIB
@@ -200,7 +200,7 @@ class Answers:
             raise Failed("write")
         status = self.program.wait()
         self.said.seek(0)
-        os.write(2, self.said.read())
+        tell(self.said.read())
         return status if status >= 0 else 128 - status
 
 
@@ -254,7 +254,7 @@ def answer(program, name, words, jobs):
     try:
         return run.status()
     except Failed as failed:
-        os.write(2, f"{'legumeyet: ' if name == COMMAND else ''}fault: {failed}\n".encode())
+        tell(f"{'legumeyet: ' if name == COMMAND else ''}fault: {failed}\n".encode())
         return OUTPUT
     finally:
         run.end()
