@@ -1,5 +1,7 @@
 """Places, words to the user, and faults that end in one line."""
 import os
+import re
+import shutil
 
 TOP = os.path.dirname(os.path.dirname(os.path.dirname(os.path.realpath(__file__))))
 # The program of lines, and the command for people.
@@ -77,7 +79,10 @@ def make_out(name=LINES):
 
 
 def fault_of(error):
-    """The line of an error of the system."""
+    """The line of an error of the system; of a copy of many files, which has an error each, that of the first."""
+    if isinstance(error, shutil.Error):
+        source, _, why = error.args[0][0]
+        return Fault(f"{of_top(source)} was not copied: " + re.sub(r"^\[Errno \d+\] |: '.*", "", str(why)))
     named = f"{error.filename}: " if error.filename else ""
     return Fault(f"{named}{error.strerror or error}")
 
