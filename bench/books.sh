@@ -3,7 +3,7 @@
 # Each run reads a seeded book and no line. Prints times and memory of one run; nothing here is asserted.
 # usage: bench/books.sh [SYMBOLS..]
 set -eu
-top=$(cd "$(dirname "$0")/.." && pwd)
+top=$(CDPATH='' cd -- "$(dirname -- "$0")/.." && pwd)
 made=$top/bench/made
 command -v python3 >/dev/null || {
     echo "bench: python3 is needed" >&2

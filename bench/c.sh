@@ -6,9 +6,13 @@
 # usage: bench/c.sh [LIBRARY [TURNS]]
 # Without LIBRARY, a folder as tools/build_c leaves it, it is made of the proved crate.
 set -eu
-top=$(cd "$(dirname "$0")/.." && pwd)
+top=$(CDPATH='' cd -- "$(dirname -- "$0")/.." && pwd)
 made=$top/bench/made
 library=${1:-$made/c}
+command -v "${CC:-cc}" >/dev/null || {
+    echo "bench: ${CC:-cc} is needed" >&2
+    exit 1
+}
 [ -e /usr/include/unicode/unumberformatter.h ] || [ -n "${CPATH:-}" ] || {
     echo "bench: ICU's headers are needed: apt-get install libicu-dev" >&2
     exit 1

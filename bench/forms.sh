@@ -5,7 +5,7 @@
 # the same numbers under one of them; where they write three systems of digits, over that of the same lines sorted by tag.
 # usage: bench/forms.sh [LINES]
 set -eu
-top=$(cd "$(dirname "$0")/.." && pwd)
+top=$(CDPATH='' cd -- "$(dirname -- "$0")/.." && pwd)
 made=$top/bench/made
 command -v python3 >/dev/null || {
     echo "bench: python3 is needed" >&2

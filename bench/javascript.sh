@@ -4,9 +4,13 @@
 # usage: bench/javascript.sh [PACKAGE [TURNS]]
 # Without PACKAGE, the folder legumeyet that tools/build_js leaves, it is made.
 set -eu
-top=$(cd "$(dirname "$0")/.." && pwd)
+top=$(CDPATH='' cd -- "$(dirname -- "$0")/.." && pwd)
 here=$top/bench/javascript made=$top/bench/made
 turns=${2:-25}
+command -v node >/dev/null || {
+    echo "bench: node is needed" >&2
+    exit 1
+}
 [ $# -gt 0 ] || "$top/tools/build_js" "$made/js" >/dev/null
 package=${1:-$made/js/legumeyet}
 [ -f "$package/legumeyet.wasm" ] || {

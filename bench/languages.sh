@@ -7,10 +7,20 @@
 # usage: bench/languages.sh [LIBRARY [TURNS]]
 # Without LIBRARY, a folder as tools/build_c leaves it, it is made of the proved crate.
 set -eu
-top=$(cd "$(dirname "$0")/.." && pwd)
+top=$(CDPATH='' cd -- "$(dirname -- "$0")/.." && pwd)
 here=$top/bench/languages made=$top/bench/made
 library=${1:-$made/c} turns=${2:-25} digits="1 7 18"
 python=/usr/bin/python3
+for needed in "${CC:-cc}" node "$python"; do
+    command -v "$needed" >/dev/null || {
+        echo "bench: $needed is needed" >&2
+        exit 1
+    }
+done
+"$python" -c "import babel" 2>/dev/null || {
+    echo "bench: Babel is needed: apt-get install python3-babel" >&2
+    exit 1
+}
 mkdir -p "$made"
 [ $# -gt 0 ] || "$top/tools/build_c" "$library"
 [ -f "$library/liblegumeyet.a" ] || {

@@ -4,7 +4,7 @@
 # one run. GNU parallel starts the program once a block, and a BOOK is read once a block too, so blocks are of 16 MB.
 # usage: bench/parallel.sh [LINES [BOOK]]
 set -eu
-top=$(cd "$(dirname "$0")/.." && pwd)
+top=$(CDPATH='' cd -- "$(dirname -- "$0")/.." && pwd)
 made=$top/bench/made
 lines=${1:-10000000}
 book=${2:+$(readlink -f -- "$2")}

@@ -5,7 +5,7 @@
 # usage: bench/peers.sh [BOOK [LINES]]
 # Without BOOK one is made of CLDR's data, or of ICU's own where unicode-cldr-core is not installed.
 set -eu
-top=$(cd "$(dirname "$0")/.." && pwd)
+top=$(CDPATH='' cd -- "$(dirname -- "$0")/.." && pwd)
 made=$top/bench/made
 book=${1:-}
 lines=${2:-300000}

@@ -3,7 +3,7 @@
 # Prints ratios of one run; a bare time says more of the machine than of the program.
 # usage: bench/run.sh [LINES [LONGEST]]
 set -eu
-top=$(cd "$(dirname "$0")/.." && pwd)
+top=$(CDPATH='' cd -- "$(dirname -- "$0")/.." && pwd)
 made=$top/bench/made
 lines=${1:-1000000}
 longest=${2:-12}
@@ -44,7 +44,7 @@ def run(command, name):
         if status != 0:
             sys.exit(f"{name}: status {status}")
         spent = used.ru_utime + used.ru_stime
-        best = (spent, wall) if best is None else min(best, (spent, wall))
+        best = (spent, wall) if best is None else (min(best[0], spent), min(best[1], wall))
     return best
 
 

@@ -3,7 +3,7 @@
 # Prints ratios of one run: each cost a piece over that of the fewest pieces in the same order.
 # usage: bench/tags.sh [COUNT..]
 set -eu
-top=$(cd "$(dirname "$0")/.." && pwd)
+top=$(CDPATH='' cd -- "$(dirname -- "$0")/.." && pwd)
 made=$top/bench/made
 command -v python3 >/dev/null || {
     echo "bench: python3 is needed" >&2

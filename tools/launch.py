@@ -31,6 +31,14 @@ for ending in (signal.SIGTERM, signal.SIGINT, signal.SIGHUP):
         signal.signal(ending, interrupted)
 
 # (after the signals, since the imports take a moment)
+try:
+    from launching import answering, building, cldr_book, sources, words
+except (EOFError, ValueError):
+    # what Python keeps of a module was cut short on a full disk, which it does not see: it goes, and is not read again in this call
+    import shutil
+
+    sys.pycache_prefix, sys.dont_write_bytecode = os.devnull, True
+    shutil.rmtree(os.path.join(os.path.dirname(os.path.realpath(__file__)), "launching/__pycache__"), ignore_errors=True)
 from launching import answering, building, cldr_book, sources
 from launching.common import COMMAND, FAILED, LINES, OUTPUT, Fault, fault_of, fill_closed_ends, say, write_all
 from launching.words import read_words

@@ -3,7 +3,7 @@ import os
 import signal
 
 from . import jobs, sources, trial
-from .common import OUTPUT, TOP, Fault, write_all
+from .common import OUTPUT, TOP, Fault, tell, write_all
 
 
 def start(program, words, name):
@@ -40,7 +40,7 @@ def answer_by_trial(name, words, why, before, count=1):
     if program:
         return begin(program, words, name, count)
     status, output, faults = trial.answer_by_rt(name, words)
-    os.write(2, faults)
+    tell(faults)
     try:
         write_all(output)
     except OSError as error:

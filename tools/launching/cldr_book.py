@@ -71,8 +71,8 @@ def kept_book(cache, text):
 
 
 def run_maker(folder, part, *more):
-    """Has books/make-cldr make the book of this data."""
-    words = [sys.executable, "-EsS", f"{TOP}/books/make-cldr", *more, "--from", folder, part]
+    """Has books/make-cldr make the book of this data. Python keeps nothing of its modules, which a full disk would cut short."""
+    words = [sys.executable, "-EsSB", "-X", f"pycache_prefix={os.devnull}", f"{TOP}/books/make-cldr", *more, "--from", folder, part]
     return subprocess.run(words, stdin=subprocess.DEVNULL, stdout=subprocess.DEVNULL, stderr=subprocess.PIPE, errors="replace", check=False)
 
 

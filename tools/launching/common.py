@@ -1,5 +1,7 @@
 """Places, words to the user, and faults that end in one line."""
 import os
+import re
+import shutil
 
 TOP = os.path.dirname(os.path.dirname(os.path.dirname(os.path.realpath(__file__))))
 # The program of lines, and the command for people.
@@ -33,13 +35,17 @@ def program_of(name):
 OUT = out_of(LINES)
 
 
-def say(text):
-    """Writes one line to standard error, where there is one."""
-    line = f"locale_numbers: {' '.join(str(text).split())}\n"
+def tell(said):
+    """Writes bytes to standard error, where there is one that takes them."""
     try:
-        os.write(2, line.encode(errors="backslashreplace"))
+        os.write(2, said)
     except OSError:
         pass
+
+
+def say(text):
+    """Writes one line to standard error."""
+    tell(f"locale_numbers: {' '.join(str(text).split())}\n".encode(errors="backslashreplace"))
 
 
 def write_all(output):
@@ -73,7 +79,11 @@ def make_out(name=LINES):
 
 
 def fault_of(error):
-    """The line of an error of the system. Of two files it names the one that was to be written."""
+    """The line of an error of the system. Of two files it names the one that was to be written; of a copy of many files, which has an
+    error each, it is that of the first."""
+    if isinstance(error, shutil.Error):
+        source, _, why = error.args[0][0]
+        return Fault(f"{of_top(source)} was not copied: " + re.sub(r"^\[Errno \d+\] |: '.*", "", str(why)))
     file = error.filename2 or error.filename
     named = f"{file}: " if file else ""
     return Fault(f"{named}{error.strerror or error}")

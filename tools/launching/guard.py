@@ -1,4 +1,5 @@
 """A guard over what a build or a trial starts: it ends all of it, and removes the rooms, however the launcher ends."""
+import contextlib
 import os
 import shutil
 import signal
@@ -45,9 +46,14 @@ class Guard:
             signal.signal(number, handler)
 
     def interrupted(self, number, _frame):
-        """Has the guard end everything, waits for it, and ends as the signal asks."""
-        os.close(self.held)
-        self.process.wait()
+        """Has the guard end everything, waits for it, and ends as the signal asks. Further signals change nothing, and one that
+        comes while the rooms are removed has that done to its end."""
+        for it in self.before:
+            signal.signal(it, signal.SIG_IGN)
+        with contextlib.suppress(OSError):
+            os.close(self.held)
+            os.waitpid(self.process.pid, 0)
+        shutil.rmtree(self.rooms, ignore_errors=True)
         os._exit(128 + number)
 
     def words(self, *command):

@@ -7,12 +7,13 @@ slice that is not finished go on at once. Those of the others wait, in memory or
 import fcntl
 import os
 import queue
+import resource
 import stat
 import subprocess
 import tempfile
 import threading
 
-from .common import COMMAND, OUTPUT, write_all
+from .common import COMMAND, OUTPUT, Fault, tell, write_all
 
 MIB = 1 << 20
 PIECE = MIB
@@ -22,6 +23,8 @@ LARGEST, LARGEST_OF_PIPE, SMALLEST = 32 * MIB, 16 * MIB, MIB
 WAITING = 64 * MIB
 # Slices whose answers wait, for each job.
 AHEAD = 2
+# The files that a slice has open here at most, and those beside the slices.
+FILES_OF_A_SLICE, OTHER_FILES = 4, 32
 
 
 class Failed(Exception):
@@ -59,13 +62,13 @@ class FileSlices:
         return self.size
 
     @staticmethod
-    def start(words, place, **ends):
-        """Starts a program on a slice."""
+    def start(words, place, unread, **ends):
+        """Starts a program on a slice. Where the slice can't be read to its end, `unread` is set."""
         reading, writing = os.pipe()
         widen(writing)
         program = subprocess.Popen(words, stdin=reading, **ends)
         os.close(reading)
-        threading.Thread(target=send, args=(*place, writing), daemon=True).start()
+        threading.Thread(target=send, args=(*place, writing, program, unread), daemon=True).start()
         return program
 
 
@@ -98,8 +101,8 @@ class PipeSlices:
         return whole
 
     @staticmethod
-    def start(words, whole, **ends):
-        """Starts a program on a slice."""
+    def start(words, whole, _unread, **ends):
+        """Starts a program on a slice, which is read already."""
         program = subprocess.Popen(words, stdin=whole, **ends)
         os.close(whole)
         return program
@@ -121,17 +124,29 @@ def write_to(file, piece):
     return len(piece)
 
 
-def send(start, end, pipe):
-    """Sends a part of the standard input to a program, and ends its input. A program that has ended reads no more."""
+def send(start, end, pipe, program, unread):
+    """Sends a part of the standard input to a program, and ends its input. A program that has ended reads no more. One whose part
+    can't be read is ended first, so that it takes no piece of a line for a whole one."""
     try:
-        while start < end:
-            sent = os.sendfile(pipe, 0, start, min(end - start, PIECE))
-            if not sent:
-                break
+        while start < end and (sent := send_piece(pipe, start, min(end - start, PIECE))):
             start += sent
-    except OSError:
+    except BrokenPipeError:
         pass
+    except OSError:
+        unread.set()
+        program.kill()
     os.close(pipe)
+
+
+def send_piece(pipe, start, length):
+    """Sends a piece of the standard input, and returns the length that was sent: by the system, or by a copy where a file system
+    has no such call."""
+    try:
+        return os.sendfile(pipe, 0, start, length)
+    except BrokenPipeError:
+        raise
+    except OSError:
+        return write_to(pipe, os.pread(0, length, start))
 
 
 class Answers:
@@ -141,7 +156,8 @@ class Answers:
         self.reading, writing = os.pipe()
         widen(self.reading)
         self.said = tempfile.TemporaryFile()
-        self.program = slices.start(words, place, stdout=writing, stderr=self.said)
+        self.unread = threading.Event()
+        self.program = slices.start(words, place, self.unread, stdout=writing, stderr=self.said)
         os.close(writing)
         self.turn, self.ended, self.failed = threading.Event(), ended, False
         self.room, self.waiting, self.more = room, [], None
@@ -199,8 +215,10 @@ class Answers:
         if self.failed:
             raise Failed("write")
         status = self.program.wait()
+        if self.unread.is_set():
+            raise Failed("read")
         self.said.seek(0)
-        os.write(2, self.said.read())
+        tell(self.said.read())
         return status if status >= 0 else 128 - status
 
 
@@ -223,6 +241,9 @@ class Run:
             self.queue.put(None)
         except (Failed, OSError) as failed:
             self.queue.put(failed)
+        except RuntimeError as failed:
+            # the system starts no more threads
+            self.queue.put(Fault(failed))
 
     def next(self):
         """The place of the next slice, or None after the last."""
@@ -248,13 +269,28 @@ class Run:
             answers.program.kill()
 
 
+def files_of(jobs):
+    """How many files so many jobs have open at most."""
+    return FILES_OF_A_SLICE * (jobs * (AHEAD + 1) + 2) + OTHER_FILES
+
+
+def with_files(jobs):
+    """So many jobs, or as many as may have their files open: the bound is raised for them where the system lets it."""
+    soft, hard = resource.getrlimit(resource.RLIMIT_NOFILE)
+    while jobs > 1 and files_of(jobs) > hard != resource.RLIM_INFINITY:
+        jobs -= 1
+    if files_of(jobs) > soft != resource.RLIM_INFINITY:
+        resource.setrlimit(resource.RLIMIT_NOFILE, (files_of(jobs) if hard == resource.RLIM_INFINITY else min(files_of(jobs), hard), hard))
+    return jobs
+
+
 def answer(program, name, words, jobs):
     """Has so many programs answer the lines of standard input, and returns the status, as one would."""
-    run = Run([program, *words], jobs)
+    run = Run([program, *words], with_files(jobs))
     try:
         return run.status()
     except Failed as failed:
-        os.write(2, f"{'legumeyet: ' if name == COMMAND else ''}fault: {failed}\n".encode())
+        tell(f"{'legumeyet: ' if name == COMMAND else ''}fault: {failed}\n".encode())
         return OUTPUT
     finally:
         run.end()
