@@ -353,15 +353,14 @@ static PyObject *written(struct open *it, const struct request *asked, Py_ssize_
     return text;
 }
 
-/* The number of an option that is of an enum, 0 to 99. Returns -1 with an error for what is not. */
+/* The number of an option that is of an enum, 0 to 99. Returns -1 with an error for what is not. It looks at the type alone, and so runs nothing of
+ * Python before an error: before 3.9 the options are in the caller's own dict, which must not change while they are taken. */
 static int number_of(PyObject *kind, PyObject *option) {
-    int is_one = PyObject_IsInstance(option, kind);
-    if (is_one == 0) {
-        PyObject *name = PyObject_GetAttrString(kind, "__name__");
-        if (name != NULL) PyErr_Format(PyExc_TypeError, "an option is a %U, and not %R", name, option);
-        Py_XDECREF(name);
-    }
-    return is_one == 1 ? (int)PyLong_AsLong(option) : -1;
+    if (PyObject_TypeCheck(option, (PyTypeObject *)kind)) return (int)PyLong_AsLong(option);
+    PyObject *name = PyObject_GetAttrString(kind, "__name__");
+    if (name != NULL) PyErr_Format(PyExc_TypeError, "an option is a %U, and not %R", name, option);
+    Py_XDECREF(name);
+    return -1;
 }
 
 /* An option that is a whole number. */
@@ -439,6 +438,10 @@ static bool take_options(struct shared *shared, PyObject *given, legumeyet_optio
     PyObject *name, *option, *rounding = NULL, *position = NULL;
     Py_ssize_t at = 0;
     while (given != NULL && PyDict_Next(given, &at, &name, &option)) {
+        if (!PyUnicode_Check(name)) {
+            PyErr_Format(PyExc_TypeError, "the name of an option is a str, and not %R", name);
+            return false;
+        }
         if (PyUnicode_CompareWithASCIIString(name, "position") == 0) {
             position = option;
         } else if (PyUnicode_CompareWithASCIIString(name, "rounding") == 0) {

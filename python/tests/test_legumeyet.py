@@ -173,6 +173,9 @@ class Calls(unittest.TestCase):
             self.assertRaises(TypeError, self.english.format, 1, **options)
             self.assertRaises(TypeError, self.short.shown, 1, **options)
         self.assertRaises(TypeError, self.english.format, 1, Sign.ALWAYS)
+        for name in (b"sign", 1, None, ("sign",)):
+            for call in (self.english.format, self.english.format_all, self.english.format_parts, self.short.shown):
+                self.assertRaises(TypeError, call, [1], **{name: Sign.ALWAYS})
         for options in ({"grouping": 4}, {"grouping": Width.LONG}, {"width": Width.LONG}):
             self.assertRaises(TypeError, DecimalFormatter, self.book, "en", **options)
         for options in ({"width": Grouping.NEVER}, {"width": 1}, {"grouping": Width.LONG}):
@@ -246,6 +249,14 @@ class Calls(unittest.TestCase):
             def __str__(self):
                 raise KeyError(1)
 
+        class Clears:
+            @property
+            def __class__(self):
+                options.clear()
+                return Sign
+
+        options = {"position": int("9" * 40), "sign": Clears(), "increment": 5}
+        self.assertRaises(TypeError, self.english.format, 1, **options)
         self.assertEqual(formatter.format_all(map(Decimal, "12")), ["1", "2"])
         self.assertEqual(formatter.format(Opens(1)), "١")
         self.refused(2, formatter.format, Closes(1))
