@@ -1373,8 +1373,10 @@ static PyType_Spec specs[] = {
     {"legumeyet._core.Answers", OF(answers_slots)},
 };
 
+/* NULL of a module that is not filled yet: before 3.9 such a module is already visited by the garbage collector, and freed as others are. */
 static struct shared *shared_of(PyObject *module) {
-    return *(struct shared **)PyModule_GetState(module);
+    struct shared **state = PyModule_GetState(module);
+    return state == NULL ? NULL : *state;
 }
 
 /* Takes an object of one of the types of this module, which is to be opened. */
@@ -1624,11 +1626,11 @@ static int clear(PyObject *module) {
 }
 
 static void free_module(void *module) {
-    struct shared **state = PyModule_GetState(module);
-    if (*state == NULL) return;
+    struct shared *shared = shared_of(module);
+    if (shared == NULL) return;
     clear(module);
-    leave(*state);
-    *state = NULL;
+    leave(shared);
+    *(struct shared **)PyModule_GetState(module) = NULL;
 }
 
 /* The second slot is named from CPython 3.12 on: interpreters with a GIL of their own may import the module. */

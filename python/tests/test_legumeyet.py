@@ -945,6 +945,12 @@ class Calls(unittest.TestCase):
         """
         subprocess.run([sys.executable, "-c", words], check=True, timeout=60)
 
+    def test_import_beside_the_garbage_collector(self):
+        """The collector may run at each step of the import, and a module that was made may be dropped before it is filled."""
+        dropped = "import importlib.util as it, legumeyet._core as core; it.module_from_spec(core.__spec__)"
+        for words in ("import gc; gc.set_threshold(1); import legumeyet", dropped):
+            subprocess.run([sys.executable, "-c", words], check=True, timeout=60)
+
     def test_hints(self):
         """The hints of the module in C name what it has, and nothing else."""
         hints = ast.parse((pathlib.Path(_core.__file__).parent / "_core.pyi").read_text())
