@@ -112,12 +112,31 @@ static PyObject *refused(struct shared *shared, int32_t number, Py_ssize_t at) {
     return NULL;
 }
 
-/* Takes a lock. What waits for it is without the GIL meanwhile. */
-static void take_lock(PyThread_type_lock lock) {
-    if (PyThread_acquire_lock(lock, NOWAIT_LOCK)) return;
+/* Whether the interpreter ends. Then no thread but this one gets the GIL again, so what another one holds is never let go. */
+static bool is_ending(void) {
+    PyObject *call = PySys_GetObject("is_finalizing"), *said = call == NULL ? NULL : PyObject_CallFunctionObjArgs(call, NULL);
+    bool is_so = said != Py_False;
+    if (said == NULL) PyErr_Clear();
+    Py_XDECREF(said);
+    return is_so;
+}
+
+/* Takes a lock. What waits for it is without the GIL meanwhile. Returns false with an error where the wait would have no end. */
+static bool take_lock(PyThread_type_lock lock) {
+    if (PyThread_acquire_lock(lock, NOWAIT_LOCK)) return true;
+    if (is_ending()) return PyErr_SetString(PyExc_RuntimeError, "another thread was using it when the interpreter ended"), false;
     Py_BEGIN_ALLOW_THREADS
     PyThread_acquire_lock(lock, WAIT_LOCK);
     Py_END_ALLOW_THREADS
+    return true;
+}
+
+/* Takes the locks of a handle, once those did who waited before. Returns false with an error, and then holds neither. */
+static bool take_turn(struct open *it) {
+    if (!take_lock(it->next)) return false;
+    if (take_lock(it->lock)) return true;
+    PyThread_release_lock(it->next);
+    return false;
 }
 
 /* Whether a handle may be called: it was opened once, and no other thread is inside a call. Waits for one that is, up to its next part. */
@@ -131,8 +150,7 @@ static bool is_ready(struct open *it) {
             PyErr_SetString(PyExc_RuntimeError, "another thread was using it when the process forked: open another one");
             return false;
         }
-        take_lock(it->next);
-        take_lock(it->lock);
+        if (!take_turn(it)) return false;
         PyThread_release_lock(it->lock);
         PyThread_release_lock(it->next);
     }
@@ -717,8 +735,7 @@ static bool begin_part(struct open *it) {
         it->lock = lock;
         it->forks = it->shared->forks;
     }
-    take_lock(it->next);
-    take_lock(it->lock);
+    if (!take_turn(it)) return false;
     it->is_busy = true;
     PyThread_release_lock(it->next);
     return true;

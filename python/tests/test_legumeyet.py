@@ -944,6 +944,27 @@ class Calls(unittest.TestCase):
             late.cycle = late
         """
         subprocess.run([sys.executable, "-c", words], check=True, timeout=60)
+        # what a daemon thread was using when the interpreter ended is not waited for
+        words = """if True:
+            import array, os, threading, time
+            from legumeyet import Answers, DecimalFormatter
+            class Late:
+                def __init__(self, it, call, given):
+                    self.it, self.call, self.write = it, call, os.write
+                    threading.Thread(target=call, args=(given,), daemon=True).start()
+                def __del__(self):
+                    for late in (self.it.close, lambda: self.call([1])):
+                        try:
+                            late()
+                        except RuntimeError as error:
+                            self.write(1, f"{error}; ".encode())
+            german, answers = DecimalFormatter("de"), Answers()
+            column = Late(german, german.format_all, array.array("q", [1234]) * 20_000_000)
+            lines = Late(answers, answers.answer, b"x\\n" * 20_000_000)
+            time.sleep(0.2)
+        """
+        ran = subprocess.run([sys.executable, "-c", words], stdout=subprocess.PIPE, check=True, timeout=60)
+        self.assertIn(b"another thread was using it when the interpreter ended", ran.stdout)
 
     def test_import_beside_the_garbage_collector(self):
         """The collector may run at each step of the import, and a module that was made may be dropped before it is filled."""
