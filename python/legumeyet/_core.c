@@ -719,6 +719,7 @@ static bool make_room(struct texts *into, size_t room) {
 static int32_t write_texts(struct open *it, const legumeyet_options *options, const struct numbers *from, struct texts *into) {
     int32_t number = LEGUMEYET_MEMORY;
     bool has_room = make_room(into, EACH * from->count);
+    into->count = 0; /* where there is no room at all, the first number is the one that is refused */
     while (has_room && (number = ask_for_texts(it, options, from, into)) == LEGUMEYET_TOO_SMALL) has_room = make_room(into, 2 * into->room);
     return has_room ? number : LEGUMEYET_MEMORY;
 }
