@@ -917,19 +917,31 @@ static bool take_each(struct column *all, PyObject *numbers) {
     return is_well && PyErr_Occurred() ? end_wrong(all, -1) : is_well;
 }
 
-/* The memory of an object, or of the NumPy array of a column that has `to_numpy`. Returns whether there is some; there is no error. That of an array
- * of NumPy with a mask is left alone: it has numbers where some are missing. */
-static bool take_memory(PyObject *numbers, buffer *into) {
+/* Whether there is no error, or one that only says that an object has no memory to be read; that is cleared. An interrupt stays. */
+static bool clear_exception(void) {
+    if (PyErr_Occurred() && PyErr_ExceptionMatches(PyExc_Exception)) PyErr_Clear();
+    return !PyErr_Occurred();
+}
+
+/* The memory of an object. Returns 1 where there is some, and -1 with an error where not. That of an array of NumPy with a mask is left alone, and 0
+ * returned: it has numbers where some are missing. */
+static int take_memory_of(PyObject *object, buffer *into) {
+    if (PyObject_GetBuffer(object, into, STRIDES_AND_FORMAT) < 0) return -1;
+    if (!PyObject_HasAttrString(object, "mask")) return 1;
+    PyBuffer_Release(into);
+    return 0;
+}
+
+/* The memory of an object, or of the NumPy array of a column that has `to_numpy`. Returns 1 where there is some, 0 where not, -1 with an error. */
+static int take_memory(PyObject *numbers, buffer *into) {
     PyObject *array;
-    bool is_there = PyObject_GetBuffer(numbers, into, STRIDES_AND_FORMAT) == 0;
-    if (is_there && !PyObject_HasAttrString(numbers, "mask")) return true;
-    if (is_there) return PyBuffer_Release(into), false;
-    PyErr_Clear();
+    int found = take_memory_of(numbers, into);
+    if (found >= 0) return found;
+    if (!clear_exception()) return -1;
     array = PyObject_CallMethod(numbers, "to_numpy", NULL);
-    is_there = array != NULL && PyObject_GetBuffer(array, into, STRIDES_AND_FORMAT) == 0;
-    PyErr_Clear();
+    found = array == NULL ? -1 : take_memory_of(array, into);
     Py_XDECREF(array);
-    return is_there;
+    return found < 0 && clear_exception() ? 0 : found;
 }
 
 /* Takes all numbers of an object. */
@@ -937,7 +949,8 @@ static bool take_all(struct column *all, PyObject *numbers) {
     buffer memory;
     struct row row;
     bool is_well;
-    if (PyList_Check(numbers) || PyTuple_Check(numbers) || !take_memory(numbers, &memory)) return take_each(all, numbers);
+    int found = PyList_Check(numbers) || PyTuple_Check(numbers) ? 0 : take_memory(numbers, &memory);
+    if (found < 1) return found == 0 && take_each(all, numbers);
     if (memory.ndim != 1) {
         PyErr_Format(PyExc_TypeError, "numbers are in a row, and not in %d dimensions", memory.ndim);
         is_well = false;

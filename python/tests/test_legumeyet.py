@@ -7,6 +7,7 @@ import ast
 import concurrent.futures
 import contextlib
 import copy
+import ctypes
 import decimal
 import doctest
 import functools
@@ -785,6 +786,34 @@ class Calls(unittest.TestCase):
         wide = array.array("q", [2**62] * 5000)
         self.assertEqual(self.english.format_all(wide, position=-400), [f"{2**62:,}.{'0' * 400}"] * 5000)
 
+    def test_columns_that_give_an_array(self):
+        """What `to_numpy` gives is read in place of the column; where it fails the column is iterated over, and an interrupt ends the call."""
+
+        class Column:
+            def __init__(self, given):
+                self.given = given
+
+            def to_numpy(self):
+                if isinstance(self.given, BaseException):
+                    raise self.given
+                return self.given
+
+            def __iter__(self):
+                return iter((7, 8))
+
+        class Masked(ctypes.c_int * 2):
+            mask = (False, True)
+
+        for given, texts in (
+            (array.array("q", [1234]), ["1,234"]), (array.array("d", [0.5]), ["0.5"]), (None, ["7", "8"]), ([1], ["7", "8"]),
+            (Masked(5, 6), ["7", "8"]), (ValueError(1), ["7", "8"]), (array.array("f", [0.5]), TypeError),
+            (KeyboardInterrupt(), KeyboardInterrupt), (SystemExit(), SystemExit),
+        ):
+            if isinstance(texts, list):
+                self.assertEqual(self.english.format_all(Column(given)), texts)
+            else:
+                self.assertRaises(texts, self.english.format_all, Column(given))
+
     def test_numpy_and_pandas(self):
         try:
             import numpy
@@ -802,7 +831,10 @@ class Calls(unittest.TestCase):
         self.assertRaisesRegex(TypeError, r"give it as float\(it\)", self.english.format, numpy.float32(0.1))
         self.assertRaisesRegex(TypeError, r"astype\(float\)", self.english.format_all, row.astype("float16"))
         self.assertEqual(self.english.format_all(numpy.ma.array([1.5, 2.5])), ["1.5", "2.5"])
-        self.assertRaises(TypeError, self.english.format_all, numpy.ma.array([1.5, 2.5], mask=[False, True]))
+        masked = numpy.ma.array([1.5, 2.5], mask=[False, True])
+        self.assertRaises(TypeError, self.english.format_all, masked)
+        column = type("Column", (), {"to_numpy": lambda _: masked, "__iter__": lambda _: iter(masked)})()
+        self.assertRaises(TypeError, self.english.format_all, column)
         try:
             import pandas
         except ImportError:
