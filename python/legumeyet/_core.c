@@ -83,10 +83,10 @@ struct open {
 
 /* What is asked of the library. */
 struct request {
-    enum { TEXT, INTEGER, NATURAL, REAL, SHOWN, EXACT, READ, LENIENT, LINE } what;
+    enum { TEXT, INTEGER, REAL, SHOWN, EXACT, READ, LENIENT, LINE } what;
     const uint8_t *at; /* the text of a number, a text that is read, or a line */
     size_t length;
-    int64_t integer; /* of NATURAL the uint64_t of the same bits */
+    int64_t integer;
     double real;
     legumeyet_options options;
     PyObject *owner; /* of the text, or NULL */
@@ -309,7 +309,6 @@ static int32_t take_number(struct shared *shared, struct request *asked, PyObjec
         const legumeyet_options *options = &asked->options; \
         if (asked->what == INTEGER) return calls##_format_i64(it, asked->integer, 0, options, out, room, length); \
         if (asked->what == READ) return calls##_read(it, asked->at, asked->length, out, room, length); \
-        if (asked->what == NATURAL) return calls##_format_u64(it, (uint64_t)asked->integer, 0, options, out, room, length); \
         if (asked->what == REAL) return calls##_format_double(it, asked->real, options, out, room, length); \
         if (asked->what == LENIENT) return calls##_read_lenient(it, asked->at, asked->length, out, room, length); \
         return calls##_format(it, asked->at, asked->length, options, out, room, length); \
@@ -324,7 +323,6 @@ ASK_READING(ask_shared_decimal, const legumeyet_shared_decimal_formatter, legume
         if (asked->what == INTEGER) return calls##_format_i64(it, asked->integer, 0, options, out, room, length); \
         if (asked->what == SHOWN) return calls##_shown(it, asked->at, asked->length, options, out, room, length); \
         if (asked->what == EXACT) return calls##_format_exact(it, asked->at, asked->length, options, out, room, length); \
-        if (asked->what == NATURAL) return calls##_format_u64(it, (uint64_t)asked->integer, 0, options, out, room, length); \
         if (asked->what == REAL) return calls##_format_double(it, asked->real, options, out, room, length); \
         return calls##_format(it, asked->at, asked->length, options, out, room, length); \
     }
