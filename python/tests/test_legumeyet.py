@@ -345,6 +345,8 @@ class Calls(unittest.TestCase):
             ("", "en"), (None, "en"), ("zh_Hant_TW", "zh-Hant-TW"), ("de", "de"), ("\udcff_x", "\udcff-x"),
         ):
             self.assertEqual(legumeyet.tag_of_locale_name(name), tag)
+        for name in (b"de_DE", ("de_DE", "UTF-8"), 5):
+            self.assertRaisesRegex(TypeError, "is a str or None", legumeyet.tag_of_locale_name, name)
 
     def test_books_and_tags(self):
         for number, json in ((101, "[1"), (101, ""), (101, b"\xff"), (101, "\udcff"), (102, "[]"), (111, '[[],[],[],[],[],[["en","en"]]]')):
