@@ -401,6 +401,10 @@ class Calls(unittest.TestCase):
         ]:
             ran = subprocess.run(["sh", "-c", script, "sh", *words], capture_output=True, check=False, encoding="utf-8")
             self.assertEqual((ran.returncode, ran.stdout, ran.stderr), (1, "", f"legumeyet: {said}\n"))
+        for script, status, said in [('exec "$1" "$2" "$3" ar-EG x 2>&-', 1, ""), ('exec "$1" "$2" "$3"', 2, "\nlegumeyet: error: ")]:
+            ran = subprocess.run(["sh", "-c", script, "sh", *words], capture_output=True, check=False, encoding="utf-8")
+            self.assertEqual((ran.returncode, ran.stdout), (status, ""))
+            self.assertIn(said, ran.stderr)
 
     def test_kept(self):
         book = Book(JSON)
