@@ -8,6 +8,12 @@ from typing import List
 from legumeyet import Book, CompactDecimalFormatter, DecimalFormatter, Error, Width, tag_of_locale_name
 
 
+def tell(said: str) -> None:
+    """Writes a line on standard error, where there is one: else `print` would write it on standard output."""
+    if sys.stderr is not None:
+        print(said, file=sys.stderr)
+
+
 def told(error: Exception) -> int:
     """Says in a line why no more is written, and returns the status."""
     said = str(error)
@@ -17,14 +23,14 @@ def told(error: Exception) -> int:
         said = f"{error.filename or 'standard output'}: {error.strerror}"
         if not error.filename:
             os.dup2(os.open(os.devnull, os.O_WRONLY), 1)  # else Python writes what is left once more, at its end
-    print(f"legumeyet: {said}", file=sys.stderr)
+    tell(f"legumeyet: {said}")
     return 1
 
 
 def main(given: List[str]) -> int:
     """Writes the numbers of the words that are given. A number that is refused has a line on standard error, and the status is 1."""
     usage = "python3 -m legumeyet [--short | --long] [--book FILE] TAG NUMBER.."
-    words = argparse.ArgumentParser(usage=usage, description=__doc__)
+    words = argparse.ArgumentParser(prog="legumeyet", usage=usage, description=__doc__)
     width = words.add_mutually_exclusive_group()
     width.add_argument("--short", action="store_const", const=Width.SHORT, dest="width", help="in short compact form, as 1.2K")
     width.add_argument("--long", action="store_const", const=Width.LONG, dest="width", help="in long compact form, as 1.2 thousand")
@@ -43,7 +49,7 @@ def main(given: List[str]) -> int:
             try:
                 print(formatter.format(number))
             except Error as error:
-                print(f"{number}: {error.word}", file=sys.stderr)
+                tell(f"{number}: {error.word}")
                 status = 1
         sys.stdout.flush()
     except (Error, OSError, UnicodeEncodeError) as error:

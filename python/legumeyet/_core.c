@@ -83,10 +83,10 @@ struct open {
 
 /* What is asked of the library. */
 struct request {
-    enum { TEXT, INTEGER, NATURAL, REAL, SHOWN, EXACT, READ, LENIENT, LINE } what;
+    enum { TEXT, INTEGER, REAL, SHOWN, EXACT, READ, LENIENT, LINE } what;
     const uint8_t *at; /* the text of a number, a text that is read, or a line */
     size_t length;
-    int64_t integer; /* of NATURAL the uint64_t of the same bits */
+    int64_t integer;
     double real;
     legumeyet_options options;
     PyObject *owner; /* of the text, or NULL */
@@ -112,12 +112,31 @@ static PyObject *refused(struct shared *shared, int32_t number, Py_ssize_t at) {
     return NULL;
 }
 
-/* Takes a lock. What waits for it is without the GIL meanwhile. */
-static void take_lock(PyThread_type_lock lock) {
-    if (PyThread_acquire_lock(lock, NOWAIT_LOCK)) return;
+/* Whether the interpreter ends. Then no thread but this one gets the GIL again, so what another one holds is never let go. */
+static bool is_ending(void) {
+    PyObject *call = PySys_GetObject("is_finalizing"), *said = call == NULL ? NULL : PyObject_CallFunctionObjArgs(call, NULL);
+    bool is_so = said != Py_False;
+    if (said == NULL) PyErr_Clear();
+    Py_XDECREF(said);
+    return is_so;
+}
+
+/* Takes a lock. What waits for it is without the GIL meanwhile. Returns false with an error where the wait would have no end. */
+static bool take_lock(PyThread_type_lock lock) {
+    if (PyThread_acquire_lock(lock, NOWAIT_LOCK)) return true;
+    if (is_ending()) return PyErr_SetString(PyExc_RuntimeError, "another thread was using it when the interpreter ended"), false;
     Py_BEGIN_ALLOW_THREADS
     PyThread_acquire_lock(lock, WAIT_LOCK);
     Py_END_ALLOW_THREADS
+    return true;
+}
+
+/* Takes the locks of a handle, once those did who waited before. Returns false with an error, and then holds neither. */
+static bool take_turn(struct open *it) {
+    if (!take_lock(it->next)) return false;
+    if (take_lock(it->lock)) return true;
+    PyThread_release_lock(it->next);
+    return false;
 }
 
 /* Whether a handle may be called: it was opened once, and no other thread is inside a call. Waits for one that is, up to its next part. */
@@ -131,8 +150,7 @@ static bool is_ready(struct open *it) {
             PyErr_SetString(PyExc_RuntimeError, "another thread was using it when the process forked: open another one");
             return false;
         }
-        take_lock(it->next);
-        take_lock(it->lock);
+        if (!take_turn(it)) return false;
         PyThread_release_lock(it->lock);
         PyThread_release_lock(it->next);
     }
@@ -291,7 +309,6 @@ static int32_t take_number(struct shared *shared, struct request *asked, PyObjec
         const legumeyet_options *options = &asked->options; \
         if (asked->what == INTEGER) return calls##_format_i64(it, asked->integer, 0, options, out, room, length); \
         if (asked->what == READ) return calls##_read(it, asked->at, asked->length, out, room, length); \
-        if (asked->what == NATURAL) return calls##_format_u64(it, (uint64_t)asked->integer, 0, options, out, room, length); \
         if (asked->what == REAL) return calls##_format_double(it, asked->real, options, out, room, length); \
         if (asked->what == LENIENT) return calls##_read_lenient(it, asked->at, asked->length, out, room, length); \
         return calls##_format(it, asked->at, asked->length, options, out, room, length); \
@@ -306,7 +323,6 @@ ASK_READING(ask_shared_decimal, const legumeyet_shared_decimal_formatter, legume
         if (asked->what == INTEGER) return calls##_format_i64(it, asked->integer, 0, options, out, room, length); \
         if (asked->what == SHOWN) return calls##_shown(it, asked->at, asked->length, options, out, room, length); \
         if (asked->what == EXACT) return calls##_format_exact(it, asked->at, asked->length, options, out, room, length); \
-        if (asked->what == NATURAL) return calls##_format_u64(it, (uint64_t)asked->integer, 0, options, out, room, length); \
         if (asked->what == REAL) return calls##_format_double(it, asked->real, options, out, room, length); \
         return calls##_format(it, asked->at, asked->length, options, out, room, length); \
     }
@@ -353,15 +369,14 @@ static PyObject *written(struct open *it, const struct request *asked, Py_ssize_
     return text;
 }
 
-/* The number of an option that is of an enum, 0 to 99. Returns -1 with an error for what is not. */
+/* The number of an option that is of an enum, 0 to 99. Returns -1 with an error for what is not. It looks at the type alone, and so runs nothing of
+ * Python before an error: before 3.9 the options are in the caller's own dict, which must not change while they are taken. */
 static int number_of(PyObject *kind, PyObject *option) {
-    int is_one = PyObject_IsInstance(option, kind);
-    if (is_one == 0) {
-        PyObject *name = PyObject_GetAttrString(kind, "__name__");
-        if (name != NULL) PyErr_Format(PyExc_TypeError, "an option is a %U, and not %R", name, option);
-        Py_XDECREF(name);
-    }
-    return is_one == 1 ? (int)PyLong_AsLong(option) : -1;
+    if (PyObject_TypeCheck(option, (PyTypeObject *)kind)) return (int)PyLong_AsLong(option);
+    PyObject *name = PyObject_GetAttrString(kind, "__name__");
+    if (name != NULL) PyErr_Format(PyExc_TypeError, "an option is a %U, and not %R", name, option);
+    Py_XDECREF(name);
+    return -1;
 }
 
 /* An option that is a whole number. */
@@ -439,6 +454,10 @@ static bool take_options(struct shared *shared, PyObject *given, legumeyet_optio
     PyObject *name, *option, *rounding = NULL, *position = NULL;
     Py_ssize_t at = 0;
     while (given != NULL && PyDict_Next(given, &at, &name, &option)) {
+        if (!PyUnicode_Check(name)) {
+            PyErr_Format(PyExc_TypeError, "the name of an option is a str, and not %R", name);
+            return false;
+        }
         if (PyUnicode_CompareWithASCIIString(name, "position") == 0) {
             position = option;
         } else if (PyUnicode_CompareWithASCIIString(name, "rounding") == 0) {
@@ -698,6 +717,7 @@ static bool make_room(struct texts *into, size_t room) {
 static int32_t write_texts(struct open *it, const legumeyet_options *options, const struct numbers *from, struct texts *into) {
     int32_t number = LEGUMEYET_MEMORY;
     bool has_room = make_room(into, EACH * from->count);
+    into->count = 0; /* where there is no room at all, the first number is the one that is refused */
     while (has_room && (number = ask_for_texts(it, options, from, into)) == LEGUMEYET_TOO_SMALL) has_room = make_room(into, 2 * into->room);
     return has_room ? number : LEGUMEYET_MEMORY;
 }
@@ -714,8 +734,7 @@ static bool begin_part(struct open *it) {
         it->lock = lock;
         it->forks = it->shared->forks;
     }
-    take_lock(it->next);
-    take_lock(it->lock);
+    if (!take_turn(it)) return false;
     it->is_busy = true;
     PyThread_release_lock(it->next);
     return true;
@@ -896,19 +915,31 @@ static bool take_each(struct column *all, PyObject *numbers) {
     return is_well && PyErr_Occurred() ? end_wrong(all, -1) : is_well;
 }
 
-/* The memory of an object, or of the NumPy array of a column that has `to_numpy`. Returns whether there is some; there is no error. That of an array
- * of NumPy with a mask is left alone: it has numbers where some are missing. */
-static bool take_memory(PyObject *numbers, buffer *into) {
+/* Whether there is no error, or one that only says that an object has no memory to be read; that is cleared. An interrupt stays. */
+static bool clear_exception(void) {
+    if (PyErr_Occurred() && PyErr_ExceptionMatches(PyExc_Exception)) PyErr_Clear();
+    return !PyErr_Occurred();
+}
+
+/* The memory of an object. Returns 1 where there is some, and -1 with an error where not. That of an array of NumPy with a mask is left alone, and 0
+ * returned: it has numbers where some are missing. */
+static int take_memory_of(PyObject *object, buffer *into) {
+    if (PyObject_GetBuffer(object, into, STRIDES_AND_FORMAT) < 0) return -1;
+    if (!PyObject_HasAttrString(object, "mask")) return 1;
+    PyBuffer_Release(into);
+    return 0;
+}
+
+/* The memory of an object, or of the NumPy array of a column that has `to_numpy`. Returns 1 where there is some, 0 where not, -1 with an error. */
+static int take_memory(PyObject *numbers, buffer *into) {
     PyObject *array;
-    bool is_there = PyObject_GetBuffer(numbers, into, STRIDES_AND_FORMAT) == 0;
-    if (is_there && !PyObject_HasAttrString(numbers, "mask")) return true;
-    if (is_there) return PyBuffer_Release(into), false;
-    PyErr_Clear();
+    int found = take_memory_of(numbers, into);
+    if (found >= 0) return found;
+    if (!clear_exception()) return -1;
     array = PyObject_CallMethod(numbers, "to_numpy", NULL);
-    is_there = array != NULL && PyObject_GetBuffer(array, into, STRIDES_AND_FORMAT) == 0;
-    PyErr_Clear();
+    found = array == NULL ? -1 : take_memory_of(array, into);
     Py_XDECREF(array);
-    return is_there;
+    return found < 0 && clear_exception() ? 0 : found;
 }
 
 /* Takes all numbers of an object. */
@@ -916,7 +947,8 @@ static bool take_all(struct column *all, PyObject *numbers) {
     buffer memory;
     struct row row;
     bool is_well;
-    if (PyList_Check(numbers) || PyTuple_Check(numbers) || !take_memory(numbers, &memory)) return take_each(all, numbers);
+    int found = PyList_Check(numbers) || PyTuple_Check(numbers) ? 0 : take_memory(numbers, &memory);
+    if (found < 1) return found == 0 && take_each(all, numbers);
     if (memory.ndim != 1) {
         PyErr_Format(PyExc_TypeError, "numbers are in a row, and not in %d dimensions", memory.ndim);
         is_well = false;
@@ -1370,8 +1402,10 @@ static PyType_Spec specs[] = {
     {"legumeyet._core.Answers", OF(answers_slots)},
 };
 
+/* NULL of a module that is not filled yet: before 3.9 such a module is already visited by the garbage collector, and freed as others are. */
 static struct shared *shared_of(PyObject *module) {
-    return *(struct shared **)PyModule_GetState(module);
+    struct shared **state = PyModule_GetState(module);
+    return state == NULL ? NULL : *state;
 }
 
 /* Takes an object of one of the types of this module, which is to be opened. */
@@ -1621,11 +1655,11 @@ static int clear(PyObject *module) {
 }
 
 static void free_module(void *module) {
-    struct shared **state = PyModule_GetState(module);
-    if (*state == NULL) return;
+    struct shared *shared = shared_of(module);
+    if (shared == NULL) return;
     clear(module);
-    leave(*state);
-    *state = NULL;
+    leave(shared);
+    *(struct shared **)PyModule_GetState(module) = NULL;
 }
 
 /* The second slot is named from CPython 3.12 on: interpreters with a GIL of their own may import the module. */

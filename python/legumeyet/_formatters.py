@@ -70,7 +70,7 @@ class Open:
 class Book(Open, _core.Book):
     """A book of tables, of its JSON text. `Book.world()` is that of the world's locales, and `Book.from_file(path)` that of a file.
 
-    Raises `Error` 101 to 111 where the text is no book, 1 where memory was refused.
+    Raises `Error` 101 to 114 where the text is no book, 1 where memory was refused.
 
     >>> with Book('[[],[["latn","0123456789"]],[],[],[]]') as own:
     ...     DecimalFormatter(own, "en")

@@ -11,6 +11,8 @@ def tag_of_locale_name(name: Optional[str]) -> str:
     >>> [tag_of_locale_name(name) for name in ("de_DE.UTF-8", "sr_RS@latin", "pt_BR", "C.UTF-8", "", None)]
     ['de-DE', 'sr-RS', 'pt-BR', 'en', 'en', 'en']
     """
+    if name is not None and not isinstance(name, str):
+        raise TypeError(f"the name of a locale is a str or None, and not {type(name).__name__}")
     given = None if name is None else name.encode("utf-8", "surrogateescape")
     return _core.tag_of_locale_name(given).decode("utf-8", "surrogateescape")
 

@@ -7,6 +7,7 @@ import ast
 import concurrent.futures
 import contextlib
 import copy
+import ctypes
 import decimal
 import doctest
 import functools
@@ -173,6 +174,9 @@ class Calls(unittest.TestCase):
             self.assertRaises(TypeError, self.english.format, 1, **options)
             self.assertRaises(TypeError, self.short.shown, 1, **options)
         self.assertRaises(TypeError, self.english.format, 1, Sign.ALWAYS)
+        for name in (b"sign", 1, None, ("sign",)):
+            for call in (self.english.format, self.english.format_all, self.english.format_parts, self.short.shown):
+                self.assertRaises(TypeError, call, [1], **{name: Sign.ALWAYS})
         for options in ({"grouping": 4}, {"grouping": Width.LONG}, {"width": Width.LONG}):
             self.assertRaises(TypeError, DecimalFormatter, self.book, "en", **options)
         for options in ({"width": Grouping.NEVER}, {"width": 1}, {"grouping": Width.LONG}):
@@ -246,6 +250,14 @@ class Calls(unittest.TestCase):
             def __str__(self):
                 raise KeyError(1)
 
+        class Clears:
+            @property
+            def __class__(self):
+                options.clear()
+                return Sign
+
+        options = {"position": int("9" * 40), "sign": Clears(), "increment": 5}
+        self.assertRaises(TypeError, self.english.format, 1, **options)
         self.assertEqual(formatter.format_all(map(Decimal, "12")), ["1", "2"])
         self.assertEqual(formatter.format(Opens(1)), "١")
         self.refused(2, formatter.format, Closes(1))
@@ -333,6 +345,8 @@ class Calls(unittest.TestCase):
             ("", "en"), (None, "en"), ("zh_Hant_TW", "zh-Hant-TW"), ("de", "de"), ("\udcff_x", "\udcff-x"),
         ):
             self.assertEqual(legumeyet.tag_of_locale_name(name), tag)
+        for name in (b"de_DE", ("de_DE", "UTF-8"), 5):
+            self.assertRaisesRegex(TypeError, "is a str or None", legumeyet.tag_of_locale_name, name)
 
     def test_books_and_tags(self):
         for number, json in ((101, "[1"), (101, ""), (101, b"\xff"), (101, "\udcff"), (102, "[]"), (111, '[[],[],[],[],[],[["en","en"]]]')):
@@ -387,6 +401,10 @@ class Calls(unittest.TestCase):
         ]:
             ran = subprocess.run(["sh", "-c", script, "sh", *words], capture_output=True, check=False, encoding="utf-8")
             self.assertEqual((ran.returncode, ran.stdout, ran.stderr), (1, "", f"legumeyet: {said}\n"))
+        for script, status, said in [('exec "$1" "$2" "$3" ar-EG x 2>&-', 1, ""), ('exec "$1" "$2" "$3"', 2, "\nlegumeyet: error: ")]:
+            ran = subprocess.run(["sh", "-c", script, "sh", *words], capture_output=True, check=False, encoding="utf-8")
+            self.assertEqual((ran.returncode, ran.stdout), (status, ""))
+            self.assertIn(said, ran.stderr)
 
     def test_kept(self):
         book = Book(JSON)
@@ -774,6 +792,34 @@ class Calls(unittest.TestCase):
         wide = array.array("q", [2**62] * 5000)
         self.assertEqual(self.english.format_all(wide, position=-400), [f"{2**62:,}.{'0' * 400}"] * 5000)
 
+    def test_columns_that_give_an_array(self):
+        """What `to_numpy` gives is read in place of the column; where it fails the column is iterated over, and an interrupt ends the call."""
+
+        class Column:
+            def __init__(self, given):
+                self.given = given
+
+            def to_numpy(self):
+                if isinstance(self.given, BaseException):
+                    raise self.given
+                return self.given
+
+            def __iter__(self):
+                return iter((7, 8))
+
+        class Masked(ctypes.c_int * 2):
+            mask = (False, True)
+
+        for given, texts in (
+            (array.array("q", [1234]), ["1,234"]), (array.array("d", [0.5]), ["0.5"]), (None, ["7", "8"]), ([1], ["7", "8"]),
+            (Masked(5, 6), ["7", "8"]), (ValueError(1), ["7", "8"]), (array.array("f", [0.5]), TypeError),
+            (KeyboardInterrupt(), KeyboardInterrupt), (SystemExit(), SystemExit),
+        ):
+            if isinstance(texts, list):
+                self.assertEqual(self.english.format_all(Column(given)), texts)
+            else:
+                self.assertRaises(texts, self.english.format_all, Column(given))
+
     def test_numpy_and_pandas(self):
         try:
             import numpy
@@ -791,7 +837,10 @@ class Calls(unittest.TestCase):
         self.assertRaisesRegex(TypeError, r"give it as float\(it\)", self.english.format, numpy.float32(0.1))
         self.assertRaisesRegex(TypeError, r"astype\(float\)", self.english.format_all, row.astype("float16"))
         self.assertEqual(self.english.format_all(numpy.ma.array([1.5, 2.5])), ["1.5", "2.5"])
-        self.assertRaises(TypeError, self.english.format_all, numpy.ma.array([1.5, 2.5], mask=[False, True]))
+        masked = numpy.ma.array([1.5, 2.5], mask=[False, True])
+        self.assertRaises(TypeError, self.english.format_all, masked)
+        column = type("Column", (), {"to_numpy": lambda _: masked, "__iter__": lambda _: iter(masked)})()
+        self.assertRaises(TypeError, self.english.format_all, column)
         try:
             import pandas
         except ImportError:
@@ -933,6 +982,33 @@ class Calls(unittest.TestCase):
             late.cycle = late
         """
         subprocess.run([sys.executable, "-c", words], check=True, timeout=60)
+        # what a daemon thread was using when the interpreter ended is not waited for
+        words = """if True:
+            import array, os, threading, time
+            from legumeyet import Answers, DecimalFormatter
+            class Late:
+                def __init__(self, it, call, given):
+                    self.it, self.call, self.write = it, call, os.write
+                    threading.Thread(target=call, args=(given,), daemon=True).start()
+                def __del__(self):
+                    for late in (self.it.close, lambda: self.call([1])):
+                        try:
+                            late()
+                        except RuntimeError as error:
+                            self.write(1, f"{error}; ".encode())
+            german, answers = DecimalFormatter("de"), Answers()
+            column = Late(german, german.format_all, array.array("q", [1234]) * 20_000_000)
+            lines = Late(answers, answers.answer, b"x\\n" * 20_000_000)
+            time.sleep(0.2)
+        """
+        ran = subprocess.run([sys.executable, "-c", words], stdout=subprocess.PIPE, check=True, timeout=60)
+        self.assertIn(b"another thread was using it when the interpreter ended", ran.stdout)
+
+    def test_import_beside_the_garbage_collector(self):
+        """The collector may run at each step of the import, and a module that was made may be dropped before it is filled."""
+        dropped = "import importlib.util as it, legumeyet._core as core; it.module_from_spec(core.__spec__)"
+        for words in ("import gc; gc.set_threshold(1); import legumeyet", dropped):
+            subprocess.run([sys.executable, "-c", words], check=True, timeout=60)
 
     def test_hints(self):
         """The hints of the module in C name what it has, and nothing else."""
