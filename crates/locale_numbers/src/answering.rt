@@ -144,6 +144,21 @@ fn answer_whole_line<'a, F: Formatters<'a>>(
     answer_after_front(alloc, &mut value, formatters, &front, text, out)
 }
 
+// Writes the answer to a line after what `out` holds, with a formatter that is made for it alone. After an error a part
+// of it may be there.
+fn answer_alone(alloc: Global, book: &Book, line: &[u8], out: &mut String) -> Result<(), AllocError>
+    ensures { OnOk result (string_bytes out.new ≡ string_bytes out.old ++ answer_of book.now line.now) }
+{
+    let mut formatters = OneFormatter {
+        alloc,
+        tables: book,
+        made: None,
+    };
+    let answered = answer_whole_line(alloc, &mut formatters, line, out);
+    drop(formatters);
+    answered
+}
+
 /// The answer of `book` to a request line, without a line feed.
 ///
 /// A line is six fields between tabs: tag, form, grouping, sign, rounding, text. Under the sample
@@ -162,11 +177,8 @@ pub fn answer(alloc: Global, book: &Book, line: &[u8]) -> Result<Vec<u8>, AllocE
     ensures text { IfOk result (λ text. text.items ≡ answer_of book.now line.now) }
 {
     let mut out = String::new(alloc);
-    let mut formatters = OneFormatter {
-        alloc,
-        tables: book,
-        made: None,
-    };
-    answer_whole_line(alloc, &mut formatters, line, &mut out)?;
-    Ok(out.into_bytes())
+    match answer_alone(alloc, book, line, &mut out) {
+        Ok(()) => Ok(out.into_bytes()),
+        Err(AllocError) => Err(AllocError),
+    }
 }

@@ -35,7 +35,11 @@ fn write_lenient_unit(
         return write_lenient_unit_answer(alloc, readers, text, out);
     }
     match readers_in_turn(alloc, &made.numbers, &made.second) {
-        Ok(readers) => write_lenient_unit_answer(alloc, &readers, text, out),
+        Ok(readers) => {
+            let written = write_lenient_unit_answer(alloc, &readers, text, out);
+            drop(readers);
+            written
+        }
         Err(refused) => Err(refused),
     }
 }

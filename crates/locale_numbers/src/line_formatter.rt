@@ -193,8 +193,10 @@ impl<'a, T: Tables> Formatters<'a> for OneFormatter<'a, T> {
         if self.made.is_some() {
             return Ok(true);
         }
-        self.made = formatter_by(self.alloc, self.tables, key.value(), false);
-        Ok(self.made.is_some())
+        let made = formatter_by(self.alloc, self.tables, key.value(), false);
+        let is_found = made.is_some();
+        drop(std::mem::replace(&mut self.made, made));
+        Ok(is_found)
     }
 
     fn found(&self, _key: &Hashed<FormatterKey>) -> &LineFormatter<'a> {
