@@ -48,29 +48,48 @@ fails_given fractions (Some choices) is_given fault number given caused error (i
 fails_given fractions (Some choices) is_given fault number given caused error (inr refused) =
     inr (record { given = refused.given; given_is = subst (λ (n : Result (SignedValue Number) CallError). IfOk n is_given) refused.given_is given; refused = refused.refused })
 
-pub unit_says : {X : Type 0} (says : UnitSettings → SignedValue Number → X → Type 0) (open_units : Option HeldUnit) (options : Options) (is_given : SignedValue Number → Type 0)
-    (number : Result (SignedValue Number) CallError) → IfOk number is_given → (text : X) → WritesUnit says open_units options (λ given. number ≡ Ok given) text
-    → WritesUnit says open_units options is_given text
-unit_says says None options is_given number given text said = said
-unit_says says (Some held) options is_given number given text said = record {
+says_unit : {X : Type 0} (says : UnitSettings → SignedValue Number → X → Type 0) (units : Option HeldUnit) (options : Options) (is_given : SignedValue Number → Type 0)
+    (number : Result (SignedValue Number) CallError) → IfOk number is_given → (text : X) → WritesUnit says units options (λ given. number ≡ Ok given) text
+    → WritesUnit says units options is_given text
+says_unit says None options is_given number given text said = said
+says_unit says (Some held) options is_given number given text said = record {
   value = said.value;
   gives = gives_given held.fractions (unit_choices_of held.fractions options) is_given number said.value given said.gives;
   said = said.said;
 }
 
-pub unit_fault : (open_units : Option HeldUnit) (options : Options) (is_given : SignedValue Number → Type 0) (fault : CallError → Type 0) (number : Result (SignedValue Number) CallError)
-    → IfOk number is_given → IfErr number fault → (error : CallError) → IsUnitWritingFault open_units options (λ given. number ≡ Ok given) (λ cause. number ≡ Err cause) error
-    → IsUnitWritingFault open_units options is_given fault error
-unit_fault None options is_given fault number given caused error is = is
-unit_fault (Some held) options is_given fault number given caused error failed =
+fails_unit : (units : Option HeldUnit) (options : Options) (is_given : SignedValue Number → Type 0) (fault : CallError → Type 0) (number : Result (SignedValue Number) CallError)
+    → IfOk number is_given → IfErr number fault → (error : CallError) → IsUnitWritingFault units options (λ given. number ≡ Ok given) (λ cause. number ≡ Err cause) error
+    → IsUnitWritingFault units options is_given fault error
+fails_unit None options is_given fault number given caused error is = is
+fails_unit (Some held) options is_given fault number given caused error failed =
     fails_given held.fractions (unit_choices_of held.fractions options) is_given fault number given caused error failed
 
-pub unit_parts_fault : (open_units : Option HeldUnit) (options : Options) (is_given : SignedValue Number → Type 0) (fault : CallError → Type 0) (number : Result (SignedValue Number) CallError)
-    → IfOk number is_given → IfErr number fault → (error : CallError) → IsUnitPartsFault open_units options (λ given. number ≡ Ok given) (λ cause. number ≡ Err cause) error
-    → IsUnitPartsFault open_units options is_given fault error
-unit_parts_fault None options is_given fault number given caused error is = is
-unit_parts_fault (Some held) options is_given fault number given caused error (inl failed) = inl (unit_fault (Some held) options is_given fault number given caused error failed)
-unit_parts_fault (Some held) options is_given fault number given caused error (inr is) = inr is
+fails_parts : (units : Option HeldUnit) (options : Options) (is_given : SignedValue Number → Type 0) (fault : CallError → Type 0) (number : Result (SignedValue Number) CallError)
+    → IfOk number is_given → IfErr number fault → (error : CallError) → IsUnitPartsFault units options (λ given. number ≡ Ok given) (λ cause. number ≡ Err cause) error
+    → IsUnitPartsFault units options is_given fault error
+fails_parts None options is_given fault number given caused error is = is
+fails_parts (Some held) options is_given fault number given caused error (inl failed) = inl (fails_unit (Some held) options is_given fault number given caused error failed)
+fails_parts (Some held) options is_given fault number given caused error (inr is) = inr is
+
+-- also where what is open is shown
+pub unit_says : {X : Type 0} (says : UnitSettings → SignedValue Number → X → Type 0) {shown open_units : Option HeldUnit} → shown ≡ open_units → (options : Options)
+    (is_given : SignedValue Number → Type 0) (number : Result (SignedValue Number) CallError) → IfOk number is_given → (text : X)
+    → WritesUnit says shown options (λ given. number ≡ Ok given) text → WritesUnit says open_units options is_given text
+unit_says says {shown} is options is_given number given text said =
+    subst (λ (o : Option HeldUnit). WritesUnit says o options is_given text) is (says_unit says shown options is_given number given text said)
+
+pub unit_fault : {shown open_units : Option HeldUnit} → shown ≡ open_units → (options : Options) (is_given : SignedValue Number → Type 0) (fault : CallError → Type 0)
+    (number : Result (SignedValue Number) CallError) → IfOk number is_given → IfErr number fault → (error : CallError)
+    → IsUnitWritingFault shown options (λ given. number ≡ Ok given) (λ cause. number ≡ Err cause) error → IsUnitWritingFault open_units options is_given fault error
+unit_fault {shown} is options is_given fault number given caused error failed =
+    subst (λ (o : Option HeldUnit). IsUnitWritingFault o options is_given fault error) is (fails_unit shown options is_given fault number given caused error failed)
+
+pub unit_parts_fault : {shown open_units : Option HeldUnit} → shown ≡ open_units → (options : Options) (is_given : SignedValue Number → Type 0) (fault : CallError → Type 0)
+    (number : Result (SignedValue Number) CallError) → IfOk number is_given → IfErr number fault → (error : CallError)
+    → IsUnitPartsFault shown options (λ given. number ≡ Ok given) (λ cause. number ≡ Err cause) error → IsUnitPartsFault open_units options is_given fault error
+unit_parts_fault {shown} is options is_given fault number given caused error failed =
+    subst (λ (o : Option HeldUnit). IsUnitPartsFault o options is_given fault error) is (fails_parts shown options is_given fault number given caused error failed)
 
 -- ---- not that a text is too long
 

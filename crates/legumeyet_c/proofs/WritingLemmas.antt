@@ -28,18 +28,29 @@ closed_put {T} says fails open_tables value out told is =
     (subst (λ (o : Option T). IsValueFault fails o value Closed) (sym is) refl)
 
 -- what is written for a value that is there is written for the value that was given
-pub value_says : {T N X : Type 0} (says : T → N → X → Type 0) (open_tables : Option T) (is_given : N → Type 0) (value : Result N CallError)
+says_given : {T N X : Type 0} (says : T → N → X → Type 0) (open_tables : Option T) (is_given : N → Type 0) (value : Result N CallError)
     → IfOk value is_given → (text : X) → WritesValue says open_tables value text → Writes says open_tables is_given text
-value_says says None is_given value given text said = said
-value_says says (Some tables) is_given (Err cause) given text said = absurd said
-value_says says (Some tables) is_given (Ok value) given text said = record { value = value; given = given; said = said }
+says_given says None is_given value given text said = said
+says_given says (Some tables) is_given (Err cause) given text said = absurd said
+says_given says (Some tables) is_given (Ok value) given text said = record { value = value; given = given; said = said }
+
+-- also where what is open is shown
+pub value_says : {T N X : Type 0} (says : T → N → X → Type 0) {shown open_tables : Option T} → shown ≡ open_tables → (is_given : N → Type 0) (value : Result N CallError)
+    → IfOk value is_given → (text : X) → WritesValue says shown value text → Writes says open_tables is_given text
+value_says {T} says {shown} is is_given value given text said =
+    subst (λ (o : Option T). Writes says o is_given text) is (says_given says shown is_given value given text said)
 
 -- and why nothing is written is a fault of the call
-pub value_fault : {T N : Type 0} (fails : T → N → CallError → Type 0) (open_tables : Option T) (is_given : N → Type 0) (fault : CallError → Type 0) (value : Result N CallError)
+fails_given : {T N : Type 0} (fails : T → N → CallError → Type 0) (open_tables : Option T) (is_given : N → Type 0) (fault : CallError → Type 0) (value : Result N CallError)
     → IfOk value is_given → IfErr value fault → (error : CallError) → IsValueFault fails open_tables value error → IsWritingFault fails open_tables is_given fault error
-value_fault fails None is_given fault value given caused error is = is
-value_fault fails (Some tables) is_given fault (Err cause) given caused error is = inl (subst fault (sym is) caused)
-value_fault fails (Some tables) is_given fault (Ok value) given caused error failed = inr (record { value = value; given = given; failed = failed })
+fails_given fails None is_given fault value given caused error is = is
+fails_given fails (Some tables) is_given fault (Err cause) given caused error is = inl (subst fault (sym is) caused)
+fails_given fails (Some tables) is_given fault (Ok value) given caused error failed = inr (record { value = value; given = given; failed = failed })
+
+pub value_fault : {T N : Type 0} (fails : T → N → CallError → Type 0) {shown open_tables : Option T} → shown ≡ open_tables → (is_given : N → Type 0) (fault : CallError → Type 0) (value : Result N CallError)
+    → IfOk value is_given → IfErr value fault → (error : CallError) → IsValueFault fails shown value error → IsWritingFault fails open_tables is_given fault error
+value_fault {T} fails {shown} is is_given fault value given caused error failed =
+    subst (λ (o : Option T). IsWritingFault fails o is_given fault error) is (fails_given fails shown is_given fault value given caused error failed)
 
 -- no such fault is that a text is too long, where none of both kinds is
 pub value_fault_other : {T N : Type 0} (fails : T → N → CallError → Type 0) (open_tables : Option T) (value : Result N CallError) (error : CallError)

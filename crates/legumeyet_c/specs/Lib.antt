@@ -4,9 +4,11 @@ pub mod CompactWriting
 pub mod DecimalWriting
 pub mod HeldUnits
 pub mod Kinds
+pub mod Lending
 pub mod Lent
 pub mod LineAnswering
 pub mod Locales
+pub mod Opened
 pub mod Opening
 pub mod Owned
 pub mod Places

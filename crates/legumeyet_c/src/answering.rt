@@ -3,9 +3,11 @@
 ghost use Rattle.std.specs.Prelude.{◌≡◌, Some, IfOk, IfErr};
 ghost use Rattle.legumeyet_c_values.specs.Putting.{Answers, IsPut};
 ghost use Rattle.legumeyet_c.specs.Answering.{IsAnswerFault, SaysAnswer};
+ghost use Rattle.legumeyet_c.specs.Kinds.{book_in};
+ghost use Rattle.legumeyet_c.specs.Opened.{opened};
 ghost use Rattle.legumeyet_c.specs.Views.{book_content, book_open};
 
-use crate::content::ContentKind;
+use crate::content::{Content, ContentKind};
 use crate::handles::BookHandle;
 use legumeyet_c_values::{CallError, answer, put_bytes};
 use locale_numbers::Book;
@@ -22,21 +24,22 @@ fn answer_of(alloc: Global, book: &Book, line: &[u8]) -> Result<Vec<u8>, CallErr
     }
 }
 
-// The answer of the book of a handle, which stays as it is.
-fn answer_after(alloc: Global, book: &mut BookHandle, line: &[u8]) -> Result<Vec<u8>, CallError>
-    ensures same { book_content book.new ≡ book_content book.old }
-    ensures value { IfOk result (λ text. SaysAnswer (book_open book.old) line.now text.items) }
-    ensures fault { IfErr result (λ error. IsAnswerFault (book_open book.old) error) }
+// The same with what is open.
+fn answer_opened(
+    alloc: Global,
+    content: Option<&Content>,
+    line: &[u8],
+) -> Result<Vec<u8>, CallError>
+    ensures value { IfOk result (λ text. SaysAnswer (book_in (opened content.entry)) line.now text.items) }
+    ensures fault { IfErr result (λ error. IsAnswerFault (book_in (opened content.entry)) error) }
 {
-    let Some(content) = book.handle.take(alloc) else {
+    let Some(content) = content else {
         return Err(CallError::Closed);
     };
-    let found = match Book::of_content(&content) {
-        Some(held) => answer_of(alloc, held, line),
+    match Book::of_content(content) {
+        Some(book) => answer_of(alloc, book, line),
         None => Err(CallError::Closed),
-    };
-    book.handle.put(alloc, content);
-    found
+    }
 }
 
 /// Answers a request line, without its line feed: `en`, `plain`, `auto`, `keep`, `-`, `-987654.321` with tabs between
@@ -56,7 +59,7 @@ pub extern "C" fn legumeyet_book_answer(
         (IsPut (SaysAnswer (book_open book.old) line.now) (IsAnswerFault (book_open book.old)) out.old out.new
         length.old length.new) result }
 {
-    match answer_after(alloc, book, line) {
+    match answer_opened(alloc, book.handle.content(), line) {
         Ok(text) => answer(put_bytes(text.as_slice(), out, length)),
         Err(error) => error.number(),
     }

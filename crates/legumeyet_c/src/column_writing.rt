@@ -1,4 +1,4 @@
-//! Columns written with what a handle has.
+//! Columns written with what is open.
 
 ghost use Rattle.std.specs.Prelude.{◌≡◌, Some, None, Err, refl};
 ghost use Rattle.std.proofs.Common.{inl};
@@ -10,15 +10,14 @@ ghost use Rattle.legumeyet_c.specs.ColumnWriting.{IsColumnOf, IsUnitColumn};
 ghost use Rattle.legumeyet_c.specs.CompactWriting.{IsCompactFault, IsCompactText};
 ghost use Rattle.legumeyet_c.specs.DecimalWriting.{HasNoFault, IsDecimalText};
 ghost use Rattle.legumeyet_c.specs.Kinds.{compact_in, decimal_in, unit_in};
+ghost use Rattle.legumeyet_c.specs.Opened.{opened};
 ghost use Rattle.legumeyet_c.specs.UnitWriting.{IsUnitText, SaysUnit};
 ghost use Rattle.legumeyet_c.specs.Writing.{IsWritingFault, Writes};
 
 use crate::compact_writing::CompactText;
 use crate::content::{Content, ContentKind};
 use crate::decimal_formatter::DecimalText;
-use crate::handle::Handle;
 use crate::held_units::HeldUnits;
-use crate::lent::SharedHandle;
 use crate::unit_tables::LentUnitTables;
 use crate::writing::NumberForm;
 use fixed_decimal::Decimal;
@@ -237,61 +236,20 @@ impl ColumnForm for UnitText {
     ghost closed = { λ options numbers before. record { cause = refl; untouched = refl } };
 }
 
-// Writes a column with what a handle has open, which stays as it is.
-fn write_after<F: ColumnForm>(
+// Writes a column with what is open.
+fn write_opened<F: ColumnForm>(
     alloc: Global,
-    handle: &mut Handle,
+    content: Option<&Content>,
     column: Column<'_>,
     options: &Options,
     out: &mut [u8],
     ends: &mut [usize],
     count: &mut usize,
 ) -> Result<(), CallError>
-    ensures same { handle.new.pointer.value ≡ handle.old.pointer.value }
-    ensures told { F.is_column handle.old.pointer.value options.now (given_in column.entry)
-        (room out.old ends.old count.old) (room out.new ends.new count.new) result }
-{
-    let Some(content) = handle.take(alloc) else {
-        *count = 0;
-        return Err(CallError::Closed);
-    };
-    let written = F::write_in(alloc, &content, column, options, out, ends, count);
-    handle.put(alloc, content);
-    written
-}
-
-// Answers a call that writes a column with what a handle has open, which stays as it is.
-pub(crate) fn answer_column<F: ColumnForm>(
-    alloc: Global,
-    handle: &mut Handle,
-    column: Column<'_>,
-    options: &Options,
-    out: &mut [u8],
-    ends: &mut [usize],
-    count: &mut usize,
-) -> i32
-    ensures same { handle.new.pointer.value ≡ handle.old.pointer.value }
-    ensures told { Answers
-        (F.is_column handle.old.pointer.value options.now (given_in column.entry) (room out.old ends.old count.old)
-        (room out.new ends.new count.new)) result }
-{
-    answer(write_after::<F>(alloc, handle, column, options, out, ends, count))
-}
-
-// Writes a column with what is shared.
-fn write_shared<F: ColumnForm>(
-    alloc: Global,
-    shared: &SharedHandle,
-    column: Column<'_>,
-    options: &Options,
-    out: &mut [u8],
-    ends: &mut [usize],
-    count: &mut usize,
-) -> Result<(), CallError>
-    ensures { F.is_column shared.now.lent.value options.now (given_in column.entry) (room out.old ends.old count.old)
+    ensures { F.is_column (opened content.entry) options.now (given_in column.entry) (room out.old ends.old count.old)
         (room out.new ends.new count.new) result }
 {
-    match shared.content() {
+    match content {
         Some(content) => F::write_in(alloc, content, column, options, out, ends, count),
         None => {
             *count = 0;
@@ -300,10 +258,10 @@ fn write_shared<F: ColumnForm>(
     }
 }
 
-// Answers a call that writes a column with what is shared.
-pub(crate) fn answer_shared_column<F: ColumnForm>(
+// Answers a call that writes a column with what is open.
+pub(crate) fn answer_column<F: ColumnForm>(
     alloc: Global,
-    shared: &SharedHandle,
+    content: Option<&Content>,
     column: Column<'_>,
     options: &Options,
     out: &mut [u8],
@@ -311,8 +269,8 @@ pub(crate) fn answer_shared_column<F: ColumnForm>(
     count: &mut usize,
 ) -> i32
     ensures { Answers
-        (F.is_column shared.now.lent.value options.now (given_in column.entry) (room out.old ends.old count.old)
+        (F.is_column (opened content.entry) options.now (given_in column.entry) (room out.old ends.old count.old)
         (room out.new ends.new count.new)) result }
 {
-    answer(write_shared::<F>(alloc, shared, column, options, out, ends, count))
+    answer(write_opened::<F>(alloc, content, column, options, out, ends, count))
 }

@@ -9,7 +9,7 @@ ghost use Rattle.legumeyet_c.specs.CompactWriting.{IsCompactFault, IsCompactText
 ghost use Rattle.legumeyet_c.specs.SharedViews.{shared_compact_open};
 ghost use Rattle.legumeyet_c.specs.Views.{compact_content, compact_open};
 
-use crate::column_writing::{answer_column, answer_shared_column};
+use crate::column_writing::answer_column;
 use crate::compact_writing::CompactText;
 use crate::handles::CompactHandle;
 use crate::shared_handles::SharedCompactHandle;
@@ -38,15 +38,8 @@ pub extern "C" fn legumeyet_compact_formatter_format_doubles(
         (room out.old ends.old count.old) (room out.new ends.new count.new)) result }
 {
     let column = Column::Doubles(numbers);
-    answer_column::<CompactText>(
-        alloc,
-        &mut formatter.handle,
-        column,
-        options,
-        out,
-        ends,
-        count,
-    )
+    let content = formatter.handle.content();
+    answer_column::<CompactText>(alloc, content, column, options, out, ends, count)
 }
 
 /// Writes integers times ten to the power `exponent`, one after the other, and tells where each text ends: 165 and -7
@@ -72,15 +65,8 @@ pub extern "C" fn legumeyet_compact_formatter_format_integers(
         (room out.old ends.old count.old) (room out.new ends.new count.new)) result }
 {
     let column = Column::Integers(mantissas, exponent);
-    answer_column::<CompactText>(
-        alloc,
-        &mut formatter.handle,
-        column,
-        options,
-        out,
-        ends,
-        count,
-    )
+    let content = formatter.handle.content();
+    answer_column::<CompactText>(alloc, content, column, options, out, ends, count)
 }
 
 /// Writes the numbers that lines are, one after the other, and tells where each text ends: of `1650`, a line feed and
@@ -105,15 +91,8 @@ pub extern "C" fn legumeyet_compact_formatter_format_texts(
         (room out.old ends.old count.old) (room out.new ends.new count.new)) result }
 {
     let column = Column::Texts(numbers);
-    answer_column::<CompactText>(
-        alloc,
-        &mut formatter.handle,
-        column,
-        options,
-        out,
-        ends,
-        count,
-    )
+    let content = formatter.handle.content();
+    answer_column::<CompactText>(alloc, content, column, options, out, ends, count)
 }
 
 /// Writes doubles, one after the other, and tells where each text ends: 1650.0 and -7.0 as `1.6K` and `-7` in short
@@ -135,7 +114,8 @@ pub extern "C" fn legumeyet_shared_compact_formatter_format_doubles(
         (room out.old ends.old count.old) (room out.new ends.new count.new)) result }
 {
     let column = Column::Doubles(numbers);
-    answer_shared_column::<CompactText>(alloc, &formatter.handle, column, options, out, ends, count)
+    let content = formatter.handle.content();
+    answer_column::<CompactText>(alloc, content, column, options, out, ends, count)
 }
 
 /// Writes integers times ten to the power `exponent`, one after the other, and tells where each text ends: 165 and -7
@@ -158,7 +138,8 @@ pub extern "C" fn legumeyet_shared_compact_formatter_format_integers(
         (room out.old ends.old count.old) (room out.new ends.new count.new)) result }
 {
     let column = Column::Integers(mantissas, exponent);
-    answer_shared_column::<CompactText>(alloc, &formatter.handle, column, options, out, ends, count)
+    let content = formatter.handle.content();
+    answer_column::<CompactText>(alloc, content, column, options, out, ends, count)
 }
 
 /// Writes the numbers that lines are, one after the other, and tells where each text ends: of `1650`, a line feed and
@@ -180,5 +161,6 @@ pub extern "C" fn legumeyet_shared_compact_formatter_format_texts(
         (room out.old ends.old count.old) (room out.new ends.new count.new)) result }
 {
     let column = Column::Texts(numbers);
-    answer_shared_column::<CompactText>(alloc, &formatter.handle, column, options, out, ends, count)
+    let content = formatter.handle.content();
+    answer_column::<CompactText>(alloc, content, column, options, out, ends, count)
 }

@@ -63,6 +63,6 @@ pub extern "C" fn legumeyet_compact_formatter_format_parts(
         result }
 {
     let number = number_of_text(alloc, number, options);
-    let handle = &mut formatter.handle;
-    answer(write_parts::<HeldCompactTables>(alloc, handle, &number, out, length, intervals, count))
+    let content = formatter.handle.content();
+    answer(write_parts::<HeldCompactTables>(alloc, content, &number, out, length, intervals, count))
 }

@@ -11,7 +11,7 @@ ghost use Rattle.legumeyet_c.specs.Writing.{IsNumberWritingFault, IsScaledWritin
 
 use crate::compact_tables::HeldCompactTables;
 use crate::handles::CompactHandle;
-use crate::writing::{NumberForm, write_after};
+use crate::writing::{NumberForm, write_opened};
 use fixed_decimal::{CompactDecimal, Decimal};
 use icu_decimal::CompactDecimalFormatter;
 use legumeyet_c_values::{
@@ -147,7 +147,7 @@ pub extern "C" fn legumeyet_compact_formatter_format(
         length.old length.new) result }
 {
     let number = number_of_text(alloc, number, options);
-    answer(write_after::<CompactText>(alloc, &mut formatter.handle, &number, out, length))
+    answer(write_opened::<CompactText>(formatter.handle.content(), &number, out, length))
 }
 
 /// Writes the number `mantissa` times ten to the power `exponent`: -11727 and 2 as `-1.2M` in short English.
@@ -171,7 +171,7 @@ pub extern "C" fn legumeyet_compact_formatter_format_i64(
         out.new length.old length.new) result }
 {
     let number = number_of_i64(alloc, mantissa, exponent, options);
-    answer(write_after::<CompactText>(alloc, &mut formatter.handle, &number, out, length))
+    answer(write_opened::<CompactText>(formatter.handle.content(), &number, out, length))
 }
 
 /// Writes the value that the text of a number shows: of `-1172700` in short English `-1.2c6`, which is -1.2 times ten
@@ -194,7 +194,7 @@ pub extern "C" fn legumeyet_compact_formatter_shown(
         length.old length.new) result }
 {
     let number = number_of_text(alloc, number, options);
-    answer(write_after::<ShownText>(alloc, &mut formatter.handle, &number, out, length))
+    answer(write_opened::<ShownText>(formatter.handle.content(), &number, out, length))
 }
 
 /// Writes a significand with an exponent, its digits as they are: `-1.20c6` as `-1.20M` in short English. The options
@@ -220,5 +220,5 @@ pub extern "C" fn legumeyet_compact_formatter_format_exact(
         length.old length.new) result }
 {
     let number = compact_of_text(alloc, number, options);
-    answer(write_after::<ExactText>(alloc, &mut formatter.handle, &number, out, length))
+    answer(write_opened::<ExactText>(formatter.handle.content(), &number, out, length))
 }

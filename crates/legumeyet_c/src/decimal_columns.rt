@@ -9,7 +9,7 @@ ghost use Rattle.legumeyet_c.specs.DecimalWriting.{HasNoFault, IsDecimalText};
 ghost use Rattle.legumeyet_c.specs.SharedViews.{shared_decimal_open};
 ghost use Rattle.legumeyet_c.specs.Views.{decimal_content, decimal_open};
 
-use crate::column_writing::{answer_column, answer_shared_column};
+use crate::column_writing::answer_column;
 use crate::decimal_formatter::DecimalText;
 use crate::handles::DecimalHandle;
 use crate::shared_handles::SharedDecimalHandle;
@@ -38,15 +38,8 @@ pub extern "C" fn legumeyet_decimal_formatter_format_doubles(
         (room out.old ends.old count.old) (room out.new ends.new count.new)) result }
 {
     let column = Column::Doubles(numbers);
-    answer_column::<DecimalText>(
-        alloc,
-        &mut formatter.handle,
-        column,
-        options,
-        out,
-        ends,
-        count,
-    )
+    let content = formatter.handle.content();
+    answer_column::<DecimalText>(alloc, content, column, options, out, ends, count)
 }
 
 /// Writes integers times ten to the power `exponent`, one after the other, and tells where each text ends: 123450 and
@@ -72,15 +65,8 @@ pub extern "C" fn legumeyet_decimal_formatter_format_integers(
         (room out.old ends.old count.old) (room out.new ends.new count.new)) result }
 {
     let column = Column::Integers(mantissas, exponent);
-    answer_column::<DecimalText>(
-        alloc,
-        &mut formatter.handle,
-        column,
-        options,
-        out,
-        ends,
-        count,
-    )
+    let content = formatter.handle.content();
+    answer_column::<DecimalText>(alloc, content, column, options, out, ends, count)
 }
 
 /// Writes the numbers that lines are, one after the other, and tells where each text ends: of `1234.5`, a line feed and
@@ -105,15 +91,8 @@ pub extern "C" fn legumeyet_decimal_formatter_format_texts(
         (room out.old ends.old count.old) (room out.new ends.new count.new)) result }
 {
     let column = Column::Texts(numbers);
-    answer_column::<DecimalText>(
-        alloc,
-        &mut formatter.handle,
-        column,
-        options,
-        out,
-        ends,
-        count,
-    )
+    let content = formatter.handle.content();
+    answer_column::<DecimalText>(alloc, content, column, options, out, ends, count)
 }
 
 /// Writes doubles, one after the other, and tells where each text ends: 1234.5 and -7.0 as `1,234.5` and `-7` in
@@ -135,7 +114,8 @@ pub extern "C" fn legumeyet_shared_decimal_formatter_format_doubles(
         (room out.old ends.old count.old) (room out.new ends.new count.new)) result }
 {
     let column = Column::Doubles(numbers);
-    answer_shared_column::<DecimalText>(alloc, &formatter.handle, column, options, out, ends, count)
+    let content = formatter.handle.content();
+    answer_column::<DecimalText>(alloc, content, column, options, out, ends, count)
 }
 
 /// Writes integers times ten to the power `exponent`, one after the other, and tells where each text ends: 123450 and
@@ -158,7 +138,8 @@ pub extern "C" fn legumeyet_shared_decimal_formatter_format_integers(
         (room out.old ends.old count.old) (room out.new ends.new count.new)) result }
 {
     let column = Column::Integers(mantissas, exponent);
-    answer_shared_column::<DecimalText>(alloc, &formatter.handle, column, options, out, ends, count)
+    let content = formatter.handle.content();
+    answer_column::<DecimalText>(alloc, content, column, options, out, ends, count)
 }
 
 /// Writes the numbers that lines are, one after the other, and tells where each text ends: of `1234.5`, a line feed and
@@ -180,5 +161,6 @@ pub extern "C" fn legumeyet_shared_decimal_formatter_format_texts(
         (room out.old ends.old count.old) (room out.new ends.new count.new)) result }
 {
     let column = Column::Texts(numbers);
-    answer_shared_column::<DecimalText>(alloc, &formatter.handle, column, options, out, ends, count)
+    let content = formatter.handle.content();
+    answer_column::<DecimalText>(alloc, content, column, options, out, ends, count)
 }

@@ -13,7 +13,7 @@ ghost use Rattle.legumeyet_c.specs.Writing.{IsNumberWritingFault, IsScaledWritin
 use crate::decimal_tables::DecimalTables;
 use crate::handles::{BookHandle, DecimalHandle};
 use crate::opening::{Found, close, open};
-use crate::writing::{NumberForm, write_after};
+use crate::writing::{NumberForm, write_opened};
 use fixed_decimal::Decimal;
 use icu_decimal::options::GroupingStrategy;
 use legumeyet_c_values::{
@@ -137,7 +137,7 @@ pub extern "C" fn legumeyet_decimal_formatter_format(
         length.old length.new) result }
 {
     let number = number_of_text(alloc, number, options);
-    answer(write_after::<DecimalText>(alloc, &mut formatter.handle, &number, out, length))
+    answer(write_opened::<DecimalText>(formatter.handle.content(), &number, out, length))
 }
 
 /// Writes the number `mantissa` times ten to the power `exponent`: -123456 and -2 as `-1,234.56` in English, and 500
@@ -162,5 +162,5 @@ pub extern "C" fn legumeyet_decimal_formatter_format_i64(
         length.old length.new) result }
 {
     let number = number_of_i64(alloc, mantissa, exponent, options);
-    answer(write_after::<DecimalText>(alloc, &mut formatter.handle, &number, out, length))
+    answer(write_opened::<DecimalText>(formatter.handle.content(), &number, out, length))
 }

@@ -10,7 +10,7 @@ ghost use Rattle.legumeyet_c.specs.Writing.{IsDoubleWritingFault, WritesDouble};
 use crate::compact_writing::CompactText;
 use crate::decimal_formatter::DecimalText;
 use crate::handles::{CompactHandle, DecimalHandle};
-use crate::writing::write_after;
+use crate::writing::write_opened;
 use legumeyet_c_values::{Options, answer, number_of_f64};
 use std::alloc::Global;
 
@@ -32,7 +32,7 @@ pub extern "C" fn legumeyet_decimal_formatter_format_double(
         (IsDoubleWritingFault HasNoFault (decimal_open formatter.old) options.now number) out.old out.new length.old length.new) result }
 {
     let number = number_of_f64(alloc, number, options);
-    answer(write_after::<DecimalText>(alloc, &mut formatter.handle, &number, out, length))
+    answer(write_opened::<DecimalText>(formatter.handle.content(), &number, out, length))
 }
 
 /// Writes a double by the shortest number that gives it back: -1172700.0 as `-1.2M` in short English.
@@ -53,5 +53,5 @@ pub extern "C" fn legumeyet_compact_formatter_format_double(
         (IsDoubleWritingFault IsCompactFault (compact_open formatter.old) options.now number) out.old out.new length.old length.new) result }
 {
     let number = number_of_f64(alloc, number, options);
-    answer(write_after::<CompactText>(alloc, &mut formatter.handle, &number, out, length))
+    answer(write_opened::<CompactText>(formatter.handle.content(), &number, out, length))
 }

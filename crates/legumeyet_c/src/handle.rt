@@ -1,5 +1,6 @@
 //! What each handle of C has open: a pointer to its content, or nothing.
 
+ghost use Rattle.std.specs.Borrow.{sem};
 ghost use Rattle.std.specs.Prelude.{◌≡◌, Option, Some, None, option_map, is_some, true};
 ghost use Rattle.legumeyet_c.specs.declared.content.Content.{Content};
 
@@ -23,6 +24,8 @@ impl Model for Pointer {
 }
 
 impl Pointer {
+    ghost use Rattle.legumeyet_c.specs.Lending.{LendsContent};
+
     // To nothing.
     fn empty() -> Pointer
         ensures { result.value ≡ None }
@@ -38,6 +41,15 @@ impl Pointer {
     {
         let Unboxed { at, alloc: _ } = content;
         Pointer { at: at as *mut () }
+    }
+
+    // The content, for as long as the pointer is borrowed.
+    pub(crate) fn get_mut(&mut self) -> &mut Content
+        requires { is_some self.old.value ≡ true }
+        ensures* ends { sem 𝓛 (LendsContent self.entry result) }
+        ensures value { self.old.value ≡ Some result.now }
+    {
+        unsafe { &mut *(self.at as *mut Content) }
     }
 
     // The box again.
@@ -63,8 +75,8 @@ impl Pointer {
 /// A handle, open or closed. Zeroed memory is a closed one.
 #[repr(C)]
 pub struct Handle {
-    pointer: Pointer,
-    is_open: bool,
+    pub(crate) pointer: Pointer,
+    pub(crate) is_open: bool,
     ghost told: { is_open ≡ is_some pointer.value },
 }
 
@@ -83,6 +95,21 @@ fn content_of(handle: Handle, alloc: Global) -> Option<Box<Content>>
 }
 
 impl Handle {
+    ghost use Rattle.legumeyet_c.specs.Lending.{StaysOpened};
+    ghost use Rattle.legumeyet_c.specs.Opened.{opened};
+
+    // The content, where it is open, to be read for as long as the handle is borrowed, which stays as it is.
+    pub(crate) fn content(&mut self) -> Option<&Content>
+        ensures* same { sem 𝓛 (StaysOpened self.entry) }
+        ensures value { opened result ≡ self.old.pointer.value }
+    {
+        if self.is_open {
+            Some(self.pointer.get_mut())
+        } else {
+            None
+        }
+    }
+
     // Takes the content out, and leaves the handle closed.
     pub(crate) fn take(&mut self, alloc: Global) -> Option<Box<Content>>
         ensures value { option_map (λ content. content.value) result ≡ self.old.pointer.value }

@@ -1,6 +1,6 @@
 //! What is shared: a content that stays for the rest of the run, which any number of threads read at once.
 
-ghost use Rattle.std.specs.Prelude.{◌≡◌, Option, Some, None, is_some, true, option_map};
+ghost use Rattle.std.specs.Prelude.{◌≡◌, Option, Some, None, is_some, true};
 ghost use Rattle.legumeyet_c.specs.declared.content.Content.{Content};
 
 use crate::content::Content;
@@ -59,6 +59,8 @@ pub struct SharedHandle {
 }
 
 impl SharedHandle {
+    ghost use Rattle.legumeyet_c.specs.Opened.{opened};
+
     // A closed one.
     pub(crate) fn closed() -> SharedHandle
         ensures { result.lent.value ≡ None }
@@ -81,7 +83,7 @@ impl SharedHandle {
 
     // The content, where it is open.
     pub(crate) fn content(&self) -> Option<&Content>
-        ensures { option_map (λ content. content.now) result ≡ self.now.lent.value }
+        ensures value { opened result ≡ self.now.lent.value }
     {
         if self.is_open {
             Some(self.lent.get())

@@ -5,6 +5,7 @@ ghost use Rattle.legumeyet_c_values.specs.LineBuffers.{buffers};
 ghost use Rattle.legumeyet_c_values.specs.Putting.{Answers};
 ghost use Rattle.legumeyet_c.specs.Kinds.{answers_in, book_in, is_kept};
 ghost use Rattle.legumeyet_c.specs.LineAnswering.{AreAnswered, FindsAnswers, IsAnswersFault};
+ghost use Rattle.legumeyet_c.specs.Opened.{opened};
 ghost use Rattle.legumeyet_c.specs.Opening.{IsClosing, IsOpening};
 ghost use Rattle.legumeyet_c.specs.Views.{answers_content, answers_open, book_content, book_open};
 
@@ -31,23 +32,22 @@ fn answers_of(alloc: Global, book: &'static Book, capacity: usize) -> Result<Hel
     }
 }
 
-// Those of the book of a handle, where it is kept; the book stays as it is.
-fn answers_after(
+// Those of the book that is open, where it is kept.
+fn answers_opened(
     alloc: Global,
-    book: &mut Handle,
+    content: Option<&Content>,
     capacity: usize,
 ) -> Result<HeldAnswers, CallError>
-    ensures same { book.new.pointer.value ≡ book.old.pointer.value }
     ensures value { IfOk result
-        (λ held. FindsAnswers (book_in book.old.pointer.value) (is_kept book.old.pointer.value) capacity held) }
+        (λ held. FindsAnswers (book_in (opened content.entry)) (is_kept (opened content.entry)) capacity held) }
     ensures fault { IfErr result
-        (λ error. IsAnswersFault (book_in book.old.pointer.value) (is_kept book.old.pointer.value) capacity error) }
+        (λ error. IsAnswersFault (book_in (opened content.entry)) (is_kept (opened content.entry)) capacity error) }
 {
-    let Some(content) = book.take(alloc) else {
+    let Some(content) = content else {
         return Err(CallError::Closed);
     };
-    let is_open = Book::of_content(&content).is_some();
-    let found = match kept_in(&content) {
+    let is_open = Book::of_content(content).is_some();
+    match kept_in(content) {
         Some(kept) => answers_of(alloc, kept, capacity),
         None => {
             if is_open {
@@ -56,9 +56,7 @@ fn answers_after(
                 Err(CallError::Closed)
             }
         }
-    };
-    book.put(alloc, content);
-    found
+    }
 }
 
 // Opens a handle with those of the book of another one, where it is kept; the book stays as it is.
@@ -74,7 +72,7 @@ fn open_answers(
         (IsAnswersFault (book_in book.old.pointer.value) (is_kept book.old.pointer.value) capacity)
         handle.old.pointer.value handle.new.pointer.value result }
 {
-    match answers_after(alloc, book, capacity) {
+    match answers_opened(alloc, book.content(), capacity) {
         Ok(held) => put_after(alloc, handle, held, CallError::Memory),
         Err(error) => Err(error),
     }
@@ -153,7 +151,6 @@ fn answer_held(
 
 // Answers lines with what a handle has open, which stays as it is.
 fn answer_after(
-    alloc: Global,
     handle: &mut Handle,
     lines: &[u8],
     out: &mut [u8],
@@ -165,12 +162,11 @@ fn answer_after(
     ensures told { AreAnswered (answers_in handle.old.pointer.value) lines.now
         (buffers out.old read.old written.old needs.old) (buffers out.new read.new written.new needs.new) result }
 {
-    let Some(mut content) = handle.take(alloc) else {
-        return answer_none(read, written, needs);
-    };
-    let outcome = answer_held(&mut content, lines, out, read, written, needs);
-    handle.put(alloc, content);
-    outcome
+    if handle.is_open {
+        answer_held(handle.pointer.get_mut(), lines, out, read, written, needs)
+    } else {
+        answer_none(read, written, needs)
+    }
 }
 
 /// Answers the request lines that a line feed ends, in order, as long as an answer has room: each by the text that
@@ -181,7 +177,6 @@ fn answer_after(
 /// `needs` is its length with its line feed, which else is 0.
 #[unsafe(no_mangle)]
 pub extern "C" fn legumeyet_answers_answer(
-    alloc: Global,
     answers: &mut AnswersHandle,
     lines: &[u8],
     out: &mut [u8],
@@ -194,5 +189,5 @@ pub extern "C" fn legumeyet_answers_answer(
         (AreAnswered (answers_open answers.old) lines.now (buffers out.old read.old written.old needs.old)
         (buffers out.new read.new written.new needs.new)) result }
 {
-    answer(answer_after(alloc, &mut answers.handle, lines, out, read, written, needs))
+    answer(answer_after(&mut answers.handle, lines, out, read, written, needs))
 }

@@ -1,21 +1,24 @@
 //! The locales of a book: `legumeyet_book_locale_count` and `legumeyet_book_locale`.
 
-ghost use Rattle.std.specs.Prelude.{◌≡◌, Some};
+ghost use Rattle.std.specs.Prelude.{◌≡◌};
 ghost use Rattle.legumeyet_c_values.specs.Putting.{Answers, IsPut};
 ghost use Rattle.legumeyet_c.specs.Kinds.{book_in};
 ghost use Rattle.legumeyet_c.specs.Locales.{IsCounting, IsLocaleFault, SaysLocale};
+ghost use Rattle.legumeyet_c.specs.Opened.{opened};
 ghost use Rattle.legumeyet_c.specs.Views.{book_content, book_open};
 
 use crate::content::{Content, ContentKind};
 use crate::handles::BookHandle;
 use legumeyet_c_values::{CallError, answer, put};
 use locale_numbers::Book;
-use std::alloc::Global;
 
-// Counts the locales of the book of a content.
-fn count_in(content: &Content, count: &mut usize) -> Result<(), CallError>
-    ensures { IsCounting (book_in (Some content.now)) count.old count.new result }
+// Counts the locales of the book that is open.
+fn count_opened(content: Option<&Content>, count: &mut usize) -> Result<(), CallError>
+    ensures { IsCounting (book_in (opened content.entry)) count.old count.new result }
 {
+    let Some(content) = content else {
+        return Err(CallError::Closed);
+    };
     match Book::of_content(content) {
         Some(book) => {
             *count = book.locale_count();
@@ -25,16 +28,19 @@ fn count_in(content: &Content, count: &mut usize) -> Result<(), CallError>
     }
 }
 
-// Writes the tag of a locale of the book of a content.
+// Writes the tag of a locale of the book that is open.
 fn write_locale(
-    content: &Content,
+    content: Option<&Content>,
     index: usize,
     out: &mut [u8],
     length: &mut usize,
 ) -> Result<(), CallError>
-    ensures { IsPut (SaysLocale (book_in (Some content.now)) index) (IsLocaleFault (book_in (Some content.now)) index)
-        out.old out.new length.old length.new result }
+    ensures { IsPut (SaysLocale (book_in (opened content.entry)) index)
+        (IsLocaleFault (book_in (opened content.entry)) index) out.old out.new length.old length.new result }
 {
+    let Some(content) = content else {
+        return Err(CallError::Closed);
+    };
     match Book::of_content(content) {
         Some(book) => match book.locale(index) {
             Some(locale) => put(locale, out, length),
@@ -48,20 +54,11 @@ fn write_locale(
 ///
 /// Returns 0; 2, the book is closed.
 #[unsafe(no_mangle)]
-pub extern "C" fn legumeyet_book_locale_count(
-    alloc: Global,
-    book: &mut BookHandle,
-    count: &mut usize,
-) -> i32
+pub extern "C" fn legumeyet_book_locale_count(book: &mut BookHandle, count: &mut usize) -> i32
     ensures same { book_content book.new ≡ book_content book.old }
     ensures told { Answers (IsCounting (book_open book.old) count.old count.new) result }
 {
-    let Some(content) = book.handle.take(alloc) else {
-        return CallError::Closed.number();
-    };
-    let counted = count_in(&content, count);
-    book.handle.put(alloc, content);
-    answer(counted)
+    answer(count_opened(book.handle.content(), count))
 }
 
 /// Writes the tag of a locale of a book, by its place among them: `de-AT`. They are in the order of the book, each once.
@@ -69,7 +66,6 @@ pub extern "C" fn legumeyet_book_locale_count(
 /// Returns 0; 2, the book is closed; 4, the place is not below the count; 3, the text needs more room.
 #[unsafe(no_mangle)]
 pub extern "C" fn legumeyet_book_locale(
-    alloc: Global,
     book: &mut BookHandle,
     index: usize,
     out: &mut [u8],
@@ -80,10 +76,5 @@ pub extern "C" fn legumeyet_book_locale(
         (IsPut (SaysLocale (book_open book.old) index) (IsLocaleFault (book_open book.old) index) out.old out.new
         length.old length.new) result }
 {
-    let Some(content) = book.handle.take(alloc) else {
-        return CallError::Closed.number();
-    };
-    let written = write_locale(&content, index, out, length);
-    book.handle.put(alloc, content);
-    answer(written)
+    answer(write_locale(book.handle.content(), index, out, length))
 }

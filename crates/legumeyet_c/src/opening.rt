@@ -2,9 +2,10 @@
 
 ghost use Rattle.std.specs.Prelude.{◌≡◌, ◌⊎◌, Err, None, IfOk, IfErr, IfSome, IsSome};
 ghost use Rattle.legumeyet_c.specs.Kinds.{book_in};
+ghost use Rattle.legumeyet_c.specs.Opened.{opened};
 ghost use Rattle.legumeyet_c.specs.Opening.{Finds, IsClosing, IsFindingFault, IsOpening, IsTagFault};
 
-use crate::content::{ContentKind, kept_in};
+use crate::content::{Content, ContentKind, kept_in};
 use crate::handle::Handle;
 use legumeyet_c_values::CallError;
 use locale_numbers::{Book, FormatterError};
@@ -77,28 +78,25 @@ fn find_for<T: Found>(
     }
 }
 
-// What the book of a handle has for a tag, where a choice is known; the book stays as it is.
-fn find_after<T: Found>(
+// What the book that is open has for a tag, where a choice is known.
+fn find_opened<T: Found>(
     alloc: Global,
-    book: &mut Handle,
+    content: Option<&Content>,
     choice: Option<T::Choice>,
     tag: &[u8],
 ) -> Result<T, CallError>
-    ensures same { book.new.pointer.value ≡ book.old.pointer.value }
-    ensures value { IfOk result (λ tables. Finds T.finds (book_in book.old.pointer.value) choice tag.now tables) }
+    ensures value { IfOk result (λ tables. Finds T.finds (book_in (opened content.entry)) choice tag.now tables) }
     ensures fault { IfErr result
-        (λ error. IsFindingFault T.found (book_in book.old.pointer.value) choice tag.now error) }
+        (λ error. IsFindingFault T.found (book_in (opened content.entry)) choice tag.now error) }
 {
-    let Some(content) = book.take(alloc) else {
+    let Some(content) = content else {
         return Err(CallError::Closed);
     };
-    let found = match (Book::of_content(&content), choice) {
-        (Some(held), Some(choice)) => { find_for::<T>(alloc, held, kept_in(&content), choice, tag) }
+    match (Book::of_content(content), choice) {
+        (Some(book), Some(choice)) => find_for::<T>(alloc, book, kept_in(content), choice, tag),
         (Some(_), None) => Err(CallError::UnknownOption),
         (None, _) => Err(CallError::Closed),
-    };
-    book.put(alloc, content);
-    found
+    }
 }
 
 // Puts a content into a handle, and closes what it had open, of whatever kind. The error that is given: out of
@@ -135,7 +133,7 @@ pub(crate) fn open<T: Found>(
         (IsFindingFault T.found (book_in book.old.pointer.value) choice tag.now) handle.old.pointer.value
         handle.new.pointer.value result }
 {
-    match find_after::<T>(alloc, book, choice, tag) {
+    match find_opened::<T>(alloc, book.content(), choice, tag) {
         Ok(tables) => put_after(alloc, handle, tables, CallError::Memory),
         Err(error) => Err(error),
     }

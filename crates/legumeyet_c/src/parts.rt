@@ -1,15 +1,15 @@
 //! Numbers written with their parts: `legumeyet_decimal_formatter_format_parts`.
 
-ghost use Rattle.std.specs.Prelude.{◌≡◌, ◌≢◌, Some, IfOk, IfErr};
+ghost use Rattle.std.specs.Prelude.{◌≡◌, ◌≢◌, IfOk, IfErr};
 ghost use Rattle.legumeyet_c_values.specs.Parts.{IsPutInParts, given, held_text};
 ghost use Rattle.legumeyet_c_values.specs.Putting.{Answers};
 ghost use Rattle.legumeyet_c.specs.DecimalWriting.{IsDecimalAnnotated, WantsMemory};
+ghost use Rattle.legumeyet_c.specs.Opened.{opened};
 ghost use Rattle.legumeyet_c.specs.Views.{decimal_content, decimal_open};
 ghost use Rattle.legumeyet_c.specs.Writing.{IsNumberWritingFault, IsValueFault, WritesNumber, WritesValue};
 
 use crate::content::{Content, ContentKind};
 use crate::decimal_tables::DecimalTables;
-use crate::handle::Handle;
 use crate::handles::DecimalHandle;
 use fixed_decimal::Decimal;
 use icu_decimal::laws::text::parts_law;
@@ -59,16 +59,19 @@ impl Annotates for DecimalTables {
     ghost other = { memory_other };
 }
 
-// The text, with its parts, of a number, where there is one, with what a content has.
-pub(crate) fn annotated_in<T: Annotates>(
+// The text, with its parts, of a number, where there is one, with what is open.
+fn annotated_opened<T: Annotates>(
     alloc: Global,
-    content: &Content,
+    content: Option<&Content>,
     number: &Result<Decimal, CallError>,
 ) -> Result<PartsSink, CallError>
     ensures value { IfOk result
-        (λ sink. WritesValue T.says (T.open_in (Some content.now)) number.now (held_text sink)) }
-    ensures fault { IfErr result (λ error. IsValueFault T.fails (T.open_in (Some content.now)) number.now error) }
+        (λ sink. WritesValue T.says (T.open_in (opened content.entry)) number.now (held_text sink)) }
+    ensures fault { IfErr result (λ error. IsValueFault T.fails (T.open_in (opened content.entry)) number.now error) }
 {
+    let Some(content) = content else {
+        return Err(CallError::Closed);
+    };
     match (T::of_content(content), number) {
         (Some(tables), Ok(value)) => tables.annotated(alloc, value),
         (Some(_), Err(error)) => Err(*error),
@@ -76,29 +79,10 @@ pub(crate) fn annotated_in<T: Annotates>(
     }
 }
 
-// The text, with its parts, of a number, where there is one, with what a handle has open, which stays as it is.
-fn annotated_after<T: Annotates>(
-    alloc: Global,
-    handle: &mut Handle,
-    number: &Result<Decimal, CallError>,
-) -> Result<PartsSink, CallError>
-    ensures same { handle.new.pointer.value ≡ handle.old.pointer.value }
-    ensures value { IfOk result
-        (λ sink. WritesValue T.says (T.open_in handle.old.pointer.value) number.now (held_text sink)) }
-    ensures fault { IfErr result (λ error. IsValueFault T.fails (T.open_in handle.old.pointer.value) number.now error) }
-{
-    let Some(content) = handle.take(alloc) else {
-        return Err(CallError::Closed);
-    };
-    let found = annotated_in::<T>(alloc, &content, number);
-    handle.put(alloc, content);
-    found
-}
-
-// Writes a number, where there is one, and its parts, with what a handle has open, which stays as it is.
+// Writes a number, where there is one, and its parts, with what is open.
 pub(crate) fn write_parts<T: Annotates>(
     alloc: Global,
-    handle: &mut Handle,
+    content: Option<&Content>,
     number: &Result<Decimal, CallError>,
     out: &mut [u8],
     length: &mut usize,
@@ -106,12 +90,11 @@ pub(crate) fn write_parts<T: Annotates>(
     count: &mut usize,
 ) -> Result<(), CallError>
     requires { IfErr number.now (λ error. error ≢ CallError.TooSmall) }
-    ensures same { handle.new.pointer.value ≡ handle.old.pointer.value }
-    ensures told { IsPutInParts (WritesValue T.says (T.open_in handle.old.pointer.value) number.now)
-        (IsValueFault T.fails (T.open_in handle.old.pointer.value) number.now)
+    ensures { IsPutInParts (WritesValue T.says (T.open_in (opened content.entry)) number.now)
+        (IsValueFault T.fails (T.open_in (opened content.entry)) number.now)
         (given out.old length.old intervals.old count.old) (given out.new length.new intervals.new count.new) result }
 {
-    match annotated_after::<T>(alloc, handle, number) {
+    match annotated_opened::<T>(alloc, content, number) {
         Ok(sink) => put_parts(&sink, out, length, intervals, count),
         Err(error) => Err(error),
     }
@@ -141,6 +124,6 @@ pub extern "C" fn legumeyet_decimal_formatter_format_parts(
         result }
 {
     let number = number_of_text(alloc, number, options);
-    let handle = &mut formatter.handle;
-    answer(write_parts::<DecimalTables>(alloc, handle, &number, out, length, intervals, count))
+    let content = formatter.handle.content();
+    answer(write_parts::<DecimalTables>(alloc, content, &number, out, length, intervals, count))
 }

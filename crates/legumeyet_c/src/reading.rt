@@ -1,15 +1,17 @@
 //! Texts read back, and what people type: `legumeyet_decimal_formatter_read` and `_read_lenient`.
 
-ghost use Rattle.std.specs.Prelude.{◌≡◌, Some, IfOk, IfErr, IsErrOf};
+ghost use Rattle.std.specs.Prelude.{◌≡◌, IfOk, IfErr, IsErrOf};
 ghost use Rattle.icu_decimal.specs.LenientReading.{MayAllocate, lenient_reading};
 ghost use Rattle.icu_decimal.specs.PlainReading.{HasManyDigits, IsAnswered, decimal, plain_reading};
 ghost use Rattle.legumeyet_c_values.specs.Putting.{Answers, IsPut};
 ghost use Rattle.legumeyet_c.specs.Kinds.{decimal_in};
+ghost use Rattle.legumeyet_c.specs.Opened.{opened};
 ghost use Rattle.legumeyet_c.specs.Reading.{HasReading, IsReadFault, IsUnread, ReadsBack, SaysRead};
 ghost use Rattle.legumeyet_c.specs.Views.{decimal_content, decimal_open};
 
-use crate::content::Content;
+use crate::content::{Content, ContentKind};
 use crate::decimal_tables::DecimalTables;
+use crate::handle::Handle;
 use crate::handles::DecimalHandle;
 use fixed_decimal::Decimal;
 use icu_decimal::error::ReadError;
@@ -29,10 +31,6 @@ pub(crate) trait DecimalReading {
     // memory may be wanted for it
     ghost allocates: { Tables → List ℕ → Type 0 };
 
-    /// Keeps with the tables what makes later texts faster to read, where memory is not refused.
-    fn ready(alloc: Global, tables: &mut DecimalTables)
-        ensures { tables.new ≡ tables.old };
-
     /// The number of the text.
     fn read(alloc: Global, tables: &DecimalTables, text: &str) -> Result<Decimal, ReadError>
         ensures answered { IsAnswered result (reading tables.now text.now) }
@@ -47,8 +45,6 @@ impl DecimalReading for Exact {
 
     ghost allocates = { HasManyDigits };
 
-    fn ready(_alloc: Global, _tables: &mut DecimalTables) {}
-
     fn read(alloc: Global, tables: &DecimalTables, text: &str) -> Result<Decimal, ReadError> {
         read_plain(alloc, &tables.formatter(), text)
     }
@@ -62,17 +58,13 @@ impl DecimalReading for Lenient {
 
     ghost allocates = { MayAllocate };
 
-    fn ready(alloc: Global, tables: &mut DecimalTables) {
-        tables.keep_folds(alloc)
-    }
-
     fn read(alloc: Global, tables: &DecimalTables, text: &str) -> Result<Decimal, ReadError> {
         tables.read_typed(alloc, text)
     }
 }
 
 // The number that is written so with tables.
-pub(crate) fn read_with<R: DecimalReading>(
+fn read_with<R: DecimalReading>(
     alloc: Global,
     tables: &DecimalTables,
     text: &[u8],
@@ -91,48 +83,47 @@ pub(crate) fn read_with<R: DecimalReading>(
     }
 }
 
-// The number that is written so with what a content has.
-fn read_content<R: DecimalReading>(
+// The same with what is open.
+pub(crate) fn read_opened<R: DecimalReading>(
     alloc: Global,
-    content: &mut Content,
+    content: Option<&Content>,
     text: &[u8],
 ) -> Result<Decimal, CallError>
-    ensures same { content.new ≡ content.old }
-    ensures value { IfOk result (λ value. ReadsBack R.reading (decimal_in (Some content.old)) text.now value) }
+    ensures value { IfOk result (λ value. ReadsBack R.reading (decimal_in (opened content.entry)) text.now value) }
     ensures fault { IfErr result
-        (λ error. IsReadFault R.reading R.allocates (decimal_in (Some content.old)) text.now error) }
+        (λ error. IsReadFault R.reading R.allocates (decimal_in (opened content.entry)) text.now error) }
+{
+    let Some(content) = content else {
+        return Err(CallError::Closed);
+    };
+    match DecimalTables::of_content(content) {
+        Some(tables) => read_with::<R>(alloc, tables, text),
+        None => Err(CallError::Closed),
+    }
+}
+
+// Keeps with the tables of a content what makes texts that people type faster to read, where memory is not refused.
+fn fold_content(alloc: Global, content: &mut Content)
+    ensures { content.new ≡ content.old }
 {
     match content {
-        Content::Decimal(tables) => {
-            R::ready(alloc, tables);
-            read_with::<R>(alloc, tables, text)
-        }
+        Content::Decimal(tables) => tables.keep_folds(alloc),
         Content::Book(_)
         | Content::Kept(_)
         | Content::Compact(_)
         | Content::Unit(_)
         | Content::Answers(_)
-        | Content::Nothing => Err(CallError::Closed),
+        | Content::Nothing => (),
     }
 }
 
-// The number that the formatter of a handle writes so; the handle stays as it is.
-fn read_after<R: DecimalReading>(
-    alloc: Global,
-    formatter: &mut DecimalHandle,
-    text: &[u8],
-) -> Result<Decimal, CallError>
-    ensures same { decimal_content formatter.new ≡ decimal_content formatter.old }
-    ensures value { IfOk result (λ value. ReadsBack R.reading (decimal_open formatter.old) text.now value) }
-    ensures fault { IfErr result
-        (λ error. IsReadFault R.reading R.allocates (decimal_open formatter.old) text.now error) }
+// The same with those of a handle.
+fn fold_after(alloc: Global, formatter: &mut Handle)
+    ensures { formatter.new.pointer.value ≡ formatter.old.pointer.value }
 {
-    let Some(mut content) = formatter.handle.take(alloc) else {
-        return Err(CallError::Closed);
-    };
-    let found = read_content::<R>(alloc, &mut content, text);
-    formatter.handle.put(alloc, content);
-    found
+    if formatter.is_open {
+        fold_content(alloc, formatter.pointer.get_mut())
+    }
 }
 
 /// Reads a text back as the one number that the formatter writes so, and writes it as digits: in English `-1,234.50` as
@@ -155,7 +146,7 @@ pub extern "C" fn legumeyet_decimal_formatter_read(
         (IsReadFault plain_reading HasManyDigits (decimal_open formatter.old) text.now) out.old out.new length.old
         length.new) result }
 {
-    match read_after::<Exact>(alloc, formatter, text) {
+    match read_opened::<Exact>(alloc, formatter.handle.content(), text) {
         Ok(value) => answer(put(&value, out, length)),
         Err(error) => error.number(),
     }
@@ -180,7 +171,8 @@ pub extern "C" fn legumeyet_decimal_formatter_read_lenient(
         (IsReadFault lenient_reading MayAllocate (decimal_open formatter.old) text.now) out.old out.new length.old
         length.new) result }
 {
-    match read_after::<Lenient>(alloc, formatter, text) {
+    fold_after(alloc, &mut formatter.handle);
+    match read_opened::<Lenient>(alloc, formatter.handle.content(), text) {
         Ok(value) => answer(put(&value, out, length)),
         Err(error) => error.number(),
     }

@@ -14,8 +14,10 @@ ghost use Rattle.legumeyet_c.specs.Writing.{IsDoubleWritingFault, IsNumberWritin
 use crate::compact_tables::HeldCompactTables;
 use crate::compact_writing::{CompactText, ExactText, ShownText};
 use crate::handles::CompactHandle;
+use crate::parts::write_parts;
 use crate::shared_handles::SharedCompactHandle;
-use crate::sharing::{close_shared, share, write_shared, write_shared_parts};
+use crate::sharing::{close_shared, share};
+use crate::writing::write_opened;
 use legumeyet_c_values::{
     Interval, Options, answer, compact_of_text, number_of_f64, number_of_i64, number_of_text,
     number_of_u64,
@@ -76,7 +78,7 @@ pub extern "C" fn legumeyet_shared_compact_formatter_format(
         length.old length.new) result }
 {
     let number = number_of_text(alloc, number, options);
-    answer(write_shared::<CompactText>(&formatter.handle, &number, out, length))
+    answer(write_opened::<CompactText>(formatter.handle.content(), &number, out, length))
 }
 
 /// Writes the number `mantissa` times ten to the power `exponent`: -11727 and 2 as `-1.2M` in short English.
@@ -98,7 +100,7 @@ pub extern "C" fn legumeyet_shared_compact_formatter_format_i64(
         out.new length.old length.new) result }
 {
     let number = number_of_i64(alloc, mantissa, exponent, options);
-    answer(write_shared::<CompactText>(&formatter.handle, &number, out, length))
+    answer(write_opened::<CompactText>(formatter.handle.content(), &number, out, length))
 }
 
 /// Writes the number `mantissa` times ten to the power `exponent`: 18446744073709551615 and -9 as `18B` in short
@@ -121,7 +123,7 @@ pub extern "C" fn legumeyet_shared_compact_formatter_format_u64(
         out.old out.new length.old length.new) result }
 {
     let number = number_of_u64(alloc, mantissa, exponent, options);
-    answer(write_shared::<CompactText>(&formatter.handle, &number, out, length))
+    answer(write_opened::<CompactText>(formatter.handle.content(), &number, out, length))
 }
 
 /// Writes a double by the shortest number that gives it back: -1172700.0 as `-1.2M` in short English.
@@ -142,7 +144,7 @@ pub extern "C" fn legumeyet_shared_compact_formatter_format_double(
         length.old length.new) result }
 {
     let number = number_of_f64(alloc, number, options);
-    answer(write_shared::<CompactText>(&formatter.handle, &number, out, length))
+    answer(write_opened::<CompactText>(formatter.handle.content(), &number, out, length))
 }
 
 /// Writes a decimal number that is given as text, and lists the parts of its text, which are those of its sign.
@@ -166,10 +168,8 @@ pub extern "C" fn legumeyet_shared_compact_formatter_format_parts(
         result }
 {
     let number = number_of_text(alloc, number, options);
-    let shared = &formatter.handle;
-    answer(write_shared_parts::<HeldCompactTables>(
-        alloc, shared, &number, out, length, intervals, count,
-    ))
+    let content = formatter.handle.content();
+    answer(write_parts::<HeldCompactTables>(alloc, content, &number, out, length, intervals, count))
 }
 
 /// Writes the value that the text of a number shows: of `-1172700` in short English `-1.2c6`.
@@ -190,7 +190,7 @@ pub extern "C" fn legumeyet_shared_compact_formatter_shown(
         length.old length.new) result }
 {
     let number = number_of_text(alloc, number, options);
-    answer(write_shared::<ShownText>(&formatter.handle, &number, out, length))
+    answer(write_opened::<ShownText>(formatter.handle.content(), &number, out, length))
 }
 
 /// Writes a significand with an exponent, its digits as they are: `-1.20c6` as `-1.20M` in short English.
@@ -211,5 +211,5 @@ pub extern "C" fn legumeyet_shared_compact_formatter_format_exact(
         length.old length.new) result }
 {
     let number = compact_of_text(alloc, number, options);
-    answer(write_shared::<ExactText>(&formatter.handle, &number, out, length))
+    answer(write_opened::<ExactText>(formatter.handle.content(), &number, out, length))
 }

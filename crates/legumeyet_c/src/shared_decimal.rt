@@ -16,9 +16,11 @@ ghost use Rattle.legumeyet_c.specs.Writing.{IsDoubleWritingFault, IsNumberWritin
 use crate::decimal_formatter::DecimalText;
 use crate::decimal_tables::DecimalTables;
 use crate::handles::DecimalHandle;
-use crate::reading::{Exact, Lenient};
+use crate::parts::write_parts;
+use crate::reading::{Exact, Lenient, read_opened};
 use crate::shared_handles::SharedDecimalHandle;
-use crate::sharing::{close_shared, read_shared, share, write_shared, write_shared_parts};
+use crate::sharing::{close_shared, share};
+use crate::writing::write_opened;
 use legumeyet_c_values::{
     Interval, Options, answer, number_of_f64, number_of_i64, number_of_text, number_of_u64, put,
 };
@@ -81,7 +83,7 @@ pub extern "C" fn legumeyet_shared_decimal_formatter_format(
         length.old length.new) result }
 {
     let number = number_of_text(alloc, number, options);
-    answer(write_shared::<DecimalText>(&formatter.handle, &number, out, length))
+    answer(write_opened::<DecimalText>(formatter.handle.content(), &number, out, length))
 }
 
 /// Writes the number `mantissa` times ten to the power `exponent`: -123456 and -2 as `-1,234.56` in English.
@@ -103,7 +105,7 @@ pub extern "C" fn legumeyet_shared_decimal_formatter_format_i64(
         out.new length.old length.new) result }
 {
     let number = number_of_i64(alloc, mantissa, exponent, options);
-    answer(write_shared::<DecimalText>(&formatter.handle, &number, out, length))
+    answer(write_opened::<DecimalText>(formatter.handle.content(), &number, out, length))
 }
 
 /// Writes the number `mantissa` times ten to the power `exponent`: 18446744073709551615 and -2 as
@@ -126,7 +128,7 @@ pub extern "C" fn legumeyet_shared_decimal_formatter_format_u64(
         out.old out.new length.old length.new) result }
 {
     let number = number_of_u64(alloc, mantissa, exponent, options);
-    answer(write_shared::<DecimalText>(&formatter.handle, &number, out, length))
+    answer(write_opened::<DecimalText>(formatter.handle.content(), &number, out, length))
 }
 
 /// Writes a double by the shortest number that gives it back: 1234.5 as `1,234.5` in English, 5.0 as `5`, -0.0 as `-0`.
@@ -147,7 +149,7 @@ pub extern "C" fn legumeyet_shared_decimal_formatter_format_double(
         length.old length.new) result }
 {
     let number = number_of_f64(alloc, number, options);
-    answer(write_shared::<DecimalText>(&formatter.handle, &number, out, length))
+    answer(write_opened::<DecimalText>(formatter.handle.content(), &number, out, length))
 }
 
 /// Writes a decimal number that is given as text, and lists the parts of its text in order of their beginning.
@@ -171,10 +173,8 @@ pub extern "C" fn legumeyet_shared_decimal_formatter_format_parts(
         result }
 {
     let number = number_of_text(alloc, number, options);
-    let shared = &formatter.handle;
-    answer(write_shared_parts::<DecimalTables>(
-        alloc, shared, &number, out, length, intervals, count,
-    ))
+    let content = formatter.handle.content();
+    answer(write_parts::<DecimalTables>(alloc, content, &number, out, length, intervals, count))
 }
 
 /// Reads a text back as the one number that the formatter writes so, and writes it as digits: in English `-1,234.50` as
@@ -194,7 +194,7 @@ pub extern "C" fn legumeyet_shared_decimal_formatter_read(
         (IsReadFault plain_reading HasManyDigits (shared_decimal_open formatter.now) text.now) out.old out.new
         length.old length.new) result }
 {
-    match read_shared::<Exact>(alloc, &formatter.handle, text) {
+    match read_opened::<Exact>(alloc, formatter.handle.content(), text) {
         Ok(value) => answer(put(&value, out, length)),
         Err(error) => error.number(),
     }
@@ -216,7 +216,7 @@ pub extern "C" fn legumeyet_shared_decimal_formatter_read_lenient(
         (IsReadFault lenient_reading MayAllocate (shared_decimal_open formatter.now) text.now) out.old out.new
         length.old length.new) result }
 {
-    match read_shared::<Lenient>(alloc, &formatter.handle, text) {
+    match read_opened::<Lenient>(alloc, formatter.handle.content(), text) {
         Ok(value) => answer(put(&value, out, length)),
         Err(error) => error.number(),
     }

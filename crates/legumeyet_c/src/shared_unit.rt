@@ -1,88 +1,28 @@
 //! Formatters of percents and of amounts that any number of threads use at once: `legumeyet_unit_formatter_share`, and
 //! the calls of `legumeyet_shared_unit_formatter`.
 
-ghost use Rattle.std.specs.Prelude.{◌≡◌, ◌≢◌, Ok, Err, None, IfOk, IfErr, IsSome, pos};
+ghost use Rattle.std.specs.Prelude.{◌≡◌, None, IsSome, pos};
 ghost use Rattle.fixed_decimal.specs.SignedText.{ReadsSigned};
 ghost use Rattle.legumeyet_c_values.specs.Numbers.{IsDoubleFault, IsNumberFault, IsOfDouble, IsScaled, IsScaledFault};
-ghost use Rattle.legumeyet_c_values.specs.Parts.{IsPutInParts, given, held_text};
+ghost use Rattle.legumeyet_c_values.specs.Parts.{IsPutInParts, given};
 ghost use Rattle.legumeyet_c_values.specs.Putting.{Answers, IsPut};
-ghost use Rattle.legumeyet_c.specs.Kinds.{unit_in};
 ghost use Rattle.legumeyet_c.specs.Opening.{IsClosing};
 ghost use Rattle.legumeyet_c.specs.SharedViews.{shared_unit_content, shared_unit_open};
-ghost use Rattle.legumeyet_c.specs.UnitReading.{IsExactUnit, IsTypedUnit, IsUnitReadFault, ReadsUnit, SaysUnitRead};
+ghost use Rattle.legumeyet_c.specs.UnitReading.{IsExactUnit, IsTypedUnit, IsUnitReadFault, SaysUnitRead};
 ghost use Rattle.legumeyet_c.specs.UnitWriting.{IsUnitAnnotated, IsUnitPartsFault, IsUnitText, IsUnitWritingFault, WritesUnit};
 ghost use Rattle.legumeyet_c.specs.Views.{unit_content, unit_open};
 
 use crate::handles::UnitHandle;
 use crate::held_units::HeldUnits;
-use crate::lent::SharedHandle;
 use crate::shared_handles::SharedUnitHandle;
 use crate::sharing::{close_shared, share};
-use crate::unit_parts::annotated_held;
-use crate::unit_reading::{Exact, Lenient, UnitReading, read_held};
-use crate::unit_writing::write_held;
-use fixed_decimal::Decimal;
+use crate::unit_parts::annotated_opened;
+use crate::unit_reading::{Exact, Lenient, read_opened};
+use crate::unit_writing::write_opened;
 use legumeyet_c_values::{
-    CallError, Interval, Options, answer, put, put_parts, read_double, read_number, scaled,
-    scaled_unsigned,
+    Interval, Options, answer, put, put_parts, read_double, read_number, scaled, scaled_unsigned,
 };
 use std::alloc::Global;
-use writeable::PartsSink;
-
-// Writes a number, where there is one, with what is shared.
-fn write_shared(
-    shared: &SharedHandle,
-    number: Result<Decimal, CallError>,
-    options: &Options,
-    out: &mut [u8],
-    length: &mut usize,
-) -> Result<(), CallError>
-    requires { IfErr number (λ error. error ≢ CallError.TooSmall) }
-    ensures { IsPut
-        (WritesUnit IsUnitText (unit_in shared.now.lent.value) options.now (λ given. number ≡ Ok given))
-        (IsUnitWritingFault (unit_in shared.now.lent.value) options.now (λ given. number ≡ Ok given)
-        (λ fault. number ≡ Err fault)) out.old out.new length.old length.new result }
-{
-    match shared.content() {
-        Some(content) => write_held(content, number, options, out, length),
-        None => Err(CallError::Closed),
-    }
-}
-
-// The same with its parts.
-fn annotated_shared(
-    alloc: Global,
-    shared: &SharedHandle,
-    number: Result<Decimal, CallError>,
-    options: &Options,
-) -> Result<PartsSink, CallError>
-    ensures value { IfOk result
-        (λ sink. WritesUnit IsUnitAnnotated (unit_in shared.now.lent.value) options.now
-        (λ given. number ≡ Ok given) (held_text sink)) }
-    ensures fault { IfErr result
-        (λ error. IsUnitPartsFault (unit_in shared.now.lent.value) options.now (λ given. number ≡ Ok given)
-        (λ fault. number ≡ Err fault) error) }
-{
-    match shared.content() {
-        Some(content) => annotated_held(alloc, content, number, options),
-        None => Err(CallError::Closed),
-    }
-}
-
-// The number that a text with its unit is read as.
-fn read_shared<R: UnitReading>(
-    alloc: Global,
-    shared: &SharedHandle,
-    text: &[u8],
-) -> Result<Decimal, CallError>
-    ensures value { IfOk result (λ value. ReadsUnit R.reads (unit_in shared.now.lent.value) text.now value) }
-    ensures fault { IfErr result (λ error. IsUnitReadFault R.reads (unit_in shared.now.lent.value) text.now error) }
-{
-    match shared.content() {
-        Some(content) => read_held::<R>(alloc, content, text),
-        None => Err(CallError::Closed),
-    }
-}
 
 /// Shares an open formatter, as `legumeyet_decimal_formatter_share` does one of plain numbers. It does not allocate.
 ///
@@ -135,7 +75,7 @@ pub extern "C" fn legumeyet_shared_unit_formatter_format(
         (IsNumberFault number.now)) out.old out.new length.old length.new) result }
 {
     let number = read_number(alloc, number);
-    answer(write_shared(&formatter.handle, number, options, out, length))
+    answer(write_opened(formatter.handle.content(), number, options, out, length))
 }
 
 /// Writes the number `mantissa` times ten to the power `exponent`: -12345 and -1 as `-€1,234.50` in English with euros.
@@ -157,7 +97,7 @@ pub extern "C" fn legumeyet_shared_unit_formatter_format_i64(
         (IsScaledFault mantissa exponent)) out.old out.new length.old length.new) result }
 {
     let number = scaled(alloc, mantissa, exponent);
-    answer(write_shared(&formatter.handle, number, options, out, length))
+    answer(write_opened(formatter.handle.content(), number, options, out, length))
 }
 
 /// Writes the number `mantissa` times ten to the power `exponent`: 18446744073709551615 and -2 as
@@ -180,7 +120,7 @@ pub extern "C" fn legumeyet_shared_unit_formatter_format_u64(
         (IsScaledFault (pos mantissa) exponent)) out.old out.new length.old length.new) result }
 {
     let number = scaled_unsigned(alloc, mantissa, exponent);
-    answer(write_shared(&formatter.handle, number, options, out, length))
+    answer(write_opened(formatter.handle.content(), number, options, out, length))
 }
 
 /// Writes a double, by digits that give it back: -1234.5 as `-€1,234.50` in English with euros.
@@ -201,7 +141,7 @@ pub extern "C" fn legumeyet_shared_unit_formatter_format_double(
         out.old out.new length.old length.new) result }
 {
     let number = read_double(alloc, number);
-    answer(write_shared(&formatter.handle, number, options, out, length))
+    answer(write_opened(formatter.handle.content(), number, options, out, length))
 }
 
 /// Writes a decimal number that is given as text, and lists the parts of its text in order of their beginning.
@@ -226,7 +166,7 @@ pub extern "C" fn legumeyet_shared_unit_formatter_format_parts(
         result }
 {
     let number = read_number(alloc, number);
-    match annotated_shared(alloc, &formatter.handle, number, options) {
+    match annotated_opened(alloc, formatter.handle.content(), number, options) {
         Ok(sink) => answer(put_parts(&sink, out, length, intervals, count)),
         Err(error) => error.number(),
     }
@@ -249,7 +189,7 @@ pub extern "C" fn legumeyet_shared_unit_formatter_read(
         (IsUnitReadFault IsExactUnit (shared_unit_open formatter.now) text.now) out.old out.new length.old length.new)
         result }
 {
-    match read_shared::<Exact>(alloc, &formatter.handle, text) {
+    match read_opened::<Exact>(alloc, formatter.handle.content(), text) {
         Ok(value) => answer(put(&value, out, length)),
         Err(error) => error.number(),
     }
@@ -271,7 +211,7 @@ pub extern "C" fn legumeyet_shared_unit_formatter_read_lenient(
         (IsUnitReadFault IsTypedUnit (shared_unit_open formatter.now) text.now) out.old out.new length.old length.new)
         result }
 {
-    match read_shared::<Lenient>(alloc, &formatter.handle, text) {
+    match read_opened::<Lenient>(alloc, formatter.handle.content(), text) {
         Ok(value) => answer(put(&value, out, length)),
         Err(error) => error.number(),
     }

@@ -8,7 +8,7 @@ ghost use Rattle.legumeyet_c.specs.ColumnWriting.{IsUnitColumn};
 ghost use Rattle.legumeyet_c.specs.SharedViews.{shared_unit_open};
 ghost use Rattle.legumeyet_c.specs.Views.{unit_content, unit_open};
 
-use crate::column_writing::{UnitText, answer_column, answer_shared_column};
+use crate::column_writing::{UnitText, answer_column};
 use crate::handles::UnitHandle;
 use crate::shared_handles::SharedUnitHandle;
 use legumeyet_c_values::{Column, Options};
@@ -36,15 +36,8 @@ pub extern "C" fn legumeyet_unit_formatter_format_doubles(
         (room out.old ends.old count.old) (room out.new ends.new count.new)) result }
 {
     let column = Column::Doubles(numbers);
-    answer_column::<UnitText>(
-        alloc,
-        &mut formatter.handle,
-        column,
-        options,
-        out,
-        ends,
-        count,
-    )
+    let content = formatter.handle.content();
+    answer_column::<UnitText>(alloc, content, column, options, out, ends, count)
 }
 
 /// Writes integers times ten to the power `exponent`, one after the other, and tells where each text ends: 12345 and
@@ -70,15 +63,8 @@ pub extern "C" fn legumeyet_unit_formatter_format_integers(
         (room out.old ends.old count.old) (room out.new ends.new count.new)) result }
 {
     let column = Column::Integers(mantissas, exponent);
-    answer_column::<UnitText>(
-        alloc,
-        &mut formatter.handle,
-        column,
-        options,
-        out,
-        ends,
-        count,
-    )
+    let content = formatter.handle.content();
+    answer_column::<UnitText>(alloc, content, column, options, out, ends, count)
 }
 
 /// Writes the numbers that lines are, one after the other, and tells where each text ends: of `1234.5`, a line feed and
@@ -103,15 +89,8 @@ pub extern "C" fn legumeyet_unit_formatter_format_texts(
         (room out.old ends.old count.old) (room out.new ends.new count.new)) result }
 {
     let column = Column::Texts(numbers);
-    answer_column::<UnitText>(
-        alloc,
-        &mut formatter.handle,
-        column,
-        options,
-        out,
-        ends,
-        count,
-    )
+    let content = formatter.handle.content();
+    answer_column::<UnitText>(alloc, content, column, options, out, ends, count)
 }
 
 /// Writes doubles, one after the other, and tells where each text ends: 1234.5 and -7.0 as `€1,234.50` and `-€7.00` in
@@ -133,7 +112,8 @@ pub extern "C" fn legumeyet_shared_unit_formatter_format_doubles(
         (room out.old ends.old count.old) (room out.new ends.new count.new)) result }
 {
     let column = Column::Doubles(numbers);
-    answer_shared_column::<UnitText>(alloc, &formatter.handle, column, options, out, ends, count)
+    let content = formatter.handle.content();
+    answer_column::<UnitText>(alloc, content, column, options, out, ends, count)
 }
 
 /// Writes integers times ten to the power `exponent`, one after the other, and tells where each text ends: 12345 and
@@ -156,7 +136,8 @@ pub extern "C" fn legumeyet_shared_unit_formatter_format_integers(
         (room out.old ends.old count.old) (room out.new ends.new count.new)) result }
 {
     let column = Column::Integers(mantissas, exponent);
-    answer_shared_column::<UnitText>(alloc, &formatter.handle, column, options, out, ends, count)
+    let content = formatter.handle.content();
+    answer_column::<UnitText>(alloc, content, column, options, out, ends, count)
 }
 
 /// Writes the numbers that lines are, one after the other, and tells where each text ends: of `1234.5`, a line feed and
@@ -178,5 +159,6 @@ pub extern "C" fn legumeyet_shared_unit_formatter_format_texts(
         (room out.old ends.old count.old) (room out.new ends.new count.new)) result }
 {
     let column = Column::Texts(numbers);
-    answer_shared_column::<UnitText>(alloc, &formatter.handle, column, options, out, ends, count)
+    let content = formatter.handle.content();
+    answer_column::<UnitText>(alloc, content, column, options, out, ends, count)
 }

@@ -2,10 +2,11 @@
 
 ghost use Rattle.std.specs.Prelude.{◌≡◌, ◌⊎◌, Ok, Err, IfOk, IfErr, IfSome};
 ghost use Rattle.legumeyet_c.specs.Kinds.{book_in, unit_in};
+ghost use Rattle.legumeyet_c.specs.Opened.{opened};
 ghost use Rattle.legumeyet_c.specs.Opening.{IsOpening, IsTagFault};
 ghost use Rattle.legumeyet_c.specs.UnitOpening.{FindsUnit, IsUnitFindingFault};
 
-use crate::content::{ContentKind, kept_in};
+use crate::content::{Content, ContentKind, kept_in};
 use crate::handle::Handle;
 use crate::held_units::HeldUnits;
 use crate::opening::put_after;
@@ -70,28 +71,25 @@ fn find_for<A: AskedUnit>(
     }
 }
 
-// What the book of a handle has; the book stays as it is.
-fn find_after<A: AskedUnit>(
+// What the book that is open has.
+fn find_opened<A: AskedUnit>(
     alloc: Global,
-    book: &mut Handle,
+    content: Option<&Content>,
     asked: Result<A, CallError>,
     tag: &[u8],
 ) -> Result<HeldUnits, CallError>
-    ensures same { book.new.pointer.value ≡ book.old.pointer.value }
-    ensures value { IfOk result (λ held. FindsUnit A.found (book_in book.old.pointer.value) asked tag.now held) }
+    ensures value { IfOk result (λ held. FindsUnit A.found (book_in (opened content.entry)) asked tag.now held) }
     ensures fault { IfErr result
-        (λ error. IsUnitFindingFault A.found (book_in book.old.pointer.value) asked tag.now error) }
+        (λ error. IsUnitFindingFault A.found (book_in (opened content.entry)) asked tag.now error) }
 {
-    let Some(content) = book.take(alloc) else {
+    let Some(content) = content else {
         return Err(CallError::Closed);
     };
-    let found = match (Book::of_content(&content), asked) {
-        (Some(held), Ok(asked)) => { find_for::<A>(alloc, held, kept_in(&content), asked, tag) }
+    match (Book::of_content(content), asked) {
+        (Some(book), Ok(asked)) => find_for::<A>(alloc, book, kept_in(content), asked, tag),
         (Some(_), Err(error)) => Err(error),
         (None, _) => Err(CallError::Closed),
-    };
-    book.put(alloc, content);
-    found
+    }
 }
 
 // Opens a handle with what the book of another one has; the book stays as it is.
@@ -107,7 +105,7 @@ pub(crate) fn open_unit<A: AskedUnit>(
         (IsUnitFindingFault A.found (book_in book.old.pointer.value) asked tag.now) handle.old.pointer.value
         handle.new.pointer.value result }
 {
-    match find_after::<A>(alloc, book, asked, tag) {
+    match find_opened::<A>(alloc, book.content(), asked, tag) {
         Ok(held) => put_after(alloc, handle, held, CallError::Memory),
         Err(error) => Err(error),
     }

@@ -6,11 +6,11 @@ ghost use Rattle.legumeyet_c_values.specs.Numbers.{IsNumberFault};
 ghost use Rattle.legumeyet_c_values.specs.Parts.{IsPutInParts, given, held_text};
 ghost use Rattle.legumeyet_c_values.specs.Putting.{Answers};
 ghost use Rattle.legumeyet_c.specs.Kinds.{unit_in};
+ghost use Rattle.legumeyet_c.specs.Opened.{opened};
 ghost use Rattle.legumeyet_c.specs.UnitWriting.{IsUnitAnnotated, IsUnitPartsFault, WritesUnit};
 ghost use Rattle.legumeyet_c.specs.Views.{unit_content, unit_open};
 
 use crate::content::{Content, ContentKind};
-use crate::handle::Handle;
 use crate::handles::UnitHandle;
 use crate::held_units::HeldUnits;
 use fixed_decimal::Decimal;
@@ -53,47 +53,27 @@ fn annotated(
     }
 }
 
-// The same with what a content has.
-pub(crate) fn annotated_held(
+// The same with what is open.
+pub(crate) fn annotated_opened(
     alloc: Global,
-    content: &Content,
+    content: Option<&Content>,
     number: Result<Decimal, CallError>,
     options: &Options,
 ) -> Result<PartsSink, CallError>
     ensures value { IfOk result
-        (λ sink. WritesUnit IsUnitAnnotated (unit_in (Some content.now)) options.now (λ given. number ≡ Ok given)
+        (λ sink. WritesUnit IsUnitAnnotated (unit_in (opened content.entry)) options.now (λ given. number ≡ Ok given)
         (held_text sink)) }
     ensures fault { IfErr result
-        (λ error. IsUnitPartsFault (unit_in (Some content.now)) options.now (λ given. number ≡ Ok given)
+        (λ error. IsUnitPartsFault (unit_in (opened content.entry)) options.now (λ given. number ≡ Ok given)
         (λ fault. number ≡ Err fault) error) }
 {
+    let Some(content) = content else {
+        return Err(CallError::Closed);
+    };
     match HeldUnits::of_content(content) {
         Some(units) => annotated(alloc, units, number, options),
         None => Err(CallError::Closed),
     }
-}
-
-// The same with what a handle has open, which stays as it is.
-fn annotated_after(
-    alloc: Global,
-    handle: &mut Handle,
-    number: Result<Decimal, CallError>,
-    options: &Options,
-) -> Result<PartsSink, CallError>
-    ensures same { handle.new.pointer.value ≡ handle.old.pointer.value }
-    ensures value { IfOk result
-        (λ sink. WritesUnit IsUnitAnnotated (unit_in handle.old.pointer.value) options.now
-        (λ given. number ≡ Ok given) (held_text sink)) }
-    ensures fault { IfErr result
-        (λ error. IsUnitPartsFault (unit_in handle.old.pointer.value) options.now (λ given. number ≡ Ok given)
-        (λ fault. number ≡ Err fault) error) }
-{
-    let Some(content) = handle.take(alloc) else {
-        return Err(CallError::Closed);
-    };
-    let found = annotated_held(alloc, &content, number, options);
-    handle.put(alloc, content);
-    found
 }
 
 /// Writes a decimal number that is given as text, and lists the parts of its text in order of their beginning: of
@@ -120,7 +100,7 @@ pub extern "C" fn legumeyet_unit_formatter_format_parts(
         result }
 {
     let number = read_number(alloc, number);
-    match annotated_after(alloc, &mut formatter.handle, number, options) {
+    match annotated_opened(alloc, formatter.handle.content(), number, options) {
         Ok(sink) => answer(put_parts(&sink, out, length, intervals, count)),
         Err(error) => error.number(),
     }

@@ -1,13 +1,15 @@
 //! Percents and amounts read back, and what people type of them: `legumeyet_unit_formatter_read` and `_read_lenient`.
 
-ghost use Rattle.std.specs.Prelude.{◌≡◌, Some, IfOk, IfErr, IsErrOf};
+ghost use Rattle.std.specs.Prelude.{◌≡◌, IfOk, IfErr, IsErrOf};
 ghost use Rattle.icu_decimal.specs.PlainReading.{decimal, not_written, unreadable};
 ghost use Rattle.legumeyet_c_values.specs.Putting.{Answers, IsPut};
 ghost use Rattle.legumeyet_c.specs.Kinds.{unit_in};
+ghost use Rattle.legumeyet_c.specs.Opened.{opened};
 ghost use Rattle.legumeyet_c.specs.UnitReading.{HasUnitReading, IsExactUnit, IsTypedUnit, IsUnitReadFault, IsUnitUnread, ReadsUnit, SaysUnitRead};
 ghost use Rattle.legumeyet_c.specs.Views.{unit_content, unit_open};
 
 use crate::content::{Content, ContentKind};
+use crate::handle::Handle;
 use crate::handles::UnitHandle;
 use crate::held_units::HeldUnits;
 use fixed_decimal::Decimal;
@@ -85,15 +87,18 @@ fn read_with<R: UnitReading>(
     }
 }
 
-// The same with what a content has.
-pub(crate) fn read_held<R: UnitReading>(
+// The same with what is open.
+pub(crate) fn read_opened<R: UnitReading>(
     alloc: Global,
-    content: &Content,
+    content: Option<&Content>,
     text: &[u8],
 ) -> Result<Decimal, CallError>
-    ensures value { IfOk result (λ value. ReadsUnit R.reads (unit_in (Some content.now)) text.now value) }
-    ensures fault { IfErr result (λ error. IsUnitReadFault R.reads (unit_in (Some content.now)) text.now error) }
+    ensures value { IfOk result (λ value. ReadsUnit R.reads (unit_in (opened content.entry)) text.now value) }
+    ensures fault { IfErr result (λ error. IsUnitReadFault R.reads (unit_in (opened content.entry)) text.now error) }
 {
+    let Some(content) = content else {
+        return Err(CallError::Closed);
+    };
     match HeldUnits::of_content(content) {
         Some(units) => read_with::<R>(alloc, units, text),
         None => Err(CallError::Closed),
@@ -101,7 +106,7 @@ pub(crate) fn read_held<R: UnitReading>(
 }
 
 // Readies the units that a content has, where it has some.
-fn ready_held<R: UnitReading>(alloc: Global, content: &mut Content)
+fn ready_content<R: UnitReading>(alloc: Global, content: &mut Content)
     ensures { content.new ≡ content.old }
 {
     match content {
@@ -115,23 +120,13 @@ fn ready_held<R: UnitReading>(alloc: Global, content: &mut Content)
     }
 }
 
-// The same with what a handle has open, which stays as it is.
-fn read_after<R: UnitReading>(
-    alloc: Global,
-    formatter: &mut UnitHandle,
-    text: &[u8],
-) -> Result<Decimal, CallError>
-    ensures same { unit_content formatter.new ≡ unit_content formatter.old }
-    ensures value { IfOk result (λ value. ReadsUnit R.reads (unit_open formatter.old) text.now value) }
-    ensures fault { IfErr result (λ error. IsUnitReadFault R.reads (unit_open formatter.old) text.now error) }
+// The same with those of a handle.
+fn ready_after<R: UnitReading>(alloc: Global, formatter: &mut Handle)
+    ensures { formatter.new.pointer.value ≡ formatter.old.pointer.value }
 {
-    let Some(mut content) = formatter.handle.take(alloc) else {
-        return Err(CallError::Closed);
-    };
-    ready_held::<R>(alloc, &mut content);
-    let found = read_held::<R>(alloc, &content, text);
-    formatter.handle.put(alloc, content);
-    found
+    if formatter.is_open {
+        ready_content::<R>(alloc, formatter.pointer.get_mut())
+    }
 }
 
 /// Reads a text back as the one number that the formatter writes so, and writes it as digits: in English with euros
@@ -152,7 +147,8 @@ pub extern "C" fn legumeyet_unit_formatter_read(
         (IsPut (SaysUnitRead IsExactUnit (unit_open formatter.old) text.now)
         (IsUnitReadFault IsExactUnit (unit_open formatter.old) text.now) out.old out.new length.old length.new) result }
 {
-    match read_after::<Exact>(alloc, formatter, text) {
+    ready_after::<Exact>(alloc, &mut formatter.handle);
+    match read_opened::<Exact>(alloc, formatter.handle.content(), text) {
         Ok(value) => answer(put(&value, out, length)),
         Err(error) => error.number(),
     }
@@ -177,7 +173,8 @@ pub extern "C" fn legumeyet_unit_formatter_read_lenient(
         (IsPut (SaysUnitRead IsTypedUnit (unit_open formatter.old) text.now)
         (IsUnitReadFault IsTypedUnit (unit_open formatter.old) text.now) out.old out.new length.old length.new) result }
 {
-    match read_after::<Lenient>(alloc, formatter, text) {
+    ready_after::<Lenient>(alloc, &mut formatter.handle);
+    match read_opened::<Lenient>(alloc, formatter.handle.content(), text) {
         Ok(value) => answer(put(&value, out, length)),
         Err(error) => error.number(),
     }

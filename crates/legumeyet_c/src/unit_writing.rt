@@ -5,11 +5,11 @@ ghost use Rattle.fixed_decimal.specs.SignedText.{ReadsSigned};
 ghost use Rattle.legumeyet_c_values.specs.Numbers.{IsDoubleFault, IsNumberFault, IsOfDouble, IsScaled, IsScaledFault};
 ghost use Rattle.legumeyet_c_values.specs.Putting.{Answers, IsPut};
 ghost use Rattle.legumeyet_c.specs.Kinds.{unit_in};
+ghost use Rattle.legumeyet_c.specs.Opened.{opened};
 ghost use Rattle.legumeyet_c.specs.UnitWriting.{IsUnitText, IsUnitWritingFault, WritesUnit};
 ghost use Rattle.legumeyet_c.specs.Views.{unit_content, unit_open};
 
 use crate::content::{Content, ContentKind};
-use crate::handle::Handle;
 use crate::handles::UnitHandle;
 use crate::held_units::HeldUnits;
 use fixed_decimal::Decimal;
@@ -42,47 +42,26 @@ fn write_changed(
     }
 }
 
-// Writes a number, where there is one, with what a content has.
-pub(crate) fn write_held(
-    content: &Content,
+// Writes a number, where there is one, with what is open.
+pub(crate) fn write_opened(
+    content: Option<&Content>,
     number: Result<Decimal, CallError>,
     options: &Options,
     out: &mut [u8],
     length: &mut usize,
 ) -> Result<(), CallError>
     requires { IfErr number (λ error. error ≢ CallError.TooSmall) }
-    ensures { IsPut (WritesUnit IsUnitText (unit_in (Some content.now)) options.now (λ given. number ≡ Ok given))
-        (IsUnitWritingFault (unit_in (Some content.now)) options.now (λ given. number ≡ Ok given)
+    ensures { IsPut (WritesUnit IsUnitText (unit_in (opened content.entry)) options.now (λ given. number ≡ Ok given))
+        (IsUnitWritingFault (unit_in (opened content.entry)) options.now (λ given. number ≡ Ok given)
         (λ fault. number ≡ Err fault)) out.old out.new length.old length.new result }
 {
+    let Some(content) = content else {
+        return Err(CallError::Closed);
+    };
     match HeldUnits::of_content(content) {
         Some(units) => write_changed(units, number, options, out, length),
         None => Err(CallError::Closed),
     }
-}
-
-// Writes a number, where there is one, with what a handle has open, which stays as it is.
-fn write_after(
-    alloc: Global,
-    handle: &mut Handle,
-    number: Result<Decimal, CallError>,
-    options: &Options,
-    out: &mut [u8],
-    length: &mut usize,
-) -> Result<(), CallError>
-    requires { IfErr number (λ error. error ≢ CallError.TooSmall) }
-    ensures same { handle.new.pointer.value ≡ handle.old.pointer.value }
-    ensures told { IsPut
-        (WritesUnit IsUnitText (unit_in handle.old.pointer.value) options.now (λ given. number ≡ Ok given))
-        (IsUnitWritingFault (unit_in handle.old.pointer.value) options.now (λ given. number ≡ Ok given)
-        (λ fault. number ≡ Err fault)) out.old out.new length.old length.new result }
-{
-    let Some(content) = handle.take(alloc) else {
-        return Err(CallError::Closed);
-    };
-    let written = write_held(&content, number, options, out, length);
-    handle.put(alloc, content);
-    written
 }
 
 /// Writes a decimal number that is given as text: `-1234.5` as `-€1,234.50` in English with euros, which have two digits,
@@ -107,7 +86,7 @@ pub extern "C" fn legumeyet_unit_formatter_format(
         out.old out.new length.old length.new) result }
 {
     let number = read_number(alloc, number);
-    answer(write_after(alloc, &mut formatter.handle, number, options, out, length))
+    answer(write_opened(formatter.handle.content(), number, options, out, length))
 }
 
 /// Writes the number `mantissa` times ten to the power `exponent`: -12345 and -1 as `-€1,234.50` in English with euros.
@@ -130,7 +109,7 @@ pub extern "C" fn legumeyet_unit_formatter_format_i64(
         (IsScaledFault mantissa exponent)) out.old out.new length.old length.new) result }
 {
     let number = scaled(alloc, mantissa, exponent);
-    answer(write_after(alloc, &mut formatter.handle, number, options, out, length))
+    answer(write_opened(formatter.handle.content(), number, options, out, length))
 }
 
 /// Writes the number `mantissa` times ten to the power `exponent`: 18446744073709551615 and -2 as
@@ -154,7 +133,7 @@ pub extern "C" fn legumeyet_unit_formatter_format_u64(
         (IsScaledFault (pos mantissa) exponent)) out.old out.new length.old length.new) result }
 {
     let number = scaled_unsigned(alloc, mantissa, exponent);
-    answer(write_after(alloc, &mut formatter.handle, number, options, out, length))
+    answer(write_opened(formatter.handle.content(), number, options, out, length))
 }
 
 /// Writes a double, by digits that give it back: -1234.5 as `-€1,234.50` in English with euros.
@@ -176,5 +155,5 @@ pub extern "C" fn legumeyet_unit_formatter_format_double(
         out.new length.old length.new) result }
 {
     let number = read_double(alloc, number);
-    answer(write_after(alloc, &mut formatter.handle, number, options, out, length))
+    answer(write_opened(formatter.handle.content(), number, options, out, length))
 }

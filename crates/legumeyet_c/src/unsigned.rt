@@ -10,7 +10,7 @@ ghost use Rattle.legumeyet_c.specs.Writing.{IsScaledWritingFault, WritesScaled};
 use crate::compact_writing::CompactText;
 use crate::decimal_formatter::DecimalText;
 use crate::handles::{CompactHandle, DecimalHandle};
-use crate::writing::write_after;
+use crate::writing::write_opened;
 use legumeyet_c_values::{Options, answer, number_of_u64};
 use std::alloc::Global;
 
@@ -34,7 +34,7 @@ pub extern "C" fn legumeyet_decimal_formatter_format_u64(
         (IsScaledWritingFault HasNoFault (decimal_open formatter.old) options.now (pos mantissa) exponent) out.old out.new length.old length.new) result }
 {
     let number = number_of_u64(alloc, mantissa, exponent, options);
-    answer(write_after::<DecimalText>(alloc, &mut formatter.handle, &number, out, length))
+    answer(write_opened::<DecimalText>(formatter.handle.content(), &number, out, length))
 }
 
 /// Writes the number `mantissa` times ten to the power `exponent`: 18446744073709551615 and -9 as `18B` in short
@@ -57,5 +57,5 @@ pub extern "C" fn legumeyet_compact_formatter_format_u64(
         (IsScaledWritingFault IsCompactFault (compact_open formatter.old) options.now (pos mantissa) exponent) out.old out.new length.old length.new) result }
 {
     let number = number_of_u64(alloc, mantissa, exponent, options);
-    answer(write_after::<CompactText>(alloc, &mut formatter.handle, &number, out, length))
+    answer(write_opened::<CompactText>(formatter.handle.content(), &number, out, length))
 }

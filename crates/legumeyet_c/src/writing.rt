@@ -1,13 +1,12 @@
-//! Numbers written with what a handle has open.
+//! Numbers written with what is open.
 
 ghost use Rattle.std.specs.Prelude.{◌≡◌, ◌≢◌, Some, IfErr};
 ghost use Rattle.legumeyet_c_values.specs.Putting.{IsPut};
+ghost use Rattle.legumeyet_c.specs.Opened.{opened};
 ghost use Rattle.legumeyet_c.specs.Writing.{IsValueFault, WritesValue};
 
 use crate::content::{Content, ContentKind};
-use crate::handle::Handle;
 use legumeyet_c_values::CallError;
-use std::alloc::Global;
 
 // What is written of a number: its text, or another one. A type that holds nothing stands for it.
 pub(crate) trait NumberForm {
@@ -54,42 +53,23 @@ pub(crate) fn write_value<F: NumberForm>(
     }
 }
 
-// Writes a number, where there is one, with what a content has.
-pub(crate) fn write_held<F: NumberForm>(
-    content: &Content,
+// Writes a number, where there is one, with what is open.
+pub(crate) fn write_opened<F: NumberForm>(
+    content: Option<&Content>,
     number: &Result<F::Number, CallError>,
     out: &mut [u8],
     length: &mut usize,
 ) -> Result<(), CallError>
     requires { IfErr number.now (λ error. error ≢ CallError.TooSmall) }
-    ensures { IsPut (WritesValue F.says (F.Kind.open_in (Some content.now)) number.now)
-        (IsValueFault F.fails (F.Kind.open_in (Some content.now)) number.now) out.old out.new length.old length.new
+    ensures { IsPut (WritesValue F.says (F.Kind.open_in (opened content.entry)) number.now)
+        (IsValueFault F.fails (F.Kind.open_in (opened content.entry)) number.now) out.old out.new length.old length.new
         result }
 {
+    let Some(content) = content else {
+        return Err(CallError::Closed);
+    };
     match F::Kind::of_content(content) {
         Some(tables) => write_value::<F>(tables, number, out, length),
         None => Err(CallError::Closed),
     }
-}
-
-// Writes a number, where there is one, with what a handle has open, which stays as it is.
-pub(crate) fn write_after<F: NumberForm>(
-    alloc: Global,
-    handle: &mut Handle,
-    number: &Result<F::Number, CallError>,
-    out: &mut [u8],
-    length: &mut usize,
-) -> Result<(), CallError>
-    requires { IfErr number.now (λ error. error ≢ CallError.TooSmall) }
-    ensures same { handle.new.pointer.value ≡ handle.old.pointer.value }
-    ensures told { IsPut (WritesValue F.says (F.Kind.open_in handle.old.pointer.value) number.now)
-        (IsValueFault F.fails (F.Kind.open_in handle.old.pointer.value) number.now) out.old out.new length.old
-        length.new result }
-{
-    let Some(content) = handle.take(alloc) else {
-        return Err(CallError::Closed);
-    };
-    let written = write_held::<F>(&content, number, out, length);
-    handle.put(alloc, content);
-    written
 }

@@ -4,6 +4,7 @@ use Rattle.legumeyet_c_values.specs.declared.CallError.{CallError}
 use Rattle.legumeyet_c_values.specs.declared.CallError.TheVariants.{Memory}
 use Rattle.legumeyet_c.specs.Kinds.{answers_in, book_in, is_kept}
 use Rattle.legumeyet_c.specs.LineAnswering.{FindsAnswers, IsAnswersFault}
+use Rattle.legumeyet_c.specs.declared.content.Content.{Content}
 use Rattle.legumeyet_c.proofs.OpeningLemmas.{opening_by, opening_refused}
 use Rattle.legumeyet_c.proofs.line_answers.open_answers.Goals as goal
 
@@ -15,12 +16,14 @@ memory_misses (Some book) true capacity found finds error is = subst (λ (e : Ca
 
 pub returns-in-Ok-clause-told : goal.returns-in-Ok-clause-told
 returns-in-Ok-clause-told c =
-    let book = book_in c.args.book.now.pointer.value in
-    let kept = is_kept c.args.book.now.pointer.value in
+    let value = c.args.book.now.pointer.value in
+    let found = subst (λ (o : Option Content). FindsAnswers (book_in o) (is_kept o) c.args.capacity c.in-Ok.held) c.content.ensures.value c.in-Ok.ensures.value in
     opening_by answers_in _ _ _
-    (λ x is. subst (λ (h : BookTables). FindsAnswers book kept c.args.capacity h) (sym is) c.in-Ok.ensures.value)
-    (memory_misses book kept c.args.capacity c.in-Ok.held c.in-Ok.ensures.value)
+    (λ x is. subst (λ (h : BookTables). FindsAnswers (book_in value) (is_kept value) c.args.capacity h) (sym is) found)
+    (memory_misses (book_in value) (is_kept value) c.args.capacity c.in-Ok.held found)
     c.put_after.ensures
 
 pub returns-in-Err-clause-told : goal.returns-in-Err-clause-told
-returns-in-Err-clause-told c = opening_refused answers_in _ _ c.args.handle.now.pointer.value _ c.in-Err.ensures.fault
+returns-in-Err-clause-told c =
+    opening_refused answers_in _ _ c.args.handle.now.pointer.value _
+    (subst (λ (o : Option Content). IsAnswersFault (book_in o) (is_kept o) c.args.capacity c.in-Err.error) c.content.ensures.value c.in-Err.ensures.fault)

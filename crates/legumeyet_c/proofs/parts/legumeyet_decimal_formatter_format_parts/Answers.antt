@@ -1,4 +1,4 @@
-use Rattle.std.proofs.Common.{rules, w32, ◌∙◌}
+use Rattle.std.proofs.Common.{rules, w32, ap, ◌∙◌}
 use Rattle.std.proofs.lemmas.Int.{to_z-of_z}
 use mir.Val.{SFits}
 use Rattle.fixed_decimal.specs.SignedText.{ReadsSigned}
@@ -7,7 +7,7 @@ use Rattle.legumeyet_c_values.specs.Numbers.{Gives, IsChangeFault, IsNumberFault
 use Rattle.legumeyet_c_values.proofs.NumbersLemmas.{number_fault_other, other_fault}
 use Rattle.legumeyet_c_values.proofs.PartsLemmas.{parts_by}
 use Rattle.legumeyet_c.specs.DecimalWriting.{IsDecimalAnnotated, WantsMemory}
-use Rattle.legumeyet_c.specs.Views.{decimal_open}
+use Rattle.legumeyet_c.specs.Kinds.{decimal_in}
 use Rattle.legumeyet_c.proofs.WritingLemmas.{value_fault, value_says}
 use Rattle.legumeyet_c.proofs.parts.legumeyet_decimal_formatter_format_parts.Goals as goal
 
@@ -20,14 +20,14 @@ pub returns-clause-told : goal.returns-clause-told
 returns-clause-told c =
     let fits : SFits w32 c.answer.result = search rules in
     let choices = choices_of c.args.options.now in
-    let open_tables = decimal_open c.args.formatter.now in
+    let is = ap decimal_in c.content-content.ensures.value in
     let is_given = Gives choices (ReadsSigned c.args.number.now) in
     let number = c.number_of_text-number in
     record {
       outcome = c.write_parts.result;
       number = to_z-of_z w32 c.answer.result fits ∙ c.answer.ensures;
       held = parts_by _ _ _
-          (value_says IsDecimalAnnotated open_tables is_given number.result number.ensures.value)
-          (value_fault WantsMemory open_tables is_given (IsChangeFault choices (ReadsSigned c.args.number.now) (IsNumberFault c.args.number.now)) number.result number.ensures.value number.ensures.fault)
-          c.write_parts.ensures.told;
+          (value_says IsDecimalAnnotated is is_given number.result number.ensures.value)
+          (value_fault WantsMemory is is_given (IsChangeFault choices (ReadsSigned c.args.number.now) (IsNumberFault c.args.number.now)) number.result number.ensures.value number.ensures.fault)
+          c.write_parts.ensures;
     }

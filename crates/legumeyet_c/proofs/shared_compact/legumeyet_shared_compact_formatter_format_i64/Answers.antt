@@ -1,4 +1,4 @@
-use Rattle.std.proofs.Common.{rules, w16, w32, w64, ◌∙◌}
+use Rattle.std.proofs.Common.{rules, w16, w32, w64, ap, ◌∙◌}
 use Rattle.std.proofs.lemmas.Int.{to_z-of_z}
 use mir.Val.{SFits}
 use Rattle.legumeyet_c_values.specs.Choices.{choices_of}
@@ -6,12 +6,12 @@ use Rattle.legumeyet_c_values.specs.Numbers.{Gives, IsChangeFault, IsScaled, IsS
 use Rattle.legumeyet_c_values.proofs.NumbersLemmas.{other_fault, scaled_fault_other}
 use Rattle.legumeyet_c_values.proofs.PuttingLemmas.{put_by}
 use Rattle.legumeyet_c.specs.CompactWriting.{IsCompactFault, IsCompactText}
-use Rattle.legumeyet_c.specs.SharedViews.{shared_compact_open}
+use Rattle.legumeyet_c.specs.Kinds.{compact_in}
 use Rattle.legumeyet_c.proofs.WritingLemmas.{value_fault, value_says}
 use Rattle.legumeyet_c.proofs.shared_compact.legumeyet_shared_compact_formatter_format_i64.Goals as goal
 
-pub write_shared-requires : goal.write_shared-requires
-write_shared-requires c =
+pub write_opened-requires : goal.write_opened-requires
+write_opened-requires c =
     let mantissa = to_z-of_z w64 c.args.mantissa c.ranges.mantissa in
     let exponent = to_z-of_z w16 c.args.exponent c.ranges.exponent in
     other_fault c.number_of_i64-number.result (simp (mantissa, exponent) at c.number_of_i64-number.ensures.fault)
@@ -23,16 +23,16 @@ returns c =
     let mantissa = to_z-of_z w64 c.args.mantissa c.ranges.mantissa in
     let exponent = to_z-of_z w16 c.args.exponent c.ranges.exponent in
     let choices = choices_of c.args.options.now in
-    let open_tables = shared_compact_open c.args.formatter.now in
+    let is = ap compact_in c.content.ensures.value in
     let is_given = Gives choices (IsScaled c.args.mantissa c.args.exponent) in
     let number = c.number_of_i64-number.result in
     let given = simp (mantissa, exponent) at c.number_of_i64-number.ensures.value in
     let caused = simp (mantissa, exponent) at c.number_of_i64-number.ensures.fault in
     record {
-      outcome = c.write_shared.result;
+      outcome = c.write_opened.result;
       number = to_z-of_z w32 c.answer.result fits ∙ c.answer.ensures;
       held = put_by _ _ _ _ _
-          (value_says IsCompactText open_tables is_given number given)
-          (value_fault IsCompactFault open_tables is_given (IsChangeFault choices (IsScaled c.args.mantissa c.args.exponent) (IsScaledFault c.args.mantissa c.args.exponent)) number given caused)
-          c.write_shared.ensures;
+          (value_says IsCompactText is is_given number given)
+          (value_fault IsCompactFault is is_given (IsChangeFault choices (IsScaled c.args.mantissa c.args.exponent) (IsScaledFault c.args.mantissa c.args.exponent)) number given caused)
+          c.write_opened.ensures;
     }

@@ -1,4 +1,4 @@
-use Rattle.std.proofs.Common.{rules, w32, ◌∙◌}
+use Rattle.std.proofs.Common.{rules, w32, ap, ◌∙◌}
 use Rattle.std.proofs.lemmas.Int.{to_z-of_z}
 use mir.Val.{SFits}
 use Rattle.fixed_decimal.specs.SignedText.{ReadsSigned}
@@ -7,12 +7,12 @@ use Rattle.legumeyet_c_values.specs.Numbers.{Gives, IsChangeFault, IsNumberFault
 use Rattle.legumeyet_c_values.proofs.NumbersLemmas.{number_fault_other, other_fault}
 use Rattle.legumeyet_c_values.proofs.PuttingLemmas.{put_by}
 use Rattle.legumeyet_c.specs.CompactWriting.{IsShownFault, IsShownText}
-use Rattle.legumeyet_c.specs.SharedViews.{shared_compact_open}
+use Rattle.legumeyet_c.specs.Kinds.{compact_in}
 use Rattle.legumeyet_c.proofs.WritingLemmas.{value_fault, value_says}
 use Rattle.legumeyet_c.proofs.shared_compact.legumeyet_shared_compact_formatter_shown.Goals as goal
 
-pub write_shared-requires : goal.write_shared-requires
-write_shared-requires c =
+pub write_opened-requires : goal.write_opened-requires
+write_opened-requires c =
     other_fault c.number_of_text-number.result (c.number_of_text-number.ensures.fault)
     (λ error caused. number_fault_other (choices_of c.args.options.now) c.args.number.now error caused)
 
@@ -20,16 +20,16 @@ pub returns : goal.returns
 returns c =
     let fits : SFits w32 c.answer.result = search rules in
     let choices = choices_of c.args.options.now in
-    let open_tables = shared_compact_open c.args.formatter.now in
+    let is = ap compact_in c.content.ensures.value in
     let is_given = Gives choices (ReadsSigned c.args.number.now) in
     let number = c.number_of_text-number.result in
     let given = c.number_of_text-number.ensures.value in
     let caused = c.number_of_text-number.ensures.fault in
     record {
-      outcome = c.write_shared.result;
+      outcome = c.write_opened.result;
       number = to_z-of_z w32 c.answer.result fits ∙ c.answer.ensures;
       held = put_by _ _ _ _ _
-          (value_says IsShownText open_tables is_given number given)
-          (value_fault IsShownFault open_tables is_given (IsChangeFault choices (ReadsSigned c.args.number.now) (IsNumberFault c.args.number.now)) number given caused)
-          c.write_shared.ensures;
+          (value_says IsShownText is is_given number given)
+          (value_fault IsShownFault is is_given (IsChangeFault choices (ReadsSigned c.args.number.now) (IsNumberFault c.args.number.now)) number given caused)
+          c.write_opened.ensures;
     }

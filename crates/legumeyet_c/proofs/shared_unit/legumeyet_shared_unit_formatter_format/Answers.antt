@@ -1,4 +1,4 @@
-use Rattle.std.proofs.Common.{rules, w32, subst, ◌∙◌}
+use Rattle.std.proofs.Common.{rules, w32, subst, ap, ◌∙◌}
 use Rattle.std.proofs.lemmas.Int.{to_z-of_z}
 use mir.Val.{SFits}
 use Rattle.fixed_decimal.specs.SignedText.{ReadsSigned}
@@ -6,25 +6,25 @@ use Rattle.legumeyet_c_values.specs.Numbers.{IsNumberFault}
 use Rattle.legumeyet_c_values.specs.declared.CallError.{CallError}
 use Rattle.legumeyet_c_values.proofs.NumbersLemmas.{other_fault}
 use Rattle.legumeyet_c_values.proofs.PuttingLemmas.{put_by}
+use Rattle.legumeyet_c.specs.Kinds.{unit_in}
 use Rattle.legumeyet_c.specs.UnitWriting.{IsUnitText}
-use Rattle.legumeyet_c.specs.SharedViews.{shared_unit_open}
 use Rattle.legumeyet_c.proofs.UnitLemmas.{unit_fault, unit_says}
 use Rattle.legumeyet_c.proofs.shared_unit.legumeyet_shared_unit_formatter_format.Goals as goal
 
-pub write_shared-requires : goal.write_shared-requires
-write_shared-requires c =
+pub write_opened-requires : goal.write_opened-requires
+write_opened-requires c =
     other_fault c.read_number-number.result c.read_number-number.ensures.fault (λ error caused. λ same. subst (λ (e : CallError). IsNumberFault c.args.number.now e) same caused)
 
 pub returns : goal.returns
 returns c =
     let fits : SFits w32 c.answer.result = search rules in
-    let units = shared_unit_open c.args.formatter.now in
+    let is = ap unit_in c.content.ensures.value in
     let number = c.read_number-number.result in
     record {
-      outcome = c.write_shared.result;
+      outcome = c.write_opened.result;
       number = to_z-of_z w32 c.answer.result fits ∙ c.answer.ensures;
       held = put_by _ _ _ _ _
-          (unit_says IsUnitText units c.args.options.now (ReadsSigned c.args.number.now) number c.read_number-number.ensures.value)
-          (unit_fault units c.args.options.now (ReadsSigned c.args.number.now) (IsNumberFault c.args.number.now) number c.read_number-number.ensures.value c.read_number-number.ensures.fault)
-          c.write_shared.ensures;
+          (unit_says IsUnitText is c.args.options.now (ReadsSigned c.args.number.now) number c.read_number-number.ensures.value)
+          (unit_fault is c.args.options.now (ReadsSigned c.args.number.now) (IsNumberFault c.args.number.now) number c.read_number-number.ensures.value c.read_number-number.ensures.fault)
+          c.write_opened.ensures;
     }

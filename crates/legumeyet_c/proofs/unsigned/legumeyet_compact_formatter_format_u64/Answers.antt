@@ -1,4 +1,4 @@
-use Rattle.std.proofs.Common.{rules, w16, w32, ◌∙◌}
+use Rattle.std.proofs.Common.{rules, w16, w32, ap, ◌∙◌}
 use Rattle.std.specs.Prelude.{pos}
 use Rattle.std.proofs.lemmas.Int.{to_z-of_z}
 use mir.Val.{SFits}
@@ -7,12 +7,12 @@ use Rattle.legumeyet_c_values.specs.Numbers.{Gives, IsChangeFault, IsScaled, IsS
 use Rattle.legumeyet_c_values.proofs.NumbersLemmas.{other_fault, scaled_fault_other}
 use Rattle.legumeyet_c_values.proofs.PuttingLemmas.{put_by}
 use Rattle.legumeyet_c.specs.CompactWriting.{IsCompactFault, IsCompactText}
-use Rattle.legumeyet_c.specs.Views.{compact_open}
+use Rattle.legumeyet_c.specs.Kinds.{compact_in}
 use Rattle.legumeyet_c.proofs.WritingLemmas.{value_fault, value_says}
 use Rattle.legumeyet_c.proofs.unsigned.legumeyet_compact_formatter_format_u64.Goals as goal
 
-pub write_after-requires : goal.write_after-requires
-write_after-requires c =
+pub write_opened-requires : goal.write_opened-requires
+write_opened-requires c =
     let exponent = to_z-of_z w16 c.args.exponent c.ranges.exponent in
     other_fault c.number_of_u64-number.result (simp exponent at c.number_of_u64-number.ensures.fault)
     (λ error caused. scaled_fault_other (choices_of c.args.options.now) (pos c.args.mantissa) c.args.exponent error caused)
@@ -22,16 +22,16 @@ returns-clause-told c =
     let fits : SFits w32 c.answer.result = search rules in
     let exponent = to_z-of_z w16 c.args.exponent c.ranges.exponent in
     let choices = choices_of c.args.options.now in
-    let open_tables = compact_open c.args.formatter.now in
+    let is = ap compact_in c.content.ensures.value in
     let is_given = Gives choices (IsScaled (pos c.args.mantissa) c.args.exponent) in
     let number = c.number_of_u64-number.result in
     let given = simp exponent at c.number_of_u64-number.ensures.value in
     let caused = simp exponent at c.number_of_u64-number.ensures.fault in
     record {
-      outcome = c.write_after.result;
+      outcome = c.write_opened.result;
       number = to_z-of_z w32 c.answer.result fits ∙ c.answer.ensures;
       held = put_by _ _ _ _ _
-          (value_says IsCompactText open_tables is_given number given)
-          (value_fault IsCompactFault open_tables is_given (IsChangeFault choices (IsScaled (pos c.args.mantissa) c.args.exponent) (IsScaledFault (pos c.args.mantissa) c.args.exponent)) number given caused)
-          c.write_after.ensures.told;
+          (value_says IsCompactText is is_given number given)
+          (value_fault IsCompactFault is is_given (IsChangeFault choices (IsScaled (pos c.args.mantissa) c.args.exponent) (IsScaledFault (pos c.args.mantissa) c.args.exponent)) number given caused)
+          c.write_opened.ensures;
     }
