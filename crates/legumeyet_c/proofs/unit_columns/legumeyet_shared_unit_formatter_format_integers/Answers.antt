@@ -5,7 +5,7 @@ use mir.Val.{SFits}
 use Rattle.legumeyet_c_values.specs.Columns.{integers, room}
 use Rattle.legumeyet_c.specs.ColumnWriting.{IsUnitColumn}
 use Rattle.legumeyet_c.specs.Kinds.{unit_in}
-use Rattle.legumeyet_c.specs.SharedViews.{shared_unit_open}
+use Rattle.legumeyet_c.specs.Opened.{opened}
 use Rattle.legumeyet_c.specs.declared.content.Content.{Content}
 use Rattle.legumeyet_c.proofs.unit_columns.legumeyet_shared_unit_formatter_format_integers.Goals as goal
 
@@ -19,9 +19,8 @@ returns c =
     record {
       outcome = told.outcome;
       number = to_z-of_z w32 c.answer_column.result fits ∙ told.number;
-      held = subst
-          (λ (exponent : ℤ). IsUnitColumn (shared_unit_open c.args.formatter.now) c.args.options.now (integers c.args.mantissas.now exponent) before after told.outcome)
-          (to_z-of_z w16 c.args.exponent power)
-          (subst (λ (o : Option Content). IsUnitColumn (unit_in o) c.args.options.now (integers c.args.mantissas.now _) before after told.outcome)
-          c.content-content.ensures.value told.held);
+      held = subst (λ (o : Option Content). IsUnitColumn (unit_in o) c.args.options.now (integers c.args.mantissas.now c.args.exponent) before after told.outcome)
+          c.content-content.ensures.value
+          (subst (λ (exponent : ℤ). IsUnitColumn (unit_in (opened c.content-content.result)) c.args.options.now (integers c.args.mantissas.now exponent) before after told.outcome)
+          (to_z-of_z w16 c.args.exponent power) told.held);
     }
