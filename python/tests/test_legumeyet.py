@@ -176,7 +176,8 @@ class Calls(unittest.TestCase):
         self.assertRaises(TypeError, self.english.format, 1, Sign.ALWAYS)
         for name in (b"sign", 1, None, ("sign",)):
             for call in (self.english.format, self.english.format_all, self.english.format_parts, self.short.shown):
-                self.assertRaises(TypeError, call, [1], **{name: Sign.ALWAYS})
+                with self.assertRaises(TypeError):
+                    call([1], **{name: Sign.ALWAYS})
         for options in ({"grouping": 4}, {"grouping": Width.LONG}, {"width": Width.LONG}):
             self.assertRaises(TypeError, DecimalFormatter, self.book, "en", **options)
         for options in ({"width": Grouping.NEVER}, {"width": 1}, {"grouping": Width.LONG}):
