@@ -21,8 +21,8 @@ use denote.Struct.Owning.{shape}
 use Rattle.legumeyet_c.specs.Lent.{lent}
 use Rattle.legumeyet_c.specs.contracts.content.Content as content
 use Rattle.legumeyet_c.proofs.content.Content.TheLaws as content_laws
-use Rattle.legumeyet_c.specs.contracts.lent.Lent as pointer
-use Rattle.legumeyet_c.proofs.lent.Lent.TheLaws as pointer_laws
+use Rattle.legumeyet_c.specs.contracts.lent.SharedPointer as pointer
+use Rattle.legumeyet_c.proofs.lent.SharedPointer.TheLaws as pointer_laws
 use Rattle.legumeyet_c.proofs.PointerValues.{lone_field}
 
 -- a content, a pointer to one, and its field

@@ -7,8 +7,8 @@ use Rattle.icu_dimension.specs.FoundUnits.{CurrencySettings}
 use Rattle.icu_dimension.specs.HeldFormatters.{currency_settings_of, settings_of_percent}
 use Rattle.icu_dimension.specs.UnitText.{UnitSettings}
 use Rattle.icu_dimension.specs.declared.FractionInfo.{FractionInfo}
-use Rattle.legumeyet_c.specs.declared.held_units.UnitPlace.{UnitPlace}
-use Rattle.legumeyet_c.specs.declared.held_units.UnitPlace.TheVariants as unit
+use Rattle.legumeyet_c.specs.declared.held_units.HeldUnitPlace.{HeldUnitPlace}
+use Rattle.legumeyet_c.specs.declared.held_units.HeldUnitPlace.TheVariants as unit
 
 pub record HeldUnit : Type 0 where
   pub settings : UnitSettings
@@ -22,7 +22,7 @@ held_percent settings = record { settings = settings; fractions = None; code = c
 abbrev pub held_amount : List ℕ → CurrencySettings → HeldUnit
 held_amount code settings = record { settings = settings.unit; fractions = Some settings.fractions; code = code }
 
-abbrev pub unit_at : UnitPlace → HeldUnit
+abbrev pub unit_at : HeldUnitPlace → HeldUnit
 unit_at (unit.Percent formatter) = held_percent (settings_of_percent formatter)
 unit_at (unit.Currency formatter code) = held_amount code (currency_settings_of formatter)
 unit_at (unit.OwnPercent tables) = held_percent tables.value

@@ -1,6 +1,6 @@
 -- What a pointer to a content that stays for the rest of the run shows: what a `&'static` to it shows, or nothing while it is closed.
 -- Defined in docs/c-api.md, "Shared formatters".
--- Cited by the model of `Lent`.
+-- Cited by the model of `SharedPointer`.
 use mathlib.Core.List.{[]}
 use Rattle.std.specs.Prelude.{Option, Some, None}
 use base.Fml.{Fml, ftrue}

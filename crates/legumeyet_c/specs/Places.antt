@@ -1,6 +1,6 @@
 -- The tables that a handle writes with, wherever they are: in memory of its own, or in a book that is kept.
 -- Defined in docs/c-api.md, "Handles".
--- Cited by the models of `DecimalTables` and `HeldCompactTables`.
+-- Cited by the models of `HeldDecimalTables` and `HeldCompactTables`.
 use Rattle.icu_decimal.specs.CompactTables.{CompactTables}
 use Rattle.icu_decimal.specs.HeldCompact.{compact_tables_of}
 use Rattle.icu_decimal.specs.HeldTables.{tables_of}

@@ -6,7 +6,7 @@ ghost use Rattle.icu_dimension.specs.HeldFormatters.{currency_settings_of, setti
 ghost use Rattle.legumeyet_c.specs.HeldUnits.{amounts_regrouped, held_amount, held_percent, unit_regrouped};
 ghost use Rattle.legumeyet_c.specs.UnitOpening.{amount_held, percent_held};
 
-use crate::held_units::{HeldUnits, UnitPlace};
+use crate::held_units::{HeldUnitPlace, HeldUnits};
 use crate::unit_opening::AskedUnit;
 use crate::unit_tables::OwnedUnitTables;
 use icu_decimal::options::GroupingStrategy;
@@ -54,7 +54,7 @@ fn own_percents(
     ensures fault { IfErr result (λ fault. fault ≡ FormatterError.Memory) }
 {
     match OwnedUnitTables::of(alloc, &formatter.tables(), strategy) {
-        Ok(tables) => Ok(HeldUnits::of(UnitPlace::OwnPercent(tables))),
+        Ok(tables) => Ok(HeldUnits::of(HeldUnitPlace::OwnPercent(tables))),
         Err(_) => Err(FormatterError::Memory),
     }
 }
@@ -72,7 +72,7 @@ fn own_amounts(
 {
     let fractions = formatter.fractions();
     match OwnedUnitTables::of(alloc, &formatter.tables(), strategy) {
-        Ok(tables) => Ok(HeldUnits::of(UnitPlace::OwnCurrency(tables, code, fractions))),
+        Ok(tables) => Ok(HeldUnits::of(HeldUnitPlace::OwnCurrency(tables, code, fractions))),
         Err(_) => Err(FormatterError::Memory),
     }
 }
@@ -100,7 +100,7 @@ impl AskedUnit for GroupingStrategy {
             grouping_strategy: Some(self),
         };
         match book.percent_formatter(alloc, tag, options) {
-            Ok(formatter) => Ok(HeldUnits::of(UnitPlace::Percent(formatter))),
+            Ok(formatter) => Ok(HeldUnits::of(HeldUnitPlace::Percent(formatter))),
             Err(error) => Err(error),
         }
     }
@@ -144,7 +144,7 @@ impl AskedUnit for AskedAmount {
         tag: &str,
     ) -> Result<HeldUnits, FormatterError> {
         match book.currency_formatter(alloc, tag, self.code.as_str(), self.options) {
-            Ok(formatter) => Ok(HeldUnits::of(UnitPlace::Currency(formatter, self.code))),
+            Ok(formatter) => Ok(HeldUnits::of(HeldUnitPlace::Currency(formatter, self.code))),
             Err(error) => Err(error),
         }
     }

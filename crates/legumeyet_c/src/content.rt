@@ -4,7 +4,7 @@ ghost use Rattle.std.specs.Prelude.{◌≡◌, IfSome, Some, None, false, is_som
 ghost use Rattle.legumeyet_c.specs.Kinds.{answers_in, book_in, compact_in, decimal_in, is_kept, unit_in};
 
 use crate::compact_tables::HeldCompactTables;
-use crate::decimal_tables::DecimalTables;
+use crate::decimal_tables::HeldDecimalTables;
 use crate::held_answers::HeldAnswers;
 use crate::held_units::HeldUnits;
 use locale_numbers::Book;
@@ -17,7 +17,7 @@ pub enum Content {
     /// A book that is kept for the rest of the run.
     Kept(&'static Book),
     /// What plain numbers are written with.
-    Decimal(DecimalTables),
+    Decimal(HeldDecimalTables),
     /// What compact numbers are written with.
     Compact(HeldCompactTables),
     /// What percents or amounts are written with.
@@ -87,10 +87,10 @@ impl ContentKind for Book {
     ghost closed = { refl };
 }
 
-impl ContentKind for DecimalTables {
+impl ContentKind for HeldDecimalTables {
     ghost open_in = { decimal_in };
 
-    fn of_content(content: &Content) -> Option<&DecimalTables> {
+    fn of_content(content: &Content) -> Option<&HeldDecimalTables> {
         match content {
             Content::Decimal(tables) => Some(tables),
             Content::Book(_)

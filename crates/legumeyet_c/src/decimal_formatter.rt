@@ -10,7 +10,7 @@ ghost use Rattle.legumeyet_c.specs.Opening.{FindsDecimal, IsClosing, IsDecimalFa
 ghost use Rattle.legumeyet_c.specs.Views.{book_content, book_open, decimal_content, decimal_open};
 ghost use Rattle.legumeyet_c.specs.Writing.{IsNumberWritingFault, IsScaledWritingFault, WritesNumber, WritesScaled};
 
-use crate::decimal_tables::DecimalTables;
+use crate::decimal_tables::HeldDecimalTables;
 use crate::handles::{BookHandle, DecimalHandle};
 use crate::opening::{Found, close, open};
 use crate::writing::{NumberForm, write_opened};
@@ -22,7 +22,7 @@ use legumeyet_c_values::{
 use locale_numbers::{Book, FormatterError};
 use std::alloc::Global;
 
-impl Found for DecimalTables {
+impl Found for HeldDecimalTables {
     type Choice = GroupingStrategy;
 
     ghost found = { λ book strategy tag. plain_for book tag };
@@ -34,9 +34,9 @@ impl Found for DecimalTables {
         book: &Book,
         strategy: GroupingStrategy,
         tag: &str,
-    ) -> Result<DecimalTables, FormatterError> {
+    ) -> Result<HeldDecimalTables, FormatterError> {
         let formatter = book.formatter(alloc, tag)?;
-        match DecimalTables::of(&formatter, strategy) {
+        match HeldDecimalTables::of(&formatter, strategy) {
             Ok(tables) => Ok(tables),
             Err(_) => Err(FormatterError::Memory),
         }
@@ -47,9 +47,9 @@ impl Found for DecimalTables {
         book: &'static Book,
         strategy: GroupingStrategy,
         tag: &str,
-    ) -> Result<DecimalTables, FormatterError> {
+    ) -> Result<HeldDecimalTables, FormatterError> {
         let formatter = book.formatter(alloc, tag)?;
-        Ok(DecimalTables::kept(&formatter, strategy))
+        Ok(HeldDecimalTables::kept(&formatter, strategy))
     }
 }
 
@@ -57,7 +57,7 @@ impl Found for DecimalTables {
 pub(crate) struct DecimalText;
 
 impl NumberForm for DecimalText {
-    type Kind = DecimalTables;
+    type Kind = HeldDecimalTables;
 
     type Number = Decimal;
 
@@ -66,7 +66,7 @@ impl NumberForm for DecimalText {
     ghost fails = { HasNoFault };
 
     fn write(
-        tables: &DecimalTables,
+        tables: &HeldDecimalTables,
         value: &Decimal,
         out: &mut [u8],
         length: &mut usize,
@@ -97,7 +97,7 @@ pub extern "C" fn legumeyet_decimal_formatter_open(
 {
     let strategy = grouping_by(grouping);
     let (book, formatter) = (&mut book.handle, &mut formatter.handle);
-    answer(open::<DecimalTables>(alloc, book, strategy, tag, formatter))
+    answer(open::<HeldDecimalTables>(alloc, book, strategy, tag, formatter))
 }
 
 /// Closes a formatter, and frees its memory.
@@ -113,7 +113,7 @@ pub extern "C" fn legumeyet_decimal_formatter_close(
     ensures same { decimal_open formatter.old ≡ None → decimal_content formatter.new ≡ decimal_content formatter.old }
     ensures told { Answers (IsClosing (decimal_open formatter.old)) result }
 {
-    answer(close::<DecimalTables>(alloc, &mut formatter.handle))
+    answer(close::<HeldDecimalTables>(alloc, &mut formatter.handle))
 }
 
 /// Writes a decimal number that is given as text: `-987654.321` as `-987,654.321` in English.

@@ -25,12 +25,12 @@ enum DecimalPlace {
 
 /// What a handle writes plain numbers with, and its symbols folded, from the first text on that is read leniently.
 #[derive(Drop)]
-pub struct DecimalTables {
+pub struct HeldDecimalTables {
     place: DecimalPlace,
     folded: Option<Box<FoldedSymbols>>,
 }
 
-impl Model for DecimalTables {
+impl Model for HeldDecimalTables {
     ghost use Rattle.std.specs.Prelude.{◌≡◌, IfSome};
     ghost use Rattle.icu_decimal.specs.PlainText.{Tables};
     ghost use Rattle.icu_decimal_lenient.specs.KeptFolds.{folds_of};
@@ -68,16 +68,16 @@ pub(crate) fn with_strategy<'b>(
     DecimalFormatter::from_tables(formatter.symbols(), formatter.digits(), options)
 }
 
-impl DecimalTables {
+impl HeldDecimalTables {
     // A copy of the tables that a formatter borrows, with a strategy of their own. `AllocError`: out of memory.
     pub(crate) fn of(
         formatter: &DecimalFormatter<'_>,
         strategy: GroupingStrategy,
-    ) -> Result<DecimalTables, AllocError>
+    ) -> Result<HeldDecimalTables, AllocError>
         ensures { IfOk result (λ tables. tables ≡ record (tables_of formatter.now) { strategy = strategy }) }
     {
         let own = OwnedDecimalTables::try_from_tables(formatter.tables(), strategy)?;
-        Ok(DecimalTables {
+        Ok(HeldDecimalTables {
             place: DecimalPlace::Own(own),
             folded: None,
         })
@@ -87,10 +87,10 @@ impl DecimalTables {
     pub(crate) fn kept(
         formatter: &DecimalFormatter<'static>,
         strategy: GroupingStrategy,
-    ) -> DecimalTables
+    ) -> HeldDecimalTables
         ensures { result ≡ record (tables_of formatter.now) { strategy = strategy } }
     {
-        DecimalTables {
+        HeldDecimalTables {
             place: DecimalPlace::Kept(with_strategy(formatter, strategy)),
             folded: None,
         }

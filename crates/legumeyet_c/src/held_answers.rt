@@ -4,7 +4,7 @@ ghost use Rattle.std.specs.Prelude.{◌≡◌, ◌≤◌, IfOk};
 ghost use Rattle.legumeyet_c_values.specs.LineBuffers.{IsAnswered, buffers};
 ghost use Rattle.locale_numbers.specs.Answer.{answer_of};
 
-use legumeyet_c_values::{CallError, LineAnswerer, answer_lines};
+use legumeyet_c_values::{AnswerLine, CallError, answer_lines};
 use locale_numbers::{Answers, Book};
 use std::alloc::{AllocError, Global};
 use std::marker::Model;
@@ -23,7 +23,7 @@ impl Model for BookAnswers {
     ghost view = { λ a. a.answers };
 }
 
-impl LineAnswerer for BookAnswers {
+impl AnswerLine for BookAnswers {
     ghost answer = { λ a line. answer_of a line };
 
     fn answer_onto(&mut self, line: &[u8], text: &mut String) -> Result<(), AllocError> {

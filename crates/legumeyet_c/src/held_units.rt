@@ -21,7 +21,7 @@ use std::marker::Model;
 
 // What they are, and where.
 #[derive(Drop)]
-pub(crate) enum UnitPlace {
+pub(crate) enum HeldUnitPlace {
     // What percents are written with, in a book that is kept.
     Percent(PercentFormatter<'static>),
     // What amounts of one currency are written with, in a book that is kept, and its code.
@@ -64,15 +64,15 @@ fn typed_amounts(
     }
 }
 
-impl UnitPlace {
+impl HeldUnitPlace {
     // The reader of what is written with it, to be kept. `None`: out of memory, or the tables are its own.
     fn exact_reader(&self, alloc: Global) -> Option<UnitReader<'static>>
         ensures { IfSome result (λ reader. reader ≡ reader_texts (unit_at self.now).settings) }
     {
         let made = match self {
-            UnitPlace::Percent(formatter) => formatter.reader(alloc),
-            UnitPlace::Currency(formatter, _) => formatter.reader(alloc),
-            UnitPlace::OwnPercent(_) | UnitPlace::OwnCurrency(..) => return None,
+            HeldUnitPlace::Percent(formatter) => formatter.reader(alloc),
+            HeldUnitPlace::Currency(formatter, _) => formatter.reader(alloc),
+            HeldUnitPlace::OwnPercent(_) | HeldUnitPlace::OwnCurrency(..) => return None,
         };
         match made {
             Ok(reader) => Some(reader),
@@ -88,9 +88,9 @@ impl UnitPlace {
         ensures readable { IfSome result (λ reader. is_leniently_unit_readable_by reader ≡ true) }
     {
         match self {
-            UnitPlace::Percent(formatter) => typed_percents(alloc, formatter),
-            UnitPlace::Currency(formatter, code) => typed_amounts(alloc, formatter, *code),
-            UnitPlace::OwnPercent(_) | UnitPlace::OwnCurrency(..) => None,
+            HeldUnitPlace::Percent(formatter) => typed_percents(alloc, formatter),
+            HeldUnitPlace::Currency(formatter, code) => typed_amounts(alloc, formatter, *code),
+            HeldUnitPlace::OwnPercent(_) | HeldUnitPlace::OwnCurrency(..) => None,
         }
     }
 }
@@ -99,7 +99,7 @@ impl UnitPlace {
 /// people type, each from the first text on that is read so.
 #[derive(Drop)]
 pub struct HeldUnits {
-    place: UnitPlace,
+    place: HeldUnitPlace,
     exact: Option<Box<UnitReader<'static>>>,
     typed: Option<Box<LenientUnitReader<'static>>>,
 }
@@ -145,7 +145,7 @@ fn read_typed(
 
 impl HeldUnits {
     // What is written with these, without a reader that is kept. It does not allocate.
-    pub(crate) fn of(place: UnitPlace) -> HeldUnits
+    pub(crate) fn of(place: HeldUnitPlace) -> HeldUnits
         ensures { result ≡ unit_at place }
     {
         HeldUnits {
@@ -160,9 +160,9 @@ impl HeldUnits {
         ensures { result ≡ self.now.fractions }
     {
         match &self.place {
-            UnitPlace::Percent(_) | UnitPlace::OwnPercent(_) => None,
-            UnitPlace::Currency(formatter, _) => Some(formatter.fractions()),
-            UnitPlace::OwnCurrency(_, _, fractions) => Some(*fractions),
+            HeldUnitPlace::Percent(_) | HeldUnitPlace::OwnPercent(_) => None,
+            HeldUnitPlace::Currency(formatter, _) => Some(formatter.fractions()),
+            HeldUnitPlace::OwnCurrency(_, _, fractions) => Some(*fractions),
         }
     }
 
@@ -171,10 +171,10 @@ impl HeldUnits {
         ensures { result ≡ self.now.settings }
     {
         match &self.place {
-            UnitPlace::Percent(formatter) => LentUnitTables::of(&formatter.tables()),
-            UnitPlace::Currency(formatter, _) => LentUnitTables::of(&formatter.tables()),
-            UnitPlace::OwnPercent(tables) => tables.lent(),
-            UnitPlace::OwnCurrency(tables, _, _) => tables.lent(),
+            HeldUnitPlace::Percent(formatter) => LentUnitTables::of(&formatter.tables()),
+            HeldUnitPlace::Currency(formatter, _) => LentUnitTables::of(&formatter.tables()),
+            HeldUnitPlace::OwnPercent(tables) => tables.lent(),
+            HeldUnitPlace::OwnCurrency(tables, _, _) => tables.lent(),
         }
     }
 
@@ -183,9 +183,9 @@ impl HeldUnits {
         ensures { result.now ≡ self.now.code }
     {
         match &self.place {
-            UnitPlace::Percent(_) | UnitPlace::OwnPercent(_) => "%",
-            UnitPlace::Currency(_, code) => code.as_str(),
-            UnitPlace::OwnCurrency(_, code, _) => code.as_str(),
+            HeldUnitPlace::Percent(_) | HeldUnitPlace::OwnPercent(_) => "%",
+            HeldUnitPlace::Currency(_, code) => code.as_str(),
+            HeldUnitPlace::OwnCurrency(_, code, _) => code.as_str(),
         }
     }
 

@@ -9,33 +9,33 @@ use std::marker::Model;
 /// A pointer to a content that stays for the rest of the run, or to nothing. What it shows it does not own.
 #[repr(C)]
 #[derive(Drop)]
-pub struct Lent {
+pub struct SharedPointer {
     at: *const (),
     pub ghost value: { Option Content },
 }
 
-impl Model for Lent {
+impl Model for SharedPointer {
     ghost use Rattle.legumeyet_c.specs.Lent.{lent};
     ghost use Rattle.legumeyet_c.specs.contracts.content.Content.{the_row};
 
     ghost also_owns = { λ l. lent the_row l.at l.value };
 }
 
-impl Lent {
+impl SharedPointer {
     // To nothing.
-    fn empty() -> Lent
+    fn empty() -> SharedPointer
         ensures { result.value ≡ None }
     {
-        Lent {
+        SharedPointer {
             at: std::ptr::null(),
         }
     }
 
     // To a content.
-    fn to(content: &'static Content) -> Lent
+    fn to(content: &'static Content) -> SharedPointer
         ensures { result.value ≡ Some content.now }
     {
-        Lent {
+        SharedPointer {
             at: content as *const Content as *const (),
         }
     }
@@ -53,7 +53,7 @@ impl Lent {
 #[repr(C)]
 #[derive(Drop)]
 pub struct SharedHandle {
-    lent: Lent,
+    lent: SharedPointer,
     is_open: bool,
     ghost told: { is_open ≡ is_some lent.value },
 }
@@ -66,7 +66,7 @@ impl SharedHandle {
         ensures { result.lent.value ≡ None }
     {
         SharedHandle {
-            lent: Lent::empty(),
+            lent: SharedPointer::empty(),
             is_open: false,
         }
     }
@@ -76,7 +76,7 @@ impl SharedHandle {
         ensures { result.lent.value ≡ Some content.now }
     {
         SharedHandle {
-            lent: Lent::to(content),
+            lent: SharedPointer::to(content),
             is_open: true,
         }
     }
@@ -93,6 +93,6 @@ impl SharedHandle {
     }
 }
 
-unsafe impl Send for Lent {}
+unsafe impl Send for SharedPointer {}
 
-unsafe impl Sync for Lent {}
+unsafe impl Sync for SharedPointer {}

@@ -9,7 +9,7 @@ ghost use Rattle.legumeyet_c.specs.Views.{decimal_content, decimal_open};
 ghost use Rattle.legumeyet_c.specs.Writing.{IsNumberWritingFault, IsValueFault, WritesNumber, WritesValue};
 
 use crate::content::{Content, ContentKind};
-use crate::decimal_tables::DecimalTables;
+use crate::decimal_tables::HeldDecimalTables;
 use crate::handles::DecimalHandle;
 use fixed_decimal::Decimal;
 use icu_decimal::laws::text::parts_law;
@@ -40,7 +40,7 @@ pub(crate) trait Annotates: ContentKind {
         → error ≢ CallError.TooSmall };
 }
 
-impl Annotates for DecimalTables {
+impl Annotates for HeldDecimalTables {
     ghost use Rattle.legumeyet_c.specs.DecimalWriting.{memory_other};
 
     ghost says = { IsDecimalAnnotated };
@@ -125,5 +125,5 @@ pub extern "C" fn legumeyet_decimal_formatter_format_parts(
 {
     let number = number_of_text(alloc, number, options);
     let content = formatter.handle.content();
-    answer(write_parts::<DecimalTables>(alloc, content, &number, out, length, intervals, count))
+    answer(write_parts::<HeldDecimalTables>(alloc, content, &number, out, length, intervals, count))
 }

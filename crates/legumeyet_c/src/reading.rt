@@ -10,7 +10,7 @@ ghost use Rattle.legumeyet_c.specs.Reading.{HasReading, IsReadFault, IsUnread, R
 ghost use Rattle.legumeyet_c.specs.Views.{decimal_content, decimal_open};
 
 use crate::content::{Content, ContentKind};
-use crate::decimal_tables::DecimalTables;
+use crate::decimal_tables::HeldDecimalTables;
 use crate::handle::Handle;
 use crate::handles::DecimalHandle;
 use fixed_decimal::Decimal;
@@ -32,12 +32,12 @@ pub(crate) trait DecimalReading {
     ghost allocates: { Tables → List ℕ → Type 0 };
 
     /// The number of the text.
-    fn read(alloc: Global, tables: &DecimalTables, text: &str) -> Result<Decimal, ReadError>
+    fn read(alloc: Global, tables: &HeldDecimalTables, text: &str) -> Result<Decimal, ReadError>
         ensures answered { IsAnswered result (reading tables.now text.now) }
         ensures memory { IsErrOf result ReadError.Memory → allocates tables.now text.now };
 }
 
-// As the formatter writes numbers.
+// As the formatter writes, with a unit or without one.
 pub(crate) struct Exact;
 
 impl DecimalReading for Exact {
@@ -45,12 +45,12 @@ impl DecimalReading for Exact {
 
     ghost allocates = { HasManyDigits };
 
-    fn read(alloc: Global, tables: &DecimalTables, text: &str) -> Result<Decimal, ReadError> {
+    fn read(alloc: Global, tables: &HeldDecimalTables, text: &str) -> Result<Decimal, ReadError> {
         read_plain(alloc, &tables.formatter(), text)
     }
 }
 
-// As people type them.
+// As people type, with a unit or without one.
 pub(crate) struct Lenient;
 
 impl DecimalReading for Lenient {
@@ -58,7 +58,7 @@ impl DecimalReading for Lenient {
 
     ghost allocates = { MayAllocate };
 
-    fn read(alloc: Global, tables: &DecimalTables, text: &str) -> Result<Decimal, ReadError> {
+    fn read(alloc: Global, tables: &HeldDecimalTables, text: &str) -> Result<Decimal, ReadError> {
         tables.read_typed(alloc, text)
     }
 }
@@ -66,7 +66,7 @@ impl DecimalReading for Lenient {
 // The number that is written so with tables.
 fn read_with<R: DecimalReading>(
     alloc: Global,
-    tables: &DecimalTables,
+    tables: &HeldDecimalTables,
     text: &[u8],
 ) -> Result<Decimal, CallError>
     ensures value { IfOk result (λ value. HasReading R.reading tables.now text.now (decimal value)) }
@@ -96,7 +96,7 @@ pub(crate) fn read_opened<R: DecimalReading>(
     let Some(content) = content else {
         return Err(CallError::Closed);
     };
-    match DecimalTables::of_content(content) {
+    match HeldDecimalTables::of_content(content) {
         Some(tables) => read_with::<R>(alloc, tables, text),
         None => Err(CallError::Closed),
     }

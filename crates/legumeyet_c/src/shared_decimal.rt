@@ -14,7 +14,7 @@ ghost use Rattle.legumeyet_c.specs.Views.{decimal_content, decimal_open};
 ghost use Rattle.legumeyet_c.specs.Writing.{IsDoubleWritingFault, IsNumberWritingFault, IsScaledWritingFault, WritesDouble, WritesNumber, WritesScaled};
 
 use crate::decimal_formatter::DecimalText;
-use crate::decimal_tables::DecimalTables;
+use crate::decimal_tables::HeldDecimalTables;
 use crate::handles::DecimalHandle;
 use crate::parts::write_parts;
 use crate::reading::{Exact, Lenient, read_opened};
@@ -46,7 +46,7 @@ pub extern "C" fn legumeyet_decimal_formatter_share(
     ensures unshared { decimal_open formatter.old ≡ None
         → shared_decimal_content shared.new ≡ shared_decimal_content shared.old }
 {
-    answer(share::<DecimalTables>(alloc, &mut formatter.handle, &mut shared.handle))
+    answer(share::<HeldDecimalTables>(alloc, &mut formatter.handle, &mut shared.handle))
 }
 
 /// Closes a shared handle. The formatter stays, and so do other handles that it was copied to.
@@ -62,7 +62,7 @@ pub extern "C" fn legumeyet_shared_decimal_formatter_close(
         → shared_decimal_content formatter.new ≡ shared_decimal_content formatter.old }
     ensures told { Answers (IsClosing (shared_decimal_open formatter.old)) result }
 {
-    answer(close_shared::<DecimalTables>(&mut formatter.handle))
+    answer(close_shared::<HeldDecimalTables>(&mut formatter.handle))
 }
 
 /// Writes a decimal number that is given as text: `-987654.321` as `-987,654.321` in English.
@@ -174,7 +174,7 @@ pub extern "C" fn legumeyet_shared_decimal_formatter_format_parts(
 {
     let number = number_of_text(alloc, number, options);
     let content = formatter.handle.content();
-    answer(write_parts::<DecimalTables>(alloc, content, &number, out, length, intervals, count))
+    answer(write_parts::<HeldDecimalTables>(alloc, content, &number, out, length, intervals, count))
 }
 
 /// Reads a text back as the one number that the formatter writes so, and writes it as digits: in English `-1,234.50` as

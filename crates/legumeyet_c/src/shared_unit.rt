@@ -14,10 +14,11 @@ ghost use Rattle.legumeyet_c.specs.Views.{unit_content, unit_open};
 
 use crate::handles::UnitHandle;
 use crate::held_units::HeldUnits;
+use crate::reading::{Exact, Lenient};
 use crate::shared_handles::SharedUnitHandle;
 use crate::sharing::{close_shared, share};
 use crate::unit_parts::annotated_opened;
-use crate::unit_reading::{Exact, Lenient, read_opened};
+use crate::unit_reading::read_opened;
 use crate::unit_writing::write_opened;
 use legumeyet_c_values::{
     Interval, Options, answer, put, put_parts, read_double, read_number, scaled, scaled_unsigned,

@@ -12,6 +12,7 @@ use crate::content::{Content, ContentKind};
 use crate::handle::Handle;
 use crate::handles::UnitHandle;
 use crate::held_units::HeldUnits;
+use crate::reading::{Exact, Lenient};
 use fixed_decimal::Decimal;
 use icu_decimal::error::ReadError;
 use legumeyet_c_values::{CallError, answer, put};
@@ -37,9 +38,6 @@ pub(crate) trait UnitReading {
         ensures not_written { IsErrOf result ReadError.NotWritten → reads units.now text.now not_written };
 }
 
-// As the formatter writes numbers.
-pub(crate) struct Exact;
-
 impl UnitReading for Exact {
     ghost reads = { IsExactUnit };
 
@@ -51,9 +49,6 @@ impl UnitReading for Exact {
         units.read(alloc, text)
     }
 }
-
-// As people type them.
-pub(crate) struct Lenient;
 
 impl UnitReading for Lenient {
     ghost reads = { IsTypedUnit };

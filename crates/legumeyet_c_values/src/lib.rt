@@ -26,7 +26,7 @@ pub use call_error::{CallError, answer, error_of};
 pub use choices::{Choices, Options, TrailingZeros, choice_by, grouping_by};
 pub use columns::{Column, NumberWriter, write_column};
 pub use intervals::Interval;
-pub use line_buffers::{LineAnswerer, answer_lines};
+pub use line_buffers::{AnswerLine, answer_lines};
 pub use numbers::{
     compact_of_text, number_of_f64, number_of_i64, number_of_text, number_of_u64, read_double,
     read_number, scaled, scaled_unsigned,

@@ -11,7 +11,7 @@ use crate::putting::put_bytes;
 use std::alloc::AllocError;
 
 /// What answers lines, each alone: a book.
-pub trait LineAnswerer {
+pub trait AnswerLine {
     ghost use Rattle.std.specs.Prelude.{List, ℕ};
 
     // the answer to a line, which no call changes
@@ -24,7 +24,7 @@ pub trait LineAnswerer {
 }
 
 // The answer to a line, ended by a line feed, as a text.
-fn answer_line<A: LineAnswerer>(
+fn answer_line<A: AnswerLine>(
     answerer: &mut A,
     line: &[u8],
     text: &mut String,
@@ -44,7 +44,7 @@ fn answer_line<A: LineAnswerer>(
 }
 
 // Writes it to the front of the bytes, and tells its length. `TooSmall`: it is longer than the bytes.
-fn put_answer<A: LineAnswerer>(
+fn put_answer<A: AnswerLine>(
     answerer: &mut A,
     line: &[u8],
     text: &mut String,
@@ -67,7 +67,7 @@ fn put_answer<A: LineAnswerer>(
 ///
 /// `TooSmall`: the next answer is longer than the bytes that are left, and `needs` is its length; else that is 0.
 /// `Memory`: out of memory.
-pub fn answer_lines<A: LineAnswerer>(
+pub fn answer_lines<A: AnswerLine>(
     answerer: &mut A,
     text: &mut String,
     lines: &[u8],

@@ -11,7 +11,7 @@ use Rattle.legumeyet_c_values.proofs.line_buffers.answer_lines.Goals as goal
 
 pub returns-in_err-put_answer-clause-told : goal.returns-in_err-put_answer-clause-told
 returns-in_err-put_answer-clause-told g c =
-    let answer = g.A.LineAnswerer.answer c.args.answerer.now in
+    let answer = g.A.AnswerLine.answer c.args.answerer.now in
     let lines = c.args.lines.now in
     let before = buffers c.args.out.now c.args.read.now c.args.written.now c.args.needs.now in
     let bytes = c.line.out in
@@ -26,12 +26,12 @@ returns-in_err-put_answer-clause-told g c =
     (subst (λ (b : List ℕ). IsAnswered answer lines before (buffers b c.line.read written told) (Err cause)) (sym (put_to_end bytes part written))
     (answered_stops answer lines before bytes c.line.read written c.line.needs c.line.left.now line c.in-Some.rest.now c.line.invariant.1 c.in-Some.ensures.parts part_was part told
     (take_rest bytes written) cause
-    (subst (λ (a : g.row.A.Denot). IsPut (λ said. said ≡ ended (g.A.LineAnswerer.answer a line)) (λ error. error ≡ Memory) part_was part c.line.needs told (Err cause))
+    (subst (λ (a : g.row.A.Denot). IsPut (λ said. said ≡ ended (g.A.AnswerLine.answer a line)) (λ error. error ≡ Memory) part_was part c.line.needs told (Err cause))
     c.line.invariant.0 c.in_err-put_answer.ensures.put)))
 
 pub line-preserved : goal.line-preserved
 line-preserved g c =
-    let answer = g.A.LineAnswerer.answer c.args.answerer.now in
+    let answer = g.A.AnswerLine.answer c.args.answerer.now in
     let lines = c.args.lines.now in
     let before = buffers c.args.out.now c.args.read.now c.args.written.now c.args.needs.now in
     let bytes = c.line.out in
@@ -46,7 +46,7 @@ line-preserved g c =
       subst (λ (b : List ℕ). Answered answer lines rest before (buffers b (length lines - length rest) (written + told) 0)) (sym (put_to_end bytes part written))
           (answered_more answer lines before bytes c.line.read written c.line.needs c.line.left.now line rest c.line.invariant.1 c.in-Some.ensures.parts part_was part told
           (take_rest bytes written)
-          (subst (λ (a : g.row.A.Denot). IsPut (λ said. said ≡ ended (g.A.LineAnswerer.answer a line)) (λ error. error ≡ Memory) part_was part c.line.needs told (Ok tt))
+          (subst (λ (a : g.row.A.Denot). IsPut (λ said. said ≡ ended (g.A.AnswerLine.answer a line)) (λ error. error ≡ Memory) part_was part c.line.needs told (Ok tt))
           c.line.invariant.0 c.in_ok-put_answer.ensures.put)
           kept),
     )

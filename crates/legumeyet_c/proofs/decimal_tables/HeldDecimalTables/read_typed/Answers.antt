@@ -1,7 +1,7 @@
 use Rattle.std.proofs.Common.{subst, ◌∙◌}
 use Rattle.icu_decimal.specs.LenientReading.{MayAllocate}
 use Rattle.icu_decimal.specs.PlainText.{Tables}
-use Rattle.legumeyet_c.proofs.decimal_tables.DecimalTables.read_typed.Goals as goal
+use Rattle.legumeyet_c.proofs.decimal_tables.HeldDecimalTables.read_typed.Goals as goal
 
 pub returns-in-Some-clause-memory : goal.returns-in-Some-clause-memory
 returns-in-Some-clause-memory c = λ refused.

@@ -3,7 +3,7 @@ use Rattle.writeable.specs.AnnotatedText.{AnnotatedText, annotated}
 use Rattle.writeable.specs.HeldParts.{Held, HeldParts}
 use Rattle.icu_decimal.specs.Affixes.{WithSign}
 use Rattle.icu_decimal.specs.PlainText.{PlainNumber, Tables, decimal_events, formatted}
-use Rattle.legumeyet_c.proofs.parts.DecimalTablesAnnotates.annotated.Goals as goal
+use Rattle.legumeyet_c.proofs.parts.HeldDecimalTablesAnnotates.annotated.Goals as goal
 
 pub returns-in-Ok-clause-value : goal.returns-in-Ok-clause-value
 returns-in-Ok-clause-value c =

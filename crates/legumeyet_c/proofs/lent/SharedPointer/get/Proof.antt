@@ -30,9 +30,9 @@ use Rattle.std.proofs.raw_atomic.Walks.{leaves, proved}
 use Rattle.legumeyet_c.specs.Lent.{lent}
 use Rattle.legumeyet_c.proofs.LentSteps.{R, Row, word, laws, told, lent_twice, opened}
 use Rattle.legumeyet_c.proofs.PointerValues.{content_there}
-use Rattle.legumeyet_c.specs.contracts.lent.Lent.get as f
-use Rattle.legumeyet_c.proofs.lent.Lent.get.Statement.{statement}
-use Rattle.legumeyet_c.proofs.lent.Lent.get.Code as code
+use Rattle.legumeyet_c.specs.contracts.lent.SharedPointer.get as f
+use Rattle.legumeyet_c.proofs.lent.SharedPointer.get.Statement.{statement}
+use Rattle.legumeyet_c.proofs.lent.SharedPointer.get.Code as code
 
 pub get_spec : {M : Type 1} → statement M
 get_spec 𝓤 𝓛 𝓜 𝓡 wired =

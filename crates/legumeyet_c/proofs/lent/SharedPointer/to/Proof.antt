@@ -20,9 +20,9 @@ use denote.Steps.{nothing}
 use denote.Triple.Walked.{Stays, stay_dropped, walk_of, says, ends_at, Goes-dropped}
 use Rattle.std.proofs.raw_atomic.Walks.{proved}
 use Rattle.legumeyet_c.proofs.LentSteps.{R, Data, made, word}
-use Rattle.legumeyet_c.specs.contracts.lent.Lent.to as f
-use Rattle.legumeyet_c.proofs.lent.Lent.to.Statement.{statement}
-use Rattle.legumeyet_c.proofs.lent.Lent.to.Code as code
+use Rattle.legumeyet_c.specs.contracts.lent.SharedPointer.to as f
+use Rattle.legumeyet_c.proofs.lent.SharedPointer.to.Statement.{statement}
+use Rattle.legumeyet_c.proofs.lent.SharedPointer.to.Code as code
 
 pub to_spec : {M : Type 1} → statement M
 to_spec 𝓤 𝓛 𝓜 𝓡 wired =

@@ -13,9 +13,9 @@ use denote.Triple.Entry.{on_entry}
 use denote.Triple.Walked.{walk_of, says, ends_at}
 use Rattle.std.proofs.raw_atomic.Walks.{proved}
 use Rattle.legumeyet_c.proofs.LentSteps.{Data, made, word}
-use Rattle.legumeyet_c.specs.contracts.lent.Lent.empty as f
-use Rattle.legumeyet_c.proofs.lent.Lent.empty.Statement.{statement}
-use Rattle.legumeyet_c.proofs.lent.Lent.empty.Code as code
+use Rattle.legumeyet_c.specs.contracts.lent.SharedPointer.empty as f
+use Rattle.legumeyet_c.proofs.lent.SharedPointer.empty.Statement.{statement}
+use Rattle.legumeyet_c.proofs.lent.SharedPointer.empty.Code as code
 
 pub empty_spec : {M : Type 1} → statement M
 empty_spec 𝓤 𝓛 𝓜 𝓡 wired =

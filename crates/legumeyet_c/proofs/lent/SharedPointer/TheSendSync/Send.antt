@@ -1,7 +1,7 @@
 use denote.Param.Send.{IsSend, owning_send, sendable}
 use Rattle.legumeyet_c.specs.contracts.content.Content as content
 use Rattle.legumeyet_c.proofs.content.Content.TheSendSync.{the_sync as content_synced}
-use Rattle.legumeyet_c.specs.contracts.lent.Lent.{the_row, the_type}
+use Rattle.legumeyet_c.specs.contracts.lent.SharedPointer.{the_row, the_type}
 use Rattle.legumeyet_c.proofs.LentSent.{lent_keyless}
 
 pub send : IsSend the_row
