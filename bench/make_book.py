@@ -6,7 +6,7 @@ usage: make_book.py SYMBOLS [SEED]
 SYMBOLS is the count of entries of symbols. For 5500 there are 800 locales with plural rules, a table of short and one
 of long patterns each, and about 1.1 MB in all; for another count the others go with it. The names of locales and
 systems, the texts and the patterns are made up, of the lengths and the scripts that such books have. The whole book is
-read without a fault, and no key stands twice.
+read without a fault, and no key is there twice.
 """
 import argparse
 import json

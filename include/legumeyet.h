@@ -27,7 +27,7 @@
  * LEGUMEYET_CLOSED, and what it has stays open. Only a call that opens the handle closes what it had.
  *
  * A program that uses a book until it ends may keep it, by legumeyet_book_keep. Formatters of a kept book borrow its tables: they are
- * opened sooner, hold less memory and write faster.
+ * opened sooner and hold less memory.
  *
  * A formatter that threads use at once, as one in a static variable, is a shared one: it is opened as any other and then shared, for the
  * rest of the program. See "Shared formatters" below.

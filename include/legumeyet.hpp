@@ -711,7 +711,7 @@ class Book : inner::Owned<legumeyet_book, legumeyet_book_close> {
     }
 
     // Keeps the book for the rest of the program: its memory is never given back. Formatters that are opened from it afterwards borrow
-    // its tables: they hold less memory and write faster.
+    // its tables: they are opened sooner and hold less memory.
     [[nodiscard]] Code try_keep() noexcept { return static_cast<Code>(legumeyet_book_keep(&handle)); }
 
     // The answer to a request line, without its line feed: `ok`, a tab and a text, or `err`, a tab and a word.

@@ -178,7 +178,7 @@ export function load(source: BufferSource | WebAssembly.Module | Response): Prom
 export function loadSync(source: BufferSource | WebAssembly.Module): void;
 /** Makes the book of formatters for which none is named: a Book, or the JSON of one. It is kept. */
 export function setWorld(book: string | Uint8Array | Book): Book;
-/** The version of the library, with its minor one: `1.2`. */
+/** The version of the library, with its minor one: `1.4`. */
 export function version(): string;
 /** The bytes of the module's memory, for measurements. */
 export function memorySize(): number;

@@ -92,7 +92,7 @@ export class Book extends Open {
     return it.#source;
   }
 
-  /** Keeps the book for the rest of the program. A formatter that is opened from it afterwards borrows its tables: it is opened sooner and is faster. */
+  /** Keeps the book for the rest of the program. A formatter that is opened from it afterwards borrows its tables: it is opened sooner and holds less memory. */
   keep() {
     const at = atOf(this);
     expected(inside(() => calls.js_book_keep(at)));
@@ -461,7 +461,7 @@ export class CurrencyFormatter extends UnitFormatter {
   }
 }
 
-/** The version of the library, with its minor one: `1.2`. */
+/** The version of the library, with its minor one: `1.4`. */
 export function version() {
   begun();
   return inside(() => `${calls.js_version()}.${calls.js_minor()}`);

@@ -1270,8 +1270,8 @@ static PyMethodDef book_methods[] = {
     {"keep", keep, METH_NOARGS,
      "keep($self, /)\n--\n\n"
      "Keeps the book for the rest of the program: its memory is never given back, not even where the book is closed.\n\n"
-     "Formatters that are opened from it afterwards borrow its tables, and have no copy of their own: they hold less memory and write\n"
-     "faster. Raises Error 2 where the book is closed, 1 where memory was refused.\n\n"
+     "Formatters that are opened from it afterwards borrow its tables, and have no copy of their own: they are opened sooner and hold\n"
+     "less memory. Raises Error 2 where the book is closed, 1 where memory was refused.\n\n"
      ">>> kept = Book.world()\n"
      ">>> kept.keep()\n"
      ">>> DecimalFormatter(kept, 'de').format(1234)\n"
@@ -1300,7 +1300,7 @@ static PyMethodDef decimal_methods[] = {
     {"read", CALL(read_back),
      "read($self, text, /, *, lenient=False)\n--\n\n"
      "The number that is written so, with all digits that are shown. With lenient also the number of a text that somebody typed: without\n"
-     "separators, with blanks round it, in ASCII digits. A separator is never dropped: digits are grouped wholly, or not at all.\n\n"
+     "separators, with blanks around it, in ASCII digits. A separator is never dropped: digits are grouped wholly, or not at all.\n\n"
      "Raises Error 10 where the text is not UTF-8, 11 where two numbers may have one text under the symbols, 12 where no number is written\n"
      "so, 2 where the formatter is closed, 1 where memory was refused.\n\n"
      ">>> german = DecimalFormatter('de')\n"
@@ -1336,7 +1336,7 @@ static PyMethodDef compact_methods[] = {
      "'-1.20M'\n"
      ">>> short.format_exact('1.2c5')\n"
      "Traceback (most recent call last):\n"
-     "legumeyet.InputError: 13: an exponent that numbers of this magnitude have not"},
+     "legumeyet.InputError: 13: numbers of this magnitude have another exponent"},
     {NULL, NULL, 0, NULL}};
 
 static PyMethodDef unit_methods[] = {

@@ -42,9 +42,11 @@ Rounding:
 
 Lines:
   A line of --lines has six fields with tabs between: tag, form, grouping, sign, rounding and number.
-  The first five have the words of the options; a rounding is - for none, or has all of its three
-  words. The answer to a line is ok, a tab and the text, for short and long also a tab and the value
-  that is shown; or err, a tab and the first of these words that applies:
+  The first five have the words of the options. Further forms are percent and, of amounts in euros,
+  currency-EUR, accounting-EUR and code-EUR; those that read are under Reading. The rounding is -,
+  cash, or all three words of --round; with - only amounts are rounded, to the digits of their
+  currency. The answer to a line is ok, a tab and the text, for short and long also a tab and the
+  value that is shown; or err, a tab and the first of these words that applies:
 
     shape        the line does not have six fields of known words
     tag          the tag is no locale tag

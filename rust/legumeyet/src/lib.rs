@@ -127,7 +127,7 @@ impl Book {
     }
 
     /// Keeps the book for the rest of the program: its memory is never given back, not even where the book is dropped. Formatters that
-    /// are opened from it afterwards borrow its tables: they hold less memory and write faster. Refused by `MEMORY`.
+    /// are opened from it afterwards borrow its tables: they are opened sooner and hold less memory. Refused by `MEMORY`.
     pub fn keep(&self) -> Result<(), Error> {
         // SAFETY: no other call has the handle.
         Error::check(unsafe { sys::legumeyet_book_keep(self.0.at()) })
@@ -252,7 +252,7 @@ impl DecimalFormatter {
     }
 
     /// The number of a text that somebody typed, as digits: what `read` reads, and other texts by folding, without separators, with blanks
-    /// round it, in ASCII digits. A separator is never dropped: digits are grouped wholly, or not at all. Refused as `read`.
+    /// around it, in ASCII digits. A separator is never dropped: digits are grouped wholly, or not at all. Refused as `read`.
     ///
     /// ```
     /// use legumeyet::{DecimalFormatter, Error};
