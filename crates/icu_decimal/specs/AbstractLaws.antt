@@ -13,7 +13,7 @@ use Rattle.icu_decimal_plain.specs.PlainText.{prefix_text, suffix_text}
 abbrev pub between : (Sign → Option AffixTexts) → SignedValue Number → WithSign Number
 between affixes d = record { value = d.absolute; affixes = affixes d.sign }
 
--- formatters that write these events for numbers and these affixes for signs, one round the other, write these events for decimals
+-- formatters that write these events for numbers and these affixes for signs, one around the other, write these events for decimals
 abbrev pub WritesTogether : {F : Type 0} → (F → Number → List Event) → (F → Sign → Option AffixTexts) → (F → SignedValue Number → List Event) → Type 0
 WritesTogether {F} unsigned affixes whole = (f : F) (d : SignedValue Number) → events_with_sign (unsigned f) (between (affixes f) d) ≡ whole f d
 

@@ -3,7 +3,7 @@
 //! A formatter borrows symbols and digits from a provider, and writes any decimal to any sink, with its parts: in
 //! English `-1,234.5`. A compact one writes 1650 as `1.6K`, and an exact form as `1.20M`. The rules are in
 //! docs/plain-text.md, docs/formatters.md and docs/compact-text.md. This crate has the formatters; what they are made
-//! of is in its inner crates, which it raises under ICU4X's paths.
+//! of is in its inner crates, which it re-exports under ICU4X's paths.
 //!
 //! ```rust
 //! use icu_decimal::DecimalFormatter;

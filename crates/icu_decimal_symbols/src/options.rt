@@ -12,7 +12,7 @@ pub enum GroupingStrategy {
     Auto,
     /// Nowhere: the integer digits are one group, `1234567`.
     Never,
-    /// As `Auto`, for plain numbers: `1,234,567`.
+    /// As `Auto`: `1,234,567`.
     Always,
     /// As `Auto`, but only with at least two digits before the last separator: `1000`, `10,000`.
     Min2,

@@ -13,7 +13,7 @@ use std::marker::Model;
 use std::ops::Deref;
 use tinystr::TinyAsciiStr;
 
-/// What a locale writes numbers with: the texts round and between the digits, and where groups end. In English they are
+/// What a locale writes numbers with: the texts around and between the digits, and where groups end. In English they are
 /// `-`, `+`, `.`, `,`, `latn` and the sizes 3, 3, 1.
 #[derive(Debug, Drop)]
 pub struct DecimalSymbols {

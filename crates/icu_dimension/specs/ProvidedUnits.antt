@@ -1,6 +1,6 @@
 -- The tables of units: a percent sign with its pattern, patterns of amounts, symbols of currencies, and what takes its place where a
 -- currency has no symbol or no digits.
--- UTS 35, part 3 (numbers), number patterns, currencies and supplemental currency data; docs/units.md, "Tables".
+-- UTS 35, part 3 (numbers), number patterns, currencies and supplemental currency data; docs/units.md, "Choosing units".
 -- Cited by the types of `provider`, and by what formatters find.
 use Rattle.std.specs.Prelude.{ℕ, List, Option, None, Some, true}
 use Rattle.icu_decimal.specs.Symbols.{Symbols}

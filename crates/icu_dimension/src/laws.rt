@@ -7,6 +7,7 @@ use icu_decimal::DecimalFormatterPreferences;
 use icu_decimal::laws::tables::same_preferences;
 pub use icu_dimension_affixes::laws as units;
 pub use icu_dimension_fractions::laws as fractions;
+pub use icu_dimension_lenient::laws as lenient;
 
 /// A law: true exactly of equal preferences, which find the same units of every provider, with the same options. It is
 /// true of those of `EN-u-NU-thai` and `en-u-nu-thai`, false of those of `en-u-nu-thai` and `en`.

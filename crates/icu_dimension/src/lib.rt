@@ -1,7 +1,7 @@
 //! Percents and amounts of money as a locale writes them, after `dimension` of ICU4X's `icu_experimental`.
 //!
 //! A formatter borrows patterns, symbols and digits from a provider, and writes any decimal to any sink, with its parts:
-//! in English `12.5%` and `-€1,234.50`. The rules are in docs/units.md. This crate raises its inner crates: what is
+//! in English `12.5%` and `-€1,234.50`. The rules are in docs/units.md. This crate re-exports its inner crates: what is
 //! written with a pattern and a unit that the caller has, texts read back, and the digits of currencies.
 //!
 //! ```rust

@@ -48,7 +48,7 @@ no_bytes : (xs : List ℕ) → length xs ≡ 0 → xs ≡ []
 no_bytes [] none = refl
 no_bytes (x ∷ xs) none = absurd (omega (arith, none))
 
--- round the place there is nothing where the two texts are the place alone
+-- around the place there is nothing where the two texts are the place alone
 pub alone_first : (xs ys zs : List ℕ) → (xs ++ (placeholder ++ ys)) ++ zs ≡ placeholder → (xs ≡ []) × (ys ≡ []) × (zs ≡ [])
 alone_first xs ys zs is =
     let whole : length ((xs ++ (placeholder ++ ys)) ++ zs) ≡ 2 = ap length is in

@@ -1,5 +1,5 @@
 -- The extensions of a data locale: its subdivision under the key `sd`, and nothing else.
--- Defined in docs/tags.md, "Data locales".
+-- Defined in docs/preferences.md, "The locale that data is asked for".
 -- Cited by the test whether a tag is a data locale, which serves the reader.
 use Rattle.std.specs.Prelude.{[], Option}
 use Rattle.icu_locale_core_grammar.specs.Meaning.{UnicodeMeaning, no_transform}

@@ -1,5 +1,5 @@
 -- What a language identifier prefers; data locales of one, of language, script and region, of `und`, and truncated.
--- Defined in docs/tags.md, "Preferences" and "Data locales".
+-- Defined in docs/preferences.md, "What a locale prefers" and "The locale that data is asked for".
 -- Cited by the conversions into preferences and data locales, by their defaults, and by `DataLocale::truncated`.
 use Rattle.std.specs.Prelude.{[], Option, None, Some, if◌then◌else◌}
 use Rattle.std.specs.Option.{is_some}

@@ -1,5 +1,5 @@
 -- The text of a data locale, and as it is written: its pieces, and its subdivision after `u` and `sd`.
--- UTS 35, section 3.2.1, "Canonical Unicode Locale Identifiers"; docs/tags.md, "Data locales".
+-- UTS 35, section 3.2.1, "Canonical Unicode Locale Identifiers"; docs/preferences.md, "Reading a data locale".
 -- Cited by all that writes, compares or measures the text of a data locale.
 use Rattle.std.specs.Prelude.{ℕ, List, [], ◌++◌, ◌+◌, Option, None, Some, flat_map, length, codes, option_to_list}
 use Rattle.writeable.specs.AnnotatedText.{Event, bytes}

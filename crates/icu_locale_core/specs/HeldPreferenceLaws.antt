@@ -1,5 +1,5 @@
 -- What holds of preferences and of data locales, beside the clauses of their calls.
--- Defined in docs/tags.md, "Preferences" and "Data locales".
+-- Defined in docs/preferences.md, "What a locale prefers" and "Reading a data locale".
 -- Cited by the functions of the module of laws. It uses many modules, since a preference is read, printed and held by a tag.
 use Rattle.std.specs.Prelude.{◌≡◌, false, IfSome}
 use Rattle.icu_locale_core_grammar.specs.declared.error.ParseError.{ParseError}

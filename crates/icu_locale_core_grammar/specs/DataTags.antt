@@ -1,5 +1,5 @@
 -- Which tags are data locales: at most one variant, and no extension but a subdivision that reads.
--- Defined in docs/tags.md, "Data locales".
+-- Defined in docs/preferences.md, "Reading a data locale".
 -- Cited by the reader of a data locale, and by the laws on them.
 use Rattle.std.specs.Prelude.{◌≡◌, ◌≤◌, List, length, ◌⊎◌}
 use Rattle.icu_locale_core_grammar.specs.declared.error.ParseError.{ParseError}

@@ -1,5 +1,5 @@
 -- What becomes of preferences: joined with others, written as a tag, and read strictly.
--- Defined in docs/tags.md, "Preferences".
+-- Defined in docs/preferences.md, "Joining" and "As a locale again".
 -- Cited by the calls of `LocalePreferences` and by the law that a tag and its normal text have the same preferences.
 use Rattle.std.specs.Prelude.{Bool, ◌&&◌, ◌||◌, List, [], ◌∷◌, ◌++◌, Option, None, Some, is_none, is_some, option_to_list, codes, if◌then◌else◌}
 use Rattle.icu_locale_core_grammar.specs.Subtags.{Text, same_text}

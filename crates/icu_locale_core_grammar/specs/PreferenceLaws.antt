@@ -1,5 +1,5 @@
 -- What holds of preferences: written as a tag they read back, a tag and its normal text have the same, none adds none.
--- Defined in docs/tags.md, "Preferences".
+-- Defined in docs/preferences.md, "What a locale prefers" and "As a locale again".
 -- Cited by the functions of the module of laws on preferences.
 use Rattle.std.specs.Prelude.{◌≡◌, true, List, None, Some, IfSome}
 use Rattle.icu_locale_core_grammar.specs.Subtags.{Text, is_region, lower, upper}

@@ -1,5 +1,5 @@
 -- What a tag prefers: language, script, region, least variant, and the values of `sd`, `rg` and `nu` where they read.
--- UTS 35, section 3.6, keys `nu`, `rg` and `sd`, and unicode_subdivision_id; docs/tags.md, "Preferences".
+-- UTS 35, section 3.6, keys `nu`, `rg` and `sd`, and unicode_subdivision_id; docs/preferences.md, "What a locale prefers".
 -- Cited by the preferences of a locale, by `DataLocale` and by the readers of a subdivision.
 use Rattle.std.specs.Prelude.{◌≡◌, ℕ, Bool, true, ◌&&◌, List, [], ◌∷◌, ◌++◌, Option, None, Some, take, drop, option_and_then, option_to_list, codes, if◌then◌else◌}
 use Rattle.icu_locale_core_grammar.specs.Subtags.{Text, has_characters, is_region, lower, upper}

@@ -1,5 +1,5 @@
 -- How many locales a book has, and the tag of each.
--- Defined in include/legumeyet.h, and docs/books.md, "Tables".
+-- Defined in include/legumeyet.h, and docs/books.md, "The locales of a book".
 -- Cited by `legumeyet_book_locale_count` and `legumeyet_book_locale`.
 use Rattle.std.specs.Prelude.{◌≡◌, ℕ, List, length, Option, Some, None, Result, Ok, Err, option_map, slice_get}
 use Rattle.icu_locale_core.specs.DataText.{data_text}

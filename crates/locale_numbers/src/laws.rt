@@ -30,7 +30,7 @@ pub use locale_numbers_answers::laws::{
 use locale_numbers_book::laws::{tables_are_sound, units_are_texts};
 pub use locale_numbers_book::laws::{
     chains_end, cycles_are_met, data_locales_are_read, is_one_book, sample_book_is_known,
-    tags_are_read,
+    sample_units_book_is_known, tags_are_read,
 };
 pub use locale_numbers_cache::laws::{last_used_are_kept, unused_keys_miss};
 pub use locale_numbers_lines::laws::{

@@ -72,7 +72,7 @@ fn table_of(alloc: Global, rows: &[Value]) -> Result<CompactPatterns, DataError>
 impl CompactPatterns {
     /// The table that a JSON value says, made as by `new` without patterns of smaller numbers: an array of an array of
     /// a type, its exponent and its slots each, where the numbers are 0 to 255 and the types rise strictly.
-    /// `[[3,3,[["other",["","K"]]]],[6,6,[["other",["","M"]]]]]` is the short table of English.
+    /// `[[3,3,[["other",["","K"]]]],[6,6,[["other",["","M"]]]]]` is the short table of `en` in the sample book.
     ///
     /// Refused, in this order: Custom, where the value has another form, or a type is not above the one before it;
     /// Decreasing, AboveType and TooManyZeros where `new` refuses the types so; Memory: out of memory. It does not
