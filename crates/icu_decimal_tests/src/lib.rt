@@ -2,6 +2,7 @@
 
 #![tactic(auto)]
 
+pub mod caller;
 #[cfg(test)]
 mod examples;
 #[cfg(test)]
@@ -14,3 +15,4 @@ mod reading;
 mod refusing;
 #[cfg(test)]
 mod shown;
+pub mod tag_caller;

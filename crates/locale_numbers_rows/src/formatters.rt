@@ -1,9 +1,10 @@
 //! The formatters that a book has for a tag.
 
+use crate::caller::text_for;
 use locale_numbers::prelude::{
     AbstractFormatter, Book, Decimal, FormatterError, GroupingStrategy, PatternLength,
 };
-use rows::{Stop, put_last_written};
+use rows::{Stop, put_last, put_last_written};
 
 // Writes the text of a number.
 fn put_shown<F: AbstractFormatter>(
@@ -18,6 +19,23 @@ fn put_shown<F: AbstractFormatter>(
     put_last_written(out, formatter.format_sign(number.sign, shown))
 }
 
+// Writes the number and the text of a refusal.
+fn put_refusal(fault: FormatterError, out: &mut String) -> Result<(), Stop> {
+    if let FormatterError::Memory = fault {
+        return Err(Stop::Memory);
+    }
+    write!(out, "{} {fault}", fault.number())?;
+    Ok(())
+}
+
+// Writes the text that was made, or the number and the text of the refusal.
+fn put_made(made: Result<String, FormatterError>, out: &mut String) -> Result<(), Stop> {
+    match made {
+        Ok(text) => put_last(out, text),
+        Err(fault) => put_refusal(fault, out),
+    }
+}
+
 // Writes the text of a number by the formatter that was found, or the number and the text of the refusal.
 fn put_by<F: AbstractFormatter + Drop>(
     found: Result<F, FormatterError>,
@@ -26,11 +44,7 @@ fn put_by<F: AbstractFormatter + Drop>(
 ) -> Result<(), Stop> {
     match found {
         Ok(formatter) => put_shown(&formatter, number, out),
-        Err(FormatterError::Memory) => Err(Stop::Memory),
-        Err(fault) => {
-            write!(out, "{} {fault}", fault.number())?;
-            Ok(())
-        }
+        Err(fault) => put_refusal(fault, out),
     }
 }
 
@@ -57,7 +71,7 @@ pub fn answer(
                 out,
             )
         }
-        "formatter" => put_by(book.formatter(alloc, tag), &number, out),
+        "formatter" => put_made(text_for(alloc, book, tag, &number), out),
         "short_formatter" => put_by(book.short_formatter(alloc, tag), &number, out),
         "long_formatter" => put_by(book.long_formatter(alloc, tag), &number, out),
         _ => Err(Stop::Unknown),

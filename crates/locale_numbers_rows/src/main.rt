@@ -6,6 +6,7 @@
 mod answers;
 mod book_run;
 mod books;
+mod caller;
 mod calls;
 mod counting;
 mod faults;
