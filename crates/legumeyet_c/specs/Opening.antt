@@ -1,5 +1,5 @@
 -- What a call that opens, keeps or closes leaves in a handle, and why it is refused.
--- Defined in include/legumeyet.h, docs/books.md, "Faults", and docs/formatters.md, "Choosing tables".
+-- Defined in include/legumeyet.h, docs/c-api.md, "Handles", docs/books.md, "Faults", and docs/formatters.md, "Choosing tables".
 -- Cited by the exports that open, keep and close.
 -- The imports are many: what a book has, each kind of tables, the content of a handle, and the errors of a book, of a tag and of a call.
 use Rattle.std.specs.Prelude.{◌≡◌, ◌⊎◌, ℕ, Bool, true, false, List, Option, Some, None, is_some, Result, Ok, Err, IsOk, IfErr, IsUtf8}
