@@ -1,4 +1,4 @@
-//! Which multiples a rounding looks at, and which of them it takes: modes by size, and increments.
+//! The modes of a rounding, by size, and its increments, by name.
 
 ghost use Rattle.std.specs.Prelude.{◌≡◌};
 ghost use Rattle.fixed_decimal_digits.specs.Rounding.{increment_number};

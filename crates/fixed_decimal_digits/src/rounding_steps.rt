@@ -1,4 +1,4 @@
-//! What a rounding looks at: digits by place, the part below a place, and the choice between two multiples.
+//! What a rounding looks at: digits by place, the part below a place, and the choice between two multiples, at a tie too.
 
 ghost use Rattle.std.specs.Prelude.{◌≡◌, ℕ, ◌+◌, ◌-◌, ◌*◌, ◌/◌, ◌%◌, ◌^◌, ◌<◌, ◌≤◌, ◌↔◌, length, IsTrue, slice_index};
 ghost use Rattle.std.specs.Int.Digits.{number_from_digits, AllBelowBase};

@@ -1,4 +1,4 @@
--- Which table of units is taken: each key along all locales, and then the next key.
+-- Which table of units is taken: each key along all locales, and then the next key; the digits of a currency under `und` alone.
 -- Defined in docs/units.md, "Choosing units".
 -- Cited by the loading of each table, and by what formatters find.
 use Rattle.std.specs.Prelude.{ℕ, ◌==◌, cond, List, [], ◌∷◌, ◌++◌, Option, None, Result, Ok}

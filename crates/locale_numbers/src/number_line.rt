@@ -96,7 +96,7 @@ pub(crate) fn answer_number<'a, F: Formatters<'a>>(
 
     // Where there is room for the answer, and handing out the formatter of the key takes none, only a number of more
     // than sixteen digits, and of more than `value` had, may be out of memory, and a rounding to multiples of 25 that
-    // may lengthen one of eight.
+    // may lengthen one of sixteen.
     ensures room { HasRoom out.old (if_text text.now (answer_to
         (answer_of_kind key.now.kind key.now.code (F.book formatters.old) key.now.preferences key.now.grouping) sign rounding
         (reading_of text.now)))

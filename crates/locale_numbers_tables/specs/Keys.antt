@@ -1,6 +1,6 @@
 -- When two keys of a book are one, what is under a key, and a table that has no key twice.
 -- Defined in docs/books.md, "The form".
--- Cited by the steps of `Book::from_json`, by both laws of keys, and by Book.antt of `locale_numbers_book` and Tables.antt of `locale_numbers_book`.
+-- Cited by the steps of `Book::from_json`, by both laws of keys, and by Book.antt and Tables.antt of `locale_numbers_book`.
 use Rattle.std.specs.Prelude.{Bool, true, not, ◌&&◌, List, [], ◌∷◌, Option, Some, None, option_and_then, is_some, if◌then◌else◌}
 use Rattle.std.specs.Str.{bytes_eq}
 use Rattle.serde_json.specs.Data.{Data, Items}
