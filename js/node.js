@@ -1,18 +1,19 @@
-// The library with the world's book, for Node, Deno and Bun, which read files. Nothing is awaited, so `require` may take it too.
+// The library with the world's book, for Node, Deno and Bun, which read files. Nothing is awaited, so `require` may take it too. Bundlers find
+// both files by their literal addresses.
 import { readFileSync } from "node:fs";
 import { LoadError, loadSync } from "./instance.js";
 import { setWorld } from "./formatters.js";
 
-function bytesOf(name) {
+function bytesOf(name, address) {
   try {
-    return readFileSync(new URL(name, import.meta.url));
+    return readFileSync(address);
   } catch (error) {
     throw new LoadError(name, "fetch", error.message, error);
   }
 }
 
-loadSync(bytesOf("legumeyet.wasm"));
-setWorld(bytesOf("world.json"));
+loadSync(bytesOf("legumeyet.wasm", new URL("./legumeyet.wasm", import.meta.url)));
+setWorld(bytesOf("world.json", new URL("./world.json", import.meta.url)));
 
 export {
   Answers, Book, CompactDecimalFormatter, CurrencyFormatter, DecimalFormatter, ErrorNumber, LegumeyetError, LoadError, PercentFormatter, version,
