@@ -18,8 +18,10 @@ pub fn label(
     short: &CompactDecimalFormatter<'_>,
     number: &Decimal,
 ) -> Result<String, AllocError>
-    ensures short { CanShow (compact_tables_of short.now).patterns.entries number.now.absolute.count → IfOk result (λ text. string_bytes text ≡ compact_decimal_text (compact_tables_of short.now) number.now) }
-    ensures plain { ¬ (CanShow (compact_tables_of short.now).patterns.entries number.now.absolute.count) → IfOk result (λ text. string_bytes text ≡ decimal_text (tables_of plain.now) number.now) }
+    ensures short { CanShow (compact_tables_of short.now).patterns.entries number.now.absolute.count
+        → IfOk result (λ text. string_bytes text ≡ compact_decimal_text (compact_tables_of short.now) number.now) }
+    ensures plain { ¬ (CanShow (compact_tables_of short.now).patterns.entries number.now.absolute.count)
+        → IfOk result (λ text. string_bytes text ≡ decimal_text (tables_of plain.now) number.now) }
 {
     if short.can_format(number) {
         short.format_to_string(alloc, number)

@@ -15,8 +15,10 @@ pub fn text_for(
     tag: &str,
     number: &Decimal,
 ) -> Result<String, FormatterError>
-    ensures text { IfOk result (λ text. (tables : Tables) × (plain_for book.now tag.now ≡ Ok tables) × (string_bytes text ≡ decimal_text tables number.now)) }
-    ensures fault { IfErr result (λ fault. (fault ≡ FormatterError.Memory) ⊎ (plain_for book.now tag.now ≡ Err fault)) }
+    ensures text { IfOk result (λ text. (tables : Tables)
+        × (plain_for book.now tag.now ≡ Ok tables) × (string_bytes text ≡ decimal_text tables number.now)) }
+    ensures fault { IfErr result
+        (λ fault. (fault ≡ FormatterError.Memory) ⊎ (plain_for book.now tag.now ≡ Err fault)) }
 {
     let formatter = book.formatter(alloc, tag)?;
     Ok(formatter.format_to_string(alloc, number)?)
