@@ -314,18 +314,23 @@ class Cldr:
         return {it: text for it, text in found.items() if text is not None}
 
     def currencies(self, chain):
-        """What a locale says of each currency, by its code: the symbol, and the pattern and separators of its own. A
-        pattern goes with the separators of the locale that gives it, as in ICU4C."""
+        """What a locale says of each currency, by its code: the symbol, and the pattern and separators of its own. Separators that are no others
+        than the usual ones of the locale that gives them are not its own: a locale below it writes the currency with its own usual ones."""
         key = chain[0], ("currencies",)
         if key not in self._tables:
             found = dict(self.currencies(chain[1:])) if len(chain) > 1 else {}
             for path, values in self._of(chain[0])[0].items():
                 if path[:1] == ("currencies",) and len(path) == 2:
                     code = path[1].removeprefix("currency[").removesuffix("]")
-                    usual = self.separators_of_currencies(chain) if "pattern" in values else {}
-                    found[code] = {**found.get(code, {}), **usual, **values}
+                    found[code] = {**found.get(code, {}), **self._without_usual(chain, values)}
             self._tables[key] = found
         return self._tables[key]
+
+    def _without_usual(self, chain, values):
+        """What a locale's own file says of a currency, without its separators where these are the locale's usual ones."""
+        own = {it: values[it] for it in ("decimal", "group") if it in values}
+        usual = self.separators_of_currencies(chain) if own else {}
+        return {it: text for it, text in values.items() if it not in own} if own.items() <= usual.items() else values
 
     @functools.cached_property
     def currency_digits(self):

@@ -10,12 +10,15 @@ from unit_text import (
 )
 
 APART = "\u00a0"
+SEPARATORS = ("decimal", "grouping")
 STYLES = ("percent", "currency", "code", "accounting", "cash")
 CODES = ("EUR", "USD", "CHF", "JPY", "INR", "TRY", "CVE", "DKK", "KWD", "QQQ")  # the last is no currency's
 FIXED = (("keep", "0"), ("keep", "-5"), ("always", "5"), ("keep", "-0.001"), ("keep", "1234567.885"), ("keep", "-1234.125"))
 OWN_CURRENCY = "the pattern of the region's own currency: for this alone here, there for all others too"
 OF_LATN = "a separator of currencies that a locale has in its usual system: there in the other systems too"
 NO_LETTERS = "CLDR's pattern beside a letter: taken here, and there the usual one with a space"
+OF_GIVER = "the separators of the locale that gives a currency its pattern: there for the locales below it too"
+HAN_DIGITS = "digits that Unicode counts as letters, those of hanidec: a space between them and letters here, and none there"
 CASH_ZERO = "an increment of cash that ends in 0: its digits are shown here, and there without that 0"
 
 
@@ -104,8 +107,16 @@ def patterns_there(units, along, system, style, code):
 def with_usual_separators(book, locale, symbols, entry):
     """These symbols with the separators that the locale's usual entry has for currencies alone, or None where it has none."""
     plain, own = plain_tables(book, locale, "")[0], Symbols(*entry[0]) if entry[0] else None
-    changed = {it: getattr(own, it) for it in ("decimal", "grouping") if own and getattr(own, it) != getattr(plain, it)}
+    changed = {it: getattr(own, it) for it in SEPARATORS if own and getattr(own, it) != getattr(plain, it)}
     return symbols._replace(**changed) if changed else None
+
+
+def with_givers_separators(book, along, symbols, codes):
+    """These symbols with the separators of each locale of a chain that has an entry for one of these codes."""
+    for giver in along:
+        if any((giver, code) in book.units.entries["currencies"] for code in codes):
+            found = plain_tables(book, giver, "")[0]
+            yield symbols._replace(**{it: getattr(found, it) for it in SEPARATORS})
 
 
 def formats_there(book, line):
@@ -122,9 +133,14 @@ def formats_there(book, line):
         its = Symbols(*own) if own else symbols
         affixes = affixes_of(chosen_pattern(pattern, beside, ends), unit, its)
         found.append((Format(its, digits, affixes, rounding), causes))
+        if not digits[0].isdecimal():
+            found.append((Format(its, digits, affixes_of(pattern, unit, its), rounding), [*causes, HAN_DIGITS]))
         usual = system and with_usual_separators(book, locale, its, units.standard(along, "", code))
         if usual:
             found.append((Format(usual, digits, affixes, rounding), [*causes, OF_LATN]))
+        codes = units.own_codes() if OWN_CURRENCY in causes else [code]
+        found += [(Format(other, digits, affixes, rounding), [*causes, OF_GIVER])
+                  for other in with_givers_separators(book, along, its, codes)]
     return found
 
 

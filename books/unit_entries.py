@@ -134,15 +134,15 @@ class UnitEntries:
                 usual = entry
 
     def add_own_patterns(self, tag, chain, default):
-        """Adds the entries of the currencies that have a pattern or separators of their own, other than the usual."""
-        usual = [entry[2:] for array in self.arrays[1:3] for entry in array if entry[:2] == [tag, ""]]
+        """Adds the entries of the currencies that have a pattern or separators of their own, other than the usual ones of a system."""
+        usual = [entry[2:] for array in self.arrays[1:3] for entry in array if entry[0] == tag and not is_code(entry[1])]
         path = FORMATS["standard"]
         standard = self.cldr.table(chain, (f"{path[0]}[{default}]", *path[1:]))
         for code, own in sorted(self.cldr.currencies(chain).items()) if tag != "und" else ():
             if is_code(code) and {"pattern", "decimal", "group"} & set(own):
                 values = {"pattern": own["pattern"]} if "pattern" in own else standard
                 entry = self.entry("standard", tag, chain, default, values, own)
-                if entry is not None and usual != [entry, entry]:
+                if entry is not None and any(it != entry for it in usual):
                     self.arrays[1].append([tag, code, *entry])
 
     def entry(self, kind, tag, chain, system, values, own=()):

@@ -50,6 +50,7 @@ iw | currency-ILS | keep | - | -5 | \u200f\u200e-5.00~\u200f₪
 en-AT | currency-EUR | keep | - | 1234.5 | €~1.234,50
 en-AT | currency-USD | keep | - | 1234.5 | US$~1.234,50
 en-150 | currency-EUR | keep | - | 1234.5 | €1,234.50
+en-DE | currency-EUR | keep | - | 1234.5 | €1.234,50
 pt-CV | currency-CVE | keep | - | 12345 | 12~345$00~\u200b
 pt-CV | currency-EUR | keep | - | 12345 | 12~345,00~€
 en-AU | currency-AUD | keep | - | 5 | $5.00
@@ -161,6 +162,7 @@ pt-CV | currency-DKK | keep | cash | 12345.25 | 12~345$0~DKK | OWN_CURRENCY CASH
 tr | accounting-EUR | keep | - | -5 | -€5,00 | OWN_CURRENCY
 gaa | accounting-CHF | keep | - | -5 | -CHF~5.00 | NO_LETTERS
 fr-CH-u-nu-arab | currency-CHF | keep | - | 5 | ٥.٠٠~CHF | OF_LATN
+en-DE | currency-EUR | keep | - | 1234.5 | €1,234.50 | OF_GIVER
 en | currency-EUR | keep | - | 5 | 5.00 euros | none
 en | percent | keep | - | 5 | 5~% | none
 """.splitlines()
