@@ -80,7 +80,7 @@ fn are_characters(digits: &[char])
     ensures { AllByRecursion IsScalar digits.now }
 {
     for digit in digits {
-        let _ = character(*digit);
+        let _ = character(*digit); // for the proof
     }
 }
 

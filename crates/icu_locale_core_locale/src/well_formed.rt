@@ -18,7 +18,7 @@ use icu_locale_core_langid::laws::identifiers_read_back;
 fn is_normal_unicode(unicode: &Unicode) -> bool
     ensures { IsTrue result ↔ IsNormalUnicode unicode.now }
 {
-    let _attributes = unicode.attributes.as_slice();
+    let _attributes = unicode.attributes.as_slice(); // for the proof
     unicode.keywords.is_well_formed()
 }
 
@@ -79,7 +79,7 @@ fn has_normal_parts(locale: &Locale) -> bool
 {
     let extensions = &locale.extensions;
     identifiers_read_back(&locale.id);
-    let _private = extensions.private.as_slice();
+    let _private = extensions.private.as_slice(); // for the proof
     is_normal_unicode(&extensions.unicode)
         && is_normal_transform(&extensions.transform)
         && are_normal_others(extensions.other.as_slice())

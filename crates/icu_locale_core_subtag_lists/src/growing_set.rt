@@ -98,7 +98,7 @@ impl<R: SubtagRule<8>> GrowingSet<R> {
         ensures value { OnOk result (self.new ≡ insert_text subtag self.old) }
         ensures err { OnErr result (self.new ≡ self.old) }
     {
-        let _items = &self.items;
+        let _items = &self.items; // for the proof
         if self.contains(&subtag) {
             return Ok(false);
         }
