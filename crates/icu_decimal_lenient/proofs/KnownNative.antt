@@ -13,6 +13,7 @@ use Rattle.icu_decimal_lenient.specs.Native.{arabic_text, has_arabic_digits, nat
 use Rattle.icu_decimal_lenient.specs.TypedReading.{arabic_reading, takes_arabic, typed_by_both, typed_reading}
 use Rattle.icu_decimal_lenient.proofs.KnownLenient.{english, latin, number, with_strings}
 use Rattle.icu_decimal_lenient.proofs.KnownLocales.{egyptian, french, german, hindi, khmer, persian}
+use Rattle.icu_decimal_lenient.proofs.TypedLemmas.{arabic_is_read}
 
 -- ---- digits
 
@@ -83,10 +84,6 @@ in_arabic : typed_reading arabic (encode_utf8_all (0x664 ∷ 0x665 ∷ 0x666 ∷
 unfolding fold_of system_of native_zeros chars trim_start trim_end encode
 in_arabic = refl
 
-arabic_separators : typed_reading arabic (encode_utf8_all (0x661 ∷ 0x66C ∷ 0x662 ∷ 0x663 ∷ 0x664 ∷ 0x66B ∷ 0x665 ∷ [])) ≡ number NoSign 12345 4 1
-unfolding fold_of system_of native_zeros chars trim_start trim_end encode
-arabic_separators = refl
-
 arabic_own_separators : typed_reading arabic (encode_utf8_all (0x661 ∷ 0x2C ∷ 0x662 ∷ 0x663 ∷ 0x664 ∷ 0x2E ∷ 0x665 ∷ [])) ≡ number NoSign 12345 4 1
 unfolding fold_of system_of native_zeros chars trim_start trim_end encode
 arabic_own_separators = refl
@@ -103,10 +100,6 @@ arabic_in_persian : typed_reading persian (encode_utf8_all (0x664 ∷ 0x665 ∷ 
 unfolding fold_of system_of native_zeros chars trim_start trim_end encode
 arabic_in_persian = refl
 
-arabic_in_german : typed_reading german (encode_utf8_all (0x661 ∷ 0x66B ∷ 0x665 ∷ [])) ≡ number NoSign 15 1 1
-unfolding fold_of system_of native_zeros chars trim_start trim_end encode
-arabic_in_german = refl
-
 devanagari_in_french : typed_reading french (encode_utf8_all (0x967 ∷ 0x20 ∷ 0x968 ∷ 0x969 ∷ 0x96A ∷ 0x2C ∷ 0x96B ∷ [])) ≡ number NoSign 12345 4 1
 unfolding fold_of system_of native_zeros chars trim_start trim_end encode
 devanagari_in_french = refl
@@ -118,6 +111,45 @@ full_width = refl
 hindi_in_egyptian : typed_reading egyptian (encode_utf8_all (0x967 ∷ 0x66B ∷ 0x96B ∷ [])) ≡ number NoSign 15 1 1
 unfolding fold_of system_of native_zeros chars trim_start trim_end encode
 hindi_in_egyptian = refl
+
+-- with the separators of Arabic digits: in steps, since the definition on these whole computes for too long
+arabic_separators_spelled : arabic_text (encode_utf8_all (0x661 ∷ 0x66C ∷ 0x662 ∷ 0x663 ∷ 0x664 ∷ 0x66B ∷ 0x665 ∷ [])) ≡ Some (encode_utf8_all (0x31 ∷ 0x66C ∷ 0x32 ∷ 0x33 ∷ 0x34 ∷ 0x66B ∷ 0x35 ∷ []))
+unfolding system_of native_zeros chars encode
+arabic_separators_spelled = refl
+
+arabic_separators_as_it_is : lenient_reading arabic (encode_utf8_all (0x661 ∷ 0x66C ∷ 0x662 ∷ 0x663 ∷ 0x664 ∷ 0x66B ∷ 0x665 ∷ [])) ≡ not_written
+unfolding fold_of system_of native_zeros chars trim_start trim_end encode
+arabic_separators_as_it_is = refl
+
+arabic_separators_in_ascii : lenient_reading arabic (encode_utf8_all (0x31 ∷ 0x66C ∷ 0x32 ∷ 0x33 ∷ 0x34 ∷ 0x66B ∷ 0x35 ∷ [])) ≡ not_written
+unfolding fold_of system_of native_zeros chars trim_start trim_end encode
+arabic_separators_in_ascii = refl
+
+arabic_separators_read : arabic_reading arabic (encode_utf8_all (0x31 ∷ 0x66C ∷ 0x32 ∷ 0x33 ∷ 0x34 ∷ 0x66B ∷ 0x35 ∷ [])) ≡ number NoSign 12345 4 1
+unfolding fold_of system_of native_zeros chars trim_start trim_end encode
+arabic_separators_read = refl
+
+arabic_separators : typed_reading arabic (encode_utf8_all (0x661 ∷ 0x66C ∷ 0x662 ∷ 0x663 ∷ 0x664 ∷ 0x66B ∷ 0x665 ∷ [])) ≡ number NoSign 12345 4 1
+arabic_separators = arabic_is_read arabic (encode_utf8_all (0x661 ∷ 0x66C ∷ 0x662 ∷ 0x663 ∷ 0x664 ∷ 0x66B ∷ 0x665 ∷ [])) (encode_utf8_all (0x31 ∷ 0x66C ∷ 0x32 ∷ 0x33 ∷ 0x34 ∷ 0x66B ∷ 0x35 ∷ [])) _ arabic_separators_spelled arabic_separators_as_it_is arabic_separators_in_ascii arabic_separators_read
+
+arabic_in_german_spelled : arabic_text (encode_utf8_all (0x661 ∷ 0x66B ∷ 0x665 ∷ [])) ≡ Some (encode_utf8_all (0x31 ∷ 0x66B ∷ 0x35 ∷ []))
+unfolding system_of native_zeros chars encode
+arabic_in_german_spelled = refl
+
+arabic_in_german_as_it_is : lenient_reading german (encode_utf8_all (0x661 ∷ 0x66B ∷ 0x665 ∷ [])) ≡ not_written
+unfolding fold_of system_of native_zeros chars trim_start trim_end encode
+arabic_in_german_as_it_is = refl
+
+arabic_in_german_in_ascii : lenient_reading german (encode_utf8_all (0x31 ∷ 0x66B ∷ 0x35 ∷ [])) ≡ not_written
+unfolding fold_of system_of native_zeros chars trim_start trim_end encode
+arabic_in_german_in_ascii = refl
+
+arabic_in_german_read : arabic_reading german (encode_utf8_all (0x31 ∷ 0x66B ∷ 0x35 ∷ [])) ≡ number NoSign 15 1 1
+unfolding fold_of system_of native_zeros chars trim_start trim_end encode
+arabic_in_german_read = refl
+
+arabic_in_german : typed_reading german (encode_utf8_all (0x661 ∷ 0x66B ∷ 0x665 ∷ [])) ≡ number NoSign 15 1 1
+arabic_in_german = arabic_is_read german (encode_utf8_all (0x661 ∷ 0x66B ∷ 0x665 ∷ [])) (encode_utf8_all (0x31 ∷ 0x66B ∷ 0x35 ∷ [])) _ arabic_in_german_spelled arabic_in_german_as_it_is arabic_in_german_in_ascii arabic_in_german_read
 
 -- separators of two systems: neither the tables nor those with the separators of Arabic digits read it, one after another here, since all at once computes for too long
 mixture : arabic_text (encode_utf8_all (0x661 ∷ 0x66C ∷ 0x662 ∷ 0x663 ∷ 0x664 ∷ 0x2E ∷ 0x665 ∷ [])) ≡ Some (encode_utf8_all (0x31 ∷ 0x66C ∷ 0x32 ∷ 0x33 ∷ 0x34 ∷ 0x2E ∷ 0x35 ∷ []))

@@ -13,3 +13,4 @@ pub mod LenientStepLemmas
 pub mod NativeLemmas
 pub mod ReadableLemmas
 pub mod TypedLemmas
+pub mod TypedStepLemmas

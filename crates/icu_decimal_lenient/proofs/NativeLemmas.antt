@@ -1,10 +1,16 @@
 -- The digits of a text, one character after another.
-use Rattle.std.proofs.Common.{◌≡◌, ℕ, ◌+◌, ◌-◌, ◌<◌, ◌≤◌, ◌==◌, nat_le, Bool, true, false, ◌&&◌, cond, List, [], ◌∷◌, ◌++◌, map, slice_get, Option, None, Some, refl, sym, ap, ◌∙◌, append_assoc, arith}
-use Rattle.std.proofs.lemmas.Bool.{and_left, and_parts, eq-eqb, false≢true, leb-true, ne_eqb}
+use Rattle.std.proofs.Common.{◌≡◌, ℕ, ◌+◌, ◌-◌, ◌<◌, ◌≤◌, ◌==◌, nat_le, Bool, true, false, ◌&&◌, cond, List, [], ◌∷◌, ◌++◌, map, slice_get, Option, None, Some, option_map, refl, sym, ap, subst, ◌∙◌, append_assoc, arith}
+use Rattle.std.proofs.lemmas.Bool.{and_from, and_left, and_parts, eq-eqb, false≢true, leb-true, ne_eqb}
 use Rattle.std.proofs.lemmas.List.{append-nil}
 use Rattle.std.specs.List.{cons_option, find, list_all}
-use lib.Utf8.{encode, encodes}
-use Rattle.icu_decimal_lenient.specs.Native.{are_of, in_ascii, is_from, native_zeros, system_of, systems_in}
+use Rattle.std.specs.Str.{IsUtf8, chars}
+use Rattle.std.proofs.lemmas.Str.{scalars-chars}
+use Rattle.std.proofs.Math.Utf8.{scalars}
+use lib.Utf8.{encode, encodes, scalar, low_scalar}
+use Rattle.icu_decimal_plain.specs.PlainText.{Tables}
+use Rattle.icu_decimal_reading.specs.ReadingLaws.{AreTables}
+use Rattle.icu_decimal_lenient.specs.TypedReading.{arabic_tables}
+use Rattle.icu_decimal_lenient.specs.Native.{are_of, arabic_text, ascii_text, has_arabic_digits, in_ascii, is_from, native_system, native_text, native_zeros, system_of, systems_in, zeros}
 
 -- ---- a character
 
@@ -86,3 +92,74 @@ arabic_point = refl
 pub arabic_group : encodes (0x66C ∷ []) ≡ 0xD9 ∷ 0xAC ∷ []
 unfolding encode
 arabic_group = refl
+
+pub are_arabic : (t : Tables) → AreTables t → AreTables (arabic_tables t)
+are_arabic t are = record {
+  ten = are.ten;
+  digits = are.digits;
+  minus_prefix = are.minus_prefix;
+  minus_suffix = are.minus_suffix;
+  plus_prefix = are.plus_prefix;
+  plus_suffix = are.plus_suffix;
+  point = (0x66B ∷ [], (refl, refl));
+  group = (0x66C ∷ [], (refl, refl));
+}
+
+-- ---- a text in ASCII is UTF-8
+
+find_step : (b : Bool) (c z nought : ℕ) (rest : Option ℕ) → is_from c z ≡ b → (rest ≡ Some nought → is_from c nought ≡ true) → cond b (Some z) rest ≡ Some nought → is_from c nought ≡ true
+find_step true c z nought rest is more e = subst (λ n. is_from c n ≡ true) (same e) is
+  where
+    same : Some z ≡ Some nought → z ≡ nought
+    same e = cc
+find_step false c z nought rest is more e = more e
+
+find_counts : (c nought : ℕ) (zs : List ℕ) → find (is_from c) zs ≡ Some nought → is_from c nought ≡ true
+find_counts c nought [] e = absurd (none_some e)
+  where
+    none_some : None ≡ Some nought → ⊥
+    none_some e = cc
+find_counts c nought (z ∷ zs) e = find_step (is_from c z) c z nought (find (is_from c) zs) refl (find_counts c nought zs) e
+
+counts : (c nought : ℕ) → system_of c ≡ Some nought → is_from c nought ≡ true
+unfolding system_of
+counts c nought e = find_counts c nought zeros e
+
+ascii_scalar : (c : ℕ) (o : Option ℕ) → system_of c ≡ o → scalar c ≡ true → scalar (in_ascii o c) ≡ true
+ascii_scalar c None is one = one
+ascii_scalar c (Some nought) is one =
+    let near : c - nought ≤ 9 = leb-true (c - nought) 9 (and_parts (nat_le nought c) (nat_le (c - nought) 9) (counts c nought is)).1 in
+    low_scalar (c - nought + 48) (omega (arith, near))
+
+ascii_scalars : (cs : List ℕ) → scalars cs ≡ true → scalars (map (λ c. in_ascii (system_of c) c) cs) ≡ true
+ascii_scalars [] is = refl
+ascii_scalars (c ∷ cs) is =
+    let parts = and_parts (scalar c) (scalars cs) is in
+    and_from (scalar (in_ascii (system_of c) c)) (scalars (map (λ c. in_ascii (system_of c) c) cs)) (ascii_scalar c (system_of c) refl parts.0) (ascii_scalars cs parts.1)
+
+pub ascii_utf8 : (text : List ℕ) → IsUtf8 text → IsUtf8 (ascii_text text)
+ascii_utf8 text utf8 = (map (λ c. in_ascii (system_of c) c) (chars text), (ascii_scalars (chars text) (scalars-chars text utf8), refl))
+
+pub native_utf8 : (text native : List ℕ) → IsUtf8 text → native_text text ≡ Some native → IsUtf8 native
+native_utf8 text native utf8 is = by (native_system (chars text)) is
+  where
+    by : (o : Option ℕ) → option_map (λ nought. ascii_text text) o ≡ Some native → IsUtf8 native
+    by None e = absurd (none_some e)
+      where
+        none_some : None ≡ Some native → ⊥
+        none_some e = cc
+    by (Some nought) e = subst IsUtf8 (some_same e) (ascii_utf8 text utf8)
+      where
+        some_same : Some (ascii_text text) ≡ Some native → ascii_text text ≡ native
+        some_same e = cc
+
+-- what is spelled for Arabic digits is so for any
+pub arabic_native : (text native : List ℕ) → arabic_text text ≡ Some native → native_text text ≡ Some native
+arabic_native text native is = by (has_arabic_digits text) is
+  where
+    by : (b : Bool) → cond b (native_text text) None ≡ Some native → native_text text ≡ Some native
+    by true e = e
+    by false e = absurd (none_some e)
+      where
+        none_some : None ≡ Some native → ⊥
+        none_some e = cc

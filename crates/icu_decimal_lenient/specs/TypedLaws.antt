@@ -9,8 +9,8 @@ use Rattle.icu_decimal_plain.specs.PlainText.{Tables}
 use Rattle.icu_decimal_reading.specs.DecimalOfText.{decimal, not_written, unreadable}
 use Rattle.icu_decimal_reading.specs.ReadingLaws.{AreTables}
 use Rattle.icu_decimal_lenient.specs.LenientReading.{IsUnreadable, lenient_reading, reading_by_both}
-use Rattle.icu_decimal_lenient.specs.Native.{has_arabic_digits, native_text}
-use Rattle.icu_decimal_lenient.specs.TypedReading.{HasNoNumberByBoth, HasNoNumberTyped, IsTypedNumber, typed_by_both, typed_reading}
+use Rattle.icu_decimal_lenient.specs.Native.{arabic_text, has_arabic_digits, native_text}
+use Rattle.icu_decimal_lenient.specs.TypedReading.{HasNoNumberByBoth, HasNoNumberTyped, IsTypedNumber, arabic_reading, typed_by_both, typed_reading}
 
 -- what is read without native digits is read as the same decimal
 abbrev pub LenientIsTypedSo : Type 0
@@ -38,6 +38,11 @@ NativeIsAsciiByBoth = (t other : Tables) (text native : List ℕ) (v : SignedVal
 abbrev pub OnlyArabicDiffers : Type 0
 OnlyArabicDiffers = (t : Tables) (text native : List ℕ) → native_text text ≡ Some native → has_arabic_digits text ≡ false
     → lenient_reading t text ≡ not_written → typed_reading t text ≡ lenient_reading t native
+
+-- and they are read so where they are no number in ASCII
+abbrev pub ArabicIsRead : Type 0
+ArabicIsRead = (t : Tables) (text native : List ℕ) (v : SignedValue Number) → arabic_text text ≡ Some native
+    → lenient_reading t text ≡ not_written → lenient_reading t native ≡ not_written → arabic_reading t native ≡ decimal v → typed_reading t text ≡ decimal v
 
 -- what is read is a text of that decimal
 abbrev pub TypedIsNumber : Type 0

@@ -1,6 +1,6 @@
 //! Laws of lenient reading. No call is made: each clause is the law.
 ghost use Rattle.icu_decimal_lenient.specs.LenientLaws.{AmbiguousIsNotWritten, BothMiss, EachGroupingIsLenient, EachGroupingIsReadByBoth, ExactIsLenient, ExactIsReadByBoth, FoldOfTextIsText, GroupingsHaveOneDecimal, LenientIsTyped, LenientIsUnreadable, LenientMisses, SecondLeavesFirst, SecondReadsRest, TwoGroupingsAreEnough, WrittenReadsLeniently};
-ghost use Rattle.icu_decimal_lenient.specs.TypedLaws.{BothAreNumbers, BothAreTypedSo, LenientIsTypedSo, NativeIsAscii, NativeIsAsciiByBoth, OnlyArabicDiffers, OthersStay, TypedBothMiss, TypedIsNumber, TypedIsUnreadable, TypedMisses};
+ghost use Rattle.icu_decimal_lenient.specs.TypedLaws.{ArabicIsRead, BothAreNumbers, BothAreTypedSo, LenientIsTypedSo, NativeIsAscii, NativeIsAsciiByBoth, OnlyArabicDiffers, OthersStay, TypedBothMiss, TypedIsNumber, TypedIsUnreadable, TypedMisses};
 
 /// Under readable symbols the fold of a decimal's text is its text with the folded symbols: `1’234.5` of Switzerland is
 /// `1'234.5`.
@@ -64,11 +64,12 @@ pub fn native_digits_add()
 {}
 
 /// A text in native digits that was not read is read as it is in ASCII: in Hindi `१,२३४.५` as `1,234.5`. Only Arabic
-/// digits are read in another way besides.
+/// digits are read in another way besides: `١٬٢٣٤٫٥` with their separators.
 pub fn native_digits_are_ascii()
     ensures same { NativeIsAscii }
     ensures both { NativeIsAsciiByBoth }
     ensures others { OnlyArabicDiffers }
+    ensures arabic { ArabicIsRead }
 {}
 
 /// What is read with native digits is a text of that decimal: as it is, in ASCII, or so with the separators of Arabic

@@ -62,7 +62,7 @@ fn read_spelled<R: NativeReader>(
 }
 
 // A text that is no number as it is.
-#[tactic(auto, using(crate::proofs::TypedLemmas::no_native, crate::proofs::TypedLemmas::spelled_again))]
+#[tactic(auto, using(crate::proofs::TypedLemmas::no_native, crate::proofs::TypedStepLemmas::spelled_again))]
 fn read_digits<R: NativeReader>(alloc: Global, reader: &R, text: &str) -> Result<Decimal, ReadError>
     ensures { IsAnswered result (or_else (by_option (R.reading reader.now) (native_text text.now))
         (by_option (R.arabic reader.now) (arabic_text text.now))) }

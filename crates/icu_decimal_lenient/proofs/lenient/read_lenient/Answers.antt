@@ -1,5 +1,5 @@
 use Rattle.icu_decimal_plain.specs.BorrowedTables.{borrowed_tables}
-use Rattle.icu_decimal_lenient.proofs.TypedLemmas.{answered_no_number, answered_no_typing, answered_number}
+use Rattle.icu_decimal_lenient.proofs.TypedStepLemmas.{answered_no_number, answered_no_typing, answered_number}
 use Rattle.icu_decimal_lenient.proofs.lenient.read_lenient.Goals as goal
 
 pub returns-clause-unreadable : goal.returns-clause-unreadable

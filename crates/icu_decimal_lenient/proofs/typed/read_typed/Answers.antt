@@ -1,4 +1,4 @@
-use Rattle.icu_decimal_lenient.proofs.TypedLemmas.{one_allocates}
+use Rattle.icu_decimal_lenient.proofs.TypedStepLemmas.{one_allocates}
 use Rattle.icu_decimal_lenient.proofs.typed.read_typed.Goals as goal
 
 pub returns-clause-memory : goal.returns-clause-memory

@@ -1,4 +1,4 @@
-use Rattle.icu_decimal_lenient.proofs.TypedLemmas.{both_allocate}
+use Rattle.icu_decimal_lenient.proofs.TypedStepLemmas.{both_allocate}
 use Rattle.icu_decimal_lenient.proofs.typed.read_typed_or.Goals as goal
 
 pub returns-clause-memory : goal.returns-clause-memory
