@@ -47,6 +47,8 @@ pub use Rattle.icu_decimal_reading.specs.Readable
 pub use Rattle.icu_decimal_reading.specs.ReadErrors
 pub use Rattle.icu_decimal_lenient.specs.Folding
 pub use Rattle.icu_decimal_lenient.specs.LenientReading
+pub use Rattle.icu_decimal_lenient.specs.Native
+pub use Rattle.icu_decimal_lenient.specs.TypedReading
 pub use Rattle.icu_decimal_compact_value.specs.Choice as ShownChoice
 pub use Rattle.icu_decimal_compact_value.specs.Entries
 pub use Rattle.icu_decimal_compact_value.specs.ExactForms
@@ -75,6 +77,7 @@ pub use Rattle.icu_decimal_patterns.specs.SmallEntries
 pub use Rattle.icu_decimal_patterns.specs.TableLaws
 pub use Rattle.icu_decimal_reading.specs.ReadingLaws
 pub use Rattle.icu_decimal_lenient.specs.LenientLaws
+pub use Rattle.icu_decimal_lenient.specs.TypedLaws
 pub use Rattle.icu_decimal_compact_value.specs.ExactLaws
 pub use Rattle.icu_decimal_compact_value.specs.ShownLaws
 pub use Rattle.icu_decimal_compact_value.specs.UnderTableLaws

@@ -97,7 +97,7 @@ no_decimal v e = cc
 unreadable_apart : unreadable ≡ not_written → ⊥
 unreadable_apart e = cc
 
-both_none : (t other : Tables) (text : List ℕ) (one two : PlainReading) → lenient_reading t text ≡ one → lenient_reading other text ≡ two → agreed (λ v. is_own_text t text v) one two ≡ not_written
+pub both_none : (t other : Tables) (text : List ℕ) (one two : PlainReading) → lenient_reading t text ≡ one → lenient_reading other text ≡ two → agreed (λ v. is_own_text t text v) one two ≡ not_written
     → ((lenient_reading t text ≡ not_written) × (lenient_reading other text ≡ not_written)) ⊎ IsAmbiguous t other text
 both_none t other text unreadable two first second e = absurd (unreadable_apart e)
 both_none t other text not_written two first second e = inl (first, second ∙ e)
@@ -136,7 +136,7 @@ from_own true v w r e = e
 from_own false v w r e = from_unless v w r e
 
 -- a decimal that is answered is one that the first or the second one reads
-from_agreed : (is_own : SignedValue Number → Bool) (w : SignedValue Number) (first other : PlainReading) → agreed is_own first other ≡ decimal w → (first ≡ decimal w) ⊎ (other ≡ decimal w)
+pub from_agreed : (is_own : SignedValue Number → Bool) (w : SignedValue Number) (first other : PlainReading) → agreed is_own first other ≡ decimal w → (first ≡ decimal w) ⊎ (other ≡ decimal w)
 from_agreed is_own w unreadable other e = inl e
 from_agreed is_own w not_written other e = inr e
 from_agreed is_own w (decimal v) other e = inl (from_own (is_own v) v w other e)
@@ -158,26 +158,3 @@ answered_other (Ok w) first other is_own none answered = none_agrees is_own firs
 answered_other (Err Unreadable) first other is_own none answered = none_agrees is_own first other none ∙ answered
 answered_other (Err NotWritten) first other is_own none answered = none_agrees is_own first other none ∙ answered
 answered_other (Err Memory) first other is_own none answered = tt
-
-pub answered_by_one : (t other : Tables) (text : List ℕ) (r : Result (SignedValue Number) ReadError) → AreTables t → AreTables other → IsAnswered r (reading_by_both t other text)
-    → IfOk r (λ v. IsTypedText t text v ⊎ IsTypedText other text v)
-answered_by_one t other text (Ok v) are others answered = by (from_agreed (λ w. is_own_text t text w) v (lenient_reading t text) (lenient_reading other text) answered)
-  where
-    by : (lenient_reading t text ≡ decimal v) ⊎ (lenient_reading other text ≡ decimal v) → IsTypedText t text v ⊎ IsTypedText other text v
-    by (inl is) = inl (lenient_is_typed t text v are is)
-    by (inr is) = inr (lenient_is_typed other text v others is)
-answered_by_one t other text (Err e) are others answered = tt
-
-is_missing : Result (SignedValue Number) ReadError → Bool
-is_missing (Ok v) = false
-is_missing (Err Unreadable) = false
-is_missing (Err NotWritten) = true
-is_missing (Err Memory) = false
-
-pub answered_by_none : (t other : Tables) (text : List ℕ) (r : Result (SignedValue Number) ReadError) → AreTables t → AreTables other → IsUtf8 text → IsAnswered r (reading_by_both t other text)
-    → IsErrOf r NotWritten → HasNeither t other text ⊎ IsAmbiguous t other text
-unfolding is_missing
-answered_by_none t other text (Ok v) are others utf8 answered is = absurd (false≢true (ap is_missing is))
-answered_by_none t other text (Err Unreadable) are others utf8 answered is = absurd (false≢true (ap is_missing is))
-answered_by_none t other text (Err Memory) are others utf8 answered is = absurd (false≢true (ap is_missing is))
-answered_by_none t other text (Err NotWritten) are others utf8 answered is = both_miss t other text are others utf8 answered

@@ -15,7 +15,7 @@ use Rattle.icu_decimal_lenient.proofs.KnownLenient.{english, latin, number, with
 
 -- German
 
-abbrev german : Tables
+abbrev pub german : Tables
 german = with_strings latin (record english_strings { decimal_separator = codes ","; grouping_separator = codes "." })
 
 german_groups : lenient_reading german (codes "1.234") ≡ number NoSign 1234 4 0
@@ -64,7 +64,7 @@ five_whole = refl
 
 -- French: groups are apart by U+202F
 
-abbrev french : Tables
+abbrev pub french : Tables
 french = with_strings latin (record english_strings { decimal_separator = codes ","; grouping_separator = encode_utf8_all (0x202F ∷ []) })
 
 plain_space : lenient_reading french (codes "1 234,5") ≡ number NoSign 12345 4 1
@@ -94,7 +94,7 @@ own_apostrophe = refl
 
 -- Hindi: three digits, and then pairs
 
-abbrev hindi : Tables
+abbrev pub hindi : Tables
 hindi = record { symbols = record { strings = english_strings; grouping_sizes = record { primary = 3; secondary = 2; min_grouping = 1 } }; digits = latin; strategy = Auto }
 
 pairs : lenient_reading hindi (codes "12,34,567") ≡ number NoSign 1234567 7 0
@@ -107,7 +107,7 @@ threes = refl
 
 -- Egyptian: a mark of direction before the sign, and digits of its own
 
-abbrev egyptian : Tables
+abbrev pub egyptian : Tables
 egyptian = with_strings (0x660 ∷ 0x661 ∷ 0x662 ∷ 0x663 ∷ 0x664 ∷ 0x665 ∷ 0x666 ∷ 0x667 ∷ 0x668 ∷ 0x669 ∷ []) (record english_strings { minus_sign_prefix = encode_utf8_all (0x61C ∷ 0x2D ∷ []); plus_sign_prefix = encode_utf8_all (0x61C ∷ 0x2B ∷ []); decimal_separator = encode_utf8_all (0x66B ∷ []); grouping_separator = encode_utf8_all (0x66C ∷ []) })
 
 egyptian_digits : lenient_reading egyptian (encode_utf8_all (0x661 ∷ 0x66C ∷ 0x662 ∷ 0x663 ∷ 0x664 ∷ 0x66B ∷ 0x665 ∷ [])) ≡ number NoSign 12345 4 1
@@ -142,7 +142,7 @@ hebrew_minus = refl
 
 -- Persian: U+200E before U+2212, and digits of its own
 
-abbrev persian : Tables
+abbrev pub persian : Tables
 persian = with_strings (0x6F0 ∷ 0x6F1 ∷ 0x6F2 ∷ 0x6F3 ∷ 0x6F4 ∷ 0x6F5 ∷ 0x6F6 ∷ 0x6F7 ∷ 0x6F8 ∷ 0x6F9 ∷ []) (record english_strings { minus_sign_prefix = encode_utf8_all (0x200E ∷ 0x2212 ∷ []); plus_sign_prefix = encode_utf8_all (0x200E ∷ 0x2B ∷ []); decimal_separator = encode_utf8_all (0x66B ∷ []); grouping_separator = encode_utf8_all (0x66C ∷ []) })
 
 persian_minus : lenient_reading persian (codes "-5") ≡ number Negative 5 1 0
@@ -169,7 +169,7 @@ of_a_wide_digit = refl
 
 -- Khmer with its own digits and separators, which are the other way about than those of its Latin digits
 
-abbrev khmer : Tables
+abbrev pub khmer : Tables
 khmer = with_strings (0x17E0 ∷ 0x17E1 ∷ 0x17E2 ∷ 0x17E3 ∷ 0x17E4 ∷ 0x17E5 ∷ 0x17E6 ∷ 0x17E7 ∷ 0x17E8 ∷ 0x17E9 ∷ []) (record english_strings { decimal_separator = codes ","; grouping_separator = codes "." })
 
 ambiguous : reading_by_both khmer english (codes "1,234") ≡ not_written

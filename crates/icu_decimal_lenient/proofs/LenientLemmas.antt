@@ -84,7 +84,7 @@ written_reads_leniently t v are readable is = exact_is_lenient t (decimal_text t
 no_unreadable : (v : SignedValue Number) → unreadable ≡ decimal v → ⊥
 no_unreadable v e = cc
 
-from_else : (v : SignedValue Number) (one other : PlainReading) → or_else one other ≡ decimal v → (one ≡ decimal v) ⊎ (other ≡ decimal v)
+pub from_else : (v : SignedValue Number) (one other : PlainReading) → or_else one other ≡ decimal v → (one ≡ decimal v) ⊎ (other ≡ decimal v)
 from_else v unreadable other e = absurd (no_unreadable v e)
 from_else v not_written other e = inr e
 from_else v (decimal w) other e = inl e
@@ -96,7 +96,7 @@ from_either t text v are e = by (from_else v (plain_reading (folded_tables Never
     by (inl is) = inl (plain_found (folded_tables Never t) text v (are_folded t Never are) is)
     by (inr is) = inr (plain_found (folded_tables Always t) text v (are_folded t Always are) is)
 
-from_cond : (b : Bool) (r : PlainReading) (v : SignedValue Number) → cond b r unreadable ≡ decimal v → r ≡ decimal v
+pub from_cond : (b : Bool) (r : PlainReading) (v : SignedValue Number) → cond b r unreadable ≡ decimal v → r ≡ decimal v
 from_cond true r v e = e
 from_cond false r v e = absurd (no_unreadable v e)
 
@@ -120,7 +120,7 @@ lenient_is_typed t text v are e = first (from_else v (plain_reading t text) (fol
 
 -- ---- and what is not read is not one
 
-none_else : (one other : PlainReading) → or_else one other ≡ not_written → (one ≡ not_written) × (other ≡ not_written)
+pub none_else : (one other : PlainReading) → or_else one other ≡ not_written → (one ≡ not_written) × (other ≡ not_written)
 none_else unreadable other e = absurd (unreadable_apart e)
   where
     unreadable_apart : unreadable ≡ not_written → ⊥
@@ -131,7 +131,7 @@ none_else (decimal v) other e = absurd (decimal_apart e)
     decimal_apart : decimal v ≡ not_written → ⊥
     decimal_apart e = cc
 
-none_cond : (b : Bool) (r : PlainReading) → cond b r unreadable ≡ not_written → (b ≡ true) × (r ≡ not_written)
+pub none_cond : (b : Bool) (r : PlainReading) → cond b r unreadable ≡ not_written → (b ≡ true) × (r ≡ not_written)
 none_cond true r e = (refl, e)
 none_cond false r e = absurd (unreadable_apart e)
   where
@@ -183,14 +183,14 @@ lenient_misses t text are utf8 e v = by
 
 -- ---- unreadable
 
-apart_written : not_written ≡ unreadable → ⊥
+pub apart_written : not_written ≡ unreadable → ⊥
 apart_written e = cc
 
-apart_decimal : (v : SignedValue Number) → decimal v ≡ unreadable → ⊥
+pub apart_decimal : (v : SignedValue Number) → decimal v ≡ unreadable → ⊥
 apart_decimal v e = cc
 
 -- two readings that are not unreadable
-else_readable : (one other : PlainReading) → (one ≡ unreadable → ⊥) → (other ≡ unreadable → ⊥) → or_else one other ≡ unreadable → ⊥
+pub else_readable : (one other : PlainReading) → (one ≡ unreadable → ⊥) → (other ≡ unreadable → ⊥) → or_else one other ≡ unreadable → ⊥
 else_readable unreadable other first second e = first refl
 else_readable not_written other first second e = second e
 else_readable (decimal v) other first second e = apart_decimal v e

@@ -84,22 +84,18 @@ lacks_reading t text lacks = (lenient_is_unreadable t text).1 (inl (sym lacks))
 
 -- ---- what an answer means
 
-pub answered_typed : (t : Tables) (text : List ℕ) (r : Result (SignedValue Number) ReadError) → AreTables t → IsAnswered r (lenient_reading t text) → IfOk r (λ v. IsTypedText t text v)
-answered_typed t text (Ok v) are answered = lenient_is_typed t text v are answered
-answered_typed t text (Err e) are answered = tt
-
 is_missing : Result (SignedValue Number) ReadError → Bool
 is_missing (Ok v) = false
 is_missing (Err Unreadable) = false
 is_missing (Err NotWritten) = true
 is_missing (Err Memory) = false
 
-pub answered_no_typed : (t : Tables) (text : List ℕ) (r : Result (SignedValue Number) ReadError) → AreTables t → IsUtf8 text → IsAnswered r (lenient_reading t text) → IsErrOf r NotWritten → HasNoTyped t text
+pub answered_none : (r : Result (SignedValue Number) ReadError) (reading : PlainReading) → IsAnswered r reading → IsErrOf r NotWritten → reading ≡ not_written
 unfolding is_missing
-answered_no_typed t text (Ok v) are utf8 answered is = absurd (false≢true (ap is_missing is))
-answered_no_typed t text (Err Unreadable) are utf8 answered is = absurd (false≢true (ap is_missing is))
-answered_no_typed t text (Err Memory) are utf8 answered is = absurd (false≢true (ap is_missing is))
-answered_no_typed t text (Err NotWritten) are utf8 answered is = lenient_misses t text are utf8 answered
+answered_none (Ok v) reading answered is = absurd (false≢true (ap is_missing is))
+answered_none (Err Unreadable) reading answered is = absurd (false≢true (ap is_missing is))
+answered_none (Err Memory) reading answered is = absurd (false≢true (ap is_missing is))
+answered_none (Err NotWritten) reading answered is = answered
 
 is_refused : Result (SignedValue Number) ReadError → Bool
 is_refused (Ok v) = false
@@ -107,9 +103,16 @@ is_refused (Err Unreadable) = true
 is_refused (Err NotWritten) = false
 is_refused (Err Memory) = false
 
-pub answered_unreadable : (t : Tables) (text : List ℕ) (r : Result (SignedValue Number) ReadError) → IsAnswered r (lenient_reading t text) → IsErrOf r Unreadable → IsUnreadable t text
+pub answered_unread : (r : Result (SignedValue Number) ReadError) (reading : PlainReading) → IsAnswered r reading → IsErrOf r Unreadable → reading ≡ unreadable
 unfolding is_refused
-answered_unreadable t text (Ok v) answered is = absurd (false≢true (ap is_refused is))
-answered_unreadable t text (Err NotWritten) answered is = absurd (false≢true (ap is_refused is))
-answered_unreadable t text (Err Memory) answered is = absurd (false≢true (ap is_refused is))
-answered_unreadable t text (Err Unreadable) answered is = (lenient_is_unreadable t text).0 answered
+answered_unread (Ok v) reading answered is = absurd (false≢true (ap is_refused is))
+answered_unread (Err NotWritten) reading answered is = absurd (false≢true (ap is_refused is))
+answered_unread (Err Memory) reading answered is = absurd (false≢true (ap is_refused is))
+answered_unread (Err Unreadable) reading answered is = answered
+
+pub answered_typed : (t : Tables) (text : List ℕ) (r : Result (SignedValue Number) ReadError) → AreTables t → IsAnswered r (lenient_reading t text) → IfOk r (λ v. IsTypedText t text v)
+answered_typed t text (Ok v) are answered = lenient_is_typed t text v are answered
+answered_typed t text (Err e) are answered = tt
+
+pub answered_no_typed : (t : Tables) (text : List ℕ) (r : Result (SignedValue Number) ReadError) → AreTables t → IsUtf8 text → IsAnswered r (lenient_reading t text) → IsErrOf r NotWritten → HasNoTyped t text
+answered_no_typed t text r are utf8 answered is = lenient_misses t text are utf8 (answered_none r (lenient_reading t text) answered is)

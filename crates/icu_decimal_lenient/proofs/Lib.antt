@@ -7,6 +7,10 @@ pub mod GroupingLemmas
 pub mod KnownFolds
 pub mod KnownLenient
 pub mod KnownLocales
+pub mod KnownNative
 pub mod LenientLemmas
 pub mod LenientStepLemmas
+pub mod NativeLemmas
 pub mod ReadableLemmas
+pub mod TypedLemmas
+pub mod TypedStepLemmas

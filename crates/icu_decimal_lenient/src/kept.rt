@@ -5,11 +5,13 @@ ghost use Rattle.std.specs.Option.{option_copied};
 ghost use Rattle.icu_decimal_plain.specs.BorrowedTables.{borrowed_tables};
 ghost use Rattle.icu_decimal_reading.specs.DecimalOfText.{IsAnswered};
 ghost use Rattle.icu_decimal_lenient.specs.KeptFolds.{folds_of};
-ghost use Rattle.icu_decimal_lenient.specs.LenientReading.{AreKept, HasNoTyped, IsTypedText, IsUnreadable, MayAllocate, folded_reading, is_leniently_readable_by, lenient_reading};
+ghost use Rattle.icu_decimal_lenient.specs.LenientReading.{AreKept, IsUnreadable, MayAllocate, folded_reading, is_leniently_readable_by, lenient_reading};
+ghost use Rattle.icu_decimal_lenient.specs.TypedReading.{HasNoNumberTyped, IsTypedNumber, typed_reading};
 
 use crate::folded::read_whole;
 use crate::folding::{fold_symbols, fold_text};
 use crate::readable::is_leniently_readable;
+use crate::typed::{TableReader, read_typed};
 use fixed_decimal::Decimal;
 use icu_decimal_plain::DecimalTables;
 use icu_decimal_reading::{ReadError, are_tables, is_readable, read_readable};
@@ -130,8 +132,9 @@ impl FoldedSymbols {
     /// `1,23` is not one.
     ///
     /// `Unreadable`: `is_readable` of `icu_decimal_reading` is false of the tables, or `is_leniently_readable` is and the
-    /// text is not the formatter's own. `NotWritten`: it is a text of no decimal, folded or not. `Memory`: out of memory.
-    /// Allocates where the text has more than sixteen digits, or is folded.
+    /// text is not the formatter's own. `NotWritten`: it is a text of no decimal, folded or not, nor is it one with its
+    /// native digits in ASCII. `Memory`: out of memory. Allocates where the text has more than sixteen digits, or is
+    /// folded.
     pub fn read(
         &self,
         alloc: Global,
@@ -140,12 +143,37 @@ impl FoldedSymbols {
     ) -> Result<Decimal, ReadError>
         requires { self.now ≡ folds_of (borrowed_tables tables.now) }
         ensures unreadable { IsErrOf result ReadError.Unreadable → IsUnreadable (borrowed_tables tables.now) text.now }
-        ensures not_written { IsErrOf result ReadError.NotWritten → HasNoTyped (borrowed_tables tables.now) text.now }
+        ensures not_written { IsErrOf result ReadError.NotWritten
+            → HasNoNumberTyped (borrowed_tables tables.now) text.now }
         ensures memory { IsErrOf result ReadError.Memory → MayAllocate (borrowed_tables tables.now) text.now }
-        ensures value { IfOk result (λ v. IsTypedText (borrowed_tables tables.now) text.now v) }
-        ensures reading { IsAnswered result (lenient_reading (borrowed_tables tables.now) text.now) }
+        ensures value { IfOk result (λ v. IsTypedNumber (borrowed_tables tables.now) text.now v) }
+        ensures reading { IsAnswered result (typed_reading (borrowed_tables tables.now) text.now) }
     {
         are_tables(tables);
-        self.answer(alloc, tables, text)
+        let reader = WithFold {
+            folded: self,
+            tables,
+        };
+        read_typed(alloc, &reader, text)
+    }
+}
+
+// Tables, and their fold.
+#[derive(Clone, Copy)]
+struct WithFold<'f> {
+    folded: &'f FoldedSymbols,
+    tables: &'f DecimalTables<'f>,
+    ghost fold: { folded.now ≡ folds_of (borrowed_tables tables.now) },
+}
+
+impl<'f> TableReader for WithFold<'f> {
+    ghost reads_by = { λ reader. borrowed_tables reader.tables.now };
+
+    fn tables(&self) -> &DecimalTables<'_> {
+        self.tables
+    }
+
+    fn read_folded(&self, alloc: Global, text: &str) -> Result<Decimal, ReadError> {
+        self.folded.answer(alloc, self.tables, text)
     }
 }

@@ -1,5 +1,6 @@
 //! Laws of lenient reading. No call is made: each clause is the law.
 ghost use Rattle.icu_decimal_lenient.specs.LenientLaws.{AmbiguousIsNotWritten, BothMiss, EachGroupingIsLenient, EachGroupingIsReadByBoth, ExactIsLenient, ExactIsReadByBoth, FoldOfTextIsText, GroupingsHaveOneDecimal, LenientIsTyped, LenientIsUnreadable, LenientMisses, SecondLeavesFirst, SecondReadsRest, TwoGroupingsAreEnough, WrittenReadsLeniently};
+ghost use Rattle.icu_decimal_lenient.specs.TypedLaws.{ArabicIsRead, BothAreNumbers, BothAreTypedSo, LenientIsTypedSo, NativeIsAscii, NativeIsAsciiByBoth, OnlyArabicDiffers, OthersStay, TypedBothMiss, TypedIsNumber, TypedIsUnreadable, TypedMisses};
 
 /// Under readable symbols the fold of a decimal's text is its text with the folded symbols: `1’234.5` of Switzerland is
 /// `1'234.5`.
@@ -52,4 +53,35 @@ pub fn second_tables_agree()
     ensures rest { SecondReadsRest }
     ensures ambiguous { AmbiguousIsNotWritten }
     ensures none { BothMiss }
+{}
+
+/// Native digits add to what is read: what is read without them stays, with second tables too, and so does every text
+/// that has none. In Hindi `1,234` is 1234, and `1२3` is not read.
+pub fn native_digits_add()
+    ensures same { LenientIsTypedSo }
+    ensures both { BothAreTypedSo }
+    ensures others { OthersStay }
+{}
+
+/// A text in native digits that was not read is read as it is in ASCII: in Hindi `१,२३४.५` as `1,234.5`. Only Arabic
+/// digits are read in another way besides: `١٬٢٣٤٫٥` with their separators.
+pub fn native_digits_are_ascii()
+    ensures same { NativeIsAscii }
+    ensures both { NativeIsAsciiByBoth }
+    ensures others { OnlyArabicDiffers }
+    ensures arabic { ArabicIsRead }
+{}
+
+/// What is read with native digits is a text of that decimal: as it is, in ASCII, or so with the separators of Arabic
+/// digits. What is not read is one of none.
+pub fn typed_reading_is_the_reading()
+    ensures decimal { TypedIsNumber }
+    ensures none { TypedMisses }
+    ensures unreadable { TypedIsUnreadable }
+{}
+
+/// With second tables what is read is such a text by one of them; what is not read is one of none, or ambiguous.
+pub fn typed_by_both_is_the_reading()
+    ensures decimal { BothAreNumbers }
+    ensures none { TypedBothMiss }
 {}

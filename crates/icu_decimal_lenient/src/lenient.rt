@@ -5,12 +5,13 @@ ghost use Rattle.icu_decimal_plain.specs.BorrowedTables.{borrowed_tables};
 ghost use Rattle.icu_decimal_reading.specs.DecimalOfText.{IsAnswered, not_written};
 ghost use Rattle.icu_decimal_reading.specs.PlainReading.{plain_reading};
 ghost use Rattle.icu_decimal_reading.specs.Readable.{is_readable_by};
-ghost use Rattle.icu_decimal_lenient.specs.LenientReading.{HasNeither, HasNoTyped, IsAmbiguous, IsTypedText, IsUnreadable, MayAllocate, folded_reading, is_leniently_readable_by, lenient_reading, reading_by_both};
+ghost use Rattle.icu_decimal_lenient.specs.LenientReading.{IsUnreadable, MayAllocate, folded_reading, is_leniently_readable_by, lenient_reading};
+ghost use Rattle.icu_decimal_lenient.specs.TypedReading.{HasNoNumberByBoth, HasNoNumberTyped, IsTypedNumber, typed_by_both, typed_reading};
 
 use crate::folded::read_whole;
 use crate::folding::{fold_symbols, fold_text};
 use crate::readable::is_leniently_readable;
-use crate::second::{is_own_text, unless_other};
+use crate::typed::{TableReader, read_typed, read_typed_or};
 use fixed_decimal::Decimal;
 use icu_decimal_plain::DecimalTables;
 use icu_decimal_reading::{ReadError, are_tables, is_readable, read_readable};
@@ -65,7 +66,7 @@ impl<'b> LenientTables<'b> {
     }
 
     // A text that is not the formatter's own.
-    fn read_folded(&self, alloc: Global, text: &str) -> Result<Decimal, ReadError>
+    fn read_fold(&self, alloc: Global, text: &str) -> Result<Decimal, ReadError>
         ensures unreadable { ¬ (IsErrOf result ReadError.Unreadable) }
         ensures reading { IsAnswered result (folded_reading self.now text.now) }
     {
@@ -75,66 +76,43 @@ impl<'b> LenientTables<'b> {
 
     // A text, as it is, else folded.
     #[tactic(auto, using(crate::proofs::LenientStepLemmas::answered_first, crate::proofs::LenientStepLemmas::answered_second))]
-    fn answer(&self, alloc: Global, text: &str) -> Result<Decimal, ReadError>
+    pub(crate) fn answer(&self, alloc: Global, text: &str) -> Result<Decimal, ReadError>
         ensures unreadable { ¬ (IsErrOf result ReadError.Unreadable) }
         ensures memory { IsErrOf result ReadError.Memory → MayAllocate self.now text.now }
         ensures reading { IsAnswered result (lenient_reading self.now text.now) }
     {
         match read_readable(alloc, &self.tables, text) {
             Ok(number) => Ok(number),
-            Err(ReadError::NotWritten) => self.read_folded(alloc, text),
+            Err(ReadError::NotWritten) => self.read_fold(alloc, text),
             Err(error) => Err(error),
         }
     }
 
-    /// The decimal that was typed: in English `1234.5`, ` 1,234.5 ` and `−5` with U+2212 are read, `1,23` is not.
+    /// The decimal that was typed: in English `1234.5`, ` 1,234.5 ` and `−5` with U+2212 are read, `1,23` is not; in Hindi
+    /// `१,२३४.५` is 1234.5.
     ///
-    /// Sign, digits and visible range are those of the text. `NotWritten`: it is a text of no decimal, folded or not.
-    /// `Memory`: out of memory. What the formatter writes is read in one pass, and allocates where it has more than
-    /// sixteen digits; any other text is folded, which allocates.
+    /// Sign, digits and visible range are those of the text. `NotWritten`: it is a text of no decimal, folded or not, nor
+    /// is it one with its native digits in ASCII. `Memory`: out of memory. What the formatter writes is read in one pass,
+    /// and allocates where it has more than sixteen digits; any other text is folded, which allocates.
     pub fn read(&self, alloc: Global, text: &str) -> Result<Decimal, ReadError>
         ensures unreadable { ¬ (IsErrOf result ReadError.Unreadable) }
-        ensures not_written { IsErrOf result ReadError.NotWritten → HasNoTyped self.now text.now }
+        ensures not_written { IsErrOf result ReadError.NotWritten → HasNoNumberTyped self.now text.now }
         ensures memory { IsErrOf result ReadError.Memory → MayAllocate self.now text.now }
-        ensures value { IfOk result (λ v. IsTypedText self.now text.now v) }
-        ensures reading { IsAnswered result (lenient_reading self.now text.now) }
+        ensures value { IfOk result (λ v. IsTypedNumber self.now text.now v) }
+        ensures reading { IsAnswered result (typed_reading self.now text.now) }
     {
         are_tables(&self.tables);
-        self.answer(alloc, text)
-    }
-
-    // A text by these tables, and by others.
-    #[tactic(auto, using(crate::proofs::AgreementLemmas::own_agrees, crate::proofs::AgreementLemmas::answered_other))]
-    fn answer_or(
-        &self,
-        alloc: Global,
-        other: &LenientTables<'_>,
-        text: &str,
-    ) -> Result<Decimal, ReadError>
-        ensures unreadable { ¬ (IsErrOf result ReadError.Unreadable) }
-        ensures memory { IsErrOf result ReadError.Memory
-            → MayAllocate self.now text.now ⊎ MayAllocate other.now text.now }
-        ensures reading { IsAnswered result (reading_by_both self.now other.now text.now) }
-    {
-        let number = match self.answer(alloc, text) {
-            Ok(number) => number,
-            Err(ReadError::NotWritten) => return other.answer(alloc, text),
-            Err(error) => return Err(error),
-        };
-        if is_own_text(&self.tables, &number, text) {
-            return Ok(number);
-        }
-        unless_other(number, other.answer(alloc, text))
+        read_typed(alloc, self, text)
     }
 
     /// As `read`, and by other tables: `1,234.5` is 1234.5 in an Egyptian form, with those of `ar-EG-u-nu-latn` for the
     /// others.
     ///
     /// What a formatter with these tables writes, under any grouping, the others are not asked for. Any other text is
-    /// what one of them reads, where the other one reads none or the same. `NotWritten`: it is a text of no decimal by
-    /// either, or it is ambiguous: these tables read one decimal and the others another, as `1,234` with those of
-    /// `km-u-nu-khmr` is 1.234, and 1234 with those of `km`. `Memory`: out of memory. Allocates as `read` does, and as
-    /// `read` of the others where they are asked.
+    /// what one of them reads, where the other one reads none or the same. Where both read none, native digits are read
+    /// as those of ASCII. `NotWritten`: it is a text of no decimal by either, or it is ambiguous: these tables read one
+    /// decimal and the others another, as `1,234` with those of `km-u-nu-khmr` is 1.234, and 1234 with those of `km`.
+    /// `Memory`: out of memory. Allocates as `read` does, and as `read` of the others where they are asked.
     pub fn read_or(
         &self,
         alloc: Global,
@@ -142,16 +120,28 @@ impl<'b> LenientTables<'b> {
         text: &str,
     ) -> Result<Decimal, ReadError>
         ensures unreadable { ¬ (IsErrOf result ReadError.Unreadable) }
-        ensures not_written { IsErrOf result ReadError.NotWritten
-            → HasNeither self.now other.now text.now ⊎ IsAmbiguous self.now other.now text.now }
+        ensures not_written { IsErrOf result ReadError.NotWritten → HasNoNumberByBoth self.now other.now text.now }
         ensures memory { IsErrOf result ReadError.Memory
             → MayAllocate self.now text.now ⊎ MayAllocate other.now text.now }
-        ensures value { IfOk result (λ v. IsTypedText self.now text.now v ⊎ IsTypedText other.now text.now v) }
-        ensures reading { IsAnswered result (reading_by_both self.now other.now text.now) }
+        ensures value { IfOk result
+            (λ v. IsTypedNumber self.now text.now v ⊎ IsTypedNumber other.now text.now v) }
+        ensures reading { IsAnswered result (typed_by_both self.now other.now text.now) }
     {
         are_tables(&self.tables);
         are_tables(&other.tables);
-        self.answer_or(alloc, other, text)
+        read_typed_or(alloc, self, other, text)
+    }
+}
+
+impl<'b> TableReader for LenientTables<'b> {
+    ghost reads_by = { λ t. t };
+
+    fn tables(&self) -> &DecimalTables<'_> {
+        &self.tables
+    }
+
+    fn read_folded(&self, alloc: Global, text: &str) -> Result<Decimal, ReadError> {
+        self.answer(alloc, text)
     }
 }
 
@@ -169,7 +159,7 @@ fn read_by_folds(
         Ok(kept) => kept,
         Err(error) => return Err(error),
     };
-    let read = kept.read_folded(alloc, text);
+    let read = kept.read_fold(alloc, text);
     drop(kept);
     read
 }
@@ -190,23 +180,36 @@ fn answer(alloc: Global, tables: &DecimalTables<'_>, text: &str) -> Result<Decim
     }
 }
 
+impl<'b> TableReader for DecimalTables<'b> {
+    ghost reads_by = { borrowed_tables };
+
+    fn tables(&self) -> &DecimalTables<'_> {
+        self
+    }
+
+    fn read_folded(&self, alloc: Global, text: &str) -> Result<Decimal, ReadError> {
+        answer(alloc, self, text)
+    }
+}
+
 /// As `read` of `LenientTables`, for one text: in English ` 1234.5 ` is 1234.5, and `1,23` is not one.
 ///
 /// The symbols are folded only where the text is not the formatter's own. `Unreadable`: `is_readable` of
 /// `icu_decimal_reading` is false, or `is_leniently_readable` is and the text is not the formatter's own.
-/// `NotWritten`: it is a text of no decimal, folded or not. `Memory`: out of memory. Allocates where the text has more
-/// than sixteen digits, or is folded.
+/// `NotWritten`: as `read`. `Memory`: out of memory. Allocates where the text has more than sixteen digits, or is
+/// folded.
 pub fn read_lenient(
     alloc: Global,
     tables: &DecimalTables<'_>,
     text: &str,
 ) -> Result<Decimal, ReadError>
     ensures unreadable { IsErrOf result ReadError.Unreadable → IsUnreadable (borrowed_tables tables.now) text.now }
-    ensures not_written { IsErrOf result ReadError.NotWritten → HasNoTyped (borrowed_tables tables.now) text.now }
+    ensures not_written { IsErrOf result ReadError.NotWritten
+        → HasNoNumberTyped (borrowed_tables tables.now) text.now }
     ensures memory { IsErrOf result ReadError.Memory → MayAllocate (borrowed_tables tables.now) text.now }
-    ensures value { IfOk result (λ v. IsTypedText (borrowed_tables tables.now) text.now v) }
-    ensures reading { IsAnswered result (lenient_reading (borrowed_tables tables.now) text.now) }
+    ensures value { IfOk result (λ v. IsTypedNumber (borrowed_tables tables.now) text.now v) }
+    ensures reading { IsAnswered result (typed_reading (borrowed_tables tables.now) text.now) }
 {
     are_tables(tables);
-    answer(alloc, tables, text)
+    read_typed(alloc, tables, text)
 }

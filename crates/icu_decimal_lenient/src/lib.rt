@@ -17,11 +17,15 @@ mod folding;
 mod kept;
 pub mod laws;
 mod lenient;
+mod native;
 mod readable;
 mod second;
 mod steps;
+mod typed;
 
 pub use kept::FoldedSymbols;
 pub use lenient::{LenientTables, read_lenient};
+pub use native::{arabic_symbols, has_arabic_digits, has_arabic_separator, native_text};
 pub use readable::is_leniently_readable;
 pub use second::{is_own_text, unless_other};
+pub use typed::{NativeReader, TableReader, read_in_native, read_typed, read_typed_or};

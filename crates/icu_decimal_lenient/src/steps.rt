@@ -1,16 +1,18 @@
 //! Steps of lenient reading, for readers of texts that have more than a number.
 
 ghost use Rattle.std.specs.Prelude.{◌≡◌, IfOk, IsErrOf, string_bytes};
+ghost use Rattle.icu_decimal_plain.specs.BorrowedTables.{borrowed_tables};
 ghost use Rattle.icu_decimal_reading.specs.DecimalOfText.{IsAnswered};
 ghost use Rattle.icu_decimal_lenient.specs.Folding.{folded_symbols, folded_text};
-ghost use Rattle.icu_decimal_lenient.specs.LenientReading.{filled_text, read_either};
+ghost use Rattle.icu_decimal_lenient.specs.LenientReading.{HasNoTyped, IsTypedText, MayAllocate, filled_text, lenient_reading, read_either};
 
 use crate::filling::fill;
 use crate::folded::read_grouped;
 use crate::folding::fold_text;
 use crate::lenient::LenientTables;
 use fixed_decimal::Decimal;
-use icu_decimal_reading::ReadError;
+use icu_decimal_plain::DecimalTables;
+use icu_decimal_reading::{ReadError, are_tables};
 use icu_decimal_symbols::DecimalSymbols;
 use std::alloc::{AllocError, Global};
 
@@ -20,6 +22,27 @@ impl<'b> LenientTables<'b> {
         ensures { result.now ≡ folded_symbols self.now }
     {
         &self.folded
+    }
+
+    /// The tables: of English, those with `.` before the fraction. It does not allocate.
+    pub fn tables(&self) -> &DecimalTables<'b>
+        ensures { borrowed_tables result.now ≡ self.now }
+    {
+        &self.tables
+    }
+
+    /// As `read`, without native digits: in Hindi of `1,234.5` 1234.5, of `१` none.
+    ///
+    /// `NotWritten`: it is a text of no decimal, folded or not. `Memory`: out of memory. Allocates as `read`.
+    pub fn read_without_native(&self, alloc: Global, text: &str) -> Result<Decimal, ReadError>
+        ensures unreadable { ¬ (IsErrOf result ReadError.Unreadable) }
+        ensures not_written { IsErrOf result ReadError.NotWritten → HasNoTyped self.now text.now }
+        ensures memory { IsErrOf result ReadError.Memory → MayAllocate self.now text.now }
+        ensures value { IfOk result (λ v. IsTypedText self.now text.now v) }
+        ensures reading { IsAnswered result (lenient_reading self.now text.now) }
+    {
+        are_tables(&self.tables);
+        self.answer(alloc, text)
     }
 
     /// A text, folded: of `−5` with U+2212 `-5`.

@@ -5,9 +5,10 @@ use Rattle.std.specs.Prelude.{◌⊎◌, ℕ, if◌then◌else◌, List, Option,
 use Rattle.std.specs.Str.{bytes_eq}
 use Rattle.icu_decimal.specs.declared.error.DataError.{DataError}
 use Rattle.icu_decimal.specs.Folding.{plain_digits}
-use Rattle.icu_decimal.specs.LenientReading.{MayAllocate, lenient_reading, reading_by_both}
+use Rattle.icu_decimal.specs.LenientReading.{MayAllocate}
 use Rattle.icu_decimal.specs.PlainReading.{PlainReading}
 use Rattle.icu_decimal.specs.PlainText.{Tables}
+use Rattle.icu_decimal.specs.TypedReading.{typed_by_both, typed_reading}
 use Rattle.locale_numbers_answers.specs.AnswerLine.{refused}
 use Rattle.locale_numbers_answers.specs.ReadAnswer.{read_answer}
 use Rattle.locale_numbers_requests.specs.declared.Refusal.TheVariants as refusal
@@ -34,8 +35,8 @@ in_turn tables latin = record { first = tables; second = second_of tables latin 
 
 -- what a text is by the first tables, or by these and the second ones
 abbrev pub reading_by : Tables → Option Tables → List ℕ → PlainReading
-reading_by first None text = lenient_reading first text
-reading_by first (Some second) text = reading_by_both first second text
+reading_by first None text = typed_reading first text
+reading_by first (Some second) text = typed_by_both first second text
 
 abbrev pub reading_in_turn : TablesInTurn → List ℕ → PlainReading
 reading_in_turn tables text = reading_by tables.first tables.second text

@@ -1,18 +1,17 @@
 //! What people type, read by a formatter, and where its digits are its own, also by one of the digits of ASCII.
 
-ghost use Rattle.std.specs.Prelude.{◌≡◌, ◌⊎◌, Option, None, Some, IsErrOf, IfSome, option_map};
+ghost use Rattle.std.specs.Prelude.{◌≡◌, Option, None, Some, IsErrOf, IfSome, option_map};
 ghost use Rattle.std.specs.Str.{bytes_eq};
 ghost use Rattle.icu_decimal.specs.BorrowedTables.{borrowed_tables};
 ghost use Rattle.icu_decimal.specs.Folding.{plain_digits};
 ghost use Rattle.icu_decimal.specs.HeldTables.{tables_of};
-ghost use Rattle.icu_decimal.specs.LenientReading.{MayAllocate, lenient_reading, reading_by_both};
 ghost use Rattle.icu_decimal.specs.PlainReading.{IsAnswered};
 ghost use Rattle.locale_numbers_answers.specs.LenientAnswer.{MayAllocateInTurn, reading_in_turn};
 
 use fixed_decimal::Decimal;
 use icu_decimal::error::ReadError;
-use icu_decimal::{DecimalFormatter, DecimalTables, LenientTables, read_lenient};
-use icu_decimal_lenient::{is_own_text, unless_other};
+use icu_decimal::{DecimalFormatter, DecimalTables, LenientTables};
+use icu_decimal_lenient::{TableReader, read_typed, read_typed_or};
 use std::alloc::Global;
 use std::marker::Model;
 
@@ -68,39 +67,20 @@ impl<'a> LenientFormatter<'a> {
         };
         LenientFormatter { formatter, kept }
     }
+}
 
-    // The decimal that was typed.
-    fn read(&self, alloc: Global, text: &str) -> Result<Decimal, ReadError>
-        ensures memory { IsErrOf result ReadError.Memory → MayAllocate self.now text.now }
-        ensures reading { IsAnswered result (lenient_reading self.now text.now) }
-    {
-        match &self.kept {
-            Some(kept) => kept.read(alloc, text),
-            None => read_lenient(alloc, &self.formatter, text),
-        }
+impl<'a> TableReader for LenientFormatter<'a> {
+    ghost reads_by = { λ tables. tables };
+
+    fn tables(&self) -> &DecimalTables<'_> {
+        self.formatter.tables()
     }
 
-    // The same, by another formatter too where the text is not what this one writes.
-    #[tactic(auto, using(icu_decimal_lenient::proofs::AgreementLemmas::own_agrees, icu_decimal_lenient::proofs::AgreementLemmas::answered_other))]
-    fn read_or(
-        &self,
-        alloc: Global,
-        other: &LenientFormatter<'_>,
-        text: &str,
-    ) -> Result<Decimal, ReadError>
-        ensures memory { IsErrOf result ReadError.Memory
-            → MayAllocate self.now text.now ⊎ MayAllocate other.now text.now }
-        ensures reading { IsAnswered result (reading_by_both self.now other.now text.now) }
-    {
-        let number = match self.read(alloc, text) {
-            Ok(number) => number,
-            Err(ReadError::NotWritten) => return other.read(alloc, text),
-            Err(error) => return Err(error),
-        };
-        if is_own_text(self.formatter.tables(), &number, text) {
-            return Ok(number);
+    fn read_folded(&self, alloc: Global, text: &str) -> Result<Decimal, ReadError> {
+        match &self.kept {
+            Some(kept) => kept.read_folded(alloc, text),
+            None => self.formatter.tables().read_folded(alloc, text),
         }
-        unless_other(number, other.read(alloc, text))
     }
 }
 
@@ -167,7 +147,8 @@ impl<'a> LenientReader<'a> {
         &self.first.formatter
     }
 
-    /// The decimal that was typed: by the formatter of `en` 1234.5 of `1234.5`, and 0.5 of `.5`.
+    /// The decimal that was typed: by the formatter of `en` 1234.5 of `1234.5`, and 0.5 of `.5`; by that of `hi` 123 of
+    /// `१२३`.
     ///
     /// Where there is a second formatter, it is asked too where the text is not what the first one writes under any
     /// grouping. `Unreadable`, `NotWritten`: as `read_lenient` of `icu_decimal` by the first formatter, or, where by this
@@ -178,8 +159,8 @@ impl<'a> LenientReader<'a> {
         ensures reading { IsAnswered result (reading_in_turn self.now text.now) }
     {
         match &self.second {
-            Some(second) => self.first.read_or(alloc, second, text),
-            None => self.first.read(alloc, text),
+            Some(second) => read_typed_or(alloc, &self.first, second, text),
+            None => read_typed(alloc, &self.first, text),
         }
     }
 }

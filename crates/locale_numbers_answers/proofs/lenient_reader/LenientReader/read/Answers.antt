@@ -6,4 +6,4 @@ use Rattle.locale_numbers_answers.proofs.lenient_reader.LenientReader.read.Goals
 pub returns-in-Some-clause-memory : goal.returns-in-Some-clause-memory
 returns-in-Some-clause-memory c = λ ran_out.
     subst (λ tables. MayAllocateInTurn tables c.args.text.now) c.self.view_is
-    (both_allocate c.self.inside.first c.self.inside.second c.in-Some.second c.args.text.now c.in-Some.is (c.read_or.ensures.memory ran_out))
+    (both_allocate c.self.inside.first c.self.inside.second c.in-Some.second c.args.text.now c.in-Some.is (c.read_typed_or.ensures.memory ran_out))

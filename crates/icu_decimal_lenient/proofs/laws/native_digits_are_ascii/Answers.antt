@@ -1,0 +1,14 @@
+use Rattle.icu_decimal_lenient.proofs.TypedLemmas.{arabic_is_read, native_is_ascii, native_is_ascii_by_both, only_arabic_differs}
+use Rattle.icu_decimal_lenient.proofs.laws.native_digits_are_ascii.Goals as goal
+
+pub returns-clause-same : goal.returns-clause-same
+returns-clause-same c = native_is_ascii
+
+pub returns-clause-both : goal.returns-clause-both
+returns-clause-both c = native_is_ascii_by_both
+
+pub returns-clause-others : goal.returns-clause-others
+returns-clause-others c = only_arabic_differs
+
+pub returns-clause-arabic : goal.returns-clause-arabic
+returns-clause-arabic c = arabic_is_read
