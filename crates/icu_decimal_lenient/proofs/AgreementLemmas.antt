@@ -1,8 +1,7 @@
 -- What is read with second tables: what the first formatter writes, and else what both agree on.
-use Rattle.std.proofs.Common.{◌≡◌, ◌⊎◌, inl, inr, ℕ, Bool, true, false, cond, ◌||◌, List, Result, Ok, Err, IfOk, IsErrOf, refl, sym, ap, ◌∙◌}
-use Rattle.std.proofs.lemmas.Bool.{false≢true, or_left, or_right}
+use Rattle.std.proofs.Common.{◌≡◌, ◌⊎◌, inl, inr, ℕ, Bool, true, false, cond, ◌||◌, List, Result, Ok, Err, refl, sym, ap, ◌∙◌}
+use Rattle.std.proofs.lemmas.Bool.{or_left, or_right}
 use Rattle.std.specs.Cmp.Lexicographic.{bytes_decides}
-use Rattle.std.specs.Str.{IsUtf8}
 use Rattle.fixed_decimal.specs.Number.{Number}
 use Rattle.fixed_decimal.specs.SignedEquality.{are_equal_decimals}
 use Rattle.fixed_decimal.specs.SignedValue.{SignedValue}
@@ -11,13 +10,12 @@ use Rattle.icu_decimal_symbols.specs.declared.options.GroupingStrategy.TheVarian
 use Rattle.icu_decimal_plain.specs.PlainText.{Tables, decimal_text}
 use Rattle.icu_decimal_reading.specs.DecimalOfText.{IsAnswered, PlainReading, decimal, not_written, unreadable}
 use Rattle.icu_decimal_reading.specs.PlainReading.{is_text_of, plain_reading}
-use Rattle.icu_decimal_reading.specs.ReadingLaws.{AreTables}
 use Rattle.icu_decimal_reading.specs.declared.error.ReadError.{ReadError}
 use Rattle.icu_decimal_reading.specs.declared.error.ReadError.TheVariants.{Unreadable, NotWritten, Memory}
 use Rattle.icu_decimal_lenient.specs.LenientLaws.{AmbiguousIsNotWritten, BothMiss, EachGroupingIsReadByBoth, ExactIsReadByBoth, SecondLeavesFirst, SecondReadsRest}
-use Rattle.icu_decimal_lenient.specs.LenientReading.{HasNeither, IsAmbiguous, IsTypedText, agreed, is_own_text, lenient_reading, reading_by_both, under, unless_other}
+use Rattle.icu_decimal_lenient.specs.LenientReading.{HasNeither, IsAmbiguous, agreed, is_own_text, lenient_reading, reading_by_both, under, unless_other}
 use Rattle.icu_decimal_reading.proofs.LawLemmas.{written_again}
-use Rattle.icu_decimal_lenient.proofs.LenientLemmas.{each_grouping_is_lenient, exact_is_lenient, lenient_is_typed, lenient_misses}
+use Rattle.icu_decimal_lenient.proofs.LenientLemmas.{each_grouping_is_lenient, exact_is_lenient, lenient_misses}
 
 -- ---- what the formatter writes is its own
 

@@ -1,5 +1,5 @@
 -- Values from outside that a wrong definition of native digits does not survive: the samples of docs/reading.md.
-use Rattle.std.proofs.Common.{◌≡◌, true, false, [], ◌∷◌, None, Some, refl}
+use Rattle.std.proofs.Common.{◌≡◌, false, [], ◌∷◌, None, Some, refl}
 use Rattle.std.specs.Prelude.{codes}
 use Rattle.std.specs.Str.{chars, encode_utf8_all, trim_start, trim_end}
 use Rattle.fixed_decimal.specs.declared.Sign.TheVariants.{None as NoSign, Negative}
@@ -9,7 +9,7 @@ use lib.Utf8.{encode}
 use Rattle.icu_decimal_reading.specs.DecimalOfText.{not_written}
 use Rattle.icu_decimal_lenient.specs.Folding.{fold_of}
 use Rattle.icu_decimal_lenient.specs.LenientReading.{lenient_reading}
-use Rattle.icu_decimal_lenient.specs.Native.{arabic_text, has_arabic_digits, native_text, native_zeros, system_of}
+use Rattle.icu_decimal_lenient.specs.Native.{arabic_text, native_text, native_zeros, system_of}
 use Rattle.icu_decimal_lenient.specs.TypedReading.{arabic_reading, takes_arabic, typed_by_both, typed_reading}
 use Rattle.icu_decimal_lenient.proofs.KnownLenient.{english, latin, number, with_strings}
 use Rattle.icu_decimal_lenient.proofs.KnownLocales.{egyptian, french, german, hindi, khmer, persian}

@@ -8,7 +8,7 @@ use Rattle.icu_decimal_symbols.specs.declared.options.GroupingStrategy.TheVarian
 use Rattle.icu_decimal_symbols.specs.Symbols.{Symbols}
 use Rattle.icu_decimal_plain.specs.PlainText.{Tables}
 use Rattle.icu_decimal_reading.specs.DecimalOfText.{IsAnswered, PlainReading, decimal, not_written, unreadable}
-use Rattle.icu_decimal_lenient.specs.LenientReading.{AreKept, HasNoTyped, IsTypedText, IsUnreadable, folded_reading, is_leniently_readable_by, lenient_reading, or_else, read_folded, with_folded}
+use Rattle.icu_decimal_lenient.specs.LenientReading.{AreKept, HasNoTyped, IsTypedText, folded_reading, is_leniently_readable_by, lenient_reading, or_else, read_folded, with_folded}
 use Rattle.icu_decimal_lenient.specs.Folding.{folded_symbols, folded_text}
 use Rattle.icu_decimal_lenient.specs.KeptFolds.{folds_of}
 use Rattle.icu_decimal_reading.specs.Readable.{all_differ, is_readable_by}

@@ -1,31 +1,24 @@
 -- What is read with native digits is a text of the decimal, and what is not is one of none.
-use Rattle.std.proofs.Common.{◌≡◌, ◌⊎◌, inl, inr, ℕ, ◌+◌, ◌-◌, ◌≤◌, nat_le, Bool, true, false, ◌&&◌, not, cond, List, [], ◌∷◌, map, Option, None, Some, option_map, Result, Ok, Err, IfOk, IsErrOf, refl, sym, ap, subst, ◌∙◌, arith}
-use Rattle.std.proofs.lemmas.Bool.{and_from, and_parts, false≢true, leb-true}
-use Rattle.std.proofs.lemmas.Str.{scalars-chars}
-use Rattle.std.proofs.Math.Utf8.{scalars}
-use Rattle.std.specs.List.{find}
-use Rattle.std.specs.Str.{IsUtf8, chars}
-use lib.Utf8.{scalar, low_scalar}
+use Rattle.std.proofs.Common.{◌≡◌, ◌⊎◌, inl, inr, ℕ, Bool, true, false, not, cond, List, Option, None, Some, refl, sym, ap, ◌∙◌}
+use Rattle.std.proofs.lemmas.Bool.{and_parts, false≢true}
+use Rattle.std.specs.Str.{IsUtf8}
 use Rattle.fixed_decimal.specs.Number.{Number}
 use Rattle.fixed_decimal.specs.SignedEquality.{are_equal_decimals}
 use Rattle.fixed_decimal.specs.SignedValue.{SignedValue}
 use Rattle.icu_decimal_symbols.specs.declared.options.GroupingStrategy.TheVariants.{Never}
 use Rattle.icu_decimal_plain.specs.PlainText.{Tables}
-use Rattle.icu_decimal_reading.specs.DecimalOfText.{IsAnswered, PlainReading, decimal, not_written, unreadable}
+use Rattle.icu_decimal_reading.specs.DecimalOfText.{PlainReading, decimal, not_written, unreadable}
 use Rattle.icu_decimal_reading.specs.PlainReading.{plain_reading}
 use Rattle.icu_decimal_reading.specs.ReadingLaws.{AreTables}
-use Rattle.icu_decimal_reading.specs.declared.error.ReadError.{ReadError}
-use Rattle.icu_decimal_reading.specs.declared.error.ReadError.TheVariants.{Unreadable, NotWritten, Memory}
 use Rattle.icu_decimal_reading.specs.Readable.{is_readable_by}
 use Rattle.icu_decimal_lenient.specs.Folding.{folded_symbols, folded_text}
-use Rattle.icu_decimal_lenient.specs.LenientReading.{HasNeither, HasNoTyped, IsAmbiguous, IsTypedText, IsUnreadable, MayAllocate, agreed, folded_reading, is_leniently_readable_by, is_own_text, lenient_reading, or_else, read_folded, reading_by_both, unless_other, with_folded}
-use Rattle.icu_decimal_lenient.specs.Native.{arabic_text, ascii_text, has_arabic_digits, has_arabic_separator, in_ascii, is_from, native_system, native_text, system_of, zeros}
+use Rattle.icu_decimal_lenient.specs.LenientReading.{HasNoTyped, IsUnreadable, agreed, folded_reading, is_leniently_readable_by, is_own_text, lenient_reading, or_else, read_folded, reading_by_both, unless_other, with_folded}
+use Rattle.icu_decimal_lenient.specs.Native.{arabic_text, has_arabic_digits, has_arabic_separator, native_text}
 use Rattle.icu_decimal_lenient.specs.TypedLaws.{ArabicIsRead, BothAreNumbers, BothAreTypedSo, LenientIsTypedSo, NativeIsAscii, NativeIsAsciiByBoth, OnlyArabicDiffers, OthersStay, TypedBothMiss, TypedIsNumber, TypedIsUnreadable, TypedMisses}
-use Rattle.icu_decimal_lenient.specs.TypedReading.{HasNoneByBoth, HasNoNumberByBoth, HasNoNumberTyped, IsArabicText, IsNativeText, IsTypedNumber, arabic_reading, arabic_tables, by_option, takes_arabic, typed_by, typed_by_both, typed_reading}
-use Rattle.icu_decimal_reading.proofs.LawLemmas.{written_again}
-use Rattle.icu_decimal_lenient.proofs.AgreementLemmas.{both_miss, both_none, from_agreed, own_under}
+use Rattle.icu_decimal_lenient.specs.TypedReading.{IsArabicText, IsTypedNumber, arabic_reading, arabic_tables, by_option, takes_arabic, typed_by, typed_by_both}
+use Rattle.icu_decimal_lenient.proofs.AgreementLemmas.{both_miss, from_agreed}
 use Rattle.icu_decimal_lenient.proofs.NativeLemmas.{are_arabic, arabic_native, native_utf8}
-use Rattle.icu_decimal_lenient.proofs.LenientLemmas.{apart_decimal, apart_written, else_readable, from_cond, from_else, lenient_is_typed, lenient_is_unreadable, lenient_misses, none_cond, none_else}
+use Rattle.icu_decimal_lenient.proofs.LenientLemmas.{apart_decimal, apart_written, else_readable, from_else, lenient_is_typed, lenient_is_unreadable, lenient_misses, none_cond, none_else}
 
 -- ---- the three tries
 
