@@ -37,3 +37,7 @@ both_read answer first found second text is answered = subst (λ t. IsAnswered a
 pub both_allocate : (first : Tables) (found : Option Tables) (second : Tables) (text : List ℕ)
     → found ≡ Some second → MayAllocate first text ⊎ MayAllocate second text → MayAllocateBy first found text
 both_allocate first found second text is may = subst (λ t. MayAllocateBy first t text) (sym is) may
+
+-- the first ones alone
+pub one_allocates : (first : Tables) (found : Option Tables) (text : List ℕ) → found ≡ None → MayAllocate first text → MayAllocateBy first found text
+one_allocates first found text is may = subst (λ t. MayAllocateBy first t text) (sym is) may
