@@ -19,9 +19,12 @@ pub use Rattle.icu_dimension_affixes.specs.UnitReadingLaws
 pub use Rattle.icu_dimension_affixes.specs.UnitText
 pub use Rattle.icu_dimension_affixes.specs.UnitTextLaws
 -- What people type of numbers with a unit.
+pub use Rattle.icu_dimension_lenient.specs.Agreement
 pub use Rattle.icu_dimension_lenient.specs.HeldPairs
 pub use Rattle.icu_dimension_lenient.specs.LenientUnitLaws
 pub use Rattle.icu_dimension_lenient.specs.LenientUnits
+pub use Rattle.icu_dimension_lenient.specs.OwnUnitTexts
+pub use Rattle.icu_dimension_lenient.specs.TypedUnits
 -- Codes and digits of currencies, and rounding to them.
 pub use Rattle.icu_dimension_fractions.specs.CurrencyCodes
 pub use Rattle.icu_dimension_fractions.specs.FractionLaws

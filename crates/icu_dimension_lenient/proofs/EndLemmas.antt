@@ -4,7 +4,6 @@ use Rattle.std.proofs.lemmas.List.{drop_at, take_at}
 use Rattle.std.specs.Cmp.Lexicographic.{bytes_decides}
 use Rattle.std.specs.Option.{option_copied}
 use Rattle.std.specs.Str.{bytes_eq}
-use Rattle.icu_dimension_affixes.specs.UnitPatterns.{AffixPair}
 use Rattle.icu_dimension_lenient.specs.LenientUnits.{back_of_some, between, past_back, past_front, where_true}
 
 same_bytes : (w : List ℕ) → bytes_eq w w ≡ true
@@ -12,7 +11,7 @@ same_bytes w = (bytes_decides w w).1 refl
 
 -- ---- the front
 
-front_some : (w rest : List ℕ) → past_front w (w ++ rest) ≡ Some rest
+pub front_some : (w rest : List ℕ) → past_front w (w ++ rest) ≡ Some rest
 front_some w rest =
     let left : List ℕ = drop (length w) (w ++ rest) in
     ap (λ front. where_true (bytes_eq front w) left) (take_at w rest (length w) refl)
@@ -28,7 +27,7 @@ front_is None w text some none = by (bytes_eq (take (length w) text) w) refl
 
 -- ---- the end
 
-back_some : (w front : List ℕ) → past_back w (front ++ w) ≡ Some front
+pub back_some : (w front : List ℕ) → past_back w (front ++ w) ≡ Some front
 back_some w front =
     let n : ℕ = length (front ++ w) - length w in
     let is : length front ≡ n = omega (arith, length-append front w) in

@@ -11,7 +11,8 @@ use Rattle.icu_dimension_affixes.specs.UnitPatterns.{AffixesText, PatternTexts}
 use Rattle.icu_dimension_affixes.specs.UnitText.{UnitSettings}
 use Rattle.icu_dimension_affixes.specs.declared.affixes.UnitPlace.TheVariants.{Before}
 use Rattle.icu_dimension_affixes.specs.declared.unit.UnitKind.TheVariants.{Currency}
-use Rattle.icu_dimension_lenient.specs.LenientUnits.{LenientTexts, is_leniently_unit_readable_by, lenient_texts, read_unit_folded}
+use Rattle.icu_dimension_lenient.specs.Agreement.{agreed_reading}
+use Rattle.icu_dimension_lenient.specs.LenientUnits.{LenientTexts, folded_ways, is_leniently_unit_readable_by, lenient_texts, read_own, typed_unit_reading}
 
 -- U+20AC and U+00A0, in UTF-8
 abbrev euro : List ℕ
@@ -37,7 +38,7 @@ abbrev rupees : LenientTexts
 rupees = lenient_texts (settings (record { unsigned = before [] no_break_space []; minus = None; plus = None }) (codes "Rs")) (codes "PKR")
 
 abbrev typed : LenientTexts → List ℕ → PlainReading
-typed a text = read_unit_folded (folded_symbols english) a.folded text
+typed a text = agreed_reading (folded_ways (folded_symbols english) a.folded text)
 
 of_euros : is_leniently_unit_readable_by euros ≡ true
 unfolding fold_of chars encode
@@ -49,7 +50,7 @@ of_accounts = refl
 
 -- without groups
 
-ungrouped : typed euros (euro ++ codes "1234.5") ≡ number NoSign 12345 4 1
+ungrouped : read_own (folded_symbols english) euros.folded.pairs (euro ++ codes "1234.5") ≡ number NoSign 12345 4 1
 unfolding fold_of chars trim_start trim_end encode
 ungrouped = refl
 
@@ -124,3 +125,16 @@ abbreviation = refl
 without_space : typed rupees (codes "Rs5") ≡ number NoSign 5 1 0
 unfolding fold_of chars trim_start trim_end encode
 without_space = refl
+
+-- two ways
+
+abbrev points : LenientTexts
+points = lenient_texts (settings (record { unsigned = before [] [] []; minus = None; plus = None }) (codes ".")) (codes "XAD")
+
+two_ways : typed_unit_reading english points.folded (codes " .50") ≡ not_written
+unfolding fold_of chars trim_start trim_end encode
+two_ways = refl
+
+one_way : typed_unit_reading english points.folded (codes "XAD 0.50") ≡ number NoSign 50 1 2
+unfolding fold_of chars trim_start trim_end encode
+one_way = refl

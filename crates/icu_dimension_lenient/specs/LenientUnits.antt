@@ -1,7 +1,7 @@
--- What a typed text with a unit is read as: as the exact reader reads it; else without its unit, as plain lenient reading reads it; else folded, with the affixes of its sign, or with the unit or its code beside the number.
+-- What a typed text with a unit is read as: as the exact reader reads it; else as the decimal that it is without its unit, as plain lenient reading reads it, or folded, with the affixes of its sign, or with the unit or its code beside the number, where it is no other decimal in another one of these ways.
 -- Defined in docs/units.md, "Lenient reading".
 -- Cited by the calls of `LenientUnitReader`, and by the laws.
-use Rattle.std.specs.Prelude.{◌≡◌, ◌⊎◌, ℕ, ◌-◌, Bool, true, false, ◌&&◌, List, length, take, drop, Option, None, Some, Result, Ok, Err}
+use Rattle.std.specs.Prelude.{◌≡◌, ◌⊎◌, ℕ, ◌-◌, Bool, true, false, ◌&&◌, List, [], ◌∷◌, length, take, drop, Option, None, Some, Result, Ok, Err}
 use Rattle.std.specs.Str.{bytes_eq, trim}
 use Rattle.fixed_decimal.specs.Number.{Number}
 use Rattle.fixed_decimal.specs.SignedValue.{SignedValue}
@@ -13,10 +13,11 @@ use Rattle.icu_decimal_reading.specs.DecimalOfText.{PlainReading, decimal, not_w
 use Rattle.icu_decimal_reading.specs.declared.error.ReadError.{ReadError}
 use Rattle.icu_decimal_reading.specs.declared.error.ReadError.TheVariants.{Unreadable, NotWritten, Memory}
 use Rattle.icu_decimal_lenient.specs.Folding.{folded_symbols, folded_text, plain_digits}
-use Rattle.icu_decimal_lenient.specs.LenientReading.{filled_text, is_leniently_readable_by, lenient_reading, or_else, read_either}
+use Rattle.icu_decimal_lenient.specs.LenientReading.{filled_text, is_leniently_readable_by, lenient_reading, or_else, read_either, trimmed_fold}
 use Rattle.icu_dimension_affixes.specs.UnitPatterns.{AffixPair}
 use Rattle.icu_dimension_affixes.specs.UnitReading.{HasManyBetween, HasNoDecimal, IsUnitText, ReaderTexts, SignPairs, are_clear_pairs, do_pairs_differ, is_unit_readable_by, reader_texts}
 use Rattle.icu_dimension_affixes.specs.UnitText.{UnitSettings}
+use Rattle.icu_dimension_lenient.specs.Agreement.{agreed_reading}
 
 -- ---- ends of a text
 
@@ -138,19 +139,22 @@ read_named folded name text =
     (or_else (beside_within folded name Negative (between (minus_pair folded) text))
     (beside_within folded name Positive (between (plus_pair folded) text)))
 
--- the affixes of a sign, else the unit beside the number, else its code, else the affixes of a sign around what is filled
-abbrev pub read_unit_folded : Symbols → FoldedUnit → List ℕ → PlainReading
-read_unit_folded folded u text =
-    or_else (read_own folded u.pairs text)
-    (or_else (read_named folded u.unit text)
-    (or_else (read_named folded u.code text) (read_own folded u.pairs (filled_text folded.strings.decimal_separator text))))
+-- by the affixes of a sign, by the unit beside the number, by its code, and by the affixes of a sign around what is filled
+abbrev pub folded_ways : Symbols → FoldedUnit → List ℕ → List PlainReading
+folded_ways folded u text =
+    read_own folded u.pairs text
+    ∷ (read_named folded u.unit text
+    ∷ (read_named folded u.code text ∷ (read_own folded u.pairs (filled_text folded.strings.decimal_separator text) ∷ [])))
 
 -- ---- any text
 
--- a text that the formatter does not write: without its unit, or else with it, folded and trimmed
+-- a text that the formatter does not write: without its unit, and with it, folded and trimmed
+abbrev pub unit_ways : Tables → FoldedUnit → List ℕ → List PlainReading
+unit_ways t u text = lenient_reading t text ∷ folded_ways (folded_symbols t) u (trimmed_fold t text)
+
+-- the decimal that it is in one of these ways, and in no other one another
 abbrev pub typed_unit_reading : Tables → FoldedUnit → List ℕ → PlainReading
-typed_unit_reading t u text =
-    or_else (lenient_reading t text) (read_unit_folded (folded_symbols t) u (trim (folded_text t.digits text)))
+typed_unit_reading t u text = agreed_reading (unit_ways t u text)
 
 -- the text is what the reading says
 abbrev pub IsLenientUnitReading : LenientTexts → List ℕ → PlainReading → Type 0
@@ -169,7 +173,8 @@ IsUnitAnswer a text (Err Memory) = Unit {0}
 abbrev pub MayAllocateUnit : LenientTexts → List ℕ → Type 0
 MayAllocateUnit a text = HasManyBetween a.reader text ⊎ HasNoDecimal a.reader text
 
--- what a reader keeps: its tables are leniently readable, and its texts are readable
-pub record AreKeptTexts (reader : ReaderTexts) (kept : Tables) : Type 0 where
+-- what a reader keeps: its tables, folded too, which are leniently readable, and its texts are readable
+pub record AreKeptTexts (reader : ReaderTexts) (decimals kept : Tables) : Type 0 where
+  pub own : decimals ≡ reader.tables
   pub tables : kept ≡ reader.tables
   pub readable : is_unit_readable_by reader ≡ true

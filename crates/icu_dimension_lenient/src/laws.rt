@@ -1,6 +1,6 @@
 //! Laws of lenient reading of numbers with a unit. No call is made: each clause is the law.
 
-ghost use Rattle.icu_dimension_lenient.specs.LenientUnitLaws.{ExactUnitIsLenient, HasOneLenientUnitReading, UnitMayBeLeftOff, WrittenUnitReadsLeniently};
+ghost use Rattle.icu_dimension_lenient.specs.LenientUnitLaws.{ExactUnitIsLenient, HasOneLenientUnitReading, LenientUnitIsTyped, LenientUnitMisses, UnitMayBeLeftOff, UnitWaysAgree, WrittenUnitReadsLeniently};
 
 /// A law: a text has one lenient reading. In English with `€` that of ` € 5 ` is 5, and that of `€1,23` is not one.
 pub fn texts_have_one_lenient_reading()
@@ -14,8 +14,16 @@ pub fn exact_is_lenient()
     ensures written { WrittenUnitReadsLeniently }
 {}
 
-/// A law: a text that is a number without its unit, and that the formatter does not write, is that number: `1234.5` is
-/// 1234.5 in English.
+/// A law: what is read leniently is a spelling of that decimal, and no way in which lenient reading reads it gives another
+/// one. Where none is read, no way reads one, or two differ: ` .50` with the unit `.` is 0.50 without it, and 50 with it.
+pub fn lenient_reading_agrees()
+    ensures typed { LenientUnitIsTyped }
+    ensures agree { UnitWaysAgree }
+    ensures misses { LenientUnitMisses }
+{}
+
+/// A law: a text that is a number without its unit, and no other one with it, and that the formatter does not write, is
+/// that number: `1234.5` is 1234.5 in English.
 pub fn unit_may_be_left_off()
     ensures { UnitMayBeLeftOff }
 {}

@@ -11,6 +11,7 @@
 //! ```
 #![tactic(auto)]
 
+mod agreement;
 mod beside;
 mod ends;
 pub mod laws;
@@ -18,4 +19,5 @@ mod own;
 mod pairs;
 mod reader;
 
+pub use agreement::{add_reading, found_reading};
 pub use reader::LenientUnitReader;

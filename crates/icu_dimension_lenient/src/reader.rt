@@ -1,21 +1,24 @@
 //! What people type of numbers with a unit, read.
 
-ghost use Rattle.std.specs.Prelude.{◌≡◌, ◌&&◌, true, false, IsErrOf, IfOk, OnOk};
-ghost use Rattle.std.specs.Str.{trim};
+ghost use Rattle.std.specs.Prelude.{◌≡◌, ◌&&◌, true, false, [], ◌∷◌, IsErrOf, IfOk, OnOk};
 ghost use Rattle.icu_decimal_reading.specs.DecimalOfText.{IsAnswered};
-ghost use Rattle.icu_decimal_lenient.specs.Folding.{folded_symbols, folded_text};
-ghost use Rattle.icu_decimal_lenient.specs.LenientReading.{filled_text, is_leniently_readable_by, or_else};
+ghost use Rattle.icu_decimal_lenient.specs.Folding.{folded_symbols};
+ghost use Rattle.icu_decimal_lenient.specs.LenientReading.{filled_text, is_leniently_readable_by, trimmed_fold};
 ghost use Rattle.icu_decimal_plain.specs.BorrowedTables.{borrowed_tables};
 ghost use Rattle.icu_dimension_affixes.specs.HeldUnits.{name_of, settings_of};
 ghost use Rattle.icu_dimension_affixes.specs.UnitReading.{AreReaderTexts, HasManyBetween, HasNoDecimal, IsUnitText, is_unit_readable_by, reader_texts};
+ghost use Rattle.icu_dimension_lenient.specs.Agreement.{agreed_after};
 ghost use Rattle.icu_dimension_lenient.specs.HeldPairs.{pairs_of, unit_of};
-ghost use Rattle.icu_dimension_lenient.specs.LenientUnits.{IsUnitAnswer, MayAllocateUnit, is_leniently_unit_readable_by, lenient_texts, read_named, read_own, read_unit_folded, texts_with, typed_unit_reading};
+ghost use Rattle.icu_dimension_lenient.specs.OwnUnitTexts.{is_own_unit_text};
+ghost use Rattle.icu_dimension_lenient.specs.LenientUnits.{IsUnitAnswer, MayAllocateUnit, folded_ways, is_leniently_unit_readable_by, lenient_texts, read_named, read_own, texts_with, typed_unit_reading};
 
+use crate::agreement::{add_reading, found_reading};
 use crate::beside::read_by_name;
+use crate::ends::strip_pair;
 use crate::own::read_affixes;
 use crate::pairs::{FoldedTexts, do_tell, fold_texts};
-use fixed_decimal::Decimal;
-use icu_decimal_lenient::LenientTables;
+use fixed_decimal::{Decimal, Sign};
+use icu_decimal_lenient::{LenientTables, is_own_text};
 use icu_decimal_plain::DecimalTables;
 use icu_decimal_reading::ReadError;
 use icu_dimension_affixes::{Unit, UnitPattern, UnitReader, UnitTables};
@@ -37,84 +40,106 @@ fn read_filled(
     read_affixes(alloc, kept, &texts.pairs, filled.as_str())
 }
 
-// The code beside the number, else what is filled.
-#[tactic(auto, using(icu_decimal_lenient::proofs::LenientStepLemmas::answered_first, icu_decimal_lenient::proofs::LenientStepLemmas::answered_second))]
-fn read_code(
+// The affixes of a sign around what is filled, beside what was found in other ways.
+#[tactic(auto, using(crate::proofs::AgreementSteps::answered_after, crate::proofs::AgreementSteps::refused_after))]
+fn agree_filled(
     alloc: Global,
     kept: &LenientTables<'_>,
     texts: &FoldedTexts,
     text: &str,
+    found: Option<Decimal>,
 ) -> Result<Decimal, ReadError>
     ensures unreadable { ¬ (IsErrOf result ReadError.Unreadable) }
-    ensures reading { IsAnswered result
-        (or_else (read_named (folded_symbols kept.now) (unit_of texts.now).code text.now)
+    ensures reading { IsAnswered result (agreed_after found
         (read_own (folded_symbols kept.now) (pairs_of texts.now.pairs)
-        (filled_text (folded_symbols kept.now).strings.decimal_separator text.now))) }
+        (filled_text (folded_symbols kept.now).strings.decimal_separator text.now) ∷ [])) }
 {
-    match read_by_name(alloc, kept, texts.code.as_str(), text) {
-        Ok(number) => Ok(number),
-        Err(ReadError::NotWritten) => read_filled(alloc, kept, texts, text),
+    match add_reading(found, read_filled(alloc, kept, texts, text)) {
+        Ok(found) => found_reading(found),
         Err(error) => Err(error),
     }
 }
 
-// The unit beside the number, else its code, else what is filled.
-#[tactic(auto, using(icu_decimal_lenient::proofs::LenientStepLemmas::answered_first, icu_decimal_lenient::proofs::LenientStepLemmas::answered_second))]
-fn read_unit(
+// The code beside the number, and what is filled.
+#[tactic(auto, using(crate::proofs::AgreementSteps::answered_after, crate::proofs::AgreementSteps::refused_after))]
+fn agree_code(
     alloc: Global,
     kept: &LenientTables<'_>,
     texts: &FoldedTexts,
     text: &str,
+    found: Option<Decimal>,
 ) -> Result<Decimal, ReadError>
     ensures unreadable { ¬ (IsErrOf result ReadError.Unreadable) }
-    ensures reading { IsAnswered result
-        (or_else (read_named (folded_symbols kept.now) (unit_of texts.now).unit text.now)
-        (or_else (read_named (folded_symbols kept.now) (unit_of texts.now).code text.now)
-        (read_own (folded_symbols kept.now) (pairs_of texts.now.pairs)
-        (filled_text (folded_symbols kept.now).strings.decimal_separator text.now)))) }
+    ensures reading { IsAnswered result (agreed_after found
+        (read_named (folded_symbols kept.now) (unit_of texts.now).code text.now
+        ∷ (read_own (folded_symbols kept.now) (pairs_of texts.now.pairs)
+        (filled_text (folded_symbols kept.now).strings.decimal_separator text.now) ∷ []))) }
 {
-    match read_by_name(alloc, kept, texts.unit.as_str(), text) {
-        Ok(number) => Ok(number),
-        Err(ReadError::NotWritten) => read_code(alloc, kept, texts, text),
+    match add_reading(found, read_by_name(alloc, kept, texts.code.as_str(), text)) {
+        Ok(found) => agree_filled(alloc, kept, texts, text, found),
+        Err(error) => Err(error),
+    }
+}
+
+// The unit beside the number, its code, and what is filled.
+#[tactic(auto, using(crate::proofs::AgreementSteps::answered_after, crate::proofs::AgreementSteps::refused_after))]
+fn agree_names(
+    alloc: Global,
+    kept: &LenientTables<'_>,
+    texts: &FoldedTexts,
+    text: &str,
+    found: Option<Decimal>,
+) -> Result<Decimal, ReadError>
+    ensures unreadable { ¬ (IsErrOf result ReadError.Unreadable) }
+    ensures reading { IsAnswered result (agreed_after found
+        (read_named (folded_symbols kept.now) (unit_of texts.now).unit text.now
+        ∷ (read_named (folded_symbols kept.now) (unit_of texts.now).code text.now
+        ∷ (read_own (folded_symbols kept.now) (pairs_of texts.now.pairs)
+        (filled_text (folded_symbols kept.now).strings.decimal_separator text.now) ∷ [])))) }
+{
+    match add_reading(found, read_by_name(alloc, kept, texts.unit.as_str(), text)) {
+        Ok(found) => agree_code(alloc, kept, texts, text, found),
         Err(error) => Err(error),
     }
 }
 
 // A folded and trimmed text.
-#[tactic(auto, using(icu_decimal_lenient::proofs::LenientStepLemmas::answered_first, icu_decimal_lenient::proofs::LenientStepLemmas::answered_second))]
-fn read_trimmed(
+#[tactic(auto, using(crate::proofs::AgreementSteps::answered_after, crate::proofs::AgreementSteps::refused_after))]
+fn agree_trimmed(
     alloc: Global,
     kept: &LenientTables<'_>,
     texts: &FoldedTexts,
     text: &str,
+    found: Option<Decimal>,
 ) -> Result<Decimal, ReadError>
     ensures unreadable { ¬ (IsErrOf result ReadError.Unreadable) }
-    ensures reading { IsAnswered result (read_unit_folded (folded_symbols kept.now) (unit_of texts.now) text.now) }
+    ensures reading { IsAnswered result (agreed_after found
+        (folded_ways (folded_symbols kept.now) (unit_of texts.now) text.now)) }
 {
-    match read_affixes(alloc, kept, &texts.pairs, text) {
-        Ok(number) => Ok(number),
-        Err(ReadError::NotWritten) => read_unit(alloc, kept, texts, text),
+    match add_reading(found, read_affixes(alloc, kept, &texts.pairs, text)) {
+        Ok(found) => agree_names(alloc, kept, texts, text, found),
         Err(error) => Err(error),
     }
 }
 
 // A text with its unit, folded and trimmed.
-fn read_folded(
+fn agree_folded(
     alloc: Global,
     kept: &LenientTables<'_>,
     texts: &FoldedTexts,
     text: &str,
+    found: Option<Decimal>,
 ) -> Result<Decimal, ReadError>
     ensures unreadable { ¬ (IsErrOf result ReadError.Unreadable) }
-    ensures reading { IsAnswered result (read_unit_folded (folded_symbols kept.now) (unit_of texts.now)
-        (trim (folded_text kept.now.digits text.now))) }
+    ensures reading { IsAnswered result (agreed_after found
+        (folded_ways (folded_symbols kept.now) (unit_of texts.now) (trimmed_fold kept.now text.now))) }
 {
     let folded = kept.fold(alloc, text)?;
-    read_trimmed(alloc, kept, texts, folded.as_str().trim())
+    agree_trimmed(alloc, kept, texts, folded.as_str().trim(), found)
 }
 
-// A text without its unit, else with it.
-#[tactic(auto, using(icu_decimal_lenient::proofs::LenientStepLemmas::answered_first, icu_decimal_lenient::proofs::LenientStepLemmas::answered_second))]
+// A text without its unit, and with it.
+#[tactic(auto, using(crate::proofs::AgreementSteps::answered_after, crate::proofs::AgreementSteps::refused_after))]
 fn read_typed(
     alloc: Global,
     kept: &LenientTables<'_>,
@@ -124,9 +149,8 @@ fn read_typed(
     ensures unreadable { ¬ (IsErrOf result ReadError.Unreadable) }
     ensures reading { IsAnswered result (typed_unit_reading kept.now (unit_of texts.now) text.now) }
 {
-    match kept.read(alloc, text) {
-        Ok(number) => Ok(number),
-        Err(ReadError::NotWritten) => read_folded(alloc, kept, texts, text),
+    match add_reading(None, kept.read(alloc, text)) {
+        Ok(found) => agree_folded(alloc, kept, texts, text, found),
         Err(error) => Err(error),
     }
 }
@@ -138,11 +162,13 @@ fn read_typed(
 #[derive(Debug, Drop)]
 pub struct LenientUnitReader<'b> {
     exact: UnitReader<'b>,
+    decimals: DecimalTables<'b>,
     kept: LenientTables<'b>,
     texts: FoldedTexts,
 }
 
 impl<'b> Model for LenientUnitReader<'b> {
+    ghost use Rattle.icu_decimal_plain.specs.BorrowedTables.{borrowed_tables};
     ghost use Rattle.icu_dimension_lenient.specs.HeldPairs.{unit_of};
     ghost use Rattle.icu_dimension_lenient.specs.LenientUnits.{AreKeptTexts, LenientTexts};
 
@@ -150,7 +176,7 @@ impl<'b> Model for LenientUnitReader<'b> {
 
     ghost view = { λ r. record { reader = r.exact; folded = unit_of r.texts } };
 
-    ghost invariant = { λ r. AreKeptTexts r.exact r.kept };
+    ghost invariant = { λ r. AreKeptTexts r.exact (borrowed_tables r.decimals) r.kept };
 }
 
 // The tables of a readable reader, to read leniently with.
@@ -172,6 +198,29 @@ fn keep_tables<'b>(
         return Err(ReadError::Unreadable);
     }
     LenientTables::new(alloc, decimals)
+}
+
+// A number, and whether an exact reader with these tables has it from this text, under any grouping.
+#[tactic(auto, using(crate::proofs::OwnUnitLemmas::own_between, crate::proofs::OwnUnitLemmas::own_without))]
+fn is_own_by(
+    exact: &UnitReader<'_>,
+    decimals: &DecimalTables<'_>,
+    number: Decimal,
+    text: &str,
+) -> (Decimal, bool)
+    requires { borrowed_tables decimals.now ≡ exact.now.tables }
+    ensures number { result.0 ≡ number }
+    ensures own { result.1 ≡ is_own_unit_text exact.now text.now number }
+{
+    let sign = number.sign;
+    let affixes = exact.affixes(sign);
+    let inner = strip_pair(text, affixes.before.as_str(), affixes.after.as_str());
+    let unsigned = number.with_sign(Sign::None);
+    let is_own = match inner {
+        Some(inner) => is_own_text(decimals, &unsigned, inner),
+        None => false,
+    };
+    (unsigned.with_sign(sign), is_own)
 }
 
 // An exact reader with its tables, and beside it what is folded of them, of a unit and of its code.
@@ -198,7 +247,12 @@ fn with_folded<'b>(
     if !do_tell(&texts.pairs) {
         return Err(ReadError::Unreadable);
     }
-    Ok(LenientUnitReader { exact, kept, texts })
+    Ok(LenientUnitReader {
+        exact,
+        decimals: *decimals,
+        kept,
+        texts,
+    })
 }
 
 impl<'b> LenientUnitReader<'b> {
@@ -263,9 +317,9 @@ impl<'b> LenientUnitReader<'b> {
     /// The decimal that was typed, with its unit or without: in English with `€` and `EUR` the texts `1234.5`,
     /// `€1234.5`, `1,234.5 €` and `EUR 1,234.5` are 1234.5, and `$5` and `€1,23` are none.
     ///
-    /// Sign, digits and visible range are those of the text. `NotWritten`: it is a text of no decimal. `Memory`: out of
-    /// memory. What the formatter writes is read in one pass, and allocates where it has more than sixteen digits; any
-    /// other text is folded, which allocates.
+    /// Sign, digits and visible range are those of the text. `NotWritten`: it is a text of no decimal, or of two: with the
+    /// unit `.` and a space before it, `.50` is 50 and 0.50. `Memory`: out of memory. What the formatter writes is read in
+    /// one pass, and allocates where it has more than sixteen digits; any other text is folded, which allocates.
     #[tactic(auto, using(crate::proofs::UnitSteps::exactly_read, crate::proofs::UnitSteps::typed_read))]
     pub fn read(&self, alloc: Global, text: &str) -> Result<Decimal, ReadError>
         ensures unreadable { ¬ (IsErrOf result ReadError.Unreadable) }
@@ -293,10 +347,21 @@ impl<'b> LenientUnitReader<'b> {
         self.exact.read_readable(alloc, text)
     }
 
+    /// The number, and whether it is what the formatter writes so, under any grouping: in English with `€`, `€1,234` and
+    /// `€1234` are of 1234, and `€ 1234` is not.
+    ///
+    /// The number comes back as it was. It does not allocate.
+    pub fn own_text(&self, number: Decimal, text: &str) -> (Decimal, bool)
+        ensures number { result.0 ≡ number }
+        ensures own { result.1 ≡ is_own_unit_text self.now.reader text.now number }
+    {
+        is_own_by(&self.exact, &self.decimals, number, text)
+    }
+
     /// The second step of `read`, for a text that the formatter does not write: in English with `€` and `EUR`, `€1234.5`
     /// and `5 EUR` are 1234.5 and 5.
     ///
-    /// `NotWritten`: it is a text of no decimal, folded. `Memory`: out of memory. It allocates.
+    /// `NotWritten`: it is a text of no decimal, folded, or of two. `Memory`: out of memory. It allocates.
     pub fn read_leniently(&self, alloc: Global, text: &str) -> Result<Decimal, ReadError>
         ensures unreadable { ¬ (IsErrOf result ReadError.Unreadable) }
         ensures reading { IsAnswered result

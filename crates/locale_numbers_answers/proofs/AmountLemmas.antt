@@ -1,5 +1,5 @@
 -- The amount that the function answers is the one that the relation of `icu_dimension_fractions` names: `specs/AmountRounding.antt`.
-use Rattle.std.proofs.Common.{◌≡◌, ◌↔◌, Bool, true, false, IsTrue, ℕ, ◌+◌, ◌*◌, ◌^◌, ◌<◌, ◌≤◌, inl, inr, refl, sym, ap, ◌∙◌, subst, arith}
+use Rattle.std.proofs.Common.{◌≡◌, ◌↔◌, Bool, true, false, IsTrue, ℕ, ◌+◌, ◌*◌, ◌^◌, ◌<◌, ◌≤◌, inl, inr, refl, sym, ◌∙◌, subst, arith}
 use Rattle.std.proofs.Math.Nat.{one-le-pow}
 use Rattle.fixed_decimal.specs.Number.{Number}
 use Rattle.fixed_decimal.specs.Rounding.{IsLimited, Takes, count_limit}
@@ -16,7 +16,7 @@ use Rattle.icu_dimension_fractions.specs.declared.FractionIncrement.{FractionInc
 use Rattle.icu_dimension_fractions.specs.declared.FractionIncrement.TheVariants.{MultiplesOf1, MultiplesOf2, MultiplesOf5, MultiplesOf10, MultiplesOf20, MultiplesOf25, MultiplesOf50}
 use Rattle.locale_numbers_answers.specs.AmountRounding.{amount_rounded, amount_size}
 use Rattle.locale_numbers_answers.specs.Laws.{HasOneAmount}
-use Rattle.locale_numbers_answers.specs.Rounded.{holding_from, limited, multiple_of}
+use Rattle.locale_numbers_answers.specs.Rounded.{holding_from, multiple_of}
 use Rattle.locale_numbers_answers.proofs.RoundedLemmas.{below_power, holding_holds, holding_keeps, holding_lowest, limited_right, multiple_right}
 
 pub increment_positive : (increment : FractionIncrement) (at : ℕ) → 0 < increment_of increment * 10 ^ at

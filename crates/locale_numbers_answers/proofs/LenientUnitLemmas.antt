@@ -1,15 +1,20 @@
 -- What is read of texts with a unit that people type: `specs/LenientUnitAnswer.antt`.
-use Rattle.std.proofs.Common.{◌≡◌, ℕ, Bool, true, false, cond, List, Option, Some, None, Result, Ok, Err, refl, ap, ◌∙◌}
+use Rattle.std.proofs.Common.{◌≡◌, ◌⊎◌, inl, inr, ℕ, true, false, List, [], ◌∷◌, Option, Some, None, Result, is_some, sym, ap, subst, ◌∙◌}
 use Rattle.fixed_decimal.specs.Number.{Number}
 use Rattle.fixed_decimal.specs.SignedValue.{SignedValue}
-use Rattle.icu_decimal.specs.LenientReading.{agreed, or_else, unless_other}
+use Rattle.icu_decimal.specs.LenientReading.{or_else}
 use Rattle.icu_decimal.specs.PlainReading.{IsAnswered, PlainReading, decimal, not_written, unreadable}
 use Rattle.icu_decimal.specs.declared.error.ReadError.{ReadError}
-use Rattle.icu_decimal.specs.declared.error.ReadError.TheVariants.{Unreadable, NotWritten, Memory}
-use Rattle.icu_decimal_lenient.proofs.AgreementLemmas.{answered_other, answered_unless, own_agrees}
 use Rattle.icu_decimal_lenient.proofs.LenientStepLemmas.{answered_second}
-use Rattle.locale_numbers_answers.specs.LenientUnitAnswer.{TypedTexts, is_number, is_own_unit_text, lenient_unit_reading, typed_by, unit_reading_by}
+use Rattle.icu_dimension_affixes.specs.UnitReading.{HasManyBetween}
+use Rattle.icu_dimension_lenient.specs.Agreement.{agreed_after, own_or_agreed}
+use Rattle.icu_dimension_lenient.specs.OwnUnitTexts.{is_own_unit_text, reader_under}
+use Rattle.icu_dimension_lenient.proofs.OwnUnitLemmas.{own_under}
+use Rattle.icu_dimension_lenient.proofs.AgreementSteps.{answered_as, one_agrees, others_read, own_stays, typed_stays}
+use Rattle.locale_numbers_answers.specs.LenientUnitAnswer.{MayAllocateTyped, MayAllocateTypedBy, TypedTexts, lenient_unit_reading, typed_by, unit_reading_by}
+use Rattle.locale_numbers_answers.specs.OwnUnitLaws.{OwnUnitTextIsFirsts}
 use Rattle.locale_numbers_answers.specs.UnitReadings.{unit_reading}
+use Rattle.locale_numbers_answers.proofs.UnitReadingsLemmas.{own_when_read, unit_written_again}
 
 -- ---- one reader
 
@@ -40,11 +45,12 @@ pub read_exactly : (first : TypedTexts) (second : Option TypedTexts) (text : Lis
     → unit_reading first.reader text ≡ decimal value → unit_reading_by first second text ≡ decimal value
 read_exactly first None text value is = exactly_read first text value is
 read_exactly first (Some second) text value is =
-    own_agrees (λ v. is_own_unit_text first text) (lenient_unit_reading first text) (lenient_unit_reading second text) value (exactly_read first text value is) (ap is_number is)
+    own_stays (λ v. is_own_unit_text first.reader text v) (lenient_unit_reading first text) (lenient_unit_reading second text ∷ []) value (exactly_read first text value is)
+    (own_when_read first.reader text value is)
 
 -- and so where the first one does not tell
 unread_by : (first second : TypedTexts) (text : List ℕ) → lenient_unit_reading first text ≡ unreadable → unit_reading_by first (Some second) text ≡ unreadable
-unread_by first second text broken = ap (λ reading. agreed (λ v. is_own_unit_text first text) reading (lenient_unit_reading second text)) broken
+unread_by first second text broken = ap (λ reading. own_or_agreed (λ v. is_own_unit_text first.reader text v) reading (lenient_unit_reading second text ∷ [])) broken
 
 pub unread_exactly : (first second : TypedTexts) (text : List ℕ) → unit_reading first.reader text ≡ unreadable → unit_reading_by first (Some second) text ≡ unreadable
 unread_exactly first second text broken = unread_by first second text (exactly_unread first text broken)
@@ -53,16 +59,46 @@ pub unread_typed : (first second : TypedTexts) (text : List ℕ)
     → unit_reading first.reader text ≡ not_written → typed_by first.reader.tables first.folded text ≡ unreadable → unit_reading_by first (Some second) text ≡ unreadable
 unread_typed first second text none broken = unread_by first second text (typed_is first text unreadable none broken)
 
--- what it reads leniently is what the second one does not read otherwise
+-- what it reads leniently, and writes so under another grouping
+pub read_own : (value : SignedValue Number) (first second : TypedTexts) (text : List ℕ)
+    → unit_reading first.reader text ≡ not_written → typed_by first.reader.tables first.folded text ≡ decimal value → true ≡ is_own_unit_text first.reader text value
+    → unit_reading_by first (Some second) text ≡ decimal value
+read_own value first second text none is own =
+    own_stays (λ v. is_own_unit_text first.reader text v) (lenient_unit_reading first text) (lenient_unit_reading second text ∷ []) value (typed_is first text (decimal value) none is) (sym own)
+
+-- what it reads leniently, and does not write so, is what the second one does not read otherwise
 pub read_unless : (value : SignedValue Number) (answer : Result (SignedValue Number) ReadError) (first second : TypedTexts) (text : List ℕ)
-    → unit_reading first.reader text ≡ not_written → typed_by first.reader.tables first.folded text ≡ decimal value → IsAnswered answer (unless_other value (lenient_unit_reading second text))
+    → unit_reading first.reader text ≡ not_written → typed_by first.reader.tables first.folded text ≡ decimal value → false ≡ is_own_unit_text first.reader text value
+    → IsAnswered answer (agreed_after (Some value) (lenient_unit_reading second text ∷ []))
     → IsAnswered answer (unit_reading_by first (Some second) text)
-read_unless value answer first second text none is answered =
-    answered_unless value answer (lenient_unit_reading first text) (lenient_unit_reading second text) (λ v. is_own_unit_text first text) (typed_is first text (decimal value) none is) (ap is_number none) answered
+read_unless value answer first second text none is own answered =
+    answered_as answer (unit_reading_by first (Some second) text) (agreed_after (Some value) (lenient_unit_reading second text ∷ []))
+    (typed_stays (λ v. is_own_unit_text first.reader text v) (lenient_unit_reading first text) (lenient_unit_reading second text ∷ []) value (typed_is first text (decimal value) none is) (sym own)) answered
 
 -- a text that is no number by the first one is what it is by the second one
 pub read_other : (answer : Result (SignedValue Number) ReadError) (first second : TypedTexts) (text : List ℕ)
     → unit_reading first.reader text ≡ not_written → typed_by first.reader.tables first.folded text ≡ not_written → IsAnswered answer (lenient_unit_reading second text)
     → IsAnswered answer (unit_reading_by first (Some second) text)
 read_other answer first second text none nothing answered =
-    answered_other answer (lenient_unit_reading first text) (lenient_unit_reading second text) (λ v. is_own_unit_text first text) (typed_is first text not_written none nothing) answered
+    answered_as answer (unit_reading_by first (Some second) text) (lenient_unit_reading second text)
+    (others_read (λ v. is_own_unit_text first.reader text v) (lenient_unit_reading first text) (lenient_unit_reading second text ∷ []) (typed_is first text not_written none nothing)
+    ∙ one_agrees (lenient_unit_reading second text)) answered
+
+-- what it writes under any grouping, and reads so, is its own
+pub own_unit_text_is_firsts : OwnUnitTextIsFirsts
+own_unit_text_is_firsts first None grouping text v own is = is
+own_unit_text_is_firsts first (Some second) grouping text v own is =
+    own_stays (λ w. is_own_unit_text first.reader text w) (lenient_unit_reading first text) (lenient_unit_reading second text ∷ []) v is
+    (own_under first.reader grouping text v (unit_written_again (reader_under grouping first.reader) text v own))
+
+-- ---- memory
+
+pub exactly_allocates : (a : TypedTexts) (text : List ℕ) → HasManyBetween a.reader text → MayAllocateTyped a text
+exactly_allocates a text many = inl many
+
+pub typed_allocates : (a : TypedTexts) (text : List ℕ) → unit_reading a.reader text ≡ not_written → is_some a.folded ≡ true → MayAllocateTyped a text
+typed_allocates a text none folded = inr (folded, none)
+
+pub both_allocate : (first : TypedTexts) (found : Option TypedTexts) (second : TypedTexts) (text : List ℕ) → found ≡ Some second
+    → MayAllocateTyped first text ⊎ MayAllocateTyped second text → MayAllocateTypedBy first found text
+both_allocate first found second text is may = subst (λ t. MayAllocateTypedBy first t text) (sym is) may

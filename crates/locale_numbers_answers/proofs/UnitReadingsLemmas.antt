@@ -1,5 +1,5 @@
 -- The reading that the function answers is the one that the relation of `icu_dimension_affixes` names: `specs/UnitReadings.antt`.
-use Rattle.std.proofs.Common.{◌≡◌, ◌↔◌, ℕ, ◌-◌, Bool, true, false, cond, List, ◌++◌, drop, length, take, Option, Some, None, Result, Ok, Err, IfOk, IsErrOf, refl, sym, ap, ◌∙◌, subst, arith}
+use Rattle.std.proofs.Common.{◌≡◌, ℕ, ◌-◌, Bool, true, false, cond, List, ◌++◌, length, take, Option, Some, None, Result, Ok, Err, IfOk, IsErrOf, refl, sym, ap, ◌∙◌, subst, arith}
 use Rattle.std.specs.Cmp.Lexicographic.{bytes_decides}
 use Rattle.std.specs.Str.{bytes_eq}
 use Rattle.std.proofs.Math.Seq.{drop-append_seam, take-append_seam}
@@ -16,9 +16,11 @@ use Rattle.icu_decimal.specs.PlainText.{Tables, decimal_text, unsigned_text}
 use Rattle.icu_decimal.specs.Readable.{is_readable_by}
 use Rattle.icu_decimal.specs.ReadingLaws.{AreTables, HasOneReading as HasOnePlainReading, WrittenReadsBack as PlainReadsBack}
 use Rattle.icu_dimension_affixes.specs.UnitPatterns.{AffixPair}
-use Rattle.icu_dimension_affixes.specs.UnitReading.{AreReaderTexts, HasNoDecimal, HasNoNumberBetween, IsSignedText, IsUnitReading, IsUnitText, ReaderTexts, is_unit_readable_by, pair_for}
+use Rattle.icu_dimension_affixes.specs.UnitReading.{AreReaderTexts, HasNoDecimal, HasNoNumberBetween, IsSignedText, IsUnitReading, IsUnitText, ReaderTexts, is_unit_readable_by, pair_for, text_by}
 use Rattle.icu_dimension_affixes.specs.UnitReadingLaws.{HasOneUnitReading as HasOneRelation}
 use Rattle.icu_dimension_affixes.specs.UnitText.{text_between}
+use Rattle.icu_dimension_lenient.specs.OwnUnitTexts.{is_own_unit_text}
+use Rattle.icu_dimension_lenient.proofs.OwnUnitLemmas.{own_under, plain_written}
 use Rattle.locale_numbers_answers.specs.Laws.{HasOneUnitReading}
 use Rattle.locale_numbers_answers.specs.UnitReadings.{any_reading, else_read, inner_of, inner_reading, reading_between, signed_by, trimmed_by, unit_reading, with_no_sign}
 
@@ -187,3 +189,61 @@ module _ (one : HasOnePlainReading) (back : PlainReadsBack) where
 -- where it is not readable, no text is read
 pub unread : (r : ReaderTexts) (text : List ℕ) → is_unit_readable_by r ≡ false → unit_reading r text ≡ unreadable
 unread r text broken = ap (λ b. cond b (any_reading r text) unreadable) broken
+
+-- ---- what is read is written so
+
+-- the number between the affixes of a sign
+record IsWrittenBetween (t : Tables) (pair : AffixPair) (sign : Sign) (text : List ℕ) (v : SignedValue Number) : Type 0 where
+  pub signed : v.sign ≡ sign
+  pub written : text_between pair (unsigned_text t v.absolute) ≡ text
+
+signed_written : (t : Tables) (pair : AffixPair) (sign : Sign) (text inner : List ℕ) (v : SignedValue Number) (reading : PlainReading) → text_between pair inner ≡ text
+    → plain_reading t inner ≡ reading → signed_by sign reading ≡ decimal v → IsWrittenBetween t pair sign text v
+signed_written t pair sign text inner v unreadable whole read is = absurd (cc)
+signed_written t pair sign text inner v not_written whole read is = absurd (cc)
+signed_written t pair sign text inner v (decimal u) whole read is = at u.sign refl is
+  where
+    at : (s : Sign) → u.sign ≡ s → with_no_sign sign s u.absolute ≡ decimal v → IsWrittenBetween t pair sign text v
+    at NoSign none is =
+        let same : ◌≡◌ {A = SignedValue Number} (record { sign = sign; absolute = u.absolute }) v = cc in
+        let plain : decimal_text t (record { sign = NoSign; absolute = u.absolute }) ≡ inner = ap (λ s. decimal_text t (record { sign = s; absolute = u.absolute })) (sym none) ∙ plain_written t inner u read in
+        subst (IsWrittenBetween t pair sign text) same (record {
+          signed = refl;
+          written = ap (λ number. text_between pair number) (sym (plain_unsigned t u.absolute) ∙ plain) ∙ whole;
+        })
+    at Negative none is = absurd (cc)
+    at Positive none is = absurd (cc)
+
+between_written : (t : Tables) (pair : AffixPair) (sign : Sign) (text : List ℕ) (v : SignedValue Number) → reading_between t pair sign text ≡ decimal v → IsWrittenBetween t pair sign text v
+between_written t pair sign text v is = at (inner_of pair text) refl is
+  where
+    at : (inner : Option (List ℕ)) → inner_of pair text ≡ inner → inner_reading t sign inner ≡ decimal v → IsWrittenBetween t pair sign text v
+    at None found is = absurd (cc)
+    at (Some inner) found is = signed_written t pair sign text inner v (plain_reading t inner) (inner_is pair text inner found) refl is
+
+any_written : (r : ReaderTexts) (text : List ℕ) (v : SignedValue Number) (none minus plus : PlainReading) → reading_between r.tables r.pairs.none NoSign text ≡ none
+    → reading_between r.tables r.pairs.minus Negative text ≡ minus → reading_between r.tables r.pairs.plus Positive text ≡ plus
+    → else_read none (else_read minus plus) ≡ decimal v → text_by r v ≡ text
+any_written r text v none minus plus first second third is = at none minus plus first second third is
+  where
+    by : (sign : Sign) → IsWrittenBetween r.tables (pair_for r.pairs sign) sign text v → text_by r v ≡ text
+    by sign found = ap (λ s. text_between (pair_for r.pairs s) (unsigned_text r.tables v.absolute)) found.signed ∙ found.written
+
+    at : (none minus plus : PlainReading) → reading_between r.tables r.pairs.none NoSign text ≡ none
+        → reading_between r.tables r.pairs.minus Negative text ≡ minus → reading_between r.tables r.pairs.plus Positive text ≡ plus
+        → else_read none (else_read minus plus) ≡ decimal v → text_by r v ≡ text
+    at unreadable minus plus first second third is = absurd (cc)
+    at (decimal u) minus plus first second third is = by NoSign (between_written r.tables r.pairs.none NoSign text v (first ∙ is))
+    at not_written unreadable plus first second third is = absurd (cc)
+    at not_written (decimal u) plus first second third is = by Negative (between_written r.tables r.pairs.minus Negative text v (second ∙ is))
+    at not_written not_written plus first second third is = by Positive (between_written r.tables r.pairs.plus Positive text v (third ∙ is))
+
+pub unit_written_again : (r : ReaderTexts) (text : List ℕ) (v : SignedValue Number) → unit_reading r text ≡ decimal v → text_by r v ≡ text
+unit_written_again r text v is = at (is_unit_readable_by r) is
+  where
+    at : (b : Bool) → cond b (any_reading r text) unreadable ≡ decimal v → text_by r v ≡ text
+    at true is = any_written r text v _ _ _ refl refl refl is
+    at false is = absurd (cc)
+
+pub own_when_read : (r : ReaderTexts) (text : List ℕ) (v : SignedValue Number) → unit_reading r text ≡ decimal v → is_own_unit_text r text v ≡ true
+own_when_read r text v is = own_under r r.tables.strategy text v (unit_written_again r text v is)

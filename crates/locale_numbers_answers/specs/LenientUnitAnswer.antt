@@ -2,14 +2,16 @@
 -- Defined in docs/requests.md, "Answer line", and docs/units.md, "Lenient reading".
 -- Cited by `answer` and `run`, through Answer.antt of `locale_numbers`, and by `KnownLenientReader`, `UnitReadersInTurn` and `write_lenient_unit_answer`.
 -- A text is read exactly, and else leniently, and each is defined in a file of its own to import.
-use Rattle.std.specs.Prelude.{ℕ, Bool, true, false, cond, List, Option, Some, None, option_map, Result, Ok, Err, codes}
-use Rattle.icu_decimal.specs.LenientReading.{agreed, or_else}
-use Rattle.icu_decimal.specs.PlainReading.{PlainReading, decimal, not_written, unreadable}
+use Rattle.std.specs.Prelude.{◌≡◌, ◌⊎◌, ℕ, true, cond, List, [], ◌∷◌, Option, Some, None, is_some, option_map, Result, Ok, Err, codes}
+use Rattle.icu_decimal.specs.LenientReading.{or_else}
+use Rattle.icu_decimal.specs.PlainReading.{PlainReading, not_written, unreadable}
 use Rattle.icu_decimal.specs.PlainText.{Tables}
 use Rattle.icu_decimal.specs.declared.error.DataError.{DataError}
-use Rattle.icu_dimension_affixes.specs.UnitReading.{ReaderTexts, reader_texts}
+use Rattle.icu_dimension_affixes.specs.UnitReading.{HasManyBetween, ReaderTexts, reader_texts}
 use Rattle.icu_dimension_affixes.specs.UnitText.{UnitSettings}
+use Rattle.icu_dimension_lenient.specs.Agreement.{own_or_agreed}
 use Rattle.icu_dimension_lenient.specs.LenientUnits.{FoldedUnit, is_leniently_unit_readable_by, lenient_texts, typed_unit_reading}
+use Rattle.icu_dimension_lenient.specs.OwnUnitTexts.{is_own_unit_text}
 use Rattle.locale_numbers_answers.specs.AnswerLine.{refused}
 use Rattle.locale_numbers_answers.specs.LenientAnswer.{second_found}
 use Rattle.locale_numbers_answers.specs.ReadAnswer.{read_answer}
@@ -46,22 +48,25 @@ pub record TypedInTurn : Type 0 where
   pub first : TypedTexts
   pub second : Option TypedTexts
 
-abbrev pub is_number : PlainReading → Bool
-is_number unreadable = false
-is_number not_written = false
-is_number (decimal v) = true
-
--- the formatter writes a number so
-abbrev pub is_own_unit_text : TypedTexts → List ℕ → Bool
-is_own_unit_text a text = is_number (unit_reading a.reader text)
-
+-- what the first formatter writes of a number, under any grouping, is its own
 abbrev pub unit_reading_by : TypedTexts → Option TypedTexts → List ℕ → PlainReading
 unit_reading_by first None text = lenient_unit_reading first text
 unit_reading_by first (Some second) text =
-    agreed (λ v. is_own_unit_text first text) (lenient_unit_reading first text) (lenient_unit_reading second text)
+    own_or_agreed (λ v. is_own_unit_text first.reader text v) (lenient_unit_reading first text) (lenient_unit_reading second text ∷ [])
 
 abbrev pub unit_reading_in_turn : TypedInTurn → List ℕ → PlainReading
 unit_reading_in_turn readers text = unit_reading_by readers.first readers.second text
+
+-- memory is asked for where more than sixteen digits are between the affixes of a sign, or where the formatter does not write the text, and texts can be read leniently
+abbrev pub MayAllocateTyped : TypedTexts → List ℕ → Type 0
+MayAllocateTyped a text = HasManyBetween a.reader text ⊎ ((is_some a.folded ≡ true) × (unit_reading a.reader text ≡ not_written))
+
+abbrev pub MayAllocateTypedBy : TypedTexts → Option TypedTexts → List ℕ → Type 0
+MayAllocateTypedBy first None text = MayAllocateTyped first text
+MayAllocateTypedBy first (Some second) text = MayAllocateTyped first text ⊎ MayAllocateTyped second text
+
+abbrev pub MayAllocateTypedInTurn : TypedInTurn → List ℕ → Type 0
+MayAllocateTypedInTurn readers text = MayAllocateTypedBy readers.first readers.second text
 
 -- second is what is found for the numbering system `latn`, where the digits are other ones than those of ASCII
 abbrev pub second_unit : UnitFound → Result UnitFound DataError → Option UnitFound

@@ -21,3 +21,4 @@ pub mod TypedHeld
 pub mod KnownTexts
 -- Statements of laws.
 pub mod Laws
+pub mod OwnUnitLaws

@@ -2,7 +2,7 @@
 -- Defined in docs/requests.md, "Answer line", and docs/units.md, "Digits of a currency" and "Reading".
 -- Cited by `answer` and `run`, through Answer.antt of `locale_numbers`, and by `UnitFormatter` and the calls that write its answers.
 -- An answer goes through rounding, sign, text and reading, each defined in a file of its own to import.
-use Rattle.std.specs.Prelude.{◌≡◌, ◌⊎◌, ℕ, Bool, true, cond, List, Option, Some, None, Result, Ok, Err}
+use Rattle.std.specs.Prelude.{◌≡◌, ℕ, Bool, true, cond, List, Option, Some, None, Result, Ok, Err}
 use Rattle.fixed_decimal.specs.Number.{Number}
 use Rattle.fixed_decimal.specs.SignedEquality.{are_equal_decimals}
 use Rattle.fixed_decimal.specs.SignedValue.{SignedValue}

@@ -1,10 +1,9 @@
 -- The reading of a text with a unit as a function: for each sign what is between its affixes, as a number without a sign.
 -- Defined in docs/units.md, "Reading"; a law of `laws.rt` says that it is the reading which `IsUnitReading` of `icu_dimension_affixes` names.
 -- Cited by `answer` and `run`, through UnitAnswer.antt.
-use Rattle.std.specs.Prelude.{ℕ, ◌-◌, Bool, cond, List, drop, length, take, Option, Some, None}
+use Rattle.std.specs.Prelude.{ℕ, ◌-◌, cond, List, drop, length, take, Option, Some, None}
 use Rattle.std.specs.Str.{bytes_eq}
 use Rattle.fixed_decimal.specs.Number.{Number}
-use Rattle.fixed_decimal.specs.SignedValue.{SignedValue}
 use Rattle.fixed_decimal.specs.declared.Sign.{Sign}
 use Rattle.fixed_decimal.specs.declared.Sign.TheVariants.{None as NoSign, Negative, Positive}
 use Rattle.icu_decimal.specs.PlainReading.{PlainReading, decimal, not_written, plain_reading, unreadable}

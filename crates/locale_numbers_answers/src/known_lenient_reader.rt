@@ -1,8 +1,10 @@
 //! A reader of what people type of numbers with a unit that was asked whether it can be read.
 
-ghost use Rattle.std.specs.Prelude.{◌≡◌, None, Some};
-ghost use Rattle.icu_decimal.specs.PlainReading.{IsAnswered, not_written};
-ghost use Rattle.locale_numbers_answers.specs.LenientUnitAnswer.{lenient_unit_reading, typed_by, unit_reading_by};
+ghost use Rattle.std.specs.Prelude.{◌≡◌, ◌⊎◌, true, None, Some, IsErrOf, is_some};
+ghost use Rattle.icu_decimal.specs.PlainReading.{IsAnswered, decimal, not_written};
+ghost use Rattle.icu_dimension_affixes.specs.UnitReading.{HasManyBetween};
+ghost use Rattle.icu_dimension_lenient.specs.OwnUnitTexts.{is_own_unit_text};
+ghost use Rattle.locale_numbers_answers.specs.LenientUnitAnswer.{MayAllocateTyped, lenient_unit_reading, typed_by, unit_reading_by};
 ghost use Rattle.locale_numbers_answers.specs.TypedHeld.{IsLenient, leniently};
 ghost use Rattle.locale_numbers_answers.specs.UnitReadings.{unit_reading};
 
@@ -10,9 +12,8 @@ use crate::known_reader::KnownReader;
 use fixed_decimal::Decimal;
 use icu_decimal::error::ReadError;
 use icu_decimal::laws::reading::{both_trips as plain_trips, plain_reading_is_the_reading};
-use icu_decimal_lenient::unless_other;
 use icu_dimension_affixes::laws::both_trips as unit_trips;
-use icu_dimension_lenient::LenientUnitReader;
+use icu_dimension_lenient::{LenientUnitReader, add_reading, found_reading};
 use std::alloc::Global;
 use std::marker::Model;
 
@@ -46,7 +47,8 @@ impl<'a> Model for KnownLenientReader<'a> {
 // What the formatter of a reader writes.
 fn read_own(alloc: Global, reader: &LenientUnitReader<'_>, text: &str) -> Result<Decimal, ReadError>
     requires { IsLenient reader.now }
-    ensures { IsAnswered result (unit_reading reader.now.reader text.now) }
+    ensures memory { IsErrOf result ReadError.Memory → HasManyBetween reader.now.reader text.now }
+    ensures reading { IsAnswered result (unit_reading reader.now.reader text.now) }
 {
     plain_reading_is_the_reading();
     plain_trips();
@@ -78,7 +80,8 @@ impl<'a> KnownLenientReader<'a> {
 
     // What the formatter writes.
     fn read_exactly(&self, alloc: Global, text: &str) -> Result<Decimal, ReadError>
-        ensures { IsAnswered result (unit_reading self.now.reader text.now) }
+        ensures memory { IsErrOf result ReadError.Memory → HasManyBetween self.now.reader text.now }
+        ensures reading { IsAnswered result (unit_reading self.now.reader text.now) }
     {
         match &self.reader {
             TypedReader::Leniently(reader) => read_own(alloc, reader, text),
@@ -88,7 +91,8 @@ impl<'a> KnownLenientReader<'a> {
 
     // Any other text: where texts can't be read leniently it is unreadable.
     fn read_leniently(&self, alloc: Global, text: &str) -> Result<Decimal, ReadError>
-        ensures { IsAnswered result (typed_by self.now.reader.tables self.now.folded text.now) }
+        ensures memory { IsErrOf result ReadError.Memory → is_some self.now.folded ≡ true }
+        ensures reading { IsAnswered result (typed_by self.now.reader.tables self.now.folded text.now) }
     {
         match &self.reader {
             TypedReader::Leniently(reader) => reader.read_leniently(alloc, text),
@@ -99,10 +103,11 @@ impl<'a> KnownLenientReader<'a> {
     /// The number that was typed: of English, `€` and `EUR` 1.5 of `€1.5`, `1.5` and `1.5 EUR`.
     ///
     /// `Unreadable`: texts can't be read, or not leniently and no number is written so. `NotWritten`: it is a text of no
-    /// number. `Memory`: out of memory. It allocates where the text has more than sixteen digits, or is folded.
-    #[tactic(auto, using(crate::proofs::LenientUnitLemmas::exactly_read, crate::proofs::LenientUnitLemmas::exactly_unread, crate::proofs::LenientUnitLemmas::typed_read))]
+    /// number, or of two. `Memory`: out of memory. It allocates where the text has more than sixteen digits, or is folded.
+    #[tactic(auto, using(crate::proofs::LenientUnitLemmas::exactly_read, crate::proofs::LenientUnitLemmas::exactly_unread, crate::proofs::LenientUnitLemmas::typed_read, crate::proofs::LenientUnitLemmas::exactly_allocates, crate::proofs::LenientUnitLemmas::typed_allocates))]
     pub fn read(&self, alloc: Global, text: &str) -> Result<Decimal, ReadError>
-        ensures { IsAnswered result (lenient_unit_reading self.now text.now) }
+        ensures memory { IsErrOf result ReadError.Memory → MayAllocateTyped self.now text.now }
+        ensures reading { IsAnswered result (lenient_unit_reading self.now text.now) }
     {
         match self.read_exactly(alloc, text) {
             Ok(number) => Ok(number),
@@ -112,8 +117,45 @@ impl<'a> KnownLenientReader<'a> {
         }
     }
 
+    // A number that was read leniently, and whether the formatter writes it so, under any grouping. Where texts can't be
+    // read leniently, none was.
+    fn own_text(&self, number: Decimal, text: &str) -> (Decimal, bool)
+        requires { is_some self.now.folded ≡ true }
+        ensures number { result.0 ≡ number }
+        ensures own { result.1 ≡ is_own_unit_text self.now.reader text.now number }
+    {
+        match &self.reader {
+            TypedReader::Leniently(reader) => reader.own_text(number, text),
+            TypedReader::Exactly(_) => unreachable!(),
+        }
+    }
+
+    // A number that was read leniently, by this reader and by another one.
+    #[tactic(auto, using(crate::proofs::LenientUnitLemmas::read_own, crate::proofs::LenientUnitLemmas::read_unless, icu_dimension_lenient::proofs::AgreementSteps::answered_after, icu_dimension_lenient::proofs::AgreementSteps::refused_after))]
+    fn unless_other(
+        &self,
+        alloc: Global,
+        other: &KnownLenientReader<'_>,
+        number: Decimal,
+        text: &str,
+    ) -> Result<Decimal, ReadError>
+        requires none { unit_reading self.now.reader text.now ≡ not_written }
+        requires typed { typed_by self.now.reader.tables self.now.folded text.now ≡ decimal number }
+        ensures memory { IsErrOf result ReadError.Memory → MayAllocateTyped other.now text.now }
+        ensures reading { IsAnswered result (unit_reading_by self.now (Some other.now) text.now) }
+    {
+        let (number, is_own) = self.own_text(number, text);
+        if is_own {
+            return Ok(number);
+        }
+        match add_reading(Some(number), other.read(alloc, text)) {
+            Ok(found) => found_reading(found),
+            Err(error) => Err(error),
+        }
+    }
+
     // A text that the formatter does not write, by this reader and by another one.
-    #[tactic(auto, using(crate::proofs::LenientUnitLemmas::unread_typed, crate::proofs::LenientUnitLemmas::read_unless, crate::proofs::LenientUnitLemmas::read_other))]
+    #[tactic(auto, using(crate::proofs::LenientUnitLemmas::unread_typed, crate::proofs::LenientUnitLemmas::read_other, crate::proofs::LenientUnitLemmas::typed_allocates))]
     fn read_unless(
         &self,
         alloc: Global,
@@ -121,31 +163,35 @@ impl<'a> KnownLenientReader<'a> {
         text: &str,
     ) -> Result<Decimal, ReadError>
         requires { unit_reading self.now.reader text.now ≡ not_written }
-        ensures { IsAnswered result (unit_reading_by self.now (Some other.now) text.now) }
+        ensures memory { IsErrOf result ReadError.Memory
+            → MayAllocateTyped self.now text.now ⊎ MayAllocateTyped other.now text.now }
+        ensures reading { IsAnswered result (unit_reading_by self.now (Some other.now) text.now) }
     {
         match self.read_leniently(alloc, text) {
-            Ok(number) => unless_other(number, other.read(alloc, text)),
+            Ok(number) => self.unless_other(alloc, other, number, text),
             Err(ReadError::NotWritten) => other.read(alloc, text),
             Err(ReadError::Unreadable) => Err(ReadError::Unreadable),
             Err(ReadError::Memory) => Err(ReadError::Memory),
         }
     }
 
-    /// As `read`, and by another reader, where the text is not what the formatter writes: by the reader of
-    /// `km-u-nu-khmr` and `USD` and that of `km-u-nu-latn`, `1,234.5 USD` is 1234.5, and `1,234 USD` is refused.
+    /// As `read`, and by another reader, where the text is not what the formatter writes, under any grouping: by the
+    /// reader of `km-u-nu-khmr` and `USD` and that of `km-u-nu-latn`, `1,234.5 USD` is 1234.5, and `1,234 USD` is refused.
     ///
     /// `Unreadable`: as `read`, and where no number is written so by this reader and the other one answers so.
     /// `NotWritten`: it is a text of no number by either, or it is ambiguous: this reader reads one number, the other
     /// one another. `Memory`: out of memory. It allocates as `read`, and as `read` of the other reader where that is
     /// asked.
-    #[tactic(auto, using(crate::proofs::LenientUnitLemmas::read_exactly, crate::proofs::LenientUnitLemmas::unread_exactly))]
+    #[tactic(auto, using(crate::proofs::LenientUnitLemmas::read_exactly, crate::proofs::LenientUnitLemmas::unread_exactly, crate::proofs::LenientUnitLemmas::exactly_allocates))]
     pub fn read_or(
         &self,
         alloc: Global,
         other: &KnownLenientReader<'_>,
         text: &str,
     ) -> Result<Decimal, ReadError>
-        ensures { IsAnswered result (unit_reading_by self.now (Some other.now) text.now) }
+        ensures memory { IsErrOf result ReadError.Memory
+            → MayAllocateTyped self.now text.now ⊎ MayAllocateTyped other.now text.now }
+        ensures reading { IsAnswered result (unit_reading_by self.now (Some other.now) text.now) }
     {
         match self.read_exactly(alloc, text) {
             Ok(number) => Ok(number),

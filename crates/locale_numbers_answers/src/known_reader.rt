@@ -1,9 +1,9 @@
 //! A reader of texts with a unit that was asked whether they can be read.
 
-ghost use Rattle.std.specs.Prelude.{◌≡◌};
+ghost use Rattle.std.specs.Prelude.{◌≡◌, IsErrOf};
 ghost use Rattle.icu_decimal.specs.PlainReading.{IsAnswered};
 ghost use Rattle.icu_dimension_affixes.specs.HeldReaders.{pair_of};
-ghost use Rattle.icu_dimension_affixes.specs.UnitReading.{pair_for};
+ghost use Rattle.icu_dimension_affixes.specs.UnitReading.{HasManyBetween, pair_for};
 ghost use Rattle.locale_numbers_answers.specs.UnitReadings.{unit_reading};
 
 use fixed_decimal::{Decimal, Sign};
@@ -57,7 +57,8 @@ impl<'a> KnownReader<'a> {
     /// `Unreadable`, `NotWritten`: as `UnitReader::read`. `Memory`: out of memory. It allocates where more than sixteen
     /// digits are between the affixes of a sign.
     pub fn read(&self, alloc: Global, text: &str) -> Result<Decimal, ReadError>
-        ensures { IsAnswered result (unit_reading self.now text.now) }
+        ensures memory { IsErrOf result ReadError.Memory → HasManyBetween self.now text.now }
+        ensures reading { IsAnswered result (unit_reading self.now text.now) }
     {
         plain_reading_is_the_reading();
         plain_trips();

@@ -1,6 +1,7 @@
 //! Laws over the definitions that an answer goes by. Each function is a proof: it answers nothing.
 
 ghost use Rattle.locale_numbers_answers.specs.Laws.{HasOneReading, HasOneCompactReading, HasOneAmount, HasOneRounding, HasOneUnitReading, RequestsAreAtMagnitude};
+ghost use Rattle.locale_numbers_answers.specs.OwnUnitLaws.{OwnUnitTextIsFirsts};
 
 use icu_decimal::laws::reading::{both_trips as plain_trips, plain_reading_is_the_reading};
 use icu_dimension_affixes::laws::both_trips as unit_trips;
@@ -26,6 +27,12 @@ pub fn unit_texts_have_one_reading()
     plain_trips();
     unit_trips();
 }
+
+/// What the first of two readers' formatter writes of a number with its unit, under any grouping, and reads as that number,
+/// the second one does not change: in `oc-ES-u-nu-fullwide` 9376 dinars are typed `９,３７６ IQD` under any grouping.
+pub fn own_unit_texts_are_of_the_first()
+    ensures { OwnUnitTextIsFirsts }
+{}
 
 /// Each rounding of a number has one end: what the relation of `fixed_decimal` names is what the answer to a line goes
 /// by. By `-2,half-trunc,25` the end of -7.235 is -7.25.

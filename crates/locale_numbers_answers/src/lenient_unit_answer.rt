@@ -1,8 +1,9 @@
 //! The forms that read what people type of numbers with a unit: percents, and amounts of money.
 
-ghost use Rattle.std.specs.Prelude.{◌≡◌, ◌++◌, OnOk, OnErr, string_bytes};
+ghost use Rattle.std.specs.Prelude.{◌≡◌, ◌++◌, IsOk, OnOk, OnErr, string_bytes};
 ghost use Rattle.locale_numbers_lines.specs.Growth.{Grows};
-ghost use Rattle.locale_numbers_answers.specs.LenientUnitAnswer.{unit_reading_in_turn};
+ghost use Rattle.locale_numbers_answers.specs.AnswerSink.{HasRoom};
+ghost use Rattle.locale_numbers_answers.specs.LenientUnitAnswer.{MayAllocateTypedInTurn, unit_reading_in_turn};
 ghost use Rattle.locale_numbers_answers.specs.ReadAnswer.{read_answer};
 
 use crate::answer_line::write_refusal;
@@ -26,6 +27,10 @@ pub fn write_lenient_unit_answer(
     ensures text { OnOk result (string_bytes out.new
         ≡ string_bytes out.old ++ read_answer (unit_reading_in_turn readers.now text.now)) }
     ensures err { OnErr result (Grows (string_bytes out.old) (string_bytes out.new)) }
+
+    // Where there is room for the answer, only a text for which a reader may allocate may be out of memory.
+    ensures room { HasRoom out.old (read_answer (unit_reading_in_turn readers.now text.now))
+        → ¬ (MayAllocateTypedInTurn readers.now text.now) → IsOk result }
 {
     match readers.read(alloc, text) {
         Ok(value) => write_number_read(&value, out),

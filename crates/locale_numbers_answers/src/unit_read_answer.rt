@@ -1,8 +1,10 @@
 //! The forms that read numbers with a unit: percents, and amounts of money.
 
-ghost use Rattle.std.specs.Prelude.{◌≡◌, ◌++◌, Some, OnOk, OnErr, string_bytes};
+ghost use Rattle.std.specs.Prelude.{◌≡◌, ◌++◌, Some, IsOk, OnOk, OnErr, string_bytes};
 ghost use Rattle.icu_decimal.specs.PlainReading.{decimal};
+ghost use Rattle.icu_dimension_affixes.specs.UnitReading.{HasManyBetween};
 ghost use Rattle.locale_numbers_lines.specs.Growth.{Grows};
+ghost use Rattle.locale_numbers_answers.specs.AnswerSink.{HasRoom};
 ghost use Rattle.locale_numbers_answers.specs.ReadAnswer.{read_answer};
 ghost use Rattle.locale_numbers_answers.specs.UnitAnswer.{fraction_asked, own_reading};
 ghost use Rattle.locale_numbers_answers.specs.UnitReadings.{unit_reading};
@@ -24,6 +26,7 @@ fn write_own_amount(value: &Decimal, fraction: Fraction, out: &mut String) -> Re
     ensures text { OnOk result (string_bytes out.new
         ≡ string_bytes out.old ++ read_answer (own_reading (Some fraction) (decimal value.now))) }
     ensures err { OnErr result (Grows (string_bytes out.old) (string_bytes out.new)) }
+    ensures room { HasRoom out.old (read_answer (own_reading (Some fraction) (decimal value.now))) → IsOk result }
 {
     if is_rounded(value, fraction) {
         write_number_read(value, out)
@@ -41,6 +44,7 @@ fn write_own(
     ensures text { OnOk result (string_bytes out.new
         ≡ string_bytes out.old ++ read_answer (own_reading fraction (decimal value.now))) }
     ensures err { OnErr result (Grows (string_bytes out.old) (string_bytes out.new)) }
+    ensures room { HasRoom out.old (read_answer (own_reading fraction (decimal value.now))) → IsOk result }
 {
     match fraction {
         Some(fraction) => write_own_amount(value, fraction, out),
@@ -67,6 +71,11 @@ pub fn write_unit_read_answer(
         ≡ string_bytes out.old ++ read_answer
         (own_reading (fraction_asked digits rounding) (unit_reading reader.now text.now))) }
     ensures err { OnErr result (Grows (string_bytes out.old) (string_bytes out.new)) }
+
+    // Where there is room for the answer, only a text of more than sixteen digits between affixes may be out of memory.
+    ensures room { HasRoom out.old (read_answer
+        (own_reading (fraction_asked digits rounding) (unit_reading reader.now text.now)))
+        → ¬ (HasManyBetween reader.now text.now) → IsOk result }
 {
     match reader.read(alloc, text) {
         Ok(value) => write_own(&value, fraction_asked(digits, rounding), out),

@@ -1,9 +1,9 @@
 //! What people type of numbers with a unit, read by a reader, and where its digits are its own, also by one of the digits of
 //! ASCII.
 
-ghost use Rattle.std.specs.Prelude.{◌≡◌};
+ghost use Rattle.std.specs.Prelude.{◌≡◌, IsErrOf};
 ghost use Rattle.icu_decimal.specs.PlainReading.{IsAnswered};
-ghost use Rattle.locale_numbers_answers.specs.LenientUnitAnswer.{unit_reading_in_turn};
+ghost use Rattle.locale_numbers_answers.specs.LenientUnitAnswer.{MayAllocateTypedInTurn, unit_reading_in_turn};
 
 use crate::known_lenient_reader::KnownLenientReader;
 use fixed_decimal::Decimal;
@@ -40,7 +40,8 @@ impl<'a> UnitReadersInTurn<'a> {
     /// `Unreadable`, `NotWritten`, `Memory`, and what it allocates: as `KnownLenientReader::read`, or, where there is a
     /// second reader, as `read_or` of these.
     pub fn read(&self, alloc: Global, text: &str) -> Result<Decimal, ReadError>
-        ensures { IsAnswered result (unit_reading_in_turn self.now text.now) }
+        ensures memory { IsErrOf result ReadError.Memory → MayAllocateTypedInTurn self.now text.now }
+        ensures reading { IsAnswered result (unit_reading_in_turn self.now text.now) }
     {
         match &self.second {
             Some(second) => self.first.read_or(alloc, second, text),
