@@ -63,7 +63,7 @@ const LINES = "en\tplain\tauto\tkeep\t-\t1234\nen\tshort\tauto\tkeep\t-\t1650\n"
 function areWell() {
   assert.equal(world.format("-1234567.5"), "-1.234.567,50");
   assert.equal(world.read("-1.234.567,50"), "-1234567.50");
-  assert.equal(short.format("1650"), "1.6K");
+  assert.equal(short.format("1650"), "1.7K");
   assert.equal(euros.format("1234.5"), "1.234,50\u00a0€");
   assert.equal(percents.read("-%12,5"), "-12.5");
   assert.equal(own.format("1234"), "1,234");
