@@ -22,7 +22,7 @@ const KINDS = {
     calls.js_currency_open(book, length, code, style, display, grouping, at),
   ),
 };
-const AS_IT_IS = readOptions("decimal", {}).numbers;
+const AS_IT_IS = readOptions("decimal", {});
 
 // What the message of an error says of a tag, or of the code of a currency.
 function hint(number, tag, currency) {
@@ -31,18 +31,19 @@ function hint(number, tag, currency) {
   return number === ErrorNumber.TAG && tag.includes("_") ? `: ${named} is written ${dashed}` : `: ${named}`;
 }
 
-// What a formatter of a kind is opened from.
-function askedFor(kind, source, tag, numbers, currency) {
-  const { open, close } = KINDS[kind];
+// Opens what is asked for.
+function openNative(native, { source, kind, tag, numbers, currency }) {
   const fill = (book, at) => {
     setOptions(at, numbers);
-    return open(book, put(tag), numbers, at);
+    return KINDS[kind].open(book, put(tag), numbers, at);
   };
-  const openNative = (native) => {
-    withBook(source, (book) => openHandle(native, (at) => fill(book, at), (number) => hint(number, tag, currency)));
-    if (kind === "currency") roundAsCurrency(native.at, numbers);
-  };
-  return { source, key: `${kind} ${Object.values(numbers)} ${tag}`, close, open: openNative, numbers };
+  withBook(source, (book) => openHandle(native, (at) => fill(book, at), (number) => hint(number, tag, currency)));
+  if (kind === "currency") roundAsCurrency(native.at, numbers);
+}
+
+// What a formatter of a kind is opened from.
+function askedFor(kind, source, tag, { numbers, key, resolved }) {
+  return { source, key: `${key} ${tag}`, close: KINDS[kind].close, open: openNative, kind, tag, numbers, currency: resolved.currency };
 }
 
 // Whether a locale has its first separator later than before the last group, as 1000 is written without one in Spanish.
@@ -52,11 +53,10 @@ function isGroupedLater(source, tag) {
 }
 
 // What is asked for of a tag, once it is open.
-function opened(kind, source, tag, numbers, currency) {
-  const asked = askedFor(kind, source, tag, numbers, currency);
+function opened(kind, source, tag, said) {
+  const asked = askedFor(kind, source, tag, said);
   shared(asked);
-  if (numbers.grouping !== ALWAYS || !isGroupedLater(source, tag)) return asked;
-  return askedFor(kind, alwaysGrouped(source), tag, numbers, currency);
+  return said.numbers.grouping === ALWAYS && isGroupedLater(source, tag) ? askedFor(kind, alwaysGrouped(source), tag, said) : asked;
 }
 
 function isWithoutTables(error) {
@@ -64,13 +64,13 @@ function isWithoutTables(error) {
 }
 
 // What is asked for of the first of these tags that there are tables for. The tags behind it have to be some too, as Intl has it.
-function firstOpened(kind, source, tags, numbers, currency) {
-  for (const [at, tag] of tags.entries()) {
+function firstOpened(kind, source, tags, said) {
+  for (let at = 0; ; at += 1) {
     try {
-      const asked = opened(kind, source, tag, numbers, currency);
+      const asked = opened(kind, source, tags[at], said);
       const wrong = tags.find((it, other) => other > at && !isTag(it));
       if (wrong !== undefined) throw new LegumeyetError(ErrorNumber.TAG, hint(ErrorNumber.TAG, wrong));
-      return { asked, tag };
+      return asked;
     } catch (error) {
       if (at === tags.length - 1 || !isWithoutTables(error)) throw error;
     }
@@ -83,12 +83,10 @@ class Formatter {
   #resolved;
 
   constructor(kind, locales, options) {
-    const { numbers, resolved } = readOptions(kind, options);
-    const source = sourceOf(options.book);
-    const { asked, tag } = firstOpened(kind, source, tagsOf(locales, options.fallback), numbers, options.currency);
-    this.#asked = asked;
-    this.#native = shared(asked);
-    this.#resolved = { locale: tag, ...resolved };
+    const said = readOptions(kind, options);
+    this.#asked = firstOpened(kind, sourceOf(options.book), tagsOf(locales, options.fallback), said);
+    this.#native = shared(this.#asked);
+    this.#resolved = said.resolved;
   }
 
   // The native formatter, which is opened again where it was closed to make room, or where its instance is lost.
@@ -101,22 +99,22 @@ class Formatter {
 
   // The numbers of its options.
   static numbers(it) {
+    if (it.closed) throw new LegumeyetError(ErrorNumber.CLOSED);
     return it.#asked.numbers;
   }
 
   get closed() {
-    return this.#asked === null;
+    return this.#native === CLOSED;
   }
 
   /** Its calls are refused from then on. Others that are like it have its memory, until room is made for others. */
   close() {
-    this.#asked = null;
     this.#native = CLOSED;
   }
 
   /** The options, as they were given or as they are without; and the locale that was found. */
   resolvedOptions() {
-    return { ...this.#resolved };
+    return { locale: this.#asked.tag, ...this.#resolved };
   }
 
   /** Those of the locales that the book has tables for. */

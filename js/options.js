@@ -35,8 +35,8 @@ export const AS_GIVEN = CURRENCY_DIGITS.given;
 // The number that a word of an option has.
 function chosen(options, name, table, otherwise) {
   const word = options[name] === undefined ? otherwise : options[name];
-  const isWord = typeof word === "string" || typeof word === "boolean";
-  if (!isWord || !Object.hasOwn(table, word) || (typeof word === "string" && /^(true|false)$/.test(word))) {
+  const isWord = typeof word === "boolean" || (typeof word === "string" && word !== "true" && word !== "false");
+  if (!isWord || !Object.hasOwn(table, word)) {
     throw new RangeError(`${name} is one of ${Object.keys(table).join(", ")}, and not ${String(word)}`);
   }
   return table[word];
@@ -150,11 +150,7 @@ function resolvedOf(kind, options, mode) {
   return found;
 }
 
-/** What the options of a kind of formatters, as `decimal`, say: by the library's numbers, and as resolvedOptions tells them. */
-export function read(kind, options) {
-  if (typeof options !== "object" || options === null) throw new TypeError("options are an object");
-  const unknown = Object.keys(options).find((it) => !NAMES[kind].includes(it));
-  if (unknown !== undefined) throw new RangeError(`${unknown} is no option: there are ${NAMES[kind].join(", ")}`);
+function readAnew(kind, options) {
   const numbers = {
     grouping: chosen(options, "useGrouping", GROUPINGS, kind === "compact" ? "min2" : "auto"),
     width: chosen(options, "compactDisplay", WIDTHS, "short"),
@@ -163,5 +159,26 @@ export function read(kind, options) {
     ...(kind === "currency" ? moneyOf(options) : {}),
     ...roundingOf(kind, options),
   };
-  return { numbers, resolved: resolvedOf(kind, options, numbers.mode) };
+  return { numbers, key: `${kind} ${Object.values(numbers)}`, resolved: resolvedOf(kind, options, numbers.mode) };
+}
+
+// What is said by no options, of each kind.
+const defaults = new Map();
+
+function readNone(kind) {
+  if (!defaults.has(kind)) defaults.set(kind, readAnew(kind, {}));
+  return defaults.get(kind);
+}
+
+/**
+ * What the options of a kind of formatters, as `decimal`, say: by the library's numbers, which `key` has in a text, and as resolvedOptions tells them.
+ * @typedef {{ numbers: Record<string, number>, key: string, resolved: object }} Read
+ * @returns {Read}
+ */
+export function read(kind, options) {
+  if (typeof options !== "object" || options === null) throw new TypeError("options are an object");
+  const names = Object.keys(options);
+  const unknown = names.find((it) => !NAMES[kind].includes(it));
+  if (unknown !== undefined) throw new RangeError(`${unknown} is no option: there are ${NAMES[kind].join(", ")}`);
+  return names.every((it) => HOW_OPENED.includes(it)) ? readNone(kind) : readAnew(kind, options);
 }

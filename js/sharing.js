@@ -12,7 +12,7 @@ const MOST = 1000;
 
 /**
  * What a formatter is opened from. Those of one source with one key are alike.
- * @typedef {{ source: import("./books.js").Source, key: string, close: string, open: (native: Native) => void }} Asked
+ * @typedef {{ source: import("./books.js").Source, key: string, close: string, open: (native: Native, asked: Asked) => void }} Asked
  */
 
 /** That of a formatter that was closed by its caller. */
@@ -31,8 +31,9 @@ function makeRoom() {
 }
 
 function nativesOf(source) {
-  if (!bySource.has(source)) bySource.set(source, new Map());
-  return bySource.get(source);
+  const found = bySource.get(source) ?? new Map();
+  bySource.set(source, found);
+  return found;
 }
 
 /**
@@ -41,14 +42,14 @@ function nativesOf(source) {
  * @returns {Native}
  */
 export function shared(asked) {
-  const found = nativesOf(asked.source).get(asked.key);
+  const found = bySource.get(asked.source)?.get(asked.key);
   if (found !== undefined && isOpen(found)) return found;
   begun();
   makeRoom();
   /** @type {Native} */
   const native = handleOf(asked.close);
   try {
-    asked.open(native);
+    asked.open(native, asked);
   } catch (error) {
     closeHandle(native);
     throw error;
