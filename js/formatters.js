@@ -31,7 +31,11 @@ function hint(number, tag, currency) {
   return number === ErrorNumber.TAG && tag.includes("_") ? `: ${named} is written ${dashed}` : `: ${named}`;
 }
 
-// Opens what is asked for.
+/**
+ * Opens what is asked for.
+ * @param {import("./sharing.js").Native} native
+ * @param {import("./sharing.js").Asked} asked
+ */
 function openNative(native, { source, kind, tag, numbers, currency }) {
   const fill = (book, at) => {
     setOptions(at, numbers);
@@ -41,7 +45,10 @@ function openNative(native, { source, kind, tag, numbers, currency }) {
   if (kind === "currency") roundAsCurrency(native.at, numbers);
 }
 
-// What a formatter of a kind is opened from.
+/**
+ * What a formatter of a kind is opened from.
+ * @returns {import("./sharing.js").Asked}
+ */
 function askedFor(kind, source, tag, { numbers, key, resolved }) {
   return { source, key: `${key} ${tag}`, close: KINDS[kind].close, open: openNative, kind, tag, numbers, currency: resolved.currency };
 }

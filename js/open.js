@@ -56,7 +56,8 @@ export function openHandle(handle, fill, hint) {
 
 /** Gives a class `using` of JavaScript: an object is closed where its block ends. */
 export function closesAtEnd(its) {
-  if (Symbol.dispose) Object.defineProperty(its.prototype, Symbol.dispose, { value() { this.close(); } });
+  const { dispose } = /** @type {any} */ (Symbol); // which is not in each engine
+  if (dispose) Object.defineProperty(its.prototype, dispose, { value() { this.close(); } });
 }
 
 // What the garbage collector takes is closed.

@@ -32,14 +32,25 @@ export const OF_CURRENCY = [CURRENCY_DIGITS.standard, CURRENCY_DIGITS.cash];
 /** That of amounts that are not rounded. */
 export const AS_GIVEN = CURRENCY_DIGITS.given;
 
-// The number that a word of an option has.
+/**
+ * The numbers of options: of the opening of a formatter, and of its calls. `rounding` is the mode that is asked for, also where `mode` is none of
+ * the modes, and `multiple` is the increment of an amount, 0 for that of its currency.
+ * @typedef {{ grouping: number, width: number, sign: number, integer: number, code?: number, style?: number, display?: number, mode: number,
+ *   position: number, increment: number, zeros: number, fraction: number, rounding: number, multiple?: number }} Numbers
+ */
+
+/**
+ * The number that a word of an option has.
+ * @param {Record<string, any>} options
+ * @param {Record<string, number>} table
+ */
 function chosen(options, name, table, otherwise) {
   const word = options[name] === undefined ? otherwise : options[name];
   const isWord = typeof word === "boolean" || (typeof word === "string" && word !== "true" && word !== "false");
-  if (!isWord || !Object.hasOwn(table, word)) {
+  if (!isWord || !Object.hasOwn(table, String(word))) {
     throw new RangeError(`${name} is one of ${Object.keys(table).join(", ")}, and not ${String(word)}`);
   }
-  return table[word];
+  return table[String(word)];
 }
 
 /** A whole number from `least` to `most`; undefined where the option is not given. */
@@ -134,9 +145,13 @@ function moneyOf(options) {
   };
 }
 
-// Each option that says something, as it was given or as it is without.
+/**
+ * Each option that says something, as it was given or as it is without.
+ * @returns {Record<string, any>}
+ */
 function resolvedOf(kind, options, mode) {
   const given = Object.entries(options).filter(([name, value]) => !HOW_OPENED.includes(name) && value !== undefined);
+  /** @type {Record<string, any>} */
   const found = { useGrouping: kind === "compact" ? "min2" : "auto", signDisplay: "auto", ...Object.fromEntries(given) };
   if (found.useGrouping === true) found.useGrouping = "always";
   if (kind === "compact") found.compactDisplay ??= "short";
@@ -172,7 +187,7 @@ function readNone(kind) {
 
 /**
  * What the options of a kind of formatters, as `decimal`, say: by the library's numbers, which `key` has in a text, and as resolvedOptions tells them.
- * @typedef {{ numbers: Record<string, number>, key: string, resolved: object }} Read
+ * @typedef {{ numbers: Numbers, key: string, resolved: Record<string, any> }} Read
  * @returns {Read}
  */
 export function read(kind, options) {

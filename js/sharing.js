@@ -11,8 +11,9 @@ const MOST = 1000;
  */
 
 /**
- * What a formatter is opened from. Those of one source with one key are alike.
- * @typedef {{ source: import("./books.js").Source, key: string, close: string, open: (native: Native, asked: Asked) => void }} Asked
+ * What a formatter is opened from, by `open`, and by which call it is closed. Those of one source with one key are alike.
+ * @typedef {{ source: import("./books.js").Source, key: string, open: (native: Native, asked: Asked) => void, close: string, kind: string, tag: string,
+ *   numbers: import("./options.js").Numbers, currency?: string }} Asked
  */
 
 /** That of a formatter that was closed by its caller. */

@@ -29,7 +29,7 @@ export function tagsOf(locales, fallback) {
 /** Whether a text has the form of a tag. */
 export function isTag(text) {
   try {
-    return Intl.getCanonicalLocales(text).length === 1;
+    return new Intl.Locale(text) !== null;
   } catch {
     return false;
   }

@@ -1,6 +1,8 @@
-// Prints the bytes of each file that a page loads: as it is, by gzip -9, and by brotli -11. `page` is what a page of two languages loads: the module,
-// the book of English and German, and the classes.
+// Prints the bytes of each file that a page loads: as it is, by gzip -9, and by brotli -11. `classes` and `field` are the modules as they are, each by
+// itself. Where esbuild is on the PATH, `bundle` is one file of the classes, and `page` what a page of two languages loads: the module, the book of
+// English and German, and that file.
 // usage: node sizes.js PACKAGE
+import { spawnSync } from "node:child_process";
 import { readFileSync } from "node:fs";
 import { pathToFileURL } from "node:url";
 import { brotliCompressSync, gzipSync } from "node:zlib";
@@ -19,9 +21,12 @@ function modulesOf(name, known = []) {
 
 const classes = modulesOf("index.js");
 const fields = modulesOf("number-field.js").filter((it) => !classes.includes(it));
-const [module, world, ours, field] = [["legumeyet.wasm"], ["world.json"], classes, fields].map((names) => names.map(read));
-const two = [Buffer.from(smallerBook(String(world), ["en", "de"]))];
-for (const [name, files] of Object.entries({ module, world, two, classes: ours, field, page: [...module, ...two, ...ours] })) {
+const module = read("legumeyet.wasm");
+const two = Buffer.from(smallerBook(String(read("world.json")), ["en", "de"]));
+const rows = { module: [module], world: [read("world.json")], two: [two], classes: classes.map(read), field: fields.map(read) };
+const bundled = spawnSync("esbuild", [`${folder}/core.js`, "--bundle", "--minify", "--format=esm"], { maxBuffer: 1e8 });
+if (bundled.status === 0) Object.assign(rows, { bundle: [bundled.stdout], page: [module, two, bundled.stdout] });
+for (const [name, files] of Object.entries(rows)) {
   const sizes = [(it) => it, (it) => gzipSync(it, { level: 9 }), brotliCompressSync].map((packed) => files.reduce((sum, it) => sum + packed(it).length, 0));
   console.log(name.padEnd(8), ...sizes.map((it) => String(it).padStart(8)));
 }
