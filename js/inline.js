@@ -7,6 +7,7 @@ import { module, world } from "./files.js";
 // The bytes of a file, which is in a text in base64, by gzip.
 async function bytesOf(text) {
   const packed = Uint8Array.from(atob(text), (it) => it.charCodeAt(0));
+  const { DecompressionStream } = /** @type {any} */ (globalThis);
   const stream = new Blob([packed]).stream().pipeThrough(new DecompressionStream("gzip"));
   return new Uint8Array(await new Response(stream).arrayBuffer());
 }
