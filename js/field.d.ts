@@ -21,7 +21,7 @@ export class FieldText {
   readonly value: string | null;
   /** Goes back to a state. */
   restore(state: FieldState): void;
-  /** Writes a number; nothing for an empty text, and a text that is no number as it is. Returns the text. */
+  /** Writes a number; nothing for an empty text, and takes a text that is no number as if it was typed. Returns the text. */
   put(value: Num): string;
   /** After an edit that left a text, with the caret there. `left` is how many characters of the old one it left at both ends. */
   edited(text: string, caret: number, left?: { front: number; back: number }, isForward?: boolean): FieldState;

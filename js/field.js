@@ -88,15 +88,13 @@ export class FieldText {
     this.#state = state;
   }
 
-  /** Writes a number; nothing for an empty text, and a text that is no number as it is. Returns the text. */
+  /** Writes a number; nothing for an empty text, and takes a text that is no number as if it was typed. Returns the text. */
   put(value) {
     const isNone = value === "" || this.#formatter === null;
     const parts = isNone ? null : unlessNone(() => this.#formatter.formatToParts(value));
-    if (parts === null) this.#state = value === "" ? EMPTY : { ...EMPTY, text: String(value), caret: String(value).length, value: null };
-    else {
-      this.#state = this.#written(parts);
-      this.#state.value = plainOf(this.#read(this.text));
-    }
+    this.#state = parts === null ? EMPTY : this.#written(parts);
+    if (parts !== null) this.#state.value = plainOf(this.#read(this.text));
+    else if (value !== "") this.edited(String(value), String(value).length);
     return this.text;
   }
 
@@ -170,7 +168,10 @@ export class FieldText {
     const back = this.#typed(edit.end);
     if (UNSEEN.test(front + back)) return EMPTY;
     const value = this.#read(front + back);
-    return value === null ? this.#raw(edit) : this.#shown(value, front, back);
+    if (value !== null) return this.#shown(value, front, back);
+    const raw = this.#raw(edit);
+    const whole = this.#read(raw.text); // as where somebody types the separators too
+    return whole === null ? raw : this.#shown(whole, raw.text.slice(0, raw.caret), raw.text.slice(raw.caret));
   }
 
   // A text that is no number, as an edit leaves it.

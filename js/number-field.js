@@ -12,8 +12,10 @@ const NAMING = ["aria-label", "aria-labelledby", "aria-describedby"];
 const HANDED_ON = ["placeholder", "readonly", "autocomplete", "enterkeyhint", "inputmode"];
 const OF_INPUT = ["id", "name", "value", "disabled", "autofocus", ...JUDGING, ...NAMING, ...HANDED_ON];
 const EXAMPLE = "1234.5";
+// Inputs of which a form without a button has one at most that submits by Enter.
+const SUBMITTING = "text search tel url email password date month week time datetime-local number number-field".split(" ");
 const STYLE = `
-  :host { display: inline-grid; align-items: start }
+  :host { display: inline-grid; align-items: start; max-inline-size: 100% }
   :host([hidden]) { display: none }
   form { display: contents }
   input { font: inherit; color: inherit; inline-size: 100%; box-sizing: border-box; padding: 0.3em 0.5em; border: 1px solid #767676; border-radius: 0.25em;
@@ -85,7 +87,7 @@ export class NumberField extends HTMLElement {
     Object.assign(this.#input, { type: "text", inputMode: "decimal", autocomplete: "off", spellcheck: false, id: "input" });
     this.#input.setAttribute("part", "input");
     this.#input.setAttribute("aria-describedby", "message");
-    this.#message.id = "message";
+    Object.assign(this.#message, { id: "message", dir: "auto" });
     this.#message.setAttribute("part", "message");
     this.#message.setAttribute("aria-live", "polite");
     const form = document.createElement("form"); // so that Enter submits as in an input of the page
@@ -99,7 +101,7 @@ export class NumberField extends HTMLElement {
     const input = this.#input;
     input.addEventListener("beforeinput", (event) => this.#begins(event));
     input.addEventListener("input", (event) => this.#edited(event));
-    input.addEventListener("compositionend", () => this.#settle());
+    for (const it of ["compositionend", "dragend"]) input.addEventListener(it, () => this.#settle());
     input.addEventListener("keydown", (event) => this.#pressed(event));
     input.addEventListener("focus", () => this.#entered());
     input.addEventListener("blur", () => this.#left());
@@ -205,15 +207,18 @@ export class NumberField extends HTMLElement {
     }
   }
 
+  // What is composed, and what is dragged away, stays as it is until that ends: the browser goes on from its text.
   #edited({ isComposing, inputType }) {
     const { value, selectionStart } = this.#input;
     const before = this.#composedFrom ?? { ...this.#field.state, caret: this.#field.nearest(this.#selection?.front ?? this.#field.state.caret) };
     const isOfSelection = inputType === "insertText" || inputType === "insertFromPaste";
-    if (isComposing) {
+    if (isComposing || inputType === "deleteByDrag") {
       this.#composedFrom = before;
       this.#field.composed(value, selectionStart);
-    } else this.#field.edited(value, selectionStart, isOfSelection ? (this.#selection ?? undefined) : undefined, inputType?.endsWith("Forward"));
-    if (!isComposing) this.#ends(before);
+    } else {
+      this.#field.edited(value, selectionStart, isOfSelection ? (this.#selection ?? undefined) : undefined, inputType?.endsWith("Forward"));
+      this.#ends(before);
+    }
     this.#selection = null;
     this.#shows();
   }
@@ -237,6 +242,7 @@ export class NumberField extends HTMLElement {
   #reads(text) {
     this.#field.edited(text, text.length, { front: 0, back: 0 });
     this.#history.clear();
+    this.#told = this.#field.text;
     this.#shows();
   }
 
@@ -340,12 +346,13 @@ export class NumberField extends HTMLElement {
     this.#tell("change");
   }
 
-  // As Enter does in an input: by the form's first button that submits, where there is one.
+  // As Enter does in an input: by the form's first button that submits, and without one where this is the only input.
   #submit() {
     this.#done();
-    const button = [...(this.form?.elements ?? [])].find((it) => it.type === "submit");
-    if (button === undefined) this.form?.requestSubmit();
-    else button.click();
+    const elements = [...(this.form?.elements ?? [])];
+    const button = elements.find((it) => it.type === "submit");
+    if (button !== undefined) button.click();
+    else if (elements.filter((it) => SUBMITTING.includes(it.type)).length === 1) this.form.requestSubmit();
   }
 
   // Tells the form what it sends, and whether the text is a number that it takes.
@@ -354,45 +361,42 @@ export class NumberField extends HTMLElement {
     const text = this.#field.text;
     // what the browser keeps is the number, since the text may be another one in another locale
     this.#internals.setFormValue(value, value === "" ? `text ${text}` : `number ${value}`);
-    const [flag, message] = this.#fallacy(value, text) ?? [];
+    const [flag, message] = this.#custom === "" ? (this.#wrong(value, text) ?? []) : ["customError", this.#custom];
     this.#internals.setValidity(flag === undefined ? {} : { [flag]: true }, message, this.#input);
     this.#input.setAttribute("aria-required", String(this.required));
   }
 
   // What is wrong with the text, and the message that says so; undefined where it is well.
-  #fallacy(value, text) {
-    if (this.#custom !== "") return ["customError", this.#custom];
-    if (value === "" && text !== "") return ["badInput", this.#formatter === null ? this.#messageOf("unusable", { reason: this.#fault }) : this.#messageOf("bad", { example: this.#example() })];
+  #wrong(value, text) {
+    if (value === "" && text !== "") return ["badInput", this.#fault === "" ? this.#messageOf("bad", { example: this.#example() }) : this.#messageOf("unusable", { reason: this.#fault })];
     if (value === "") return this.required ? ["valueMissing", this.#messageOf("missing", {})] : undefined;
     const [min, max] = [this.#decimalOf("min"), this.#decimalOf("max")];
-    if (min !== null && compare(value, min) < 0) return ["rangeUnderflow", this.#messageOf("low", { min: this.#formatter.format(min) })];
-    if (max !== null && compare(value, max) > 0) return ["rangeOverflow", this.#messageOf("high", { max: this.#formatter.format(max) })];
-    return this.#stepFallacy(value, min ?? "0");
+    if (min !== null && compare(value, min) < 0) return ["rangeUnderflow", this.#messageOf("low", { min })];
+    if (max !== null && compare(value, max) > 0) return ["rangeOverflow", this.#messageOf("high", { max })];
+    const step = this.#decimalOf("step") ?? this.#smallest();
+    if (step === null) return undefined;
+    const { below, above } = neighbours(value, step, min ?? "0");
+    return compare(below, above) === 0 ? undefined : ["stepMismatch", this.#messageOf("step", { below, above })];
   }
 
-  // An amount has the digits of its currency where no step is named.
-  #stepFallacy(value, base) {
-    const digits = this.currency === null || this.hasAttribute("step") ? null : padded("0", this.#digits).replace(/.$/, "1");
-    const step = this.#decimalOf("step") ?? digits;
-    if (step === null) return undefined;
-    const { below, above } = neighbours(value, step, base);
-    if (compare(below, above) === 0) return undefined;
-    return ["stepMismatch", this.#messageOf("step", { below: this.#formatter.format(below), above: this.#formatter.format(above) })];
+  // The step of amounts of which the page names none: one of the last digit of the currency.
+  #smallest() {
+    return this.currency === null || this.hasAttribute("step") ? null : padded("0", this.#digits).replace(/.$/, "1");
   }
 
   #example() {
-    return this.#formatter.format(this.currency === null ? EXAMPLE : this.#digits === 0 ? "1234" : padded(EXAMPLE, this.#digits));
+    return this.currency === null ? EXAMPLE : this.#digits === 0 ? "1234" : padded(EXAMPLE, this.#digits);
   }
 
-  // A message in the language of the page, or as the page's attribute has it.
+  // A message in the language of the page, or as the page's attribute has it, with these numbers.
   #messageOf(name, numbers) {
-    const language = languageOf(pageLanguage(this) || this.#opened || "en");
-    const own = this.getAttribute(`${name}-message`);
-    this.#message.lang = own === null ? language : "";
-    return (own ?? MESSAGES[language][name]).replace(/\{(\w+)\}/g, (all, it) => numbers[it] ?? all);
+    const text = this.getAttribute(`${name}-message`) ?? MESSAGES[languageOf(pageLanguage(this) || this.#opened)][name];
+    const written = (it) => (it === "reason" ? numbers[it] : this.#formatter.format(numbers[it]));
+    return text.replace(/\{(\w+)\}/g, (all, it) => (it in numbers ? written(it) : all));
   }
 
   #say(message) {
+    this.#message.lang = languageOf(pageLanguage(this) || this.#opened || "");
     this.#message.textContent = message;
     this.#input.setAttribute("aria-invalid", String(message !== ""));
   }

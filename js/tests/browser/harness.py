@@ -9,7 +9,7 @@ from drivers import BROWSERS
 from server import Server
 
 HERE = pathlib.Path(__file__).resolve().parent
-OWN = {f"/{it}": (HERE / it).read_text(encoding="utf-8") for it in ("trial.html", "trial.js")}
+OWN = {f"/{it}": (HERE / it).read_text(encoding="utf-8") for it in ("trial.html", "trial.js", "wander.js")}
 
 
 class BrowserCase(unittest.TestCase):

@@ -6,7 +6,7 @@ that ValidityState has. The shown text is without marks of direction, and each o
 Keys are characters, and in braces: a key by its name, with those held meanwhile and a count, `{Ctrl+z*2}`; `{leave}`, Tab; `{click left}`, a click at
 that end of the field; `{at 2}`, a caret that the page sets; `{paste TEXT}`, by Ctrl+V; `{do CODE}`, what the page does with `field`. Only Chromium
 has: `{menu undo}`, by the menu; `{layout я KeyZ}`, Control and a key of another keyboard; `{compose TEXT}` and `{commit TEXT}`, as an input method
-does; `{drop TEXT}`, dropped at the field's end.
+does; `{drop TEXT}`, dropped at the field's end; `{drag 8 11 1}`, the characters from 8 to 11 moved to 1.
 """
 EN, DE, AR, FA, HE = "locale=en", "locale=de", "locale=ar-EG", "locale=fa", "locale=he"
 EURO, DOLLAR, YEN = "locale=de currency=EUR", "locale=en currency=USD", "locale=en currency=JPY"
@@ -26,6 +26,7 @@ ROWS = (
     (EN, "−5", "-5|", "-5", ""),
     (EN, "１２３４", "1,234|", "1234", ""),
     (EN, "1,234", "1,234|", "1234", ""),
+    (EN, "1,234,567.8", "1,234,567.8|", "1234567.8", ""),
     (EN, "1 234", "1,234|", "1234", ""),
     (EN, " ", "|", "", ""),
     (EN, "+5", "5|", "5", ""),
@@ -194,6 +195,9 @@ ROWS = (
     (EURO, "12{paste €5}", "12€5| €", "", BAD),
     (EN, "12{drop 34}", "1,234", "1234", ""),
     (EURO, "12{drop 34}", "1.234 €", "1234", ""),
+    (EN, "123456789{drag 8 11 1}", "178,923,456", "178923456", ""),
+    (EN, "123456789{drag 8 11 1}{Ctrl+z}", "123,456,789", "123456789", ""),
+    (EN, "12345x{drag 6 7 0}", "x12,345", "", BAD),
     # composed
     (EN, "12{compose ３４}", "12３４|", "1234", ""),
     (EN, "12{compose ３４}{commit ３４５}", "12,345|", "12345", ""),
@@ -264,6 +268,7 @@ ROWS = (
     ("locale=de currency=eur", "5", "5| €", "5", ""),
     ("locale=de currency=euro", "5", "5|", "", BAD),
     (EN + " value=1,5", "", "1,5|", "", BAD),
+    ("locale=fr value=1,5", "", "1,5|", "1.5", ""),
     (EN + " value=NaN", "", "NaN|", "", BAD),
     (EN + " value=1,5", "{Home}{Delete*2}", "|5", "5", ""),
 )

@@ -32,7 +32,7 @@ class Server:
                     self.wfile.write(data)
 
             def end_headers(self):
-                for name, value in {"cache-control": "no-store", **dict(headers)}.items():
+                for name, value in {"cache-control": "no-cache", **dict(headers)}.items():
                     self.send_header(name, value)
                 super().end_headers()
 

@@ -5,7 +5,7 @@ import unittest
 from harness import BrowserCase
 from rows import ROWS
 
-CHROMIUM_ONLY = ("{menu ", "{layout ", "{compose ", "{commit ", "{drop ")
+CHROMIUM_ONLY = ("{menu ", "{layout ", "{compose ", "{commit ", "{drop ", "{drag ")
 
 
 def tokens_of(keys):
@@ -72,6 +72,12 @@ class Keys(BrowserCase):
         data = {"items": [{"mimeType": "text/plain", "data": text}], "dragOperationsMask": 1}
         for kind in ("dragEnter", "dragOver", "drop"):
             self.browser.send("Input.dispatchDragEvent", type=kind, x=place["right"], y=place["middle"], data=data)
+
+    def do_drag(self, places):
+        start, end, to = map(int, places.split())
+        self.look(f"field.setSelectionRange({start}, {end})")
+        place = self.look("place()")
+        self.browser.drag(*((place["first"] + place["width"] * it, place["middle"]) for it in ((start + end) / 2, to)))
 
     def press(self, keys):
         """Does what the keys of a row say. Those that follow each other are pressed together."""

@@ -4,7 +4,8 @@ import { compare } from "./field-decimals.js";
 import "./number-field.js";
 
 const SEEN = ["badInput", "valueMissing", "rangeUnderflow", "rangeOverflow", "stepMismatch", "customError"];
-const input = () => globalThis.field.shadowRoot.querySelector("input");
+/** The input inside. */
+export const input = () => globalThis.field.shadowRoot.querySelector("input");
 // Without marks of direction, and with plain spaces.
 const plain = (text) => text.replace(/[\u061c\u200e\u200f]/g, "").replace(/[\u00a0\u202f]/g, " ");
 
@@ -14,16 +15,19 @@ function formatterOf(locale) {
   return percent ? new PercentFormatter(locale) : new DecimalFormatter(locale);
 }
 
-// The readers of the field's locale: its own, and the one with the digits 0 to 9.
-function readers() {
+/** The readers of the field's locale: its own, and that with the digits 0 to 9, to which its own digits are those. */
+export function readers() {
   const { locale } = globalThis.field.formatter.resolvedOptions();
-  return [locale, new Intl.Locale(locale, { numberingSystem: "latn" })].map(formatterOf);
+  const [own, latin] = [locale, new Intl.Locale(locale, { numberingSystem: "latn" })].map(formatterOf);
+  const digits = own.formatToParts("9876543210").flatMap(({ type, value }) => (type === "integer" ? [...value] : []));
+  const ascii = new Map(digits.map((it, at) => [it, String(9 - at)]));
+  return [(text) => own.readLenient(text), (text) => latin.readLenient([...text].map((it) => ascii.get(it) ?? it).join(""))];
 }
 
 function numberOf(text, all) {
-  for (const it of all) {
+  for (const read of all) {
     try {
-      return it.readLenient(text);
+      return read(text);
     } catch {
       // the next one may
     }
@@ -71,8 +75,12 @@ Object.assign(globalThis, {
     };
   },
 
+  /** Where the input is, and where its first character is and how wide each. */
   place() {
     const { left, right, top, bottom } = input().getBoundingClientRect();
-    return { left: left + 3, right: right - 3, middle: (top + bottom) / 2 };
+    const { paddingLeft, borderLeftWidth, fontSize, fontFamily } = getComputedStyle(input());
+    const context = document.createElement("canvas").getContext("2d");
+    context.font = `${fontSize} ${fontFamily}`;
+    return { left: left + 3, right: right - 3, middle: (top + bottom) / 2, first: left + parseFloat(paddingLeft) + parseFloat(borderLeftWidth), width: context.measureText("0").width };
   },
 });
