@@ -1,6 +1,7 @@
 #!/bin/sh
-# Times calls of the package for JavaScript beside those of `Intl.NumberFormat`, in one run of Node: for 1, 7 and 18 digits nanoseconds and the one
-# over the other; below 1 this package is faster. Then how long it takes from the import to the first text, and how large the files are. It needs node.
+# Times calls of the package for JavaScript beside those of `Intl.NumberFormat`, in one run of Node for each locale: for 1, 7 and 18 digits nanoseconds
+# and the one over the other; below 1 this package is faster. Then how long it takes from the import to the first text, and how large the files are.
+# It needs node, and esbuild for the size of a page.
 # usage: bench/javascript.sh [PACKAGE [TURNS]]
 # Without PACKAGE, the folder legumeyet that tools/build_js leaves, it is made.
 set -eu
@@ -19,8 +20,10 @@ package=${1:-$made/js/legumeyet}
 }
 package=$(cd "$package" && pwd)
 node --version
-echo "digits call            here    Intl  ratio"
-node "$here/calls.js" "$package" "$turns" 1 7 18
+echo "locale digits call            here    Intl  ratio"
+for locale in en fr ar-EG mr; do
+    node "$here/calls.js" "$package" "$turns" "$locale" 1 7 18
+done
 for run in 1 2 3 4 5 6 7 8 9 10 11; do
     node "$here/start.js" "$package"
 done | sort -n | awk '{ ms[NR] = $1; other[NR] = $2 }

@@ -19,15 +19,20 @@ export type Locales = string | Intl.Locale | readonly (string | Intl.Locale)[];
 export interface FormatterOptions {
   /** The tables; without it those of the world's book, or of `setWorld`. */
   book?: Book;
-  /** `auto` without it, and `min2` of compact numbers. */
+  /** The locale that is taken where there are tables for none of those that are asked for: `en`. Without it the last of these is refused. */
+  fallback?: string | Intl.Locale;
+  /** `auto` without it, and `min2` of compact numbers; `always` and `true` write 1234 as `1.234` in Spanish too, where it is else `1234`. */
   useGrouping?: UseGrouping;
   /** `auto` without it; `keep` writes a plus where the text of the number has one. */
   signDisplay?: SignDisplay;
-  /** The power of ten that is rounded to: 0 the ones, -2 the hundredths. All digits down to it are shown. */
+  /**
+   * The power of ten that is rounded to: 0 the ones, -2 the hundredths. All digits down to it are shown. A compact number is rounded to the last digit
+   * that is shown, where that is the higher place.
+   */
   position?: number;
-  /** `halfExpand` without it. It needs `position` or `maximumFractionDigits`. */
+  /** `halfExpand` without it. Of plain numbers and percents it needs `position` or `maximumFractionDigits`: without these no digit is rounded off. */
   roundingMode?: RoundingMode;
-  /** The number is rounded to a multiple of this at that place; 1 without it. */
+  /** The number is rounded to a multiple of this at the last digit that is shown; 1 without it. Compact numbers need `position` for it. */
   roundingIncrement?: RoundingIncrement;
 }
 
@@ -52,11 +57,11 @@ export interface CurrencyFormatterOptions extends DecimalFormatterOptions {
   currencySign?: "standard" | "accounting";
   /** `symbol` without it: the symbol, or the code where there is none. */
   currencyDisplay?: "symbol" | "code";
-  /** Where neither `maximumFractionDigits` nor `position` rounds: to the digits of the currency without it, to those that it has in cash, or not. */
+  /** Where neither `maximumFractionDigits` nor `position` says where to round: `standard` without it, to the digits of the currency; to those in cash; or not. */
   currencyDigits?: "standard" | "cash" | "given";
 }
 
-export type ResolvedOptions<Options> = Omit<Options, "book"> & { locale: string; useGrouping: UseGrouping; signDisplay: SignDisplay };
+export type ResolvedOptions<Options> = Omit<Options, "book" | "fallback"> & { locale: string; useGrouping: UseGrouping; signDisplay: SignDisplay };
 
 export interface Part {
   type: "minusSign" | "plusSign" | "integer" | "group" | "decimal" | "fraction" | "currency" | "percentSign" | "literal";
@@ -65,7 +70,10 @@ export interface Part {
 
 declare abstract class Open {
   readonly closed: boolean;
-  /** Gives its memory back. It is also given back when the object is no longer used. */
+  /**
+   * Refuses its calls from then on. A book or answers give their memory back, and do so too when the object is no longer used. Formatters that are
+   * alike share theirs, and a thousand have some at once, however many there are.
+   */
   close(): void;
   [Symbol.dispose](): void;
 }
@@ -172,10 +180,22 @@ export class LoadError extends Error {
   readonly reason: "fetch" | "policy" | "module";
 }
 
+/** The bytes of a file. */
+export type Bytes = ArrayBuffer | ArrayBufferView;
+/** A WebAssembly.Module, where the types of the platform have one. */
+export type CompiledModule = typeof globalThis extends { WebAssembly: { Module: new (...given: any[]) => infer Module } } ? Module & object : never;
+/** What is used of a Response of `fetch`. */
+export interface FileResponse {
+  readonly ok: boolean;
+  readonly status: number;
+  readonly statusText: string;
+  arrayBuffer(): Promise<ArrayBuffer>;
+}
+
 /** Takes the module: its bytes, a WebAssembly.Module, or the response to a request for it. A second call does nothing. */
-export function load(source: BufferSource | WebAssembly.Module | Response): Promise<void>;
+export function load(source: Bytes | CompiledModule | FileResponse): Promise<void>;
 /** Takes the module at once. */
-export function loadSync(source: BufferSource | WebAssembly.Module): void;
+export function loadSync(source: Bytes | CompiledModule): void;
 /** Makes the book of formatters for which none is named: a Book, or the JSON of one. It is kept. */
 export function setWorld(book: string | Uint8Array | Book): Book;
 /** The version of the library, with its minor one: `1.4`. */

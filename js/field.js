@@ -1,28 +1,29 @@
-// What a form field does while somebody types: the text is read leniently, and where it is a number it is written anew, with the caret where it
-// was among the digits. Nothing is guessed: a text that is no number stays as it was typed.
+// What a form field does while somebody types. A text that is a number is written anew at each edit, with the caret where it was among the digits;
+// one that is none stays as it was typed, and nothing is guessed. What the field writes by itself, as separators, a unit and marks of direction, is
+// its own: an edit is one of the other characters, those that somebody typed.
 import { ErrorNumber, LegumeyetError } from "./instance.js";
 
 const DIGIT = /^\p{Nd}$/u;
+const UNSEEN = /^[\s\p{Cf}]*$/u;
+const TYPED = ["integer", "fraction", "decimal"];
+const SIGNS = ["minusSign", "plusSign"];
+const NO_NUMBER = [ErrorNumber.NOT_WRITTEN, ErrorNumber.UTF8, ErrorNumber.NUMBER, ErrorNumber.LIMIT, ErrorNumber.RANGE];
+const EMPTY = Object.freeze({ text: "", caret: 0, value: "", own: [] });
 
-// The number that was typed; null where it is none.
-function read(formatter, text) {
+// What a call returns; null where there is no number.
+function unlessNone(call) {
   try {
-    return formatter.readLenient(text);
+    return call();
   } catch (error) {
-    if (error instanceof LegumeyetError && (error.number === ErrorNumber.NOT_WRITTEN || error.number === ErrorNumber.UTF8)) return null;
+    if (error instanceof LegumeyetError && NO_NUMBER.includes(error.number)) return null;
     throw error;
   }
 }
 
-// The places in a text of the parts of some types, `[start, end]`.
-function placesOf(parts, types) {
-  const places = [];
-  let start = 0;
-  for (const { type, value } of parts) {
-    if (types.includes(type)) places.push([start, start + value.length]);
-    start += value.length;
-  }
-  return places;
+/** A decimal without plus and without zeros in front: `-1.50` of `-01.50`; null where the text is no decimal. */
+export function plainOf(text) {
+  const [, sign, whole, fraction] = /^([+-]?)(\d+)(\.\d+)?$/.exec(text) ?? [];
+  return whole === undefined ? null : `${sign === "-" ? "-" : ""}${whole.replace(/^0+(?=\d)/, "")}${fraction ?? ""}`;
 }
 
 /** What an edit left of a text, where the characters that it removed or put are not known: what is alike at both ends, around the caret. */
@@ -41,124 +42,220 @@ function isLeft(before, after, { front, back }) {
   return isThere && before.endsWith(after.slice(after.length - back));
 }
 
+// The places of the characters of a text, `[start, end]`.
+function placesOf(text) {
+  let end = 0;
+  return [...text].map((it) => [end, (end += it.length)]);
+}
+
+// Where some places of a text are once an edit of it was made, without what it took of them.
+function moved(places, { start, end, inserted }) {
+  const by = start + inserted.length - end;
+  const front = places.filter(([from]) => from < start).map(([from, to]) => [from, Math.min(to, start)]);
+  const back = places.filter(([, to]) => to > end).map(([from, to]) => [Math.max(from, end) + by, to + by]);
+  return [...front, ...back];
+}
+
 /** The text of a field while somebody types, of a formatter of plain numbers, of percents or of amounts that does not round. */
 export class FieldText {
   #formatter;
   #latin;
   #digits; // its own, each with that of ASCII
   #decimal;
-  #unit; // of percents their sign, of amounts the currency, else empty
-  #groups = []; // where `text` has separators that were written here
-  #end = 0; // where its last digit ends, or a decimal separator after it
+  #state = EMPTY;
 
-  /** `latin` is one of the same locale with the digits 0 to 9: what the formatter does not read is read by it, as where `.` is typed in Arabic. */
+  /**
+   * `latin` is one of the same locale with the digits 0 to 9: what the formatter does not read is read by it, as where `.` is typed in Arabic.
+   * Without a formatter no text is a number.
+   */
   constructor(formatter, latin = null) {
-    const parts = formatter.formatToParts("9876543210.5");
+    const parts = formatter?.formatToParts("9876543210.5") ?? [{ type: "decimal", value: "." }];
     const digits = parts.flatMap(({ type, value }) => (type === "integer" ? [...value] : []));
     this.#formatter = formatter;
     this.#latin = latin;
     this.#digits = new Map(digits.map((it, at) => [it, String(9 - at)]));
     this.#decimal = parts.find(({ type }) => type === "decimal")?.value;
     if (this.#decimal === undefined) throw new RangeError("the formatter of a field shows a fraction as it is: it rounds no number, and is not compact");
-    this.#unit = parts.find(({ type }) => type === "currency" || type === "percentSign")?.value ?? "";
-    this.text = "";
   }
 
-  /** Writes a number; nothing for an empty text. Returns the text. */
+  /** What is shown, as it is kept for `restore`: its text, the caret, and its value. */
+  get state() { return this.#state; }
+  get text() { return this.#state.text; }
+  /** The number that is shown as digits; null where the text is none, and empty where it is empty. */
+  get value() { return this.#state.value; }
+
+  restore(state) {
+    this.#state = state;
+  }
+
+  /** Writes a number; nothing for an empty text, and takes a text that is no number as if it was typed. Returns the text. */
   put(value) {
-    const parts = value === "" ? [] : this.#formatter.formatToParts(value);
-    this.#groups = placesOf(parts, ["group"]);
-    this.#end = placesOf(parts, ["integer", "fraction"]).at(-1)?.[1] ?? 0;
-    this.text = parts.map((it) => it.value).join("");
+    const isNone = value === "" || this.#formatter === null;
+    const parts = isNone ? null : unlessNone(() => this.#formatter.formatToParts(value));
+    this.#state = parts === null ? EMPTY : this.#written(parts);
+    if (parts !== null) this.#state.value = plainOf(this.#read(this.text));
+    else if (value !== "") this.edited(String(value), String(value).length);
     return this.text;
-  }
-
-  // Puts a decimal separator after the last digit.
-  #putDecimal() {
-    this.text = this.text.slice(0, this.#end) + this.#decimal + this.text.slice(this.#end);
-    this.#end += this.#decimal.length;
   }
 
   /**
    * The field after an edit that left this text, with the caret there. `left` is how many characters of the old text it left at both ends, as a
-   * paste over all of it leaves none; without it an edit is taken that only removed characters, or put some at the caret. Returns the number as
-   * digits, null where the text is none and empty where it is empty; the text that the field should have; and the caret in it. Where an edit leaves
-   * nothing but the unit, the field is empty. A unit that is typed before the one that was written here takes its place.
+   * paste over all of it leaves none; without it an edit is taken that only removed characters, or put some at the caret. `isForward` is whether it
+   * removed what is behind the caret. An edit that put something before or behind the number is one at its start or end. One that only removed
+   * what the field writes by itself removes the character beside that. Where no character is left that somebody typed, the field is empty.
    */
-  edited(text, caret, left = leftOf(this.text, text, caret)) {
-    const once = this.#withoutSecondUnit(text, caret);
-    return once === text ? this.#taken(text, caret, left) : this.#taken(once, caret, leftOf(this.text, once, caret));
+  edited(text, caret, left, isForward = false) {
+    const edit = this.#editOf(text, caret, left);
+    this.#state = this.#after(this.#aimed(edit, isForward));
+    return this.#state;
   }
 
-  #taken(text, caret, left) {
-    const isUnit = text.trim() !== "" && text.replace(this.#unit, "").trim() === "";
-    if (isUnit && this.text !== "") [text, caret] = ["", 0];
-    const bare = isUnit || text.trim() === "" ? "" : this.#withoutGroups(text, left);
-    const value = bare === "" ? "" : this.#read(bare);
-    if (value === null || value === "") {
-      this.#groups = [];
-      this.text = text;
-      return { value, text, caret };
+  /** The same where the text has to stay as it is, as long as it is composed: nothing is written anew before `settled`. */
+  composed(text, caret) {
+    const value = this.#read(text);
+    this.#state = { ...this.#raw(this.#editOf(text, caret)), caret, value: UNSEEN.test(text) ? "" : value && plainOf(value) };
+    return this.#state;
+  }
+
+  /** Writes anew what was composed. */
+  settled() {
+    const { caret } = this.#state;
+    this.#state = this.#after({ start: caret, end: caret, inserted: "" });
+    return this.#state;
+  }
+
+  /** The place of the caret that is next to this one and within the number. */
+  nearest(caret) {
+    const kept = this.#kept();
+    return kept.length === 0 ? caret : Math.min(Math.max(caret, kept[0][0]), kept.at(-1)[1]);
+  }
+
+  #editOf(text, caret, left) {
+    const before = this.text;
+    const { front, back } = left !== undefined && isLeft(before, text, left) ? left : leftOf(before, text, caret);
+    return { start: front, end: before.length - back, inserted: text.slice(front, text.length - back) };
+  }
+
+  // The places of the characters that are not the field's own.
+  #kept() {
+    const { text, own } = this.#state;
+    return placesOf(text).filter(([start, end]) => !own.some(([from, to]) => from < end && start < to));
+  }
+
+  // What was typed of the text from one place to another.
+  #typed(from, to = this.text.length) {
+    const kept = this.#kept().filter(([start, end]) => start >= from && end <= to);
+    return kept.map(([start, end]) => this.text.slice(start, end)).join("");
+  }
+
+  // The edit as it is meant.
+  #aimed({ start, end, inserted }, isForward) {
+    const kept = this.#kept();
+    const isNothing = start === end && inserted === "";
+    if (isNothing || kept.some(([from, to]) => from < end && start < to)) return { start, end, inserted };
+    if (inserted !== "") {
+      const among = this.value === null ? kept : kept.filter(([from, to]) => this.#isOfNumber(this.text.slice(from, to)));
+      const at = among.length === 0 ? start : Math.min(Math.max(start, among[0][0]), among.at(-1)[1]);
+      return { start: at, end: at === start ? end : at, inserted };
     }
-    const isDecimalLast = this.#isDecimalLast(bare, value);
-    this.put(value);
-    if (isDecimalLast) this.#putDecimal();
-    return { value, text: this.text, caret: this.#caretAs(text, caret) };
+    const next = isForward ? kept.find(([from]) => from >= end) : kept.filter(([, to]) => to <= start).at(-1);
+    if (next === undefined) return { start, end: start, inserted };
+    return { start: Math.min(start, next[0]), end: Math.max(end, next[1]), inserted };
   }
 
-  // The text without the unit after the caret, where one is right before it too.
-  #withoutSecondUnit(text, caret) {
-    const rest = text.slice(caret).trimStart();
-    const isTwice = this.#unit !== "" && text.slice(0, caret).endsWith(this.#unit) && rest.startsWith(this.#unit);
-    return isTwice ? text.slice(0, caret) + rest.slice(this.#unit.length) : text;
+  #after(edit) {
+    const front = this.#typed(0, edit.start) + edit.inserted;
+    const back = this.#typed(edit.end);
+    if (UNSEEN.test(front + back)) return EMPTY;
+    const value = this.#read(front + back);
+    if (value !== null) return this.#shown(value, front, back);
+    const raw = this.#raw(edit);
+    const whole = this.#read(raw.text); // as where somebody types the separators too
+    return whole === null ? raw : this.#shown(whole, raw.text.slice(0, raw.caret), raw.text.slice(raw.caret));
   }
 
-  // The text without the separators that were written here, where the edit left them.
-  #withoutGroups(text, left) {
-    if (!isLeft(this.text, text, left)) return text;
-    const moved = text.length - this.text.length;
-    let bare = "";
-    let done = 0;
-    for (const [start, end] of this.#groups) {
-      const isBack = start >= this.text.length - left.back;
-      if (end > left.front && !isBack) continue;
-      const by = isBack ? moved : 0;
-      bare += text.slice(done, start + by);
-      done = end + by;
+  // A text that is no number, as an edit leaves it.
+  #raw(edit) {
+    const { text, own } = this.#state;
+    const caret = edit.start + edit.inserted.length;
+    return { text: text.slice(0, edit.start) + edit.inserted + text.slice(edit.end), caret, value: null, own: moved(own, edit) };
+  }
+
+  // A number that was typed, with the caret between `front` and `back`.
+  #shown(value, front, back) {
+    const isDecimalLast = !value.includes(".") && this.#endsInDecimal(front + back, value);
+    const state = { ...this.#written(this.#formatter.formatToParts(value), isDecimalLast), value: plainOf(value) };
+    return { ...state, caret: this.#caretIn(state, front, back) };
+  }
+
+  // Whether a decimal separator is last: one more digit would be of the fraction.
+  #endsInDecimal(typed, value) {
+    const text = typed.trimEnd();
+    return !this.#isDigit([...text].at(-1)) && this.#read(`${text}0`) === `${value}.0`;
+  }
+
+  // The state of a number's parts, and of a decimal separator after its last digit. The caret is at its end.
+  #written(parts, isDecimalLast = false) {
+    const last = parts.findLastIndex(({ type }) => TYPED.includes(type));
+    const state = { text: "", caret: 0, value: "", own: [] };
+    const add = (value, isOwn) => {
+      for (const [start, end] of placesOf(value)) if (isOwn(value.slice(start, end))) state.own.push([state.text.length + start, state.text.length + end]);
+      state.text += value;
+    };
+    for (const [at, { type, value }] of parts.entries()) {
+      add(value, SIGNS.includes(type) ? (it) => UNSEEN.test(it) : () => !TYPED.includes(type));
+      if (at === last && isDecimalLast) add(this.#decimal, () => false);
+      if (at === last) state.caret = state.text.length;
     }
-    return bare + text.slice(done);
-  }
-
-  // Whether a decimal separator is last, or is before the unit: one more digit would be of the fraction.
-  #isDecimalLast(bare, value) {
-    const typed = bare.trimEnd();
-    const hasUnit = this.#unit !== "" && typed.endsWith(this.#unit);
-    const number = hasUnit ? typed.slice(0, -this.#unit.length).trimEnd() : typed;
-    return !value.includes(".") && !this.#isDigit([...number].at(-1)) && this.#read(`${number}0${typed.slice(number.length)}`) === `${value}.0`;
+    return state;
   }
 
   // The number of a text; of the digits that were written here and of those of ASCII by the second formatter, where the first reads none.
   #read(text) {
-    const value = read(this.#formatter, text);
+    if (this.#formatter === null) return null;
+    const value = unlessNone(() => this.#formatter.readLenient(text));
     if (value !== null || this.#latin === null) return value;
-    return read(this.#latin, [...text].map((it) => this.#digits.get(it) ?? it).join(""));
+    return unlessNone(() => this.#latin.readLenient([...text].map((it) => this.#digits.get(it) ?? it).join("")));
   }
 
   #isDigit(char) {
     return char !== undefined && (this.#digits.has(char) || DIGIT.test(char));
   }
 
-  // The place in the text that as many digits follow as the caret has behind it in what was typed. Behind a digit it stays there, and else it
-  // is before the next digit, but never past a separator between groups, or past the number where a unit follows.
-  #caretAs(typed, caret) {
-    if (caret === 0) return 0;
-    const isBehindDigit = this.#isDigit([...typed.slice(0, caret)].at(-1));
-    let left = [...typed.slice(caret)].filter((it) => this.#isDigit(it)).length;
-    let at = typed.slice(caret).trim() === "" ? this.text.length : this.#end;
-    const chars = [...this.text.slice(0, at)];
-    for (; left > 0 && chars.length > 0; at -= chars.pop().length) if (this.#isDigit(chars.at(-1))) left -= 1;
-    if (!isBehindDigit && !this.#groups.some(([, end]) => end === at)) return at;
-    for (; chars.length > 0 && !this.#isDigit(chars.at(-1)); at -= chars.pop().length);
-    return at;
+  #isOfNumber(char) {
+    return this.#isDigit(char) || char === this.#decimal;
+  }
+
+  // The place in the text of a number that as many digits follow as `back` has. Behind a digit it stays there, and else it is before the next one.
+  #caretIn({ text, caret: end, value }, front, back) {
+    const digits = placesOf(text).filter(([from, to]) => this.#isDigit(text.slice(from, to)));
+    const behind = [...back].filter((it) => this.#isDigit(it)).length;
+    const fraction = value.split(".")[1]?.length ?? 0;
+    const next = Math.max(0, digits.length - behind);
+    const isBeforeDecimal = !UNSEEN.test(back) && !this.#isDigit([...back.trimStart()][0]);
+    if (behind < fraction || (behind === fraction && !isBeforeDecimal)) return digits[next]?.[0] ?? end;
+    return next > 0 && (behind === fraction || this.#isDigit([...front].at(-1))) ? digits[next - 1][1] : digits[next][0];
+  }
+}
+
+/** What a field was before each edit, and what was undone. */
+export class History {
+  #past = [];
+  #undone = [];
+
+  keep(state) {
+    this.#past.push(state);
+    this.#undone = [];
+  }
+
+  clear() {
+    [this.#past, this.#undone] = [[], []];
+  }
+
+  /** The state to go to from this one, backwards or forwards; undefined where there is none. */
+  go(isBack, state) {
+    const [from, to] = isBack ? [this.#past, this.#undone] : [this.#undone, this.#past];
+    if (from.length > 0) to.push(state);
+    return from.pop();
   }
 }

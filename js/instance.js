@@ -102,7 +102,7 @@ export async function fetched(file, asked) {
 /** Takes the module: its bytes, a WebAssembly.Module, or the response to a request for it. A second call does nothing. Throws a LoadError. */
 export async function load(source) {
   if (module !== null) return;
-  const given = typeof Response !== "undefined" && source instanceof Response ? await fetched("legumeyet.wasm", source) : source;
+  const given = typeof source?.arrayBuffer === "function" ? await fetched("legumeyet.wasm", source) : source;
   try {
     const compiled = given instanceof WebAssembly.Module ? given : await WebAssembly.compile(given);
     take(compiled, await WebAssembly.instantiate(compiled, {}));
@@ -138,7 +138,7 @@ export function begun() {
     isInside = false;
   }
   if (calls !== null) return;
-  if (module === null) throw new Error("await load(..) of legumeyet/core comes first");
+  if (module === null) throw new Error("the library is not loaded: await init() of legumeyet/inline, or load(..) of legumeyet/core, comes first");
   begin(new WebAssembly.Instance(module, {}));
 }
 
@@ -354,6 +354,12 @@ export function partsWritten(at, call, text) {
   isInside = false;
   expected(length);
   return parts;
+}
+
+/** The version of the library, with its minor one: `1.4`. */
+export function version() {
+  begun();
+  return inside(() => `${calls.js_version()}.${calls.js_minor()}`);
 }
 
 /** The bytes of the module's memory, for measurements. */

@@ -2,7 +2,7 @@
 // both files by their literal addresses.
 import { readFileSync } from "node:fs";
 import { LoadError, loadSync } from "./instance.js";
-import { setWorld } from "./formatters.js";
+import { setWorld } from "./books.js";
 
 function bytesOf(name, address) {
   try {

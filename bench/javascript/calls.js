@@ -1,19 +1,19 @@
-// Prints, for each kind of call and number of digits, nanoseconds of the package, of Intl.NumberFormat, and the one over the other; formatters of
-// English, kept, the least of the turns, in which the two take turns. The texts have to be the same. Of a column of a thousand numbers it is the
-// time of one of them: `loop` calls `format` for each, of numbers and of texts.
-// usage: node calls.js PACKAGE TURNS DIGITS..
-const [folder, ...numbers] = process.argv.slice(2);
-const [turns, ...digits] = numbers.map(Number);
+// Prints, for each kind of call and number of digits, nanoseconds of the package, of Intl.NumberFormat, and the one over the other; formatters of a
+// locale, kept, but for `new`, which makes one for each call; the least of the turns, in which the two take turns. The texts have to be the same. Of
+// a column of a thousand numbers it is the time of one of them: `loop` calls `format` for each, of numbers and of texts.
+// usage: node calls.js PACKAGE TURNS LOCALE DIGITS..
+const [folder, times, locale, ...numbers] = process.argv.slice(2);
+const [turns, ...digits] = [times, ...numbers].map(Number);
 const { CompactDecimalFormatter, CurrencyFormatter, DecimalFormatter, PercentFormatter } = await import(`${folder}/node.js`);
 const CALLS = 20000;
 const COLUMN = 1000;
-const plain = new DecimalFormatter("en");
-const compact = new CompactDecimalFormatter("en");
-const intl = new Intl.NumberFormat("en", { maximumFractionDigits: 20 });
-const intlCompact = new Intl.NumberFormat("en", { notation: "compact", roundingMode: "halfEven" });
-const percents = new PercentFormatter("en");
-const euros = new CurrencyFormatter("en", { currency: "EUR" });
-const intlEuros = new Intl.NumberFormat("en", { style: "currency", currency: "EUR", roundingMode: "halfEven" });
+const plain = new DecimalFormatter(locale);
+const compact = new CompactDecimalFormatter(locale);
+const intl = new Intl.NumberFormat(locale, { maximumFractionDigits: 20 });
+const intlCompact = new Intl.NumberFormat(locale, { notation: "compact" });
+const percents = new PercentFormatter(locale);
+const euros = new CurrencyFormatter(locale, { currency: "EUR" });
+const intlEuros = new Intl.NumberFormat(locale, { style: "currency", currency: "EUR" });
 const textOf = (found) => (typeof found === "string" ? found : found.map((it) => it.value ?? it).join(""));
 
 function timed(call, numbers) {
@@ -35,7 +35,8 @@ for (const count of digits) {
     ["parts", () => plain.formatToParts(text), () => intl.formatToParts(text)],
     ["short", () => compact.format(text), () => intlCompact.format(text)],
     ["read", () => plain.read(written), null],
-    ["read_lenient", () => plain.readLenient?.(text), null],
+    ["read_lenient", () => plain.readLenient(text), null],
+    ["new", () => new DecimalFormatter(locale).format(text), () => new Intl.NumberFormat(locale, { maximumFractionDigits: 20 }).format(text)],
     ["percent", () => percents.format(text), null],
     ["amount", () => euros.format(text), () => intlEuros.format(text)],
     ["amount parts", () => euros.formatToParts(text), () => intlEuros.formatToParts(text)],
@@ -54,6 +55,6 @@ for (const count of digits) {
     }
     const [mine, other] = least;
     const rest = theirs ? `${other.toFixed(0).padStart(7)} ${(mine / other).toFixed(2).padStart(6)}` : "";
-    console.log(`${String(count).padStart(6)} ${name.padEnd(12)} ${mine.toFixed(0).padStart(7)} ${rest}`);
+    console.log(`${locale.padEnd(6)} ${String(count).padStart(6)} ${name.padEnd(12)} ${mine.toFixed(0).padStart(7)} ${rest}`);
   }
 }

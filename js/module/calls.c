@@ -240,6 +240,13 @@ void js_options(opened *it, u32 sign, u32 rounding, int position, u32 zeros, u32
     it->how = (options){sign, rounding, (short)position, (u16)zeros, increment, (u16)integer, (u16)fraction, {0, 0}};
 }
 
+/* The rounding alone. */
+void js_rounding(opened *it, u32 rounding, int position, u32 increment) {
+    it->how.rounding = rounding;
+    it->how.position = (short)position;
+    it->how.increment = increment;
+}
+
 /* Formatters of plain numbers. */
 number js_decimal_open(opened *book, u32 n, u32 grouping, opened *it) {
     return -legumeyet_decimal_formatter_open(&book->of, text_in(), n, grouping, &it->of);

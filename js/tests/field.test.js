@@ -2,7 +2,8 @@
 import assert from "node:assert/strict";
 import { test } from "node:test";
 import { CompactDecimalFormatter, CurrencyFormatter, DecimalFormatter, PercentFormatter } from "legumeyet";
-import { FieldText } from "legumeyet/field";
+import { FieldText, plainOf } from "legumeyet/field";
+import { compare, neighbours, padded, plus } from "../node_modules/legumeyet/field-decimals.js";
 
 function typed(locale, keys, open = (it) => new DecimalFormatter(it)) {
   const field = new FieldText(open(locale), open(new Intl.Locale(locale, { numberingSystem: "latn" })));
@@ -20,7 +21,7 @@ test("typing", () => {
   const rows = [
     ["en", "12345.6", "12,345.6| 12345.6"], ["en", "12345<<9", "123,9|45 123945"], ["en", "1234.50", "1,234.50| 1234.50"], ["en", "1234.", "1,234.| 1234"], ["en", ".5", "0.5| 0.5"],
     ["en", "-1234", "-1,234| -1234"], ["en", "-", "-| null"], ["en", "", "| "], ["en", "0.05", "0.05| 0.05"], ["en", "1,5", "1,5| null"], ["en", "1,234", "1,234| 1234"],
-    ["en", "12x", "12x| null"], ["en", "12x~3", "123| 123"], ["en", "1234567~~~~", "123| 123"], ["en", "1234<<<~", "1|,234 1234"], ["en", "1234<<<<~", "|234 234"],
+    ["en", "12x", "12x| null"], ["en", "12x~3", "123| 123"], ["en", "1234567~~~~", "123| 123"], ["en", "1234<<<~", "|234 234"], ["en", "1234<<<<~", "|234 234"],
     ["de", "-1234567,89", "-1.234.567,89| -1234567.89"], ["de", "1.5", "1.5| null"], ["de", "1.234", "1.234| 1234"], ["de", "1234,", "1.234,| 1234"],
     ["fr", "1234,5", "1\u202f234,5| 1234.5"], ["sv", "-1", "\u22121| -1"], ["de-CH", "1234.5", "1'234.5| 1234.5"],
     ["ar-EG", "1234٫5", "١٬٢٣٤٫٥| 1234.5"], ["ar-EG", "-٥", "\u061c-٥| -5"], ["hi", "1234567", "12,34,567| 1234567"], ["hi-u-nu-deva", "१२३४५६", "१,२३,४५६| 123456"],
@@ -34,10 +35,10 @@ test("typing amounts and percents", () => {
   const percents = (it) => new PercentFormatter(it);
   const rows = [
     ["en", "1234.5", amounts("EUR"), "€1,234.5| 1234.5"], ["en", "1234.", amounts("EUR"), "€1,234.| 1234"], ["en", "-5", amounts("EUR"), "-€5| -5"], ["en", "5~", amounts("EUR"), "| "],
-    ["en", "€5", amounts("EUR"), "€5| 5"], ["en", "5<<€", amounts("EUR"), "€|5 5"], ["de", "1234€", amounts("EUR"), "1.234\u00a0€| 1234"], ["en", "$", amounts("EUR"), "$| null"], ["en", "1,5", amounts("EUR"), "€1,5| null"], ["en", "1234<<9", amounts("USD"), "$12,9|34 12934"],
+    ["en", "€5", amounts("EUR"), "€5| 5"], ["en", "5<<€", amounts("EUR"), "€|5 5"], ["de", "1234€", amounts("EUR"), "1.234|\u00a0€ 1234"], ["en", "$", amounts("EUR"), "$| null"], ["en", "1,5", amounts("EUR"), "€1,5| null"], ["en", "1234<<9", amounts("USD"), "$12,9|34 12934"],
     ["de", "1234,5", amounts("EUR"), "1.234,5|\u00a0€ 1234.5"], ["de", "1234,", amounts("EUR"), "1.234,|\u00a0€ 1234"], ["de", "12,5~~", amounts("EUR"), "12|\u00a0€ 12"], ["de", "5~", amounts("EUR"), "| "],
     ["de-CH", "-5", amounts("CHF"), "CHF-5| -5"], ["ar-EG", "1234.5", amounts("EGP"), null],
-    ["tr", "12,5", percents, "%12,5| 12.5"], ["de", "12,5", percents, "12,5|\u00a0% 12.5"], ["de", "12,5~", percents, "12,|\u00a0% 12"], ["en", "5%", percents, "5%| 5"],
+    ["tr", "12,5", percents, "%12,5| 12.5"], ["de", "12,5", percents, "12,5|\u00a0% 12.5"], ["de", "12,5~", percents, "12,|\u00a0% 12"], ["en", "5%", percents, "5|% 5"],
   ];
   for (const [locale, keys, open, wanted] of rows) {
     const got = typed(locale, keys, open);
@@ -46,21 +47,23 @@ test("typing amounts and percents", () => {
   }
 });
 
-test("a paste is read as it is", () => {
+// The value, the text and the caret after an edit of the number 1234 in English.
+function after(...edit) {
   const field = new FieldText(new DecimalFormatter("en"));
   field.put("1234");
   assert.equal(field.text, "1,234");
+  const { value, text, caret } = field.edited(...edit);
+  return [value, text, caret];
+}
+
+test("a paste is read as it is", () => {
   // over all of it: no separator of before is left
-  assert.deepEqual(field.edited("1,23", 4, { front: 0, back: 0 }), { value: null, text: "1,23", caret: 4 });
-  field.put("1234");
-  assert.deepEqual(field.edited("5,678", 5, { front: 0, back: 0 }), { value: "5678", text: "5,678", caret: 5 });
-  field.put("1234");
-  assert.deepEqual(field.edited("1,25,67834", 8, { front: 3, back: 2 }), { value: null, text: "1,25,67834", caret: 8 });
-  field.put("1234");
-  assert.deepEqual(field.edited(" 1234.50\n", 9, { front: 0, back: 0 }), { value: "1234.50", text: "1,234.50", caret: 8 });
+  assert.deepEqual(after("1,23", 4, { front: 0, back: 0 }), [null, "1,23", 4]);
+  assert.deepEqual(after("5,678", 5, { front: 0, back: 0 }), ["5678", "5,678", 5]);
+  assert.deepEqual(after("1,25,67834", 8, { front: 3, back: 2 }), [null, "1,25,67834", 8]);
+  assert.deepEqual(after(" 1234.50\n", 9, { front: 0, back: 0 }), ["1234.50", "1,234.50", 8]);
   // what is said to be left and is not counts for nothing
-  field.put("1234");
-  assert.deepEqual(field.edited("9,8765", 6, { front: 5, back: 0 }), { value: null, text: "9,8765", caret: 6 });
+  assert.deepEqual(after("9,8765", 6, { front: 5, back: 0 }), [null, "9,8765", 6]);
 });
 
 test("a formatter that shows no fraction is refused", () => {
@@ -69,10 +72,24 @@ test("a formatter that shows no fraction is refused", () => {
   }
 });
 
-test("a deletion of a separator alone moves the caret past it", () => {
+test("a deletion of a separator alone is one of the digit beside it", () => {
+  assert.deepEqual(after("1234", 1), ["234", "234", 0]);
+  assert.deepEqual(after("1234", 1, undefined, true), ["134", "134", 1]);
+});
+
+test("a text that can't be written stays as it is", () => {
+  const field = new FieldText(new DecimalFormatter("en"));
+  for (const value of ["1,5", "x", "NaN"]) assert.deepEqual([field.put(value), field.value], [value, null]);
+  const none = new FieldText(null);
+  assert.deepEqual([none.put("7.5"), none.value, none.edited("7.56", 4).value], ["7.5", null, null]);
+});
+
+test("what is composed stays as it is until it is settled", () => {
   const field = new FieldText(new DecimalFormatter("en"));
   field.put("1234");
-  assert.deepEqual(field.edited("1234", 1), { value: "1234", text: "1,234", caret: 1 });
+  const { text, value } = field.composed("1,234５", 6);
+  assert.deepEqual([text, value], ["1,234５", null]);
+  assert.deepEqual([field.settled().text, field.value], ["12,345", "12345"]);
 });
 
 test("what is shown is read back exactly", () => {
@@ -82,7 +99,15 @@ test("what is shown is read back exactly", () => {
     for (const value of ["0", "-1234567.50", "0.05", "123456789012345678901234567890", "-0.00"]) {
       const found = field.edited(formatter.format(value), 0, { front: 0, back: 0 });
       assert.equal(found.value, value);
-      assert.equal(formatter.read(found.text), value);
+      assert.equal(formatter.read(field.text), value);
     }
   }
+});
+
+test("decimals", () => {
+  for (const [text, wanted] of [["007.50", "7.50"], ["+5", "5"], ["-00", "-0"], ["0", "0"], ["1,5", null], ["", null], ["5.", null]]) assert.equal(plainOf(text), wanted, text);
+  for (const [one, other, wanted] of [["1.50", "1.5", 0], ["-0", "0", 0], ["-2", "-1.99", -1], ["10", "9.999", 1], ["0.1", "0.10000000000000000001", -1]]) assert.equal(compare(one, other), wanted, `${one} ${other}`);
+  for (const [one, other, wanted] of [["0.1", "0.2", "0.3"], ["-1", "0.5", "-0.5"], ["99999999999999999999", "1", "100000000000000000000"], ["0.5", "-0.5", "0.0"]]) assert.equal(plus(one, other), wanted);
+  for (const [value, step, base, below, above] of [["7", "5", "0", "5", "10"], ["-7", "5", "0", "-10", "-5"], ["1.5", "0.5", "1", "1.5", "1.5"], ["1.555", "0.01", "0", "1.550", "1.560"]]) assert.deepEqual(neighbours(value, step, base), { below, above });
+  for (const [value, count, wanted] of [["5", 2, "5.00"], ["-5.1", 2, "-5.10"], ["5.123", 2, "5.123"], ["5", 0, "5"]]) assert.equal(padded(value, count), wanted);
 });

