@@ -378,6 +378,7 @@ export class NumberField extends HTMLElement {
     const text = this.#field.text;
     // what the browser keeps is the number, since the text may be another one in another locale
     this.#internals.setFormValue(value, value === "" ? `text ${text}` : `number ${value}`);
+    this.#message.lang = pageLanguage(this);
     const [flag, message] = this.#custom === "" ? (this.#wrong(value, text) ?? []) : ["customError", this.#custom];
     this.#internals.setValidity(flag === undefined ? {} : { [flag]: true }, message, this.#input);
     this.#input.setAttribute("aria-required", String(this.required));
@@ -407,13 +408,15 @@ export class NumberField extends HTMLElement {
 
   // A message in the language of the page, or as the page's attribute has it, with these numbers.
   #messageOf(name, numbers) {
-    const text = this.getAttribute(`${name}-message`) ?? MESSAGES[languageOf(pageLanguage(this) || this.#opened)][name];
+    const own = this.getAttribute(`${name}-message`);
+    const language = languageOf(pageLanguage(this) || this.#opened);
+    if (own === null) this.#message.lang = language;
+    const text = own ?? MESSAGES[language][name];
     const written = (it) => (it === "reason" ? numbers[it] : this.#formatter.format(numbers[it]));
     return text.replace(/\{(\w+)\}/g, (all, it) => (it in numbers ? written(it) : all));
   }
 
   #say(message) {
-    this.#message.lang = languageOf(pageLanguage(this) || this.#opened || "");
     this.#message.textContent = message;
     this.#input.setAttribute("aria-invalid", String(message !== ""));
   }
