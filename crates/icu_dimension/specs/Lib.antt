@@ -28,5 +28,6 @@ pub use Rattle.icu_dimension_lenient.specs.TypedUnits
 -- Codes and digits of currencies, and rounding to them.
 pub use Rattle.icu_dimension_fractions.specs.CurrencyCodes
 pub use Rattle.icu_dimension_fractions.specs.FractionLaws
+pub use Rattle.icu_dimension_fractions.specs.FractionMemory
 pub use Rattle.icu_dimension_fractions.specs.FractionRounding
 pub use Rattle.icu_dimension_fractions.specs.Fractions

@@ -6,6 +6,7 @@ ghost use Rattle.icu_dimension_affixes.specs.HeldUnits.{name_of, settings_of};
 ghost use Rattle.icu_dimension_affixes.specs.UnitReading.{AreReaderTexts, HasNoDecimal, IsUnitText, is_unit_readable_by, reader_texts};
 ghost use Rattle.icu_dimension_affixes.specs.UnitText.{unit_decimal_text, unit_formatted};
 ghost use Rattle.icu_dimension_lenient.specs.LenientUnits.{is_leniently_unit_readable_by, lenient_texts};
+ghost use Rattle.icu_dimension_fractions.specs.FractionMemory.{MayGrowAmount};
 ghost use Rattle.icu_dimension_fractions.specs.FractionRounding.{RoundsAmount, ShowsAmount};
 ghost use Rattle.icu_dimension_fractions.specs.Fractions.{fraction_for};
 ghost use Rattle.icu_dimension_fractions.specs.declared.increment.FractionIncrement.{FractionIncrement};
@@ -153,6 +154,7 @@ impl<'b> CurrencyFormatter<'b> {
             → IsOk result }
         ensures value { OnOk result (RoundsAmount (fraction_for (fractions_of self.now) usage) amount.old amount.new) }
         ensures same { OnErr result (amount.new ≡ amount.old) }
+        ensures room { OnErr result (MayGrowAmount (fraction_for (fractions_of self.now) usage) amount.old.absolute) }
     {
         self.fractions.fraction(usage).round(amount)
     }
@@ -170,6 +172,7 @@ impl<'b> CurrencyFormatter<'b> {
             → IsOk result }
         ensures value { IfOk result (λ v. RoundsAmount (fraction_for (fractions_of self.now) usage) amount v) }
         ensures same { IfErr result (λ e. e.value ≡ amount) }
+        ensures room { OnErr result (MayGrowAmount (fraction_for (fractions_of self.now) usage) amount.absolute) }
     {
         self.fractions.fraction(usage).rounded(amount)
     }
@@ -188,6 +191,7 @@ impl<'b> CurrencyFormatter<'b> {
             → IsOk result }
         ensures value { IfOk result (λ v. ShowsAmount (fraction_for (fractions_of self.now) usage) display amount v) }
         ensures same { IfErr result (λ e. e.value ≡ amount) }
+        ensures room { OnErr result (MayGrowAmount (fraction_for (fractions_of self.now) usage) amount.absolute) }
     {
         self.fractions.fraction(usage).shown(amount, display)
     }

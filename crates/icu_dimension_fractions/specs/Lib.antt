@@ -1,5 +1,6 @@
 pub mod CurrencyCodes
 pub mod FractionLaws
+pub mod FractionMemory
 pub mod FractionRounding
 pub mod Fractions
 pub mod RoundedDigit

@@ -3,6 +3,7 @@
 ghost use Rattle.std.specs.Prelude.{◌≡◌, ◌≢◌, ◌↔◌, ◌+◌, IfErr, IfOk, IsOk, IsTrue, OnErr, OnOk};
 ghost use Rattle.fixed_decimal.specs.Number.{place};
 ghost use Rattle.fixed_decimal.specs.Rounding.{IsMultiple};
+ghost use Rattle.icu_dimension_fractions.specs.FractionMemory.{MayGrowAmount};
 ghost use Rattle.icu_dimension_fractions.specs.FractionRounding.{RoundsAmount, ShowsAmount};
 ghost use Rattle.icu_dimension_fractions.specs.Fractions.{fraction_for, last_place, step};
 ghost use Rattle.icu_dimension_fractions.specs.RoundedDigit.{TakesMultiple, rounded_place};
@@ -98,6 +99,7 @@ impl Fraction {
         ensures sign { OnOk result (amount.new.sign ≡ amount.old.sign) }
         ensures size { OnOk result (TakesMultiple self amount.old.absolute amount.new.absolute) }
         ensures same { OnErr result (amount.new ≡ amount.old) }
+        ensures room { OnErr result (MayGrowAmount self amount.old.absolute) }
     {
         let range = amount.absolute.magnitude_range();
         if self.increment.is_one() && self.last_magnitude() <= *range.start() {
@@ -120,6 +122,7 @@ impl Fraction {
         ensures succeeds { self.increment ≢ FractionIncrement.MultiplesOf25 → IsOk result }
         ensures value { OnOk result (RoundsAmount self amount.old amount.new) }
         ensures same { OnErr result (amount.new ≡ amount.old) }
+        ensures room { OnErr result (MayGrowAmount self amount.old.absolute) }
     {
         self.round_to_multiple(amount)?;
         amount.absolute.pad_end(self.last_magnitude());
@@ -156,6 +159,7 @@ impl Fraction {
         ensures succeeds { self.increment ≢ FractionIncrement.MultiplesOf25 → IsOk result }
         ensures value { IfOk result (λ v. RoundsAmount self amount v) }
         ensures same { IfErr result (λ e. e.value ≡ amount) }
+        ensures room { OnErr result (MayGrowAmount self amount.absolute) }
     {
         match self.round(&mut amount) {
             Ok(()) => Ok(amount),
@@ -177,6 +181,7 @@ impl Fraction {
         ensures succeeds { self.increment ≢ FractionIncrement.MultiplesOf25 → IsOk result }
         ensures value { IfOk result (λ v. ShowsAmount self display amount v) }
         ensures same { IfErr result (λ e. e.value ≡ amount) }
+        ensures room { OnErr result (MayGrowAmount self amount.absolute) }
     {
         match self.rounded(amount) {
             Ok(rounded) => Ok(rounded.with_sign_display(display)),

@@ -67,6 +67,7 @@ impl FractionIncrement {
     pub(crate) fn multiples(self) -> RoundingIncrement
         ensures value { increment_of self ≡ increment_number result * tens_of self }
         ensures fifths { self ≢ FractionIncrement.MultiplesOf25 → result ≢ RoundingIncrement.MultiplesOf25 }
+        ensures twenty_fifths { result ≡ RoundingIncrement.MultiplesOf25 → self ≡ FractionIncrement.MultiplesOf25 }
     {
         match self {
             FractionIncrement::MultiplesOf1 | FractionIncrement::MultiplesOf10 => {

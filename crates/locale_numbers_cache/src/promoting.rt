@@ -1,8 +1,8 @@
 //! The entry of a key goes to the front, with no look-up where it is there; or one is made and put there.
 
-ghost use Rattle.std.specs.Prelude.{◌≡◌, false, is_some, IfOk, IsOk, IsTrue, OnErr};
+ghost use Rattle.std.specs.Prelude.{◌≡◌, false, is_some, IfOk, IsOk, IsTrue, OnErr, OnOk};
 ghost use Rattle.std.specs.Map.{lookup};
-ghost use Rattle.lru.specs.LruCache.{lru_cache, promoted};
+ghost use Rattle.lru.specs.LruCache.{lru_cache, promoted, put_entries};
 ghost use Rattle.locale_numbers_cache.specs.Cached.{first_passes};
 ghost use Rattle.locale_numbers_cache.specs.Putting.{IsPut};
 
@@ -32,6 +32,16 @@ pub fn promote<K: CacheKey, F: Drop>(kept: &mut LruCache<K, F>, key: &K) -> bool
     kept.promote(key)
 }
 
+// Puts a thing first under a key. It is apart, so that making a thing and putting it take room on the stack in turn.
+#[inline(never)]
+fn put<K: CacheKey, F: Drop>(kept: &mut LruCache<K, F>, key: K, made: F) -> Result<(), AllocError>
+    ensures entries { OnOk result (kept.new ≡ lru_cache (put_entries K.eq kept.old key made) kept.old.cap) }
+    ensures err { OnErr result (kept.new ≡ kept.old) }
+{
+    kept.put(key, made)?;
+    Ok(())
+}
+
 // Puts what the maker makes for the key first; `false` where it makes nothing. It is apart, so that a key that is kept
 // takes no room for what is made.
 #[inline(never)]
@@ -49,6 +59,6 @@ pub fn put_made<K: CacheKey, F: Drop, M: Maker<K, F>>(
     let Some(made) = maker.make(*key) else {
         return Ok(false);
     };
-    kept.put(*key, made)?;
+    put(kept, *key, made)?;
     Ok(true)
 }

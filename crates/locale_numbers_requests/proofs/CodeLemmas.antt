@@ -4,7 +4,7 @@ use Rattle.std.specs.Prelude.{codes}
 use Rattle.std.specs.Str.{bytes_eq, is_utf8}
 use Rattle.icu_decimal_symbols.specs.declared.options.GroupingStrategy.{GroupingStrategy}
 use Rattle.icu_dimension_fractions.specs.CurrencyCodes.{is_currency_code}
-use Rattle.locale_numbers_requests.specs.FormField.{amount_by, amount_form, amount_word, coded_form, form_named}
+use Rattle.locale_numbers_requests.specs.FormField.{amount_by, amount_form, amount_word, form_named}
 use Rattle.locale_numbers_requests.specs.Laws.{HasFormCode, RequestsHaveCodes}
 use Rattle.locale_numbers_requests.specs.Request.{Asked, fields, grouping_named, request_by, request_in, sign_named, takes}
 use Rattle.locale_numbers_requests.specs.RoundingField.{rounding_named}

@@ -5,6 +5,7 @@ use Rattle.fixed_decimal.specs.declared.UnsignedRoundingMode.TheVariants.{HalfTr
 use Rattle.fixed_decimal.specs.declared.RoundingIncrement.TheVariants.{MultiplesOf25}
 use Rattle.icu_decimal_symbols.specs.declared.options.GroupingStrategy.TheVariants.{Auto, Min2}
 use Rattle.locale_numbers_requests.specs.FormField.{form_named}
+use Rattle.locale_numbers_requests.specs.OldRequests.{old_form_named, old_rounding_named}
 use Rattle.locale_numbers_requests.specs.Request.{tab, fields, request_in, grouping_named, sign_named}
 use Rattle.locale_numbers_requests.specs.RoundingField.{position_named, rounding_named}
 use Rattle.locale_numbers_requests.specs.declared.form_field.Form.TheVariants.{Plain, Read, ReadLenient, Unit, ReadUnit, ReadLenientUnit}
@@ -186,3 +187,14 @@ third_increment = refl
 
 one_comma : rounding_named (codes "0,trunc") ≡ None
 one_comma = refl
+
+-- ---- before there were newer forms, and cash
+
+percent_was_none : old_form_named (codes "percent") ≡ None
+percent_was_none = refl
+
+plain_was_itself : old_form_named (codes "plain") ≡ Some Plain
+plain_was_itself = refl
+
+cash_was_none : old_rounding_named (codes "cash") ≡ None
+cash_was_none = refl

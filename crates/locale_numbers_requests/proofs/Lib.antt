@@ -2,4 +2,5 @@ pub mod CodeLemmas
 pub mod CuttingLemmas
 pub mod DigitsLemmas
 mod KnownValues
+pub mod OldRequestsLemmas
 pub mod RequestLemmas

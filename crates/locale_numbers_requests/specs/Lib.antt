@@ -9,3 +9,4 @@ pub mod Refusal
 pub mod WordTable
 -- Statements of laws.
 pub mod Laws
+pub mod OldRequests

@@ -1,9 +1,16 @@
 //! Laws on what lines ask: each function says one, and does nothing.
 
 ghost use Rattle.locale_numbers_requests.specs.Laws.{RequestsHaveCodes};
+ghost use Rattle.locale_numbers_requests.specs.OldRequests.{OldRequestsStay};
 
 /// Each request for a currency has a code of three letters `A` to `Z`: one of the form `currency-EUR` has `EUR`. A line
 /// with the form `currency-eur` is no request.
 pub fn requests_have_codes()
     ensures { RequestsHaveCodes }
+{}
+
+/// A line asks what it asked before the newer forms and the rounding `cash` were added, or it asks by one of these forms
+/// and was no request: that of `plain` and `1000` asks the same, and that of `percent` asked nothing.
+pub fn old_requests_stay()
+    ensures { OldRequestsStay }
 {}
