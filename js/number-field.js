@@ -70,12 +70,13 @@ export class NumberField extends HTMLElement {
   #message = document.createElement("p");
   #field = new FieldText(null);
   #formatter = null;
+  #formatters = []; // all that were opened with it
   #digits = 0; // of the fraction, that an amount is shown with at least
   #opened = null; // the locale that was asked for
   #fault = ""; // why there is no formatter
   #custom = ""; // the message that the page set
   #history = new History();
-  #selection = null; // what is left of the text at both ends by an edit under way that replaces what is selected
+  #selection; // what is left of the text at both ends by an edit under way that replaces what is selected
   #composedFrom = null; // what the field was before what is composed
   #told = ""; // the text of the last `change`
   #isTouched = false; // by its user or the page, so that the attribute `value` no longer changes it
@@ -149,15 +150,17 @@ export class NumberField extends HTMLElement {
 
   // The formatter of one of these locales: of amounts, of percents or of plain numbers.
   #formatterOf(locales, currencyDigits) {
-    const { currency } = this;
-    if (currency !== null) return new library.CurrencyFormatter(locales, { currency: currency.toUpperCase(), currencyDigits });
-    return this.percent ? new library.PercentFormatter(locales) : new library.DecimalFormatter(locales);
+    const currency = this.currency?.toUpperCase();
+    if (currency !== undefined) this.#formatters.push(new library.CurrencyFormatter(locales, { currency, currencyDigits }));
+    else this.#formatters.push(this.percent ? new library.PercentFormatter(locales) : new library.DecimalFormatter(locales));
+    return this.#formatters.at(-1);
   }
 
   // Opens the formatter of the locale, and writes the number anew.
   #open() {
     const { value, text } = this.#field;
     this.#opened = this.locale;
+    for (const it of this.#formatters.splice(0)) it.close();
     try {
       this.#openOf(tagsOf(this.#opened));
     } catch (error) {
@@ -207,19 +210,24 @@ export class NumberField extends HTMLElement {
     }
   }
 
+  // What the field is before an edit at the caret, for undo.
+  #before(caret = this.#input.selectionStart) {
+    return this.#composedFrom ?? { ...this.#field.state, caret: this.#field.nearest(caret) };
+  }
+
   // What is composed, and what is dragged away, stays as it is until that ends: the browser goes on from its text.
   #edited({ isComposing, inputType }) {
     const { value, selectionStart } = this.#input;
-    const before = this.#composedFrom ?? { ...this.#field.state, caret: this.#field.nearest(this.#selection?.front ?? this.#field.state.caret) };
+    const before = this.#before(this.#selection?.front ?? this.#field.state.caret);
     const isOfSelection = inputType === "insertText" || inputType === "insertFromPaste";
     if (isComposing || inputType === "deleteByDrag") {
       this.#composedFrom = before;
       this.#field.composed(value, selectionStart);
     } else {
-      this.#field.edited(value, selectionStart, isOfSelection ? (this.#selection ?? undefined) : undefined, inputType?.endsWith("Forward"));
+      this.#field.edited(value, selectionStart, isOfSelection ? this.#selection : undefined, inputType?.endsWith("Forward"));
       this.#ends(before);
     }
-    this.#selection = null;
+    this.#selection = undefined;
     this.#shows();
   }
 
@@ -241,9 +249,15 @@ export class NumberField extends HTMLElement {
 
   #reads(text) {
     this.#field.edited(text, text.length, { front: 0, back: 0 });
-    this.#history.clear();
-    this.#told = this.#field.text;
+    this.#starts();
     this.#shows();
+  }
+
+  // Undo ends here, and what is shown was told: a text of before may be another number in the locale of now.
+  #starts() {
+    this.#history.clear();
+    this.#composedFrom = null;
+    this.#told = this.#field.text;
   }
 
   #tell(name) {
@@ -288,7 +302,9 @@ export class NumberField extends HTMLElement {
 
   // What undo and redo would do by themselves, had the text not been written anew.
   #goes(isUndo) {
-    const state = this.#input.readOnly ? undefined : this.#history.go(isUndo, { ...this.#field.state, caret: this.#input.selectionStart });
+    if (this.#input.readOnly) return;
+    this.#settle();
+    const state = this.#history.go(isUndo, this.#before());
     if (state === undefined) return;
     this.#field.restore(state);
     this.#shows();
@@ -297,6 +313,7 @@ export class NumberField extends HTMLElement {
 
   // To the next number up or down that the field takes.
   #steps(by) {
+    this.#settle();
     if (this.#formatter === null || this.#field.value === null) return;
     const value = this.value || "0";
     const step = this.#decimalOf("step");
@@ -304,7 +321,7 @@ export class NumberField extends HTMLElement {
     const near = by > 0 ? below : above;
     const next = this.#within(plus(near, by > 0 ? (step ?? "1") : `-${step ?? "1"}`));
     if (this.value !== "" && compare(next, value) === 0) return;
-    this.#history.keep({ ...this.#field.state, caret: this.#input.selectionStart });
+    this.#history.keep(this.#before());
     this.#field.put(this.currency === null ? next : padded(next, this.#digits));
     this.#shows();
     this.#tell("input");
@@ -361,6 +378,7 @@ export class NumberField extends HTMLElement {
     const text = this.#field.text;
     // what the browser keeps is the number, since the text may be another one in another locale
     this.#internals.setFormValue(value, value === "" ? `text ${text}` : `number ${value}`);
+    this.#message.lang = pageLanguage(this);
     const [flag, message] = this.#custom === "" ? (this.#wrong(value, text) ?? []) : ["customError", this.#custom];
     this.#internals.setValidity(flag === undefined ? {} : { [flag]: true }, message, this.#input);
     this.#input.setAttribute("aria-required", String(this.required));
@@ -390,23 +408,22 @@ export class NumberField extends HTMLElement {
 
   // A message in the language of the page, or as the page's attribute has it, with these numbers.
   #messageOf(name, numbers) {
-    const text = this.getAttribute(`${name}-message`) ?? MESSAGES[languageOf(pageLanguage(this) || this.#opened)][name];
+    const own = this.getAttribute(`${name}-message`);
+    const language = languageOf(pageLanguage(this) || this.#opened);
+    if (own === null) this.#message.lang = language;
+    const text = own ?? MESSAGES[language][name];
     const written = (it) => (it === "reason" ? numbers[it] : this.#formatter.format(numbers[it]));
     return text.replace(/\{(\w+)\}/g, (all, it) => (it in numbers ? written(it) : all));
   }
 
   #say(message) {
-    this.#message.lang = languageOf(pageLanguage(this) || this.#opened || "");
     this.#message.textContent = message;
     this.#input.setAttribute("aria-invalid", String(message !== ""));
   }
 
-  // Undo ends here: a text of before may be another number in the locale of now.
   #put(value) {
     this.#field.put(value);
-    this.#history.clear();
-    this.#composedFrom = null;
-    this.#told = this.#field.text;
+    this.#starts();
     if (this.#input.value !== this.#field.text) this.#input.value = this.#field.text;
     this.#judge();
     this.#say("");

@@ -204,6 +204,8 @@ ROWS = (
     (EN, "12{compose ３４}{commit ３４５}{Ctrl+z}", "12|", "12", ""),
     (EN, "1234{Left}{compose ９}", "1,23９|4", "", BAD),
     (EN, "1234{Left}{compose ９}{commit ９}", "12,39|4", "12394", ""),
+    (EN, "{compose 1}{compose 12}{compose 1234}", "1234|", "1234", ""),
+    (EN, "{compose 1}{compose 12}{compose 1234}{commit 1234}", "1,234|", "1234", ""),
     (EN, "12{compose か}", "12か|", "", BAD),
     (EN, "12{compose ３}{leave}", "123", "123", ""),
     (EN, "12{compose ３}{do field.value = '77'}4", "774|", "774", ""),
