@@ -149,7 +149,7 @@ fn read_typed(
     ensures unreadable { ¬ (IsErrOf result ReadError.Unreadable) }
     ensures reading { IsAnswered result (typed_unit_reading kept.now (unit_of texts.now) text.now) }
 {
-    match add_reading(None, kept.read(alloc, text)) {
+    match add_reading(None, kept.read_without_native(alloc, text)) {
         Ok(found) => agree_folded(alloc, kept, texts, text, found),
         Err(error) => Err(error),
     }

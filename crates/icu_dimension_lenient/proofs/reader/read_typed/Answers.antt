@@ -10,4 +10,4 @@ pub returns-in-Err-clause-reading : goal.returns-in-Err-clause-reading
 returns-in-Err-clause-reading c =
     let one = lenient_reading c.args.kept.now c.args.text.now in
     let rest = folded_ways (folded_symbols c.args.kept.now) (unit_of c.args.texts.now) (trimmed_fold c.args.kept.now c.args.text.now) in
-    refused_after c.in-Err.error None one rest (c.in-Err.ensures.reading one rest c.read.ensures.reading)
+    refused_after c.in-Err.error None one rest (c.in-Err.ensures.reading one rest c.read_without_native.ensures.reading)
