@@ -80,6 +80,12 @@ def first(found):
     return next((it for it in found if it is not None), None)
 
 
+def agreed(found):
+    """The number that those of these are which are numbers, where they are one; else None."""
+    numbers = {it for it in found if it is not None}
+    return numbers.pop() if len(numbers) == 1 else None
+
+
 def read_as(form, text, *groupings):
     """The number that is written so under one of the groupings, or None."""
     return first(it for grouping in groupings for it in numbers_written(form, text, grouping))
@@ -133,20 +139,19 @@ def read_named(its, name, text):
 
 
 def read_typed(its, text, grouping="auto"):
-    """The number that a text is, None where it is none, and UNREADABLE where the tables do not tell."""
+    """The number that a text is, None where it is none, or two in two ways, and UNREADABLE where the tables do not tell."""
     if not its.is_readable:
         return UNREADABLE
     exact = read_as(its.form, text, grouping)
     if exact is not None or its.folded is None:
         return exact or UNREADABLE
     folded = text.translate(its.folds).strip(BLANK)
-    ways = [
-        lambda: read_unitless(its, text, grouping),
-        lambda: read_folded(its.folded, folded),
-        *(lambda name=name: read_named(its, name, folded) for name in its.names),
-        lambda: read_folded(its.folded, filled(its.folded.symbols.decimal, folded)),
-    ]
-    return first(way() for way in ways)
+    return agreed([
+        read_unitless(its, text, grouping),
+        read_folded(its.folded, folded),
+        *(read_named(its, name, folded) for name in its.names),
+        read_folded(its.folded, filled(its.folded.symbols.decimal, folded)),
+    ])
 
 
 def found_reader(book, locale, system, style, code):
@@ -171,9 +176,9 @@ def readers(book, locale, system, style, code):
 
 def read_in_turn(its, text, grouping="auto"):
     """The number that a text is by one of these readers, where the other one reads none or the same. What the format of the first
-    one writes is read by that one alone."""
+    one writes of it, under any grouping, is read by that one alone."""
     found = read_typed(its[0], text, grouping)
-    if len(its) == 1 or found == UNREADABLE or read_as(its[0].form, text, grouping) is not None:
+    if len(its) == 1 or found == UNREADABLE or (found and found in (read_as(its[0].form, text, it) for it in GROUPINGS)):
         return found
     other = read_typed(its[1], text, grouping)
     if found is None:
