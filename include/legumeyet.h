@@ -161,8 +161,9 @@ enum {
 
 /* What becomes of the zeros at the end of the fraction digits. */
 enum {
-    LEGUMEYET_TRAILING_ZEROS_KEEP = 0, /* they stay: `1.50` */
-    LEGUMEYET_TRAILING_ZEROS_TRIM = 1  /* they are trimmed, and the decimal separator where no digit is left: `1.5`, and `2` of `2.00` */
+    LEGUMEYET_TRAILING_ZEROS_KEEP = 0,      /* they stay: `1.50` */
+    LEGUMEYET_TRAILING_ZEROS_TRIM = 1,      /* they are trimmed, and the decimal separator where no digit is left: `1.5`, and `2` of `2.00` */
+    LEGUMEYET_TRAILING_ZEROS_TRIM_WHOLE = 2 /* they are trimmed where no other digit is among them: `$5` of 5 dollars, and `$5.50` */
 };
 
 /* The kinds of parts. */
@@ -210,7 +211,8 @@ typedef struct {
 /*
  * What is made of a number before it is written: it is rounded, then trimmed, then padded, and then its sign is chosen. Zeroed, the
  * number stays as it is, and an amount has the digits of its currency. Of LEGUMEYET_ROUND_KEEP, LEGUMEYET_ROUND_CASH and
- * LEGUMEYET_ROUND_NONE the position and the increment count for nothing.
+ * LEGUMEYET_ROUND_NONE the position and the increment count for nothing. A zero that a rounding above the ones leaves is one `0`: 400 to
+ * thousands, at 3, is `0`, and of dollars `$0`.
  *
  * At most two fraction digits, and none that is not needed: the rounding LEGUMEYET_ROUND_HALF_EVEN, the position -2 and
  * LEGUMEYET_TRAILING_ZEROS_TRIM write 1.995 as `2`, 1.5 as `1.5` and 1.255 as `1.26`. With `minimum_fraction_digits` 1 too 1.995 is `2.0`.

@@ -1,8 +1,13 @@
 -- Values from outside that a wrong definition of numbers does not survive: the enums of include/legumeyet.h.
-use Rattle.std.proofs.Common.{arith, ◌≡◌, ◌*◌, ◌^◌, ℕ, List, [], ◌∷◌, Some, None, Ok, Err, refl}
+use Rattle.std.proofs.Common.{arith, lit≤, ◌≡◌, ◌*◌, ◌^◌, ℕ, List, [], ◌∷◌, Some, None, Ok, Err, refl}
 use Rattle.std.specs.Prelude.{codes, pos, negsuc}
 use Rattle.std.specs.List.{concat}
+use Rattle.std.proofs.lemmas.Bool.{false≢true}
+use Rattle.std.proofs.Math.Nat.{mul-mod_left, one-le-pow}
 use Rattle.fixed_decimal.specs.declared.RoundingIncrement.TheVariants.{MultiplesOf1, MultiplesOf25}
+use Rattle.fixed_decimal.specs.Number.{Number}
+use Rattle.fixed_decimal.specs.SignedValue.{SignedValue}
+use Rattle.fixed_decimal.specs.declared.Sign.TheVariants as sign
 use Rattle.fixed_decimal.specs.declared.SignDisplay.TheVariants as display
 use Rattle.fixed_decimal.specs.declared.SignedRoundingMode.TheVariants.{Unsigned, HalfFloor}
 use Rattle.fixed_decimal.specs.declared.UnsignedRoundingMode.TheVariants.{Expand, HalfEven}
@@ -10,13 +15,13 @@ use Rattle.icu_decimal_symbols.specs.declared.options.GroupingStrategy.TheVarian
 use Rattle.icu_dimension_fractions.specs.declared.CurrencyUsage.TheVariants.{Cash, Standard}
 use Rattle.locale_numbers_faults.specs.declared.BookError.TheVariants as book
 use Rattle.legumeyet_c_values.specs.CallErrors.{answer_of}
-use Rattle.legumeyet_c_values.specs.Choices.{PadsEndTo, PadsStartTo, choice_of, choices_of, count_of, grouping_of, increment_of, mode_of, no_change, sign_of, trimming_of}
+use Rattle.legumeyet_c_values.specs.Choices.{PadsEndTo, PadsStartTo, ShowsZeroAs, TrimsAs, choice_of, choices_of, count_of, grouping_of, increment_of, mode_of, no_change, sign_of, trimming_of}
 use Rattle.legumeyet_c_values.specs.Columns.{column_fault, ends_from, spelled, spelled_lines}
 use Rattle.legumeyet_c_values.specs.Parts.{kind_of}
 use Rattle.legumeyet_c_values.specs.Units.{amount_choices_of, unit_choices_of}
 use Rattle.legumeyet_c_values.specs.declared.call_error.CallError.TheVariants as call
 use Rattle.legumeyet_c_values.specs.declared.choices.Options.{Options}
-use Rattle.legumeyet_c_values.specs.declared.choices.TrailingZeros.TheVariants.{Keep, Trim}
+use Rattle.legumeyet_c_values.specs.declared.choices.TrailingZeros.TheVariants.{Keep, Trim, TrimWhole}
 use Rattle.locale_numbers_requests.specs.declared.PatternLength.TheVariants.{Long}
 
 -- ---- what a call returns
@@ -110,7 +115,10 @@ zeros_kept = refl
 zeros_trimmed : trimming_of 1 ≡ Some Trim
 zeros_trimmed = refl
 
-zeros_unknown : trimming_of 2 ≡ None
+zeros_trimmed_whole : trimming_of 2 ≡ Some TrimWhole
+zeros_trimmed_whole = refl
+
+zeros_unknown : trimming_of 3 ≡ None
 zeros_unknown = refl
 
 most_digits : count_of 32767 ≡ Some (pos 32767)
@@ -177,6 +185,41 @@ padded_at_the_end = record { count = refl; high = refl; low = λ _. refl; same =
 -- a number that shows more digits keeps them
 longer_stays : PadsEndTo (negsuc 1) (record { count = 0; low = 32764; high = 32768 }) (record { count = 0; low = 32764; high = 32768 })
 longer_stays = record { count = refl; high = refl; low = λ _. refl; same = λ above. absurd (omega arith) }
+
+-- ---- zero after a rounding
+
+-- zero that is shown down to the ones, and up to a place
+abbrev zero_up_to : ℕ → SignedValue Number
+zero_up_to high = record { sign = sign.None; absolute = record { count = 0; low = 32768; high = high } }
+
+-- 400 to thousands is 000, which is shown as 0
+hundreds_are_one_zero : ShowsZeroAs (Some (Unsigned HalfEven)) (pos 3) (zero_up_to 32770) (zero_up_to 32768)
+hundreds_are_one_zero = record {
+  zero = λ rounded above is. record {
+    sign = refl;
+    absolute = record {
+      count = refl;
+      low = refl;
+      high = record { keeps = omega arith; position = omega arith; holds = one-le-pow 32769 10 (lit≤ tt); lowest = λ h least place below. least };
+    };
+  };
+  same = λ other. absurd (other (refl, omega arith, refl));
+}
+
+-- at the ones, and of a number that is not rounded, all zeros stay
+ones_stay : ShowsZeroAs (Some (Unsigned HalfEven)) (pos 0) (zero_up_to 32770) (zero_up_to 32770)
+ones_stay = record { zero = λ rounded above is. absurd (omega arith); same = λ other. refl }
+
+given_zeros_stay : ShowsZeroAs None (pos 3) (zero_up_to 32770) (zero_up_to 32770)
+given_zeros_stay = record { zero = λ rounded. absurd (false≢true rounded); same = λ other. refl }
+
+-- 5.00 dollars lose their zeros, and 5.50 dollars keep them
+whole_is_trimmed : TrimsAs TrimWhole (record { sign = sign.None; absolute = record { count = 5 * 10 ^ 32768; low = 32766; high = 32768 } })
+    (record { sign = sign.None; absolute = record { count = 5 * 10 ^ 32768; low = 32768; high = 32768 } })
+whole_is_trimmed = record {
+  sign = refl;
+  absolute = record { whole = λ none. refl; fraction = λ some. absurd (some (mul-mod_left 5 (10 ^ 32768))) };
+}
 
 -- ---- columns
 

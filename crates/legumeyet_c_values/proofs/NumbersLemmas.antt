@@ -1,8 +1,10 @@
 -- Numbers that are given: changed as options say, and faults that are not that a text is too long.
 use Rattle.std.proofs.Common.{arith, ◌≡◌, ◌≢◌, ℕ, ℤ, List, Option, Some, None, Result, Ok, Err, IfOk, IfErr, OnOk, IsTrue, refl, sym, subst, inl, inr}
+use Rattle.std.proofs.lemmas.Bool.{false≢true}
 use Rattle.std.specs.Prelude.{pos}
 use Rattle.std.specs.Float.{float_is_finite}
 use Rattle.std.specs.Float.Ieee.{Float}
+use Rattle.fixed_decimal.specs.CompactText.{CompactValue, ReadsCompact}
 use Rattle.fixed_decimal.specs.Number.{IsNumber, Number}
 use Rattle.fixed_decimal.specs.SignedText.{ReadsSigned}
 use Rattle.fixed_decimal.specs.Shifts.{IsShifted, KeepsPlaces}
@@ -10,7 +12,7 @@ use Rattle.fixed_decimal.specs.SignedValue.{OnAbsolute, SignedValue}
 use Rattle.fixed_decimal.specs.WholeNumbers.{IsSignedWhole}
 use Rattle.fixed_decimal.proofs.SignedReadOnceLemmas.{signed_is_text, signed_not_beyond}
 use Rattle.legumeyet_c_values.specs.Choices.{Changes, IsChangeRefused, no_change}
-use Rattle.legumeyet_c_values.specs.Numbers.{Gives, IsChangeFault, IsCompactNumberFault, IsDoubleFault, IsNumberFault, IsOfDouble, IsScaled, IsScaledFault, IsSignificand, ReadsSome, SpellsDouble}
+use Rattle.legumeyet_c_values.specs.Numbers.{Gives, GivesCompact, IsChangeFault, IsCompactNumberFault, IsDoubleFault, IsNumberFault, IsOfDouble, IsScaled, IsScaledFault, IsSignificand, ReadsSome, SpellsDouble}
 use Rattle.legumeyet_c_values.specs.declared.choices.Choices.{Choices}
 use Rattle.legumeyet_c_values.specs.declared.call_error.CallError.{CallError}
 use Rattle.legumeyet_c_values.specs.declared.call_error.CallError.TheVariants.{Memory, Number as NoNumber, Limit, TooSmall}
@@ -57,6 +59,12 @@ pub gives : (chosen : Option Choices) (choices : Choices) (is_given : SignedValu
 gives chosen choices is_given old (Ok new) is given changes =
     subst (λ (c : Option Choices). Gives c is_given new) (sym is) (record { given = old; given_is = given; changes = changes })
 gives chosen choices is_given old (Err error) is given changes = tt
+
+-- a compact number whose significand is changed so
+pub gives_compact : (chosen : Option Choices) (choices : Choices) (text : List ℕ) (given value : CompactValue) → chosen ≡ Some choices → ReadsCompact text given
+    → Changes choices given.significand value.significand → value.exponent ≡ given.exponent → GivesCompact chosen text value
+gives_compact chosen choices text given value is reads changes exponent =
+    subst (λ (c : Option Choices). GivesCompact c text value) (sym is) (record { given = given; reads = reads; changes = changes; exponent = exponent })
 
 -- and one that is not
 pub refuses : (chosen : Option Choices) (choices : Choices) (is_given : SignedValue Number → Type 0) (fault : CallError → Type 0) (old : SignedValue Number)
@@ -111,6 +119,8 @@ no_change_stays : (position : ℤ) (value : SignedValue Number) → Changes (no_
 no_change_stays position value = record {
   rounded = value;
   rounds = refl;
+  shown = value;
+  shows = record { zero = λ rounded. absurd (false≢true rounded); same = λ _. refl };
   trimmed = value;
   trims = refl;
   longer = value;

@@ -2,10 +2,10 @@
 -- Defined in include/legumeyet.h, docs/numbers.md, "Ranges", and docs/requests.md, "Rounding and sign".
 -- Cited by the exports that write numbers, and those that open formatters.
 -- The imports are many: each enum that a number stands for, and its cases.
-use Rattle.std.specs.Prelude.{◌≡◌, ℕ, ℤ, pos, neg_ℤ, ◌-◌, ◌<◌, ◌≤◌, ◌==◌, ◌&&◌, nat_lt, min, max, List, [], ◌∷◌, Option, Some, None, slice_get, slice_index, if◌then◌else◌}
+use Rattle.std.specs.Prelude.{◌≡◌, ℕ, ℤ, pos, neg_ℤ, ◌-◌, ◌<◌, ◌≤◌, ◌==◌, ◌&&◌, IsSome, nat_lt, min, max, List, [], ◌∷◌, Option, Some, None, slice_get, slice_index, if◌then◌else◌}
 use Rattle.fixed_decimal.specs.Number.{Number, place}
 use Rattle.fixed_decimal.specs.RoundingMemory.{MayGrow}
-use Rattle.fixed_decimal.specs.Shifts.{TrimsEnd}
+use Rattle.fixed_decimal.specs.Shifts.{TrimsEnd, TrimsStart, TrimsWhole}
 use Rattle.fixed_decimal.specs.SignChoice.{chosen_sign}
 use Rattle.fixed_decimal.specs.SignedRounding.{RoundsSigned, size_mode}
 use Rattle.fixed_decimal.specs.SignedValue.{SignedValue, OnAbsolute}
@@ -23,7 +23,7 @@ use Rattle.legumeyet_c_values.specs.declared.call_error.CallError.TheVariants.{M
 use Rattle.legumeyet_c_values.specs.declared.choices.Choices.{Choices}
 use Rattle.legumeyet_c_values.specs.declared.choices.Options.{Options}
 use Rattle.legumeyet_c_values.specs.declared.choices.TrailingZeros.{TrailingZeros}
-use Rattle.legumeyet_c_values.specs.declared.choices.TrailingZeros.TheVariants.{Keep, Trim}
+use Rattle.legumeyet_c_values.specs.declared.choices.TrailingZeros.TheVariants.{Keep, Trim, TrimWhole}
 use Rattle.locale_numbers_requests.specs.declared.PatternLength.{PatternLength}
 use Rattle.locale_numbers_requests.specs.declared.PatternLength.TheVariants.{Short, Long}
 
@@ -64,7 +64,7 @@ abbrev pub choice_of : ℕ → ℕ → Option (PatternLength × GroupingStrategy
 choice_of width grouping = both_of (width_of width) (grouping_of grouping)
 
 abbrev pub trimmings : List TrailingZeros
-trimmings = Keep ∷ Trim ∷ []
+trimmings = Keep ∷ Trim ∷ TrimWhole ∷ []
 
 abbrev pub trimming_of : ℕ → Option TrailingZeros
 trimming_of number = slice_get trimmings number
@@ -112,10 +112,16 @@ abbrev pub RoundsAs : Option SignedRoundingMode → RoundingIncrement → ℤ �
 RoundsAs None increment position old new = new ≡ old
 RoundsAs (Some mode) increment position old new = RoundsSigned mode increment (place position) old new
 
+-- a zero that a rounding above the ones left loses the zeros in front; nothing else changes
+pub record ShowsZeroAs (mode : Option SignedRoundingMode) (position : ℤ) (old new : SignedValue Number) : Type 0 where
+  pub zero : IsSome mode → 32768 < place position → old.absolute.count ≡ 0 → OnAbsolute TrimsStart old new
+  pub same : ¬ (IsSome mode × (32768 < place position) × (old.absolute.count ≡ 0)) → new ≡ old
+
 -- a number after the choice of zeros
 abbrev pub TrimsAs : TrailingZeros → SignedValue Number → SignedValue Number → Type 0
 TrimsAs Keep old new = new ≡ old
 TrimsAs Trim old new = OnAbsolute TrimsEnd old new
+TrimsAs TrimWhole old new = OnAbsolute TrimsWhole old new
 
 -- the digit before a position above the ones is shown, and all that were
 pub record PadsStartTo (position : ℤ) (old new : Number) : Type 0 where
@@ -136,12 +142,14 @@ abbrev pub signed_as : Option SignDisplay → SignedValue Number → SignedValue
 signed_as None value = value
 signed_as (Some display) value = record { sign = chosen_sign display value.sign (value.absolute.count == 0); absolute = value.absolute }
 
--- a number rounded, then trimmed, then padded in front and at the end, and then with its sign chosen by what that left
+-- a number rounded, and a zero then shown as one digit where that was above the ones, then trimmed, then padded in front and at the end, and then with its sign chosen by what that left
 pub record Changes (choices : Choices) (old new : SignedValue Number) : Type 0 where
   pub rounded : SignedValue Number
   pub rounds : RoundsAs choices.mode choices.increment choices.position old rounded
+  pub shown : SignedValue Number
+  pub shows : ShowsZeroAs choices.mode choices.position rounded shown
   pub trimmed : SignedValue Number
-  pub trims : TrimsAs choices.zeros rounded trimmed
+  pub trims : TrimsAs choices.zeros shown trimmed
   pub longer : SignedValue Number
   pub pads_start : OnAbsolute (PadsStartTo choices.start) trimmed longer
   pub padded : SignedValue Number

@@ -1,7 +1,7 @@
 //! The options of calls, by their numbers.
 
 ghost use Rattle.std.specs.Prelude.{◌≡◌, Some, IfOk, IfErr, OnOk, IsTrue};
-ghost use Rattle.legumeyet_c_values.specs.Choices.{Changes, IsChangeRefused, PadsEndTo, PadsStartTo, RoundsAs, TrimsAs, choice_of, choices_of, count_of, grouping_of, increment_of, mode_of, no_change, sign_of, signed_as, trimming_of, width_of};
+ghost use Rattle.legumeyet_c_values.specs.Choices.{Changes, IsChangeRefused, PadsEndTo, PadsStartTo, RoundsAs, ShowsZeroAs, TrimsAs, choice_of, choices_of, count_of, grouping_of, increment_of, mode_of, no_change, sign_of, signed_as, trimming_of, width_of};
 
 use crate::call_error::CallError;
 use fixed_decimal::{
@@ -21,7 +21,7 @@ pub struct Options {
     pub rounding: u32,
     /// Where it is rounded: -2 the hundredths.
     pub position: i16,
-    /// What becomes of the zeros at the end of its fraction: 1 trims them.
+    /// What becomes of the zeros at the end of its fraction: 1 trims them, and 2 those of an integer.
     pub trailing_zeros: u16,
     /// What it is rounded to multiples of, at the position: 1, 2, 5 or 25; 0 is 1.
     pub increment: u32,
@@ -59,6 +59,8 @@ pub enum TrailingZeros {
     Keep,
     /// They are trimmed: `1.5`.
     Trim,
+    /// They are trimmed where no other digit is among them: `2` of `2.00`, and `1.50`.
+    TrimWhole,
 }
 
 // The sign of a number.
@@ -149,6 +151,7 @@ fn zeros_by(number: u16) -> Option<TrailingZeros>
     match number {
         0 => Some(TrailingZeros::Keep),
         1 => Some(TrailingZeros::Trim),
+        2 => Some(TrailingZeros::TrimWhole),
         _ => None,
     }
 }
@@ -218,6 +221,15 @@ fn round(value: &mut Decimal, choices: Choices) -> Result<(), CallError>
     }
 }
 
+// Shows a zero that a rounding above the ones left as one digit: 400 at 3 is `0`, and not `000`.
+fn show_zero(value: &mut Decimal, choices: Choices)
+    ensures { ShowsZeroAs choices.mode choices.position value.old value.new }
+{
+    if choices.mode.is_some() && choices.position > 0 && value.absolute.is_zero() {
+        value.absolute.trim_start()
+    }
+}
+
 // Trims the zeros at the end of the fraction, where that is asked for.
 fn trim(value: &mut Decimal, zeros: TrailingZeros)
     ensures { TrimsAs zeros value.old value.new }
@@ -225,6 +237,7 @@ fn trim(value: &mut Decimal, zeros: TrailingZeros)
     match zeros {
         TrailingZeros::Keep => (),
         TrailingZeros::Trim => value.absolute.trim_end(),
+        TrailingZeros::TrimWhole => value.absolute.trim_end_if_integer(),
     }
 }
 
@@ -259,12 +272,13 @@ fn sign(value: &mut Decimal, sign: Option<SignDisplay>)
 
 impl Choices {
     /// Rounds a number, then trims it, then pads it, and then gives it the sign that is chosen by what that left: 9.75 at
-    /// -1 to the even one, with `Always`, is `+9.8`. `Memory`: out of memory, which only multiples of 25 take.
+    /// -1 to the even one, with `Always`, is `+9.8`. A zero that a rounding above the ones left is one `0`. `Memory`: out of memory, which only multiples of 25 take.
     pub fn change(self, value: &mut Decimal) -> Result<(), CallError>
         ensures value { OnOk result (Changes self value.old value.new) }
         ensures fault { IfErr result (λ error. IsChangeRefused self value.old error) }
     {
         round(value, self)?;
+        show_zero(value, self);
         trim(value, self.zeros);
         pad_start(&mut value.absolute, self.start);
         pad_end(&mut value.absolute, self.end);
