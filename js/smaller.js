@@ -18,11 +18,12 @@ function chainOf(locale, parents) {
   }
 }
 
-// Whether a locale is kept: where it is one of those, or below one, and where one of them is below it.
-function keeperOf(tags, parents) {
+// Of the locales of a book those of the tags, and those below them by their chain or by their name; and those that stand in for one of these.
+function keptOf(locales, tags, parents) {
   const wanted = new Set(tags.map(localeOf));
-  const above = new Set([UNDETERMINED, ...[...wanted].flatMap((it) => chainOf(it, parents))]);
-  return (locale) => above.has(locale) || chainOf(locale, parents).some((it) => wanted.has(it));
+  const isBelow = (locale) => chainOf(locale, parents).some((it) => wanted.has(it)) || [...wanted].some((it) => locale.startsWith(`${it}-`));
+  const below = [...wanted, ...locales.filter(isBelow)];
+  return new Set([UNDETERMINED, ...below.flatMap((it) => chainOf(it, parents))]);
 }
 
 function withoutTables(tags, symbols, parents) {
@@ -40,13 +41,14 @@ function withoutTables(tags, symbols, parents) {
 export function smallerBook(json, tags) {
   const book = JSON.parse(json);
   const [tables, units] = book.length === 2 ? book : [book];
-  const [symbols, digits, plurals, short, long, parents] = tables;
-  const parentOf = new Map(parents);
-  const wrong = withoutTables(tags, symbols, parentOf);
+  const [symbols, digits, ...others] = tables;
+  const parents = new Map(others[3]);
+  const wrong = withoutTables(tags, symbols, parents);
   if (wrong !== undefined) throw new RangeError(`the book has no tables for ${wrong}`);
-  const isKept = keeperOf(tags, parentOf);
-  const kept = (array) => array.filter(([locale]) => isKept(locale));
+  const locales = [symbols, ...others, ...(units ?? []).slice(0, 4)].flatMap((array) => array.map(([locale]) => locale));
+  const isKept = keptOf([...new Set(locales)], tags, parents);
+  const kept = (array) => array.filter(([locale]) => isKept.has(locale));
   const systems = new Set([ANY_SYSTEM, ...kept(symbols).map(([, , system]) => system)]);
-  const fewer = [kept(symbols), digits.filter(([system]) => systems.has(system)), ...[plurals, short, long, parents].map(kept)];
+  const fewer = [kept(symbols), digits.filter(([system]) => systems.has(system)), ...others.map(kept)];
   return JSON.stringify(units === undefined ? fewer : [fewer, [...units.slice(0, 4).map(kept), units[4]]]);
 }
