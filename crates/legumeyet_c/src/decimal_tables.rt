@@ -2,7 +2,8 @@
 
 ghost use Rattle.std.specs.Prelude.{◌≡◌, IfOk, IfSome, IsErrOf};
 ghost use Rattle.icu_decimal.specs.HeldTables.{tables_of};
-ghost use Rattle.icu_decimal.specs.LenientReading.{MayAllocate, lenient_reading};
+ghost use Rattle.icu_decimal.specs.LenientReading.{MayAllocate};
+ghost use Rattle.icu_decimal.specs.TypedReading.{typed_reading};
 ghost use Rattle.icu_decimal.specs.PlainReading.{IsAnswered};
 ghost use Rattle.icu_decimal_lenient.specs.KeptFolds.{folds_of};
 
@@ -119,7 +120,7 @@ impl HeldDecimalTables {
     // The decimal that was typed, with what is folded by now. Symbols that are not are folded for each text that is not
     // the formatter's own.
     pub(crate) fn read_typed(&self, alloc: Global, text: &str) -> Result<Decimal, ReadError>
-        ensures answered { IsAnswered result (lenient_reading self.now text.now) }
+        ensures answered { IsAnswered result (typed_reading self.now text.now) }
         ensures memory { IsErrOf result ReadError.Memory → MayAllocate self.now text.now }
     {
         let formatter = self.formatter();

@@ -1,7 +1,8 @@
 //! Texts read back, and what people type: `legumeyet_decimal_formatter_read` and `_read_lenient`.
 
 ghost use Rattle.std.specs.Prelude.{◌≡◌, IfOk, IfErr, IsErrOf};
-ghost use Rattle.icu_decimal.specs.LenientReading.{MayAllocate, lenient_reading};
+ghost use Rattle.icu_decimal.specs.LenientReading.{MayAllocate};
+ghost use Rattle.icu_decimal.specs.TypedReading.{typed_reading};
 ghost use Rattle.icu_decimal.specs.PlainReading.{HasManyDigits, IsAnswered, decimal, plain_reading};
 ghost use Rattle.legumeyet_c_values.specs.Putting.{Answers, IsPut};
 ghost use Rattle.legumeyet_c.specs.Kinds.{decimal_in};
@@ -54,7 +55,7 @@ impl DecimalReading for Exact {
 pub(crate) struct Lenient;
 
 impl DecimalReading for Lenient {
-    ghost reading = { lenient_reading };
+    ghost reading = { typed_reading };
 
     ghost allocates = { MayAllocate };
 
@@ -167,8 +168,8 @@ pub extern "C" fn legumeyet_decimal_formatter_read_lenient(
 ) -> i32
     ensures same { decimal_content formatter.new ≡ decimal_content formatter.old }
     ensures told { Answers
-        (IsPut (SaysRead lenient_reading (decimal_open formatter.old) text.now)
-        (IsReadFault lenient_reading MayAllocate (decimal_open formatter.old) text.now) out.old out.new length.old
+        (IsPut (SaysRead typed_reading (decimal_open formatter.old) text.now)
+        (IsReadFault typed_reading MayAllocate (decimal_open formatter.old) text.now) out.old out.new length.old
         length.new) result }
 {
     fold_after(alloc, &mut formatter.handle);

@@ -2,7 +2,8 @@
 //! calls of `legumeyet_shared_decimal_formatter`.
 
 ghost use Rattle.std.specs.Prelude.{◌≡◌, None, IsSome, pos};
-ghost use Rattle.icu_decimal.specs.LenientReading.{MayAllocate, lenient_reading};
+ghost use Rattle.icu_decimal.specs.LenientReading.{MayAllocate};
+ghost use Rattle.icu_decimal.specs.TypedReading.{typed_reading};
 ghost use Rattle.icu_decimal.specs.PlainReading.{HasManyDigits, plain_reading};
 ghost use Rattle.legumeyet_c_values.specs.Parts.{IsPutInParts, given};
 ghost use Rattle.legumeyet_c_values.specs.Putting.{Answers, IsPut};
@@ -212,8 +213,8 @@ pub extern "C" fn legumeyet_shared_decimal_formatter_read_lenient(
     length: &mut usize,
 ) -> i32
     ensures { Answers
-        (IsPut (SaysRead lenient_reading (shared_decimal_open formatter.now) text.now)
-        (IsReadFault lenient_reading MayAllocate (shared_decimal_open formatter.now) text.now) out.old out.new
+        (IsPut (SaysRead typed_reading (shared_decimal_open formatter.now) text.now)
+        (IsReadFault typed_reading MayAllocate (shared_decimal_open formatter.now) text.now) out.old out.new
         length.old length.new) result }
 {
     match read_opened::<Lenient>(alloc, formatter.handle.content(), text) {
