@@ -20,7 +20,7 @@ impl Model for BookAnswers {
 
     ghost Value = { BookTables };
 
-    ghost view = { λ a. a.answers };
+    ghost view = { λ a. a.answers.book };
 }
 
 impl AnswerLine for BookAnswers {

@@ -8,6 +8,7 @@ pub mod FoundTexts
 pub mod FoundUnitLemmas
 pub mod FrontLemmas
 pub mod FrontMemory
+pub mod KeptAnswersLemmas
 pub mod KeptLemmas
 pub mod KnownPrinted
 pub mod KnownValues
@@ -15,6 +16,7 @@ pub mod LineMemoryLemmas
 pub mod LastTabLemmas
 pub mod LenientUnitSteps
 pub mod LenientUnitTrips
+pub mod OldLinesLemmas
 pub mod PrintedLemmas
 pub mod PrintedSizes
 pub mod ReadingTrips

@@ -1,5 +1,5 @@
 -- What is read back with a unit is written again, and what was written reads back: `specs/UnitLaws.antt`.
-use Rattle.std.proofs.Common.{◌≡◌, ◌||◌, ◌++◌, ℕ, true, cond, List, Some, Ok, refl, sym, ap, ◌∙◌, subst}
+use Rattle.std.proofs.Common.{◌≡◌, ◌||◌, ◌++◌, ℕ, true, cond, List, None, Some, Result, Ok, Err, refl, sym, ap, ◌∙◌, subst}
 use Rattle.std.specs.Str.{IsUtf8}
 use Rattle.std.proofs.lemmas.List.{append-nil}
 use Rattle.std.proofs.lemmas.Str.{IsUtf8-append}
@@ -12,19 +12,21 @@ use Rattle.fixed_decimal.proofs.SignedReadOnceLemmas.{signed_printed}
 use Rattle.icu_decimal.specs.PlainReading.{PlainReading, decimal, not_written, unreadable}
 use Rattle.icu_decimal.specs.PlainText.{unsigned_text}
 use Rattle.icu_decimal.specs.ReadingLaws.{TextsAreUtf8}
-use Rattle.icu_dimension.specs.UnitReading.{AreReaderTexts, IsUnitText, pair_for, reader_texts}
+use Rattle.icu_decimal.specs.declared.error.DataError.{DataError}
+use Rattle.icu_dimension.specs.UnitReading.{AreReaderTexts, IsUnitText, is_unit_readable_by, pair_for, reader_texts}
 use Rattle.icu_dimension.specs.UnitReadingLaws.{ReadersReadWhatIsWritten}
-use Rattle.icu_dimension.specs.UnitText.{unit_decimal_text}
+use Rattle.icu_dimension.specs.UnitText.{UnitSettings, unit_decimal_text}
 use Rattle.locale_numbers_answers.specs.Laws.{HasOneUnitReading, IsAtMagnitude}
 use Rattle.locale_numbers_answers.specs.NumberReading.{number, reading_of}
 use Rattle.locale_numbers_answers.specs.ReadAnswer.{read_answer}
-use Rattle.locale_numbers_answers.specs.UnitAnswer.{UnitFound, fraction_asked, own_reading, read_unit_with, reading_found, unit_changed, unit_to, unit_with}
+use Rattle.locale_numbers_answers.specs.UnitAnswer.{UnitFound, fraction_asked, is_own_rounding, own_reading, read_unit_with, reading_found, unit_changed, unit_to, unit_with}
 use Rattle.locale_numbers_answers.specs.UnitReadings.{unit_reading}
 use Rattle.locale_numbers_answers.proofs.NumberBounds.{reading_is_decimal}
 use Rattle.locale_numbers_answers.proofs.NumberReadingLemmas.{signed_number}
 use Rattle.locale_numbers_answers.proofs.UnitLemmas.{changed_unit_is_decimal, own_of_changed, own_parts, own_stays}
 use Rattle.icu_locale_core.specs.TagPreferences.{Preferences}
 use Rattle.locale_numbers_book.specs.Book.{BookTables}
+use Rattle.locale_numbers_book.specs.TagFormatters.{percent_found_in}
 use Rattle.locale_numbers_requests.specs.Request.{Asked}
 use Rattle.locale_numbers_requests.specs.RoundingField.{is_cash, keeps_digits}
 use Rattle.locale_numbers_requests.specs.declared.Form.TheVariants as form
@@ -35,8 +37,8 @@ use Rattle.locale_numbers_requests.specs.declared.SignAsked.TheVariants.{Keep}
 use Rattle.locale_numbers_requests.specs.declared.UnitAsked.{UnitAsked}
 use Rattle.locale_numbers_requests.specs.declared.UnitAsked.TheVariants.{Percent, Currency}
 use Rattle.locale_numbers.specs.Answer.{answer_asked, answer_in, answer_tagged, written}
-use Rattle.locale_numbers.specs.FoundUnit.{found_unit}
-use Rattle.locale_numbers.specs.UnitLaws.{AreFoundTexts, FindsUnit, FoundUnitsAreTexts, known, loaded, ReadUnitIsWrittenAgain, TakesRounding, WrittenUnitIsUtf8, WrittenUnitReadsBack, unit_reading_request, unit_request}
+use Rattle.locale_numbers.specs.FoundUnit.{as_percents, found_unit}
+use Rattle.locale_numbers.specs.UnitLaws.{AreFoundTexts, FindsUnit, FoundUnitsAreTexts, known, loaded, ReadUnitIsWrittenAgain, TakesRounding, WrittenPercentReadsBack, WrittenUnitIsUtf8, WrittenUnitReadsBack, unit_reading_request, unit_request}
 use Rattle.locale_numbers.proofs.ReadingTrips.{one_text, refused_no}
 
 -- ---- the rounding that a reading form takes
@@ -116,16 +118,40 @@ read_unit_again all one readers book asked unit found rounding text digits finds
     ∙ ap (λ v. written (unit_decimal_text found.settings v)) (own_stays found.digits rounding read.value (usual unit rounding takes) parts.1)
     ∙ ap written (sym (readers found.settings read.value) ∙ is.written)
 
-pub unit_reads_back : FoundUnitsAreTexts → HasOneUnitReading → ReadersReadWhatIsWritten → WrittenUnitReadsBack
-unit_reads_back all one readers book asked unit found value text is takes finds readable reads same =
+-- what a line writes reads back under a rounding that leaves it as it is
+reads_back_under : FoundUnitsAreTexts → HasOneUnitReading → ReadersReadWhatIsWritten → (book : BookTables) (asked : Asked) (unit : UnitAsked) (found : UnitFound) (value : SignedValue Number) (text : List ℕ) (rounding : RoundingAsked)
+    → asked.form ≡ form.Unit unit → IsAtMagnitude asked.rounding → FindsUnit book asked unit found
+    → is_unit_readable_by (reader_texts found.settings) ≡ true → reading_of asked.text ≡ number value
+    → answer_asked book (Some asked) ≡ written text
+    → is_own_rounding (fraction_asked found.digits rounding) (unit_changed found.digits asked.rounding asked.sign value) ≡ true
+    → answer_asked book (Some (unit_reading_request asked unit rounding text)) ≡ written (signed_text_of (unit_changed found.digits asked.rounding asked.sign value))
+reads_back_under all one readers book asked unit found value text rounding is high finds readable reads same own =
     let shown : SignedValue Number = unit_changed found.digits asked.rounding asked.sign value in
-    let whole : IsDecimal shown = changed_unit_is_decimal found.digits asked.rounding asked.sign value (at_magnitude unit asked.rounding takes) (reading_is_decimal asked.text value reads) in
+    let whole : IsDecimal shown = changed_unit_is_decimal found.digits asked.rounding asked.sign value high (reading_is_decimal asked.text value reads) in
     let said : unit_decimal_text found.settings shown ≡ text = one_text (unit_decimal_text found.settings shown) text (sym (answered_found book asked unit found finds value is reads) ∙ same) in
     let read : unit_reading (reader_texts found.settings) text ≡ decimal shown =
     sym ((one (reader_texts found.settings) text (decimal shown) (texts_found book asked unit found finds all)).0 (readable, record { decimal = whole; written = readers found.settings shown ∙ said })) in
-    read_found book asked unit found finds asked.rounding text
-    ∙ ap (λ reading. read_answer (own_reading (fraction_asked found.digits asked.rounding) reading)) read
-    ∙ ap (λ b. read_answer (cond b (decimal shown) not_written)) (own_of_changed found.digits asked.rounding asked.sign value)
+    read_found book asked unit found finds rounding text
+    ∙ ap (λ reading. read_answer (own_reading (fraction_asked found.digits rounding) reading)) read
+    ∙ ap (λ b. read_answer (cond b (decimal shown) not_written)) own
+
+pub unit_reads_back : FoundUnitsAreTexts → HasOneUnitReading → ReadersReadWhatIsWritten → WrittenUnitReadsBack
+unit_reads_back all one readers book asked unit found value text is takes finds readable reads same =
+    reads_back_under all one readers book asked unit found value text asked.rounding is (at_magnitude unit asked.rounding takes) finds readable reads same
+    (own_of_changed found.digits asked.rounding asked.sign value)
+
+-- percents have no digits of a currency
+no_digits : (settings : Result UnitSettings DataError) (found : UnitFound) → as_percents settings ≡ Ok found → found.digits ≡ None
+no_digits (Ok settings) found is =
+    let one : ◌≡◌ {A = UnitFound} (record { settings = settings; digits = None }) found = cc in
+    ap (λ (f : UnitFound). f.digits) (sym one)
+no_digits (Err error) found is = absurd (cc)
+
+pub percent_reads_back : FoundUnitsAreTexts → HasOneUnitReading → ReadersReadWhatIsWritten → WrittenPercentReadsBack
+percent_reads_back all one readers book asked found value text is high finds readable reads same =
+    let none : found.digits ≡ None = no_digits (percent_found_in book finds.preferences (Some asked.grouping)) found finds.found in
+    reads_back_under all one readers book asked Percent found value text Unrounded is high finds readable reads same
+    (ap (λ digits. is_own_rounding (fraction_asked digits Unrounded) (unit_changed found.digits asked.rounding asked.sign value)) none)
 
 unsigned_is_utf8 : TextsAreUtf8 → (found : UnitFound) → AreReaderTexts (reader_texts found.settings) → (value : SignedValue Number) → IsDecimal value
     → IsUtf8 (unsigned_text found.settings.tables value.absolute)

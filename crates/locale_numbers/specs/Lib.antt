@@ -1,6 +1,7 @@
 -- What a reader must believe: the answers to request lines.
 pub mod CompactAnswer
 pub mod FoundUnit
+pub mod WithoutUnits
 pub mod Answer
 -- Keys of formatters, and how many are made.
 pub mod FormatterKeys
@@ -22,10 +23,14 @@ pub mod Printed
 pub mod PrintedLaws
 pub mod UnitLaws
 pub mod LenientUnitLaws
+pub mod OldLines
 -- Of the inner crates: books.
 pub use Rattle.locale_numbers_book.specs.Book
 pub use Rattle.locale_numbers_book.specs.BookError
+pub use Rattle.locale_numbers_book.specs.CompactEntries
+pub use Rattle.locale_numbers_book.specs.Entries as BookEntries
 pub use Rattle.locale_numbers_book.specs.Faults as BookFaults
+pub use Rattle.locale_numbers_book.specs.Fields as BookFields
 pub use Rattle.locale_numbers_book.specs.Form as BookForm
 pub use Rattle.locale_numbers_book.specs.Json
 pub use Rattle.locale_numbers_book.specs.Keys as BookKeys
@@ -33,10 +38,23 @@ pub use Rattle.locale_numbers_book.specs.Laws as BookLaws
 pub use Rattle.locale_numbers_book.specs.ParentEntries
 pub use Rattle.locale_numbers_book.specs.Parents
 pub use Rattle.locale_numbers_book.specs.Refusal as BookRefusal
+pub use Rattle.locale_numbers_book.specs.RulesEntries
 pub use Rattle.locale_numbers_book.specs.SampleBook
+pub use Rattle.locale_numbers_book.specs.SampleUnitsBook
 pub use Rattle.locale_numbers_book.specs.Tables
 pub use Rattle.locale_numbers_book.specs.TagFormatters
+pub use Rattle.locale_numbers_book.specs.TagReading
 pub use Rattle.locale_numbers_book.specs.Wanted
+-- Of the inner crates: units of books.
+pub use Rattle.locale_numbers_book.specs.Amounts
+pub use Rattle.locale_numbers_book.specs.CurrencyDigits
+pub use Rattle.locale_numbers_book.specs.CurrencySymbols
+pub use Rattle.locale_numbers_book.specs.OwnSymbols
+pub use Rattle.locale_numbers_book.specs.Percents
+pub use Rattle.locale_numbers_book.specs.UnitFaults
+pub use Rattle.locale_numbers_book.specs.UnitFields
+pub use Rattle.locale_numbers_book.specs.UnitPatterns
+pub use Rattle.locale_numbers_book.specs.Units
 -- Of the inner crates: what is kept from line to line.
 pub use Rattle.locale_numbers_cache.specs.Cached
 pub use Rattle.locale_numbers_cache.specs.Laws as CacheLaws
@@ -45,6 +63,8 @@ pub use Rattle.locale_numbers_cache.specs.Recent
 pub use Rattle.locale_numbers_requests.specs.Cutting
 pub use Rattle.locale_numbers_requests.specs.Digits
 pub use Rattle.locale_numbers_requests.specs.FormField
+pub use Rattle.locale_numbers_requests.specs.Laws as RequestLaws
+pub use Rattle.locale_numbers_requests.specs.OldRequests
 pub use Rattle.locale_numbers_requests.specs.Refusal
 pub use Rattle.locale_numbers_requests.specs.Request
 pub use Rattle.locale_numbers_requests.specs.RoundingField

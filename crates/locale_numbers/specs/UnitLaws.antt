@@ -10,20 +10,22 @@ use Rattle.fixed_decimal.specs.SignedText.{signed_text_of}
 use Rattle.fixed_decimal.specs.SignedValue.{SignedValue}
 use Rattle.fixed_decimal.specs.TextLaws.{IsDecimal}
 use Rattle.icu_decimal.specs.declared.options.GroupingStrategy.{GroupingStrategy}
-use Rattle.icu_dimension.specs.CurrencyCodes.{is_currency_code}
 use Rattle.icu_dimension.specs.UnitReading.{AreReaderTexts, is_unit_readable_by, reader_texts}
 use Rattle.icu_dimension.specs.UnitText.{unit_decimal_text}
 use Rattle.icu_locale_core.specs.TagPreferences.{Preferences}
+use Rattle.locale_numbers_answers.specs.Laws.{IsAtMagnitude}
 use Rattle.locale_numbers_answers.specs.NumberReading.{number, reading_of}
 use Rattle.locale_numbers_answers.specs.UnitAnswer.{UnitFound, unit_changed}
 use Rattle.locale_numbers_book.specs.Book.{BookTables, IsBook}
 use Rattle.locale_numbers_book.specs.Wanted.{wanted_of}
+use Rattle.locale_numbers_requests.specs.Laws.{HasCode}
 use Rattle.locale_numbers_requests.specs.Request.{Asked, takes}
 use Rattle.locale_numbers_requests.specs.declared.Form.TheVariants as form
 use Rattle.locale_numbers_requests.specs.declared.RoundingAsked.{RoundingAsked}
+use Rattle.locale_numbers_requests.specs.declared.RoundingAsked.TheVariants.{Unrounded}
 use Rattle.locale_numbers_requests.specs.declared.SignAsked.TheVariants.{Keep}
 use Rattle.locale_numbers_requests.specs.declared.UnitAsked.{UnitAsked}
-use Rattle.locale_numbers_requests.specs.declared.UnitAsked.TheVariants.{Percent, Currency}
+use Rattle.locale_numbers_requests.specs.declared.UnitAsked.TheVariants.{Percent}
 use Rattle.locale_numbers.specs.Answer.{answer_asked, written}
 use Rattle.locale_numbers.specs.FoundUnit.{found_unit}
 
@@ -40,11 +42,6 @@ unit_reading_request asked unit rounding text =
 -- the form that reads it takes this rounding: none, or of amounts that of cash
 abbrev pub TakesRounding : UnitAsked → RoundingAsked → Type 0
 TakesRounding unit rounding = takes (form.ReadUnit unit) Keep rounding ≡ true
-
--- three capitals, where the unit is a currency
-abbrev pub HasCode : UnitAsked → Type 0
-HasCode Percent = Unit {0}
-HasCode (Currency style code) = is_currency_code code ≡ true
 
 -- what is found in a book for a unit is made of texts
 abbrev pub FoundUnitsAreTexts : Type 0
@@ -83,4 +80,13 @@ WrittenUnitReadsBack = (book : BookTables) (asked : Asked) (unit : UnitAsked) (f
     → is_unit_readable_by (reader_texts found.settings) ≡ true → reading_of asked.text ≡ number value
     → answer_asked book (Some asked) ≡ written text
     → answer_asked book (Some (unit_reading_request asked unit asked.rounding text))
+    ≡ written (signed_text_of (unit_changed found.digits asked.rounding asked.sign value))
+
+-- where texts can be read, what a line writes of a percent reads back under no rounding as that number, whatever the rounding of the line
+abbrev pub WrittenPercentReadsBack : Type 0
+WrittenPercentReadsBack = (book : BookTables) (asked : Asked) (found : UnitFound) (value : SignedValue Number) (text : List ℕ)
+    → asked.form ≡ form.Unit Percent → IsAtMagnitude asked.rounding → FindsUnit book asked Percent found
+    → is_unit_readable_by (reader_texts found.settings) ≡ true → reading_of asked.text ≡ number value
+    → answer_asked book (Some asked) ≡ written text
+    → answer_asked book (Some (unit_reading_request asked Percent Unrounded text))
     ≡ written (signed_text_of (unit_changed found.digits asked.rounding asked.sign value))

@@ -1,14 +1,17 @@
 //! Answers to lines that come one by one, by formatters that are kept.
 
-ghost use Rattle.std.specs.Prelude.{◌≡◌, ◌≤◌, ◌++◌, IfOk, OnOk, OnErr, string_bytes};
+ghost use Rattle.std.specs.Prelude.{◌≡◌, ◌≤◌, ◌∷◌, ◌++◌, [], ℕ, List, IfOk, OnOk, OnErr, string_bytes};
 ghost use Rattle.locale_numbers_lines.specs.Growth.{Grows};
 ghost use Rattle.locale_numbers.specs.Answer.{answer_of};
+ghost use Rattle.locale_numbers.specs.KeptAnswers.{keeping, makes_after};
 
 use crate::cached_formatters::CachedFormatters;
+use crate::formatter_key::FormatterKey;
 use crate::line_answerer::LineAnswerer;
 use crate::line_formatter::FormatterMaker;
 use crate::tables::Tables;
 use fixed_decimal::Decimal;
+use locale_numbers_cache::laws::equal_keys_are_one;
 use locale_numbers_cache::{FormatterCache, ReadKeys};
 use locale_numbers_lines::Answerer;
 use std::alloc::{AllocError, Global};
@@ -17,7 +20,7 @@ use std::marker::Model;
 /// What answers lines by a book, and keeps the formatters that it made: for a caller that has its lines one by one, where
 /// [`run`](crate::run) wants a reader of them.
 ///
-/// A clause sees the book.
+/// A clause sees the book, the keys of the formatters that are kept, how many there may be, and how many were made.
 #[derive(Drop)]
 pub struct Answers<'a, T: Tables> {
     tables: &'a T,
@@ -25,14 +28,15 @@ pub struct Answers<'a, T: Tables> {
 }
 
 impl<'a, T: Tables> Model for Answers<'a, T> {
-    ghost use Rattle.locale_numbers_book.specs.Book.{BookTables};
-    ghost use Rattle.locale_numbers.specs.KeptAnswers.{IsAnswerer};
+    ghost use Rattle.locale_numbers_cache.specs.Cached.{recent_of};
+    ghost use Rattle.locale_numbers.specs.KeptAnswers.{IsAnswerer, Keeping, keeping};
 
-    ghost Value = { BookTables };
+    ghost Value = { Keeping };
 
-    ghost view = { λ s. T.book s.tables.now };
+    ghost view = { λ s. keeping (T.book s.tables.now) s.answerer.kept.formatters.capacity
+        (recent_of s.answerer.kept.formatters) s.answerer.kept.formatters.made };
 
-    // What answers has what it keeps by its own tables, and answers as these do.
+    // What answers has what it keeps by its own tables, which are those of the book.
     ghost invariant = { λ s. IsAnswerer (T.book s.tables.now) (T.book s.answerer.kept.maker.tables.now)
         s.answerer.kept.formatters s.answerer.read s.answerer.kept.is_held };
 }
@@ -43,7 +47,7 @@ impl<'a, T: Tables> Answers<'a, T> {
     /// Allocates. `AllocError`: out of memory.
     pub fn new(alloc: Global, tables: &'a T, capacity: usize) -> Result<Answers<'a, T>, AllocError>
         requires room { 1 ≤ capacity }
-        ensures book { IfOk result (λ answers. answers ≡ T.book tables.now) }
+        ensures { IfOk result (λ answers. answers ≡ keeping (T.book tables.now) capacity [] 0) }
     {
         let formatters = FormatterCache::new(alloc, capacity)?;
         let kept = CachedFormatters {
@@ -62,16 +66,29 @@ impl<'a, T: Tables> Answers<'a, T> {
         })
     }
 
-    /// Writes the answer to a line, without a line feed, after what `out` holds: that of [`answer`](crate::answer).
+    /// Writes the answer to a line, without a line feed, after what `out` holds: that of [`answer`](crate::answer). A
+    /// formatter is made for it only where the one of its key is not kept, as in a [`run`](crate::run).
     ///
     /// Of the sample book `en`, `plain`, `auto`, `keep`, `-` and `1234.5` with tabs between give `ok`, a tab and
     /// `1,234.5`. Allocates where the formatter is not kept, and for the text. `AllocError`: out of memory; a part of the
     /// answer may then be written.
     pub fn answer_onto(&mut self, line: &[u8], out: &mut String) -> Result<(), AllocError>
-        ensures text { OnOk result (string_bytes out.new ≡ string_bytes out.old ++ answer_of self.old line.now) }
-        ensures same { self.new ≡ self.old }
+        ensures text { OnOk result (string_bytes out.new ≡ string_bytes out.old ++ answer_of self.old.book line.now) }
+        ensures made { OnOk result ((more : List (List ℕ)) →
+            makes_after self.old (line.now ∷ more) ≡ makes_after self.new more) }
+        ensures same { self.new.book ≡ self.old.book }
         ensures err { OnErr result (Grows (string_bytes out.old) (string_bytes out.new)) }
     {
-        self.answerer.answer_onto(line, out)
+        equal_keys_are_one::<FormatterKey>();
+        self.answerer.answer_line(line, out)
+    }
+
+    /// How many formatters were made: 1 after two lines of `en` and `plain`, as a run of these reports. It does not
+    /// allocate.
+    pub fn made(&self) -> u64
+        ensures { result ≡ makes_after self.now [] }
+    {
+        equal_keys_are_one::<FormatterKey>();
+        self.answerer.made()
     }
 }

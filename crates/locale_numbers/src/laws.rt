@@ -5,9 +5,10 @@ ghost use Rattle.locale_numbers.specs.Answer.{found_in};
 ghost use Rattle.locale_numbers.specs.CompactAnswer.{found_compact};
 ghost use Rattle.locale_numbers.specs.FormatterKeys.{same_keys};
 ghost use Rattle.locale_numbers.specs.Laws.{AlikeTagsAreAnsweredAlike, NormalTextIsAnsweredAlike, AutoIsAnsweredAsAlways, AreTexts, EachGroupingIsReadLeniently, FoundTablesAreTexts, LinesAskTheirFields, ReadIsReadLeniently, ReadIsWrittenAgain, RoundedIsWrittenAgain, TellsKeys, WrittenIsUtf8, WrittenReadsBack};
+ghost use Rattle.locale_numbers.specs.OldLines.{OldLinesStay};
 ghost use Rattle.locale_numbers.specs.PrintedLaws.{FoundTablesAreSound, IsSoundWhereFound, PrintedIsAnswered, PrintedIsNear, PrintedIsWrittenAgain, PrintedKeepsOrder, PrintedPrintsItself, ZeroIsPrintedForZero};
 ghost use Rattle.locale_numbers.specs.LenientUnitLaws.{ReadUnitIsReadLeniently};
-ghost use Rattle.locale_numbers.specs.UnitLaws.{FoundUnitsAreTexts, ReadUnitIsWrittenAgain, WrittenUnitIsUtf8, WrittenUnitReadsBack};
+ghost use Rattle.locale_numbers.specs.UnitLaws.{FoundUnitsAreTexts, ReadUnitIsWrittenAgain, WrittenPercentReadsBack, WrittenUnitIsUtf8, WrittenUnitReadsBack};
 ghost use Rattle.locale_numbers_requests.specs.declared.PatternLength.TheVariants.{Short, Long};
 
 use crate::formatter_key::{FormatterKey, Kind};
@@ -29,14 +30,15 @@ pub use locale_numbers_answers::laws::{
 };
 use locale_numbers_book::laws::{tables_are_sound, units_are_texts};
 pub use locale_numbers_book::laws::{
-    chains_end, cycles_are_met, data_locales_are_read, is_one_book, sample_book_is_known,
-    sample_units_book_is_known, tags_are_read,
+    chains_end, cycles_are_met, data_locales_are_read, is_one_book, old_books_stay,
+    sample_book_is_known, sample_units_book_is_known, tags_are_read,
 };
 pub use locale_numbers_cache::laws::{last_used_are_kept, unused_keys_miss};
 pub use locale_numbers_lines::laws::{
     each_input_splits, lines_are_the_pieces, outputs_join, whole_lines_are_the_pieces,
 };
 use locale_numbers_requests::PatternLength;
+pub use locale_numbers_requests::laws::{old_requests_stay, requests_have_codes};
 
 /// A line is answered as what its fields ask is, where these are UTF-8 and no tab is in them: so each law over
 /// requests holds of lines. The line of `en`, `plain`, `auto`, `keep`, `-`, `1000` with a tab between each two is
@@ -44,6 +46,15 @@ use locale_numbers_requests::PatternLength;
 pub fn lines_ask_their_fields()
     ensures { LinesAskTheirFields }
 {}
+
+/// A line of the forms `plain`, `short`, `long`, `exact-short`, `exact-long` and `read` is answered as it was before other
+/// forms were added, and a line of one of these was refused for its shape: that of `en`, `plain` and `1000` is answered by
+/// `ok`, a tab and `1,000`, and that of `percent` was answered by `err`, a tab and `shape`.
+pub fn old_lines_stay()
+    ensures { OldLinesStay }
+{
+    old_requests_stay();
+}
 
 /// Of a tag its language, script, region and first variant count, and its `sd` and `nu` where they read: nothing else
 /// in a tag changes an answer, neither `rg` nor any other keyword, attribute, extension, private subtag or later
@@ -175,6 +186,17 @@ pub fn read_unit_is_written_again()
 /// 1234.50.
 pub fn written_unit_reads_back()
     ensures { WrittenUnitReadsBack }
+{
+    found_units_are_texts();
+    unit_texts_have_one_reading();
+    unit_texts_have_one_decimal();
+}
+
+/// Where texts with a percent sign can be read, what a line writes is read back under the rounding `-`, whatever rounding
+/// wrote it: under `en` `percent` with `0,half-even,1` and `12.4` writes `12%`, and `read-percent` with `-` reads this as
+/// 12.
+pub fn written_percent_reads_back()
+    ensures { WrittenPercentReadsBack }
 {
     found_units_are_texts();
     unit_texts_have_one_reading();

@@ -37,6 +37,7 @@ mod starting;
 mod tables;
 mod unit_formatter;
 mod unit_line;
+mod without_units;
 mod words;
 
 pub use answering::answer;
@@ -55,4 +56,5 @@ pub use running::run;
 pub use starting::start;
 pub use tables::Tables;
 pub use unit_formatter::amount_options;
+pub use without_units::{NumberTables, WithoutUnits};
 pub use words::{Words, read_words};

@@ -36,7 +36,7 @@ pub(crate) struct LineAnswerer<'a, T: Tables> {
 
 impl<'a, T: Tables> LineAnswerer<'a, T> {
     // Puts the answer to a line after what `out` holds. `AllocError`: out of memory; a part of it may then be there.
-    fn answer_line(&mut self, line: &[u8], out: &mut String) -> Result<(), AllocError>
+    pub(crate) fn answer_line(&mut self, line: &[u8], out: &mut String) -> Result<(), AllocError>
         requires { IsSoundState (T.book self.old.kept.maker.tables.now) self.old.kept.formatters self.old.read
             self.old.kept.is_held }
         ensures text { OnOk result (string_bytes out.new

@@ -10,8 +10,8 @@ use Rattle.icu_decimal.specs.PlainReading.{PlainReading, decimal, not_written, u
 use Rattle.icu_decimal.specs.declared.error.DataError.{DataError}
 use Rattle.icu_dimension_affixes.specs.UnitReading.{reader_texts}
 use Rattle.icu_dimension_affixes.specs.UnitText.{UnitSettings, unit_decimal_text}
+use Rattle.icu_dimension_fractions.specs.FractionMemory.{MayGrowAmount}
 use Rattle.icu_dimension_fractions.specs.declared.Fraction.{Fraction}
-use Rattle.icu_dimension_fractions.specs.declared.FractionIncrement.TheVariants.{MultiplesOf25}
 use Rattle.icu_dimension_fractions.specs.declared.FractionInfo.{FractionInfo}
 use Rattle.locale_numbers_answers.specs.AmountRounding.{amount_rounded}
 use Rattle.locale_numbers_answers.specs.AnswerLine.{refused, written}
@@ -50,7 +50,7 @@ unit_changed digits rounding sign value = signed_as sign (rounded_by (fraction_a
 -- a rounding that may want memory, of this number: only one to multiples of 25 may
 abbrev pub MayGrowBy : Option Fraction → RoundingAsked → SignedValue Number → Type 0
 MayGrowBy None rounding value = MayGrow rounding value
-MayGrowBy (Some fraction) rounding value = fraction.increment ≡ MultiplesOf25
+MayGrowBy (Some fraction) rounding value = MayGrowAmount fraction value.absolute
 
 -- of the number that a text says, where the tables of the unit are found
 abbrev pub MayGrowUnit : Result UnitFound DataError → RoundingAsked → Reading → Type 0

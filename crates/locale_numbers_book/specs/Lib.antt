@@ -27,4 +27,12 @@ pub use Rattle.locale_numbers_tables.specs.Keys
 pub use Rattle.locale_numbers_tables.specs.RulesEntries
 pub use Rattle.locale_numbers_tables.specs.TagReading
 -- Of the inner crate of units: entries and tables.
+pub use Rattle.locale_numbers_units.specs.Amounts
+pub use Rattle.locale_numbers_units.specs.CurrencyDigits
+pub use Rattle.locale_numbers_units.specs.CurrencySymbols
+pub use Rattle.locale_numbers_units.specs.Faults as UnitFaults
+pub use Rattle.locale_numbers_units.specs.Fields as UnitFields
+pub use Rattle.locale_numbers_units.specs.OwnSymbols
+pub use Rattle.locale_numbers_units.specs.Patterns as UnitPatterns
+pub use Rattle.locale_numbers_units.specs.Percents
 pub use Rattle.locale_numbers_units.specs.Units

@@ -1,14 +1,32 @@
-use Rattle.std.proofs.Common.{◌≡◌, ◌++◌, ap, ◌∙◌}
+use Rattle.std.proofs.Common.{◌≡◌, ◌∷◌, ◌++◌, ap, refl, sym, ◌∙◌}
 use Rattle.std.specs.Prelude.{string_bytes}
+use Rattle.locale_numbers_book.specs.Book.{BookTables}
 use Rattle.locale_numbers.specs.Answer.{answer_of}
+use Rattle.locale_numbers.specs.KeptAnswers.{Keeping}
+use Rattle.locale_numbers.specs.contracts.formatter_key.FormatterKeyPartialEq.TheImpl as keys
 use Rattle.locale_numbers.proofs.AnsweringLemmas.{on_ok_by}
+use Rattle.locale_numbers.proofs.KeptAnswersLemmas.{counts}
+use Rattle.locale_numbers.proofs.SameKeyLemmas.{test_is}
 use Rattle.locale_numbers.proofs.answers.Answers.answer_onto.Goals as goal
 
 pub invariant_of-self : goal.invariant_of-self
-invariant_of-self g c = (c.answer_onto.ensures.ready, c.answer_onto.ensures.same ∙ c.self.invariant.1)
+invariant_of-self g c = (c.answer_line.ensures.ready, c.answer_line.ensures.same ∙ c.self.invariant.1)
 
 pub returns-clause-text : goal.returns-clause-text
 returns-clause-text g c =
-    on_ok_by c.answer_onto.result
-    (λ p. p ∙ ap (λ answers. string_bytes c.args.out.now ++ answers c.args.line.now) (c.self.invariant.1 ∙ ap answer_of c.self.view_is))
-    c.answer_onto.ensures.text
+    on_ok_by c.answer_line.result
+    (λ p. p ∙ ap (λ (book : BookTables). string_bytes c.args.out.now ++ answer_of book c.args.line.now) (c.self.invariant.1 ∙ ap (λ (k : Keeping). k.book) c.self.view_is))
+    c.answer_line.ensures.text
+
+pub returns-clause-made : goal.returns-clause-made
+returns-clause-made g c =
+    let is = test_is keys.ghosts.eq c.equal_keys_are_one.ensures in
+    let book = g.T.Tables.book c.self.inside.tables.now in
+    let old = c.self.inside.answerer.kept in
+    let new = c.answer_line.new.self.kept in
+    on_ok_by c.answer_line.result
+    (λ counted more.
+    sym (counts keys.ghosts.eq is (g.T.Tables.book old.maker.tables.now) book c.self.invariant.1 old.formatters c.args.self.now c.self.view_is (c.args.line.now ∷ more))
+    ∙ counted more
+    ∙ counts keys.ghosts.eq is (g.T.Tables.book new.maker.tables.now) book (c.answer_line.ensures.same ∙ c.self.invariant.1) new.formatters _ refl more)
+    c.answer_line.ensures.made

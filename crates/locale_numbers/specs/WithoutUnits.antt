@@ -1,0 +1,8 @@
+-- A book without its units.
+-- Defined in docs/books.md, "Units".
+-- Cited by the impl of `Tables` for `WithoutUnits`.
+use Rattle.std.specs.Prelude.{None}
+use Rattle.locale_numbers_book.specs.Book.{BookTables}
+
+abbrev pub without_units : BookTables → BookTables
+without_units book = record book { units = None }
