@@ -137,7 +137,7 @@ class Calls(unittest.TestCase):
         for call in (self.english.format_parts, self.short.shown):
             self.assertRaises(TypeError, call, 1, exponent=-2)
         self.assertRaises(TypeError, DecimalFormatter, self.book, "en", exponent=-2)
-        self.refused(8, self.english.format, 10, exponent=32767)
+        self.refused(8, lambda: self.english.format(10, exponent=32767))
 
     def test_zeros(self):
         """A zero that a rounding above the ones leaves is one digit, and zeros may be trimmed of whole numbers alone."""
