@@ -33,7 +33,7 @@ class Chromium:
         for word in WORDS:
             options.add_argument(word)
         self.driver = webdriver.Chrome(service=Service(shutil.which("chromedriver")), options=options)
-        self.driver.set_script_timeout(60)
+        self.driver.set_script_timeout(300)
 
     def open(self, address):
         self.driver.get(address)
