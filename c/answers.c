@@ -119,6 +119,8 @@ static void calls(void) {
     expect("kept", legumeyet_book_keep(&book), LEGUMEYET_OK);
     expect("no capacity", legumeyet_answers_open(&book, 0, &answers), LEGUMEYET_OPTION);
     expect("they stayed closed", legumeyet_answers_close(&answers), LEGUMEYET_CLOSED);
+    expect("many answers", legumeyet_answers_open(&book, 65535, &answers), LEGUMEYET_OK);
+    expect("a line of many", legumeyet_answers_answer(&answers, TEXT(LINE), out, ROOM, &read, &written, &needs), LEGUMEYET_OK);
     expect("answers", legumeyet_answers_open(&book, 3, &answers), LEGUMEYET_OK);
     expect("answers again", legumeyet_answers_open(&book, 1, &answers), LEGUMEYET_OK);
     read = written = needs = 77;

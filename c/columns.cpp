@@ -27,6 +27,16 @@ static_assert(!takes_all<std::vector<float>> && !takes_all<std::vector<bool>> &&
 static_assert(takes_all<const double *, int> && takes_all<const int64_t *, std::size_t, Options> && takes_all<double (&)[3], unsigned>);
 static_assert(!takes_all<const double *, double> && !takes_all<const double *, Options> && !takes_all<const int *, int> && !takes_all<double *>);
 static_assert(!takes_all<const char *> && !takes_all<double> && !takes_all<std::vector<void *>> && !takes_all<std::vector<std::vector<double>>>);
+static_assert(takes_all<std::vector<int>, Exponent> && takes_all<const int64_t *, int, Exponent> && takes_all<const int64_t (&)[3], Exponent, Options>);
+static_assert(!takes_all<std::vector<double>, Exponent> && !takes_all<std::vector<std::string>, Exponent> && !takes_all<std::vector<int>, int>);
+
+// A temporary column has no texts to show, since they would be gone with it.
+template <class, class T> constexpr bool is_indexed = false;
+template <class T> constexpr bool is_indexed<std::void_t<decltype(std::declval<T>()[0])>, T> = true;
+template <class, class T> constexpr bool begins = false;
+template <class T> constexpr bool begins<std::void_t<decltype(std::declval<T>().begin())>, T> = true;
+static_assert(is_indexed<void, Column &> && is_indexed<void, const Column &> && !is_indexed<void, Column>);
+static_assert(begins<void, Column &> && !begins<void, Column> && begins<void, const Annotated &> && !begins<void, Annotated>);
 static_assert(std::is_copy_constructible_v<Column> && std::is_nothrow_move_constructible_v<Column>);
 #if __cplusplus >= 202002L
 static_assert(std::ranges::random_access_range<const Column> && std::ranges::sized_range<Column>);
@@ -194,6 +204,34 @@ static void others() {
     expect_code(compact.try_format_all(some).error(), Code::Closed);
 }
 
+// What a temporary has is used in the statement that makes it.
+static void temporaries(DecimalFormatter &english, const SharedDecimalFormatter &shared) {
+    const std::vector<double> some{1234.5, -7};
+    std::string found;
+    for (std::string_view it : english.try_format_all(some).value()) (found += it) += '|';
+    for (std::string_view it : *english.try_format_all(some)) (found += it) += '|';
+    for (std::string_view it : english.format_all(some)) (found += it) += '|';
+    for (auto [text, kind] : english.try_format_parts(-5).value()) (found += text) += '|';
+    found += english.format_all(some).text() + *english.try_format(5) + shared.try_format(5).value();
+    expect(found, "1,234.5|-7|1,234.5|-7|1,234.5|-7|-|5|1,234.5-755");
+}
+
+// Mantissas times one power of ten.
+static void exponents(DecimalFormatter &english, const SharedDecimalFormatter &shared) {
+    const int64_t cents[] = {123456, -7, 0};
+    const std::string wanted = "1,234.56|-0.07|0.00|";
+    const Exponent two(-2);
+    expect(barred(english.format_all(cents, two)) + barred(shared.format_all(cents, two)), wanted + wanted);
+    expect(barred(english.format_all(std::list<int>(std::begin(cents), std::end(cents)), two)), wanted);
+    expect(barred(english.format_all(cents, 3, two)) + barred(shared.format_all(cents, 3, two)), wanted + wanted);
+    expect(barred(*english.try_format_all(std::vector<int8_t>{5}, Exponent(3), Options().with_sign(Sign::Always))), "+5,000|");
+    expect(barred(english.format_all(std::vector<uint64_t>{1, UINT64_MAX, 2}, two)), "0.01|184,467,440,737,095,516.15|0.02|");
+    expect(barred(english.format_all(cents, 2)), "123,456|-7|");
+    expect_code(english.try_format_all(cents, Exponent(32768)).error(), Code::Limit);
+    expect_code(english.try_format_all(std::list<int>{1}, Exponent(-40000)).error(), Code::Limit);
+    expect_error(message(Code::Limit) + ": the number at 1", [&] { english.format_all(std::vector<int>{1, 10}, Exponent(32767)); });
+}
+
 static void in_threads(const SharedDecimalFormatter &shared) {
     std::vector<std::thread> threads;
     bool is_right[8] = {};
@@ -222,6 +260,8 @@ int main() {
     many(english, shared_english);
     refused(english, closed);
     others();
+    temporaries(english, shared_english);
+    exponents(english, shared_english);
     in_threads(german);
     return wrong;
 }

@@ -19,7 +19,7 @@ static int32_t read_whole(FILE *file, uint8_t **bytes, size_t *length) {
 }
 
 int32_t legumeyet_book_open_file(const char *path, legumeyet_book *book) {
-    FILE *file = fopen(path, "rb");
+    FILE *file = fopen(path, "rbe");
     uint8_t *bytes;
     size_t length;
     int32_t error;

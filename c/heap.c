@@ -6,9 +6,10 @@
 /* Whether there is memory, and where it is; `at` is never null. */
 typedef struct { bool is_there; void *at; } answer;
 
-static char nowhere;
+/* What `at` is where there is no memory: it is neither read nor written. */
+static const char nowhere;
 
-static answer answer_of(void *at) { return (answer){ at != NULL, at != NULL ? at : &nowhere }; }
+static answer answer_of(void *at) { return (answer){ at != NULL, at != NULL ? at : (void *)&nowhere }; }
 
 answer rattle_alloc(size_t size, size_t align) { return answer_of(malloc(size != 0 ? size : align)); }
 

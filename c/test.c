@@ -242,8 +242,32 @@ static void zeros(void) {
     expect_text("at most two fraction digits", format("1.255", few), "1.26");
     few.minimum_fraction_digits = 1;
     expect_text("and one at least", format("1.995", few), "2.0");
-    trimmed.trailing_zeros = 2;
-    expect_error("zeros 2", format("1", trimmed), LEGUMEYET_OPTION);
+    trimmed.trailing_zeros = LEGUMEYET_TRAILING_ZEROS_TRIM_WHOLE;
+    expect_text("trimmed of a whole number", format("-200.00", trimmed), "-200");
+    expect_text("no whole number", format("1.50", trimmed), "1.50");
+    trimmed.trailing_zeros = 3;
+    expect_error("zeros 3", format("1", trimmed), LEGUMEYET_OPTION);
+}
+
+/* A zero that a rounding above the ones leaves is one digit; all others show as many as they have. */
+static void rounded_to_zero(void) {
+    const legumeyet_options thousands = options_of(0, LEGUMEYET_ROUND_HALF_EVEN, 3), ones = options_of(0, LEGUMEYET_ROUND_HALF_EVEN, 0);
+    legumeyet_options padded = thousands, half = options_of(0, LEGUMEYET_ROUND_TRUNC, 2);
+    padded.minimum_integer_digits = 4;
+    half.increment = 5;
+    expect_text("400", format("400", thousands), "0");
+    expect_text("-400", format("-400", thousands), "-0");
+    expect_text("600", format("600", thousands), "1,000");
+    expect_text("0", format("0", thousands), "0");
+    expect_text("0.5", format("0.5", thousands), "0");
+    expect_text("padded", format("400", padded), "0,000");
+    expect_text("an increment", format("499.99", half), "0");
+    expect_text("an increment", format("500", half), "500");
+    expect_text("at the ones", format("000", ones), "000");
+    expect_text("not rounded", format("000", (legumeyet_options){0}), "000");
+    expect_text("of a compact number", format_short("400", thousands), "0");
+    expect_text("of an integer", legumeyet_decimal_formatter_format_i64(&english, 4, 2, &thousands, out, sizeof out, &length), "0");
+    expect_text("of a double", legumeyet_decimal_formatter_format_double(&english, 400, &thousands, out, sizeof out, &length), "0");
 }
 
 static void least_digits(void) {
@@ -661,6 +685,7 @@ int main(void) {
     formats();
     increments();
     zeros();
+    rounded_to_zero();
     least_digits();
     unsigned_integers();
     doubles();

@@ -54,6 +54,16 @@ static_assert(!std::is_constructible_v<CurrencyFormatter, const char *> && !std:
 static_assert(!std::is_constructible_v<CurrencyFormatter, const char *, const char *, CurrencyWidth>);
 static_assert(!std::is_constructible_v<CurrencyFormatter, const char *, const char *, Grouping>);
 static_assert(!std::is_convertible_v<const char *, PercentFormatter>);
+
+// A null pointer that is seen by the compiler is no text.
+static_assert(!std::is_constructible_v<DecimalFormatter, std::nullptr_t> && !std::is_constructible_v<DecimalFormatter, Book &, std::nullptr_t>);
+static_assert(!std::is_constructible_v<CurrencyFormatter, const char *, std::nullptr_t> && !std::is_constructible_v<Book, std::nullptr_t>);
+static_assert(std::is_constructible_v<DecimalFormatter, std::string> && std::is_constructible_v<DecimalFormatter, char *, Grouping>);
+
+// What a temporary result has is given away and not shown.
+template <class T> constexpr bool gives_away = std::is_same_v<decltype(std::declval<legumeyet::Result<T>>().value()), T> &&
+                                               std::is_same_v<decltype(*std::declval<legumeyet::Result<T>>()), T>;
+static_assert(gives_away<std::string> && gives_away<legumeyet::Column> && gives_away<Book> && gives_away<legumeyet::Annotated>);
 static_assert(!std::is_convertible_v<const char *, DecimalFormatter> && !std::is_convertible_v<const char *, Book>);
 
 // Books and formatters are moved and not copied, and nothing is thrown there; the type of a `format_to` is its iterator's.
@@ -99,6 +109,19 @@ template <class Call> static void expect_error(int32_t number, Call call) {
     wrong = 1;
 }
 
+// A null pointer in place of a text is an empty text.
+static void null_texts(DecimalFormatter &english) {
+    const char *null = nullptr;
+    expect_error(LEGUMEYET_TAG, [&] { DecimalFormatter{null}; });
+    expect_error(LEGUMEYET_CODE, [&] { CurrencyFormatter{"en", null}; });
+    expect_error(LEGUMEYET_BOOK_JSON, [&] { Book{null}; });
+    expect_error(LEGUMEYET_NUMBER, [&] { english.format(null); });
+    expect_error(LEGUMEYET_NUMBER, [&] { english.format_parts(null); });
+    expect_error(LEGUMEYET_NUMBER, [&] { english.format_all(std::vector<const char *>{"1", null}); });
+    expect_error(LEGUMEYET_NOT_WRITTEN, [&] { english.read(null); });
+    expect_error(LEGUMEYET_NOT_WRITTEN, [&] { english.read_lenient(null); });
+}
+
 static const Options ROUNDED = Options().with_rounding(Rounding::HalfEven, -1);
 
 static void doubles(DecimalFormatter &english) {
@@ -108,6 +131,9 @@ static void doubles(DecimalFormatter &english) {
     expect(english.format(5.0), "5");
     expect(english.format(-0.0), "-0");
     expect(english.format(1.23, options), "001.25");
+    expect(english.format(400, Options().with_rounding(Rounding::HalfEven, 3)) + english.format("000"), "0000");
+    expect(english.format("2.00", Options().with_trailing_zeros(TrailingZeros::TrimWhole)), "2");
+    expect(english.format("2.50", Options().with_trailing_zeros(TrailingZeros::TrimWhole)), "2.50");
     options = options.with_trailing_zeros(TrailingZeros::Trim).with_minimum_fraction_digits(1);
     expect(english.format(1.98, options), "002.0");
     expect_error(LEGUMEYET_NUMBER, [&] { english.format(std::numeric_limits<double>::quiet_NaN()); });
@@ -562,6 +588,7 @@ int main(int count, char **words) {
     reads(book, moved);
     compacts(book, moved_short);
     results(book, moved);
+    null_texts(moved);
     first = Book(BOOK);
     book = Book("[[],[],[],[],[]]");
     options();

@@ -87,7 +87,9 @@ static void plain() {
     expect_code(german->format_all_to(column, some), Code::Number);
     expect(std::to_string(column.size()) + column.text(), "20,50,5");
     expect_code(german->try_format_all(std::vector<const char *>{"5."}).error(), Code::Number);
-    expect((*german->try_format_all(std::vector<int>{1234}))[0], "1.234");
+    for (std::string_view it : *german->try_format_all(std::vector<int>{1234})) expect(it, "1.234");
+    expect_code(german->try_format_all(std::vector<int>{1}, legumeyet::Exponent(40000)).error(), Code::Limit);
+    expect_code(DecimalFormatter::try_open(static_cast<const char *>(nullptr)).error(), Code::Tag);
     expect_code(DecimalFormatter::try_open("de_DE").error(), Code::Tag);
     expect_code(DecimalFormatter::try_open("xx").error(), Code::Table);
 }

@@ -110,6 +110,10 @@ static void writes(void) {
     expect_text(format(&euros, "-0.001", AS_GIVEN), "-" EURO "0.00");
     expect_text(format(&euros, "-0.001", signed_), EURO "0.00");
     expect_text(format(&euros, "5", trimmed), EURO "5");
+    trimmed.trailing_zeros = LEGUMEYET_TRAILING_ZEROS_TRIM_WHOLE;
+    expect_text(format(&euros, "5", trimmed), EURO "5");
+    expect_text(format(&euros, "5.5", trimmed), EURO "5.50");
+    expect_text(format(&euros, "400", (legumeyet_options){.rounding = LEGUMEYET_ROUND_HALF_EVEN, .position = 3}), EURO "0");
     expect_text(rounded(&euros, "5", LEGUMEYET_ROUND_NONE), EURO "5");
     expect_text(rounded(&euros, "5.06", LEGUMEYET_ROUND_EXPAND), EURO "5.1");
     expect_error("a rounding", rounded(&euros, "x", 12), LEGUMEYET_OPTION);

@@ -16,7 +16,10 @@
 // Threads: a book, a formatter or answers may go to another thread, and are used by one call at a time, also by a call that only reads, so no
 // call is const. A shared formatter, as SharedDecimalFormatter, is used by any number of threads at once, and its calls are const:
 //
-//     static const legumeyet::SharedDecimalFormatter german(legumeyet::DecimalFormatter("de"));
+//     static const legumeyet::SharedDecimalFormatter german{legumeyet::DecimalFormatter{"de"}};
+//
+// A null pointer in place of a text is an empty text, which is no tag and no number. The macros None and Always of X11 may be there when this
+// header is included; a program that has them writes Rounding{LEGUMEYET_ROUND_NONE} and Sign{LEGUMEYET_SIGN_ALWAYS}.
 #ifndef LEGUMEYET_HPP
 #define LEGUMEYET_HPP
 
@@ -56,6 +59,21 @@
 #if defined(__cpp_lib_format) && defined(__cpp_exceptions)
 #include <format>
 #endif
+
+// What borrows from what is given is told to Clang, which warns where that is gone before.
+#if defined(__has_cpp_attribute)
+#if __has_cpp_attribute(clang::lifetimebound)
+#define LEGUMEYET_BORROWS [[clang::lifetimebound]]
+#endif
+#endif
+#ifndef LEGUMEYET_BORROWS
+#define LEGUMEYET_BORROWS
+#endif
+
+#pragma push_macro("Always")
+#pragma push_macro("None")
+#undef Always
+#undef None
 
 namespace legumeyet {
 
@@ -138,7 +156,11 @@ enum class Rounding : uint32_t {
 };
 
 // What becomes of the zeros at the end of the fraction digits: LEGUMEYET_TRAILING_ZEROS.
-enum class TrailingZeros : uint16_t { Keep = LEGUMEYET_TRAILING_ZEROS_KEEP, Trim = LEGUMEYET_TRAILING_ZEROS_TRIM };
+enum class TrailingZeros : uint16_t {
+    Keep = LEGUMEYET_TRAILING_ZEROS_KEEP,
+    Trim = LEGUMEYET_TRAILING_ZEROS_TRIM,
+    TrimWhole = LEGUMEYET_TRAILING_ZEROS_TRIM_WHOLE
+};
 
 // What a number is rounded to a multiple of, at the position.
 enum class Increment : uint32_t { One = 1, Two = 2, Five = 5, TwentyFive = 25 };
@@ -252,6 +274,25 @@ template <class Call, class Use> Code with_text(Call call, Use use) {
 // Whether a type is of texts.
 template <class T> inline constexpr bool is_text = std::is_convertible_v<const T &, std::string_view> && !std::is_null_pointer_v<T>;
 
+// The characters of a text. A null pointer has none.
+template <class T> std::string_view view_of(const T &text) noexcept(std::is_nothrow_constructible_v<std::string_view, const T &>) {
+    if constexpr (std::is_pointer_v<T>) return text == nullptr ? std::string_view() : std::string_view(text);
+    return text;
+}
+
+// A text that a call is given, which it borrows.
+class Text {
+    std::string_view view;
+
+  public:
+    template <class T, std::enable_if_t<is_text<T>, int> = 0> Text(const T &text LEGUMEYET_BORROWS) noexcept(noexcept(view_of(text))) : view(view_of(text)) {}
+    Text(std::nullptr_t) = delete;
+
+    operator std::string_view() const noexcept { return view; }
+    std::size_t size() const noexcept { return view.size(); }
+    const uint8_t *bytes() const noexcept { return inner::bytes(view); }
+};
+
 // Whether a type is of numbers that are given otherwise: bool and the characters, and a float or a long double, which has other shortest
 // digits than a double.
 template <class T>
@@ -315,9 +356,9 @@ template <class T> class [[nodiscard]] Result {
     }
 
     // What was found; only of a result that has it.
-    T &operator*() &noexcept { return *std::get_if<0>(&content); }
-    const T &operator*() const &noexcept { return *std::get_if<0>(&content); }
-    T &&operator*() &&noexcept { return std::move(**this); }
+    T &operator*() &noexcept LEGUMEYET_BORROWS { return *std::get_if<0>(&content); }
+    const T &operator*() const &noexcept LEGUMEYET_BORROWS { return *std::get_if<0>(&content); }
+    T operator*() &&noexcept { return std::move(**this); }
     T *operator->() noexcept { return std::get_if<0>(&content); }
     const T *operator->() const noexcept { return std::get_if<0>(&content); }
 
@@ -327,9 +368,9 @@ template <class T> class [[nodiscard]] Result {
 
 #ifdef __cpp_exceptions
     // What was found. Throws the Error of the code.
-    T &value() & { return expect(), **this; }
-    const T &value() const & { return expect(), **this; }
-    T &&value() && { return expect(), std::move(**this); }
+    T &value() & LEGUMEYET_BORROWS { return expect(), **this; }
+    const T &value() const & LEGUMEYET_BORROWS { return expect(), **this; }
+    T value() && { return expect(), std::move(**this); }
 
   private:
     void expect() const { inner::expect_well(error()); }
@@ -379,13 +420,26 @@ template <class Handle, class Calls, class Base = Owned<Handle, Calls::close>> c
 
 } // namespace inner
 
+// The power of ten that all mantissas of a column are times: cents are Exponent(-2). One that has no room is refused by the call: Code::Limit.
+class Exponent {
+    int16_t power;
+    bool is_known;
+
+  public:
+    template <class T, std::enable_if_t<inner::is_number<T>, int> = 0>
+    constexpr explicit Exponent(T it) noexcept : power(static_cast<int16_t>(it)), is_known(inner::fits<int16_t>(it)) {}
+
+    constexpr bool has_room() const noexcept { return is_known; }
+    constexpr explicit operator int16_t() const noexcept { return power; }
+};
+
 // A number to be written: a text, as `-987654.321`, an integer, a double, or an integer times a power of ten. It borrows a text.
 class Number {
     std::variant<std::string_view, int64_t, uint64_t, double> content;
     int16_t exponent = 0;
 
   public:
-    template <class T, std::enable_if_t<inner::is_text<T>, int> = 0> Number(const T &text) : content(std::string_view(text)) {}
+    template <class T, std::enable_if_t<inner::is_text<T>, int> = 0> Number(const T &text LEGUMEYET_BORROWS) : content(inner::view_of(text)) {}
 
     // The number `mantissa` times ten to the power `exponent`, with all digits down to it: 500 and -2 are `5.00`.
     template <class T, std::enable_if_t<inner::is_number<T>, int> = 0> Number(T number) noexcept : Number(number, 0) {}
@@ -426,8 +480,8 @@ class Digits {
 
   public:
     template <class T, std::enable_if_t<is_text<T>, int> = 0> Digits(const T &number) {
-        const std::string_view view(number);
-        text = view.data();
+        const std::string_view view = view_of(number);
+        text = view.data() != nullptr ? view.data() : near;
         length = view.size();
     }
     template <class T, std::enable_if_t<is_number<T> || std::is_same_v<T, double>, int> = 0> Digits(T number) noexcept {
@@ -494,8 +548,10 @@ struct Annotated {
         friend bool operator!=(const iterator &left, const iterator &right) noexcept { return left.at != right.at; }
     };
 
-    iterator begin() const noexcept { return {*this, 0}; }
-    iterator end() const noexcept { return {*this, parts.size()}; }
+    iterator begin() const &noexcept LEGUMEYET_BORROWS { return {*this, 0}; }
+    iterator end() const &noexcept LEGUMEYET_BORROWS { return {*this, parts.size()}; }
+    iterator begin() && = delete;
+    iterator end() && = delete;
 };
 
 namespace inner {
@@ -609,18 +665,24 @@ class Column {
     std::size_t size() const noexcept { return ends.size(); }
     bool empty() const noexcept { return ends.empty(); }
 
-    // A text, of a place below `size()`. It is the column's: it is used before that is changed.
-    std::string_view operator[](std::size_t at) const noexcept {
+    // A text, of a place below `size()`. It is the column's: it is used before that is changed, and a temporary column has none to give.
+    std::string_view operator[](std::size_t at) const &noexcept LEGUMEYET_BORROWS {
         const std::size_t start = at == 0 ? 0 : ends[at - 1];
         return std::string_view(content).substr(start, ends[at] - start);
     }
-    std::string_view front() const noexcept { return (*this)[0]; }
-    std::string_view back() const noexcept { return (*this)[size() - 1]; }
-    iterator begin() const noexcept { return {*this, 0}; }
-    iterator end() const noexcept { return {*this, size()}; }
+    std::string_view front() const &noexcept LEGUMEYET_BORROWS { return (*this)[0]; }
+    std::string_view back() const &noexcept LEGUMEYET_BORROWS { return (*this)[size() - 1]; }
+    iterator begin() const &noexcept LEGUMEYET_BORROWS { return {*this, 0}; }
+    iterator end() const &noexcept LEGUMEYET_BORROWS { return {*this, size()}; }
+    std::string_view operator[](std::size_t at) && = delete;
+    std::string_view front() && = delete;
+    std::string_view back() && = delete;
+    iterator begin() && = delete;
+    iterator end() && = delete;
 
     // All texts, with nothing between.
-    const std::string &text() const noexcept { return content; }
+    const std::string &text() const &noexcept LEGUMEYET_BORROWS { return content; }
+    std::string text() &&noexcept { return std::move(content); }
 
     // Leaves no text. The memory is kept for those that come.
     void clear() noexcept {
@@ -651,6 +713,8 @@ template <class Numbers, class = void> inline constexpr bool has_numbers = false
 template <class Numbers>
 inline constexpr bool has_numbers<Numbers, std::void_t<item_of<Numbers>>> =
     std::is_same_v<item_of<Numbers>, double> || is_number<item_of<Numbers>> || is_text<item_of<Numbers>>;
+template <class Numbers, class = void> inline constexpr bool has_integers = false;
+template <class Numbers> inline constexpr bool has_integers<Numbers, std::void_t<item_of<Numbers>>> = is_number<item_of<Numbers>>;
 
 // How many numbers are behind a pointer. `{}` is no such count, so beside an array it is options.
 class Count {
@@ -698,8 +762,8 @@ class Book : inner::Owned<legumeyet_book, legumeyet_book_close> {
 
   public:
     // The book that a JSON text is.
-    static Result<Book> try_from_json(std::string_view json) noexcept {
-        return opened([&](legumeyet_book *book) { return legumeyet_book_open(inner::bytes(json), json.size(), book); });
+    static Result<Book> try_from_json(inner::Text json) noexcept {
+        return opened([&](legumeyet_book *book) { return legumeyet_book_open(json.bytes(), json.size(), book); });
     }
 
     // The world's book, which is in the library.
@@ -715,8 +779,8 @@ class Book : inner::Owned<legumeyet_book, legumeyet_book_close> {
     [[nodiscard]] Code try_keep() noexcept { return static_cast<Code>(legumeyet_book_keep(&handle)); }
 
     // The answer to a request line, without its line feed: `ok`, a tab and a text, or `err`, a tab and a word.
-    Result<std::string> try_answer(std::string_view line) {
-        return inner::text_of([&](auto... out) { return legumeyet_book_answer(&handle, inner::bytes(line), line.size(), out...); });
+    Result<std::string> try_answer(inner::Text line) {
+        return inner::text_of([&](auto... out) { return legumeyet_book_answer(&handle, line.bytes(), line.size(), out...); });
     }
 
     // The tags of the locales that the book has symbols of, in its order. Others have the tables of their parents: of the world's book
@@ -735,7 +799,7 @@ class Book : inner::Owned<legumeyet_book, legumeyet_book_close> {
     }
 
 #ifdef __cpp_exceptions
-    explicit Book(std::string_view json) : Book(try_from_json(json).value()) {}
+    explicit Book(inner::Text json) : Book(try_from_json(json).value()) {}
     static Book world() { return try_world().value(); }
     // Throws a std::system_error where the file cannot be read.
     static Book from_file(const std::string &path) {
@@ -744,7 +808,7 @@ class Book : inner::Owned<legumeyet_book, legumeyet_book_close> {
         return std::move(book).value();
     }
     void keep() { inner::expect_well(try_keep()); }
-    std::string answer(std::string_view line) { return try_answer(line).value(); }
+    std::string answer(inner::Text line) { return try_answer(line).value(); }
     std::vector<std::string> locales() { return try_locales().value(); }
 #endif
 };
@@ -826,7 +890,8 @@ class Answers : inner::Owned<legumeyet_answers, legumeyet_answers_close> {
     }
 
     // The answers to the lines, in order, as Book::answer has them, each with a line feed. A last line without one is answered too.
-    Result<std::string> try_answer(std::string_view lines) {
+    Result<std::string> try_answer(inner::Text given) {
+        const std::string_view lines = given;
         const std::size_t whole = lines.rfind('\n') + 1; // 0 where no line ends
         std::string text(lines.size() + inner::NEAR, ' ');
         std::size_t used = 0;
@@ -840,7 +905,7 @@ class Answers : inner::Owned<legumeyet_answers, legumeyet_answers_close> {
 #ifdef __cpp_exceptions
     explicit Answers(std::size_t capacity = CAPACITY) : Answers(try_open(capacity).value()) {}
     explicit Answers(Book &book, std::size_t capacity = CAPACITY) : Answers(try_open(book, capacity).value()) {}
-    std::string answer(std::string_view lines) { return try_answer(lines).value(); }
+    std::string answer(inner::Text lines) { return try_answer(lines).value(); }
 #endif
 };
 
@@ -885,9 +950,11 @@ template <class Handle, class Calls, class Base> class Formatter : Base {
         });
     }
 
-    Code add_integers(Column &into, const int64_t *numbers, std::size_t total, const legumeyet_options &options) {
+    Code add_integers(Column &into, const int64_t *numbers, std::size_t total, Exponent exponent, const legumeyet_options &options) {
+        if (!exponent.has_room()) return Code::Limit;
         return into.add(total, [&](std::size_t done, auto... out) {
-            return static_cast<Code>(Calls::format_integers(&handle, numbers + done, total - done, 0, &options, out...));
+            return static_cast<Code>(
+                Calls::format_integers(&handle, numbers + done, total - done, static_cast<int16_t>(exponent), &options, out...));
         });
     }
 
@@ -901,7 +968,7 @@ template <class Handle, class Calls, class Base> class Formatter : Base {
     }
 
     // Adds numbers that are not in one piece of memory as T, some at a time; an integer that is none is added alone.
-    template <class T, class Numbers> Code add_gathered(Column &into, Numbers &numbers, const Options &options) {
+    template <class T, class Numbers> Code add_gathered(Column &into, Numbers &numbers, Exponent exponent, const Options &options) {
         const auto choices = static_cast<legumeyet_options>(options);
         T gathered[GATHERED];
         std::size_t count = 0;
@@ -910,17 +977,17 @@ template <class Handle, class Calls, class Base> class Formatter : Base {
             if constexpr (std::is_same_v<T, double>)
                 return add_doubles(into, gathered, total, choices);
             else
-                return add_integers(into, gathered, total, choices);
+                return add_integers(into, gathered, total, exponent, choices);
         };
         for (const auto &it : numbers) {
             Code code = Code::Ok;
             bool is_alone = false;
             if constexpr (!std::is_same_v<T, double>) is_alone = !fits<T>(it);
             if (count == GATHERED || is_alone) code = add();
-            if (code == Code::Ok && is_alone)
-                code = add_one(into, it, options);
-            else
-                gathered[count++] = static_cast<T>(it);
+            if (code != Code::Ok) return code;
+            if constexpr (!std::is_same_v<T, double>)
+                if (is_alone) code = add_one(into, Number(it, static_cast<int16_t>(exponent)), options);
+            if (!is_alone) gathered[count++] = static_cast<T>(it);
             if (code != Code::Ok) return code;
         }
         return add();
@@ -938,7 +1005,7 @@ template <class Handle, class Calls, class Base> class Formatter : Base {
             return code;
         };
         for (const auto &it : numbers) {
-            const std::string_view text(it);
+            const std::string_view text = view_of(it);
             const bool is_alone = text.find('\n') != text.npos;
             Code code = is_alone || lines.size() >= LINES ? add() : Code::Ok;
             if (code == Code::Ok && is_alone) code = add_one(into, text, options);
@@ -986,7 +1053,7 @@ template <class Handle, class Calls, class Base> class Formatter : Base {
     }
 
     // What `<<` and std::format write a number by; it borrows the formatter, and a text. It is used in the statement that makes it.
-    Formatted<Formatter> operator()(Number number, const Options &options = {}) &noexcept { return {*this, number, options}; }
+    Formatted<Formatter> operator()(Number number LEGUMEYET_BORROWS, const Options &options = {}) &noexcept LEGUMEYET_BORROWS { return {*this, number, options}; }
 
     // The text of a number.
     Result<std::string> try_format(Number number, const Options &options = {}) {
@@ -997,7 +1064,8 @@ template <class Handle, class Calls, class Base> class Formatter : Base {
     }
 
     // Adds the texts of many numbers to a column, of a range of doubles, integers or texts: as `format` has each, and sooner. Where one is
-    // refused the column has those before it, so that its size says which. The numbers are not texts of the column itself.
+    // refused the column has those before it, so that its size says which. The numbers are not texts of the column itself. Integers may
+    // all be times a power of ten, so that cents need no arithmetic: format_all_to(column, cents, Exponent(-2)).
     template <class Numbers, std::enable_if_t<has_numbers<Numbers>, int> = 0>
     [[nodiscard]] Code format_all_to(Column &into, Numbers &&numbers, const Options &options = {}) {
         using T = item_of<Numbers>;
@@ -1005,16 +1073,26 @@ template <class Handle, class Calls, class Base> class Formatter : Base {
             return add_texts(into, numbers, options);
         else if constexpr (is_memory_of<double, Numbers>)
             return add_doubles(into, std::data(numbers), std::size(numbers), static_cast<legumeyet_options>(options));
-        else if constexpr (is_memory_of<int64_t, Numbers>)
-            return add_integers(into, std::data(numbers), std::size(numbers), static_cast<legumeyet_options>(options));
+        else if constexpr (is_number<T>)
+            return format_all_to(into, numbers, Exponent(0), options);
         else
-            return add_gathered<std::conditional_t<std::is_same_v<T, double>, double, int64_t>>(into, numbers, options);
+            return add_gathered<double>(into, numbers, Exponent(0), options);
+    }
+    template <class Numbers, std::enable_if_t<has_integers<Numbers>, int> = 0>
+    [[nodiscard]] Code format_all_to(Column &into, Numbers &&mantissas, Exponent exponent, const Options &options = {}) {
+        if constexpr (is_memory_of<int64_t, Numbers>)
+            return add_integers(into, std::data(mantissas), std::size(mantissas), exponent, static_cast<legumeyet_options>(options));
+        else
+            return exponent.has_room() ? add_gathered<int64_t>(into, mantissas, exponent, options) : Code::Limit;
     }
     [[nodiscard]] Code format_all_to(Column &into, const double *numbers, Count count, const Options &options = {}) {
         return add_doubles(into, numbers, count, static_cast<legumeyet_options>(options));
     }
     [[nodiscard]] Code format_all_to(Column &into, const int64_t *numbers, Count count, const Options &options = {}) {
-        return add_integers(into, numbers, count, static_cast<legumeyet_options>(options));
+        return format_all_to(into, numbers, count, Exponent(0), options);
+    }
+    [[nodiscard]] Code format_all_to(Column &into, const int64_t *mantissas, Count count, Exponent exponent, const Options &options = {}) {
+        return add_integers(into, mantissas, count, exponent, static_cast<legumeyet_options>(options));
     }
 
     // The texts of many numbers, which are given as to `format_all_to`.
@@ -1027,6 +1105,13 @@ template <class Handle, class Calls, class Base> class Formatter : Base {
     }
     Result<Column> try_format_all(const int64_t *numbers, Count count, const Options &options = {}) {
         return column_of([&](Column &it) { return format_all_to(it, numbers, count, options); });
+    }
+    template <class Numbers, std::enable_if_t<has_integers<Numbers>, int> = 0>
+    Result<Column> try_format_all(Numbers &&mantissas, Exponent exponent, const Options &options = {}) {
+        return column_of([&](Column &it) { return format_all_to(it, mantissas, exponent, options); });
+    }
+    Result<Column> try_format_all(const int64_t *mantissas, Count count, Exponent exponent, const Options &options = {}) {
+        return column_of([&](Column &it) { return format_all_to(it, mantissas, count, exponent, options); });
     }
 
     // The same with its parts, in order of their beginning; of a compact number those of its sign.
@@ -1054,6 +1139,13 @@ template <class Handle, class Calls, class Base> class Formatter : Base {
     }
     Column format_all(const int64_t *numbers, Count count, const Options &options = {}) {
         return whole_column_of([&](Column &it) { return format_all_to(it, numbers, count, options); });
+    }
+    template <class Numbers, std::enable_if_t<has_integers<Numbers>, int> = 0>
+    Column format_all(Numbers &&mantissas, Exponent exponent, const Options &options = {}) {
+        return whole_column_of([&](Column &it) { return format_all_to(it, mantissas, exponent, options); });
+    }
+    Column format_all(const int64_t *mantissas, Count count, Exponent exponent, const Options &options = {}) {
+        return whole_column_of([&](Column &it) { return format_all_to(it, mantissas, count, exponent, options); });
     }
 #endif
 };
@@ -1101,18 +1193,18 @@ class UnitFormatter : public Formatter<legumeyet_unit_formatter, UnitCalls> {
 
   public:
     // The number that is written so, as digits: `-1234.50` of `-€1,234.50` in English.
-    Result<std::string> try_read(std::string_view text) {
-        return text_of([&](auto... out) { return legumeyet_unit_formatter_read(&handle, bytes(text), text.size(), out...); });
+    Result<std::string> try_read(inner::Text text) {
+        return text_of([&](auto... out) { return legumeyet_unit_formatter_read(&handle, text.bytes(), text.size(), out...); });
     }
 
     // The number that somebody typed, as digits: `1234.5` of `1234.5 €` in English; legumeyet_unit_formatter_read_lenient has the rule.
-    Result<std::string> try_read_lenient(std::string_view text) {
-        return text_of([&](auto... out) { return legumeyet_unit_formatter_read_lenient(&handle, bytes(text), text.size(), out...); });
+    Result<std::string> try_read_lenient(inner::Text text) {
+        return text_of([&](auto... out) { return legumeyet_unit_formatter_read_lenient(&handle, text.bytes(), text.size(), out...); });
     }
 
 #ifdef __cpp_exceptions
-    std::string read(std::string_view text) { return try_read(text).value(); }
-    std::string read_lenient(std::string_view text) { return try_read_lenient(text).value(); }
+    std::string read(inner::Text text) { return try_read(text).value(); }
+    std::string read_lenient(inner::Text text) { return try_read_lenient(text).value(); }
 #endif
 };
 
@@ -1154,38 +1246,38 @@ class DecimalFormatter : public inner::Formatter<legumeyet_decimal_formatter, in
 
   public:
     // Of the world's book, which the process opens once and keeps.
-    static Result<DecimalFormatter> try_open(std::string_view tag, Grouping grouping = Grouping::Auto) {
+    static Result<DecimalFormatter> try_open(inner::Text tag, Grouping grouping = Grouping::Auto) {
         return inner::World::with([&](Book &book) { return try_open(book, tag, grouping); });
     }
 
-    static Result<DecimalFormatter> try_open(Book &book, std::string_view tag, Grouping grouping = Grouping::Auto) noexcept {
+    static Result<DecimalFormatter> try_open(Book &book, inner::Text tag, Grouping grouping = Grouping::Auto) noexcept {
         DecimalFormatter found;
         const auto code = static_cast<Code>(
-            legumeyet_decimal_formatter_open(&book.handle, inner::bytes(tag), tag.size(), static_cast<uint32_t>(grouping), &found.handle));
+            legumeyet_decimal_formatter_open(&book.handle, tag.bytes(), tag.size(), static_cast<uint32_t>(grouping), &found.handle));
         if (code != Code::Ok) return code;
         return found;
     }
 
     // The number that is written so, as digits: `-1234.50` of `-1,234.50` in English.
-    Result<std::string> try_read(std::string_view text) {
+    Result<std::string> try_read(inner::Text text) {
         return inner::text_of(
-            [&](auto... out) { return legumeyet_decimal_formatter_read(&handle, inner::bytes(text), text.size(), out...); });
+            [&](auto... out) { return legumeyet_decimal_formatter_read(&handle, text.bytes(), text.size(), out...); });
     }
 
     // The number that somebody typed, as digits: `1234.5` of ` 1234.5 ` in English; legumeyet_decimal_formatter_read_lenient has the rule.
-    Result<std::string> try_read_lenient(std::string_view text) {
+    Result<std::string> try_read_lenient(inner::Text text) {
         return inner::text_of(
-            [&](auto... out) { return legumeyet_decimal_formatter_read_lenient(&handle, inner::bytes(text), text.size(), out...); });
+            [&](auto... out) { return legumeyet_decimal_formatter_read_lenient(&handle, text.bytes(), text.size(), out...); });
     }
 
 #ifdef __cpp_exceptions
-    explicit DecimalFormatter(std::string_view tag, Grouping grouping = Grouping::Auto) { take(try_open(tag, grouping), tag); }
-    DecimalFormatter(Book &book, std::string_view tag, Grouping grouping = Grouping::Auto) { take(try_open(book, tag, grouping), tag); }
-    std::string read(std::string_view text) { return try_read(text).value(); }
-    std::string read_lenient(std::string_view text) { return try_read_lenient(text).value(); }
+    explicit DecimalFormatter(inner::Text tag, Grouping grouping = Grouping::Auto) { take(try_open(tag, grouping), tag); }
+    DecimalFormatter(Book &book, inner::Text tag, Grouping grouping = Grouping::Auto) { take(try_open(book, tag, grouping), tag); }
+    std::string read(inner::Text text) { return try_read(text).value(); }
+    std::string read_lenient(inner::Text text) { return try_read_lenient(text).value(); }
 
   private:
-    void take(Result<DecimalFormatter> opened, std::string_view tag) {
+    void take(Result<DecimalFormatter> opened, inner::Text tag) {
         inner::expect_opened(opened.error(), tag);
         *this = *std::move(opened);
     }
@@ -1200,15 +1292,15 @@ class CompactDecimalFormatter : public inner::Formatter<legumeyet_compact_format
 
   public:
     // Of the world's book, which the process opens once and keeps.
-    static Result<CompactDecimalFormatter> try_open(std::string_view tag, Width width = Width::Short, Grouping grouping = Grouping::Min2) {
+    static Result<CompactDecimalFormatter> try_open(inner::Text tag, Width width = Width::Short, Grouping grouping = Grouping::Min2) {
         return inner::World::with([&](Book &book) { return try_open(book, tag, width, grouping); });
     }
 
-    static Result<CompactDecimalFormatter> try_open(Book &book, std::string_view tag, Width width = Width::Short,
+    static Result<CompactDecimalFormatter> try_open(Book &book, inner::Text tag, Width width = Width::Short,
                                                     Grouping grouping = Grouping::Min2) noexcept {
         CompactDecimalFormatter found;
         const auto code = static_cast<Code>(legumeyet_compact_formatter_open(
-            &book.handle, inner::bytes(tag), tag.size(), static_cast<uint32_t>(width), static_cast<uint32_t>(grouping), &found.handle));
+            &book.handle, tag.bytes(), tag.size(), static_cast<uint32_t>(width), static_cast<uint32_t>(grouping), &found.handle));
         if (code != Code::Ok) return code;
         return found;
     }
@@ -1219,22 +1311,22 @@ class CompactDecimalFormatter : public inner::Formatter<legumeyet_compact_format
     }
 
     // The text of a significand with an exponent, its digits as they are: `-1.20M` of `-1.20c6`.
-    Result<std::string> try_format_exact(std::string_view number, const Options &options = {}) {
+    Result<std::string> try_format_exact(inner::Text number, const Options &options = {}) {
         return of_text(legumeyet_compact_formatter_format_exact, number, options);
     }
 
 #ifdef __cpp_exceptions
-    explicit CompactDecimalFormatter(std::string_view tag, Width width = Width::Short, Grouping grouping = Grouping::Min2) {
+    explicit CompactDecimalFormatter(inner::Text tag, Width width = Width::Short, Grouping grouping = Grouping::Min2) {
         take(try_open(tag, width, grouping), tag);
     }
-    CompactDecimalFormatter(Book &book, std::string_view tag, Width width = Width::Short, Grouping grouping = Grouping::Min2) {
+    CompactDecimalFormatter(Book &book, inner::Text tag, Width width = Width::Short, Grouping grouping = Grouping::Min2) {
         take(try_open(book, tag, width, grouping), tag);
     }
     std::string shown(const inner::Digits &number, const Options &options = {}) { return try_shown(number, options).value(); }
-    std::string format_exact(std::string_view number, const Options &options = {}) { return try_format_exact(number, options).value(); }
+    std::string format_exact(inner::Text number, const Options &options = {}) { return try_format_exact(number, options).value(); }
 
   private:
-    void take(Result<CompactDecimalFormatter> opened, std::string_view tag) {
+    void take(Result<CompactDecimalFormatter> opened, inner::Text tag) {
         inner::expect_opened(opened.error(), tag);
         *this = *std::move(opened);
     }
@@ -1250,24 +1342,24 @@ class PercentFormatter : public inner::UnitFormatter {
 
   public:
     // Of the world's book, which the process opens once and keeps.
-    static Result<PercentFormatter> try_open(std::string_view tag, Grouping grouping = Grouping::Auto) {
+    static Result<PercentFormatter> try_open(inner::Text tag, Grouping grouping = Grouping::Auto) {
         return inner::World::with([&](Book &book) { return try_open(book, tag, grouping); });
     }
 
-    static Result<PercentFormatter> try_open(Book &book, std::string_view tag, Grouping grouping = Grouping::Auto) noexcept {
+    static Result<PercentFormatter> try_open(Book &book, inner::Text tag, Grouping grouping = Grouping::Auto) noexcept {
         PercentFormatter found;
         const auto code = static_cast<Code>(
-            legumeyet_percent_formatter_open(&book.handle, inner::bytes(tag), tag.size(), static_cast<uint32_t>(grouping), &found.handle));
+            legumeyet_percent_formatter_open(&book.handle, tag.bytes(), tag.size(), static_cast<uint32_t>(grouping), &found.handle));
         if (code != Code::Ok) return code;
         return found;
     }
 
 #ifdef __cpp_exceptions
-    explicit PercentFormatter(std::string_view tag, Grouping grouping = Grouping::Auto) { take(try_open(tag, grouping), tag); }
-    PercentFormatter(Book &book, std::string_view tag, Grouping grouping = Grouping::Auto) { take(try_open(book, tag, grouping), tag); }
+    explicit PercentFormatter(inner::Text tag, Grouping grouping = Grouping::Auto) { take(try_open(tag, grouping), tag); }
+    PercentFormatter(Book &book, inner::Text tag, Grouping grouping = Grouping::Auto) { take(try_open(book, tag, grouping), tag); }
 
   private:
-    void take(Result<PercentFormatter> opened, std::string_view tag) {
+    void take(Result<PercentFormatter> opened, inner::Text tag) {
         inner::expect_opened(opened.error(), tag);
         *this = *std::move(opened);
     }
@@ -1284,35 +1376,35 @@ class CurrencyFormatter : public inner::UnitFormatter {
 
   public:
     // Of the world's book, which the process opens once and keeps.
-    static Result<CurrencyFormatter> try_open(std::string_view tag, std::string_view currency,
+    static Result<CurrencyFormatter> try_open(inner::Text tag, inner::Text currency,
                                               CurrencyStyle style = CurrencyStyle::Standard,
                                               CurrencyWidth width = CurrencyWidth::Symbol, Grouping grouping = Grouping::Auto) {
         return inner::World::with([&](Book &book) { return try_open(book, tag, currency, style, width, grouping); });
     }
 
-    static Result<CurrencyFormatter> try_open(Book &book, std::string_view tag, std::string_view currency,
+    static Result<CurrencyFormatter> try_open(Book &book, inner::Text tag, inner::Text currency,
                                               CurrencyStyle style = CurrencyStyle::Standard,
                                               CurrencyWidth width = CurrencyWidth::Symbol, Grouping grouping = Grouping::Auto) noexcept {
         CurrencyFormatter found;
         const auto code = static_cast<Code>(legumeyet_currency_formatter_open(
-            &book.handle, inner::bytes(tag), tag.size(), inner::bytes(currency), currency.size(), static_cast<uint32_t>(style),
+            &book.handle, tag.bytes(), tag.size(), currency.bytes(), currency.size(), static_cast<uint32_t>(style),
             static_cast<uint32_t>(width), static_cast<uint32_t>(grouping), &found.handle));
         if (code != Code::Ok) return code;
         return found;
     }
 
 #ifdef __cpp_exceptions
-    CurrencyFormatter(std::string_view tag, std::string_view currency, CurrencyStyle style = CurrencyStyle::Standard,
+    CurrencyFormatter(inner::Text tag, inner::Text currency, CurrencyStyle style = CurrencyStyle::Standard,
                       CurrencyWidth width = CurrencyWidth::Symbol, Grouping grouping = Grouping::Auto) {
         take(try_open(tag, currency, style, width, grouping), tag, currency);
     }
-    CurrencyFormatter(Book &book, std::string_view tag, std::string_view currency, CurrencyStyle style = CurrencyStyle::Standard,
+    CurrencyFormatter(Book &book, inner::Text tag, inner::Text currency, CurrencyStyle style = CurrencyStyle::Standard,
                       CurrencyWidth width = CurrencyWidth::Symbol, Grouping grouping = Grouping::Auto) {
         take(try_open(book, tag, currency, style, width, grouping), tag, currency);
     }
 
   private:
-    void take(Result<CurrencyFormatter> opened, std::string_view tag, std::string_view currency) {
+    void take(Result<CurrencyFormatter> opened, inner::Text tag, inner::Text currency) {
         inner::expect_opened(opened.error(), tag, currency);
         *this = *std::move(opened);
     }
@@ -1351,7 +1443,9 @@ template <class Handle, class Calls> class SharedFormatter : Formatter<Handle, C
     FormatToResult<Out> format_to(Out out, Number number, const Options &options = {}) const {
         return calling().format_to(std::move(out), number, options);
     }
-    Formatted<Calling> operator()(Number number, const Options &options = {}) const &noexcept { return calling()(number, options); }
+    Formatted<Calling> operator()(Number number LEGUMEYET_BORROWS, const Options &options = {}) const &noexcept LEGUMEYET_BORROWS {
+        return calling()(number, options);
+    }
     Result<std::string> try_format(Number number, const Options &options = {}) const { return calling().try_format(number, options); }
     template <class Numbers, std::enable_if_t<has_numbers<Numbers>, int> = 0>
     [[nodiscard]] Code format_all_to(Column &into, Numbers &&numbers, const Options &options = {}) const {
@@ -1360,12 +1454,26 @@ template <class Handle, class Calls> class SharedFormatter : Formatter<Handle, C
     template <class T> [[nodiscard]] Code format_all_to(Column &into, const T *numbers, Count count, const Options &options = {}) const {
         return calling().format_all_to(into, numbers, count, options);
     }
+    template <class Numbers, std::enable_if_t<has_integers<Numbers>, int> = 0>
+    [[nodiscard]] Code format_all_to(Column &into, Numbers &&mantissas, Exponent exponent, const Options &options = {}) const {
+        return calling().format_all_to(into, mantissas, exponent, options);
+    }
+    [[nodiscard]] Code format_all_to(Column &into, const int64_t *mantissas, Count count, Exponent exponent, const Options &options = {}) const {
+        return calling().format_all_to(into, mantissas, count, exponent, options);
+    }
     template <class Numbers, std::enable_if_t<has_numbers<Numbers>, int> = 0>
     Result<Column> try_format_all(Numbers &&numbers, const Options &options = {}) const {
         return calling().try_format_all(numbers, options);
     }
     template <class T> Result<Column> try_format_all(const T *numbers, Count count, const Options &options = {}) const {
         return calling().try_format_all(numbers, count, options);
+    }
+    template <class Numbers, std::enable_if_t<has_integers<Numbers>, int> = 0>
+    Result<Column> try_format_all(Numbers &&mantissas, Exponent exponent, const Options &options = {}) const {
+        return calling().try_format_all(mantissas, exponent, options);
+    }
+    Result<Column> try_format_all(const int64_t *mantissas, Count count, Exponent exponent, const Options &options = {}) const {
+        return calling().try_format_all(mantissas, count, exponent, options);
     }
     Result<Annotated> try_format_parts(const Digits &number, const Options &options = {}) const {
         return calling().try_format_parts(number, options);
@@ -1384,6 +1492,13 @@ template <class Handle, class Calls> class SharedFormatter : Formatter<Handle, C
     }
     template <class T> Column format_all(const T *numbers, Count count, const Options &options = {}) const {
         return calling().format_all(numbers, count, options);
+    }
+    template <class Numbers, std::enable_if_t<has_integers<Numbers>, int> = 0>
+    Column format_all(Numbers &&mantissas, Exponent exponent, const Options &options = {}) const {
+        return calling().format_all(mantissas, exponent, options);
+    }
+    Column format_all(const int64_t *mantissas, Count count, Exponent exponent, const Options &options = {}) const {
+        return calling().format_all(mantissas, count, exponent, options);
     }
 #endif
 };
@@ -1430,18 +1545,18 @@ class SharedDecimalFormatter : public inner::SharedFormatter<legumeyet_shared_de
     explicit SharedDecimalFormatter(DecimalFormatter &&formatter) noexcept { legumeyet_decimal_formatter_share(&formatter.handle, &handle); }
 
     // The number that is written so, and the one that somebody typed, as of DecimalFormatter.
-    Result<std::string> try_read(std::string_view text) const {
+    Result<std::string> try_read(inner::Text text) const {
         return inner::text_of(
-            [&](auto... out) { return legumeyet_shared_decimal_formatter_read(&handle, inner::bytes(text), text.size(), out...); });
+            [&](auto... out) { return legumeyet_shared_decimal_formatter_read(&handle, text.bytes(), text.size(), out...); });
     }
-    Result<std::string> try_read_lenient(std::string_view text) const {
+    Result<std::string> try_read_lenient(inner::Text text) const {
         return inner::text_of(
-            [&](auto... out) { return legumeyet_shared_decimal_formatter_read_lenient(&handle, inner::bytes(text), text.size(), out...); });
+            [&](auto... out) { return legumeyet_shared_decimal_formatter_read_lenient(&handle, text.bytes(), text.size(), out...); });
     }
 
 #ifdef __cpp_exceptions
-    std::string read(std::string_view text) const { return try_read(text).value(); }
-    std::string read_lenient(std::string_view text) const { return try_read_lenient(text).value(); }
+    std::string read(inner::Text text) const { return try_read(text).value(); }
+    std::string read_lenient(inner::Text text) const { return try_read_lenient(text).value(); }
 #endif
 };
 
@@ -1456,13 +1571,13 @@ class SharedCompactDecimalFormatter : public inner::SharedFormatter<legumeyet_sh
     Result<std::string> try_shown(const inner::Digits &number, const Options &options = {}) const {
         return of_text(legumeyet_shared_compact_formatter_shown, number.view(), options);
     }
-    Result<std::string> try_format_exact(std::string_view number, const Options &options = {}) const {
+    Result<std::string> try_format_exact(inner::Text number, const Options &options = {}) const {
         return of_text(legumeyet_shared_compact_formatter_format_exact, number, options);
     }
 
 #ifdef __cpp_exceptions
     std::string shown(const inner::Digits &number, const Options &options = {}) const { return try_shown(number, options).value(); }
-    std::string format_exact(std::string_view number, const Options &options = {}) const { return try_format_exact(number, options).value(); }
+    std::string format_exact(inner::Text number, const Options &options = {}) const { return try_format_exact(number, options).value(); }
 #endif
 };
 
@@ -1473,18 +1588,18 @@ class SharedUnitFormatter : public inner::SharedFormatter<legumeyet_shared_unit_
     explicit SharedUnitFormatter(CurrencyFormatter &&formatter) noexcept { legumeyet_unit_formatter_share(&formatter.handle, &handle); }
 
     // The number that is written so, and the one that somebody typed, as of PercentFormatter and CurrencyFormatter.
-    Result<std::string> try_read(std::string_view text) const {
+    Result<std::string> try_read(inner::Text text) const {
         return inner::text_of(
-            [&](auto... out) { return legumeyet_shared_unit_formatter_read(&handle, inner::bytes(text), text.size(), out...); });
+            [&](auto... out) { return legumeyet_shared_unit_formatter_read(&handle, text.bytes(), text.size(), out...); });
     }
-    Result<std::string> try_read_lenient(std::string_view text) const {
+    Result<std::string> try_read_lenient(inner::Text text) const {
         return inner::text_of(
-            [&](auto... out) { return legumeyet_shared_unit_formatter_read_lenient(&handle, inner::bytes(text), text.size(), out...); });
+            [&](auto... out) { return legumeyet_shared_unit_formatter_read_lenient(&handle, text.bytes(), text.size(), out...); });
     }
 
 #ifdef __cpp_exceptions
-    std::string read(std::string_view text) const { return try_read(text).value(); }
-    std::string read_lenient(std::string_view text) const { return try_read_lenient(text).value(); }
+    std::string read(inner::Text text) const { return try_read(text).value(); }
+    std::string read_lenient(inner::Text text) const { return try_read_lenient(text).value(); }
 #endif
 };
 
@@ -1502,5 +1617,8 @@ template <class Formatter> struct std::formatter<legumeyet::Formatted<Formatter>
     }
 };
 #endif
+
+#pragma pop_macro("None")
+#pragma pop_macro("Always")
 
 #endif

@@ -4,7 +4,7 @@ import { execFileSync, spawnSync } from "node:child_process";
 import { readFileSync } from "node:fs";
 import { createRequire } from "node:module";
 import { test } from "node:test";
-import { pathToFileURL } from "node:url";
+import { fileURLToPath, pathToFileURL } from "node:url";
 import { Book, CompactDecimalFormatter, CurrencyFormatter, DecimalFormatter, LegumeyetError, PercentFormatter } from "legumeyet";
 import locales from "legumeyet/locales";
 import { smallerBook } from "legumeyet/smaller";
@@ -44,17 +44,17 @@ test("of books without units and without parents", () => {
 });
 
 test("the command", () => {
-  const path = new URL("make-book.js", root);
-  const made = execFileSync(process.execPath, [path.pathname, "en", "de"], { encoding: "utf8" });
+  const path = fileURLToPath(new URL("make-book.js", root));
+  const made = execFileSync(process.execPath, [path, "en", "de"], { encoding: "utf8" });
   assert.equal(made, `${smallerBook(world, ["en", "de"])}\n`);
   for (const [words, status] of [[[], 2], [["--help"], 2], [["zz"], 1], [["de_DE"], 1]]) {
-    const ran = spawnSync(process.execPath, [path.pathname, ...words], { encoding: "utf8" });
+    const ran = spawnSync(process.execPath, [path, ...words], { encoding: "utf8" });
     assert.equal(ran.status, status);
     assert.ok(ran.stderr.length > 0 && ran.stdout === "");
   }
 });
 
-const run = (code) => execFileSync(process.execPath, ["--input-type=module", "--eval", code], { encoding: "utf8", cwd: new URL(".", import.meta.url).pathname });
+const run = (code) => execFileSync(process.execPath, ["--input-type=module", "--eval", code], { encoding: "utf8", cwd: fileURLToPath(new URL(".", import.meta.url)) });
 
 test("what is inside is ready by init, and not before", () => {
   const said = run(`

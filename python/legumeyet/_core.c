@@ -11,9 +11,10 @@
 #include <Python.h>
 #include <legumeyet.h>
 
-/*
- * The buffer protocol as CPython has it since 3.3. The limited API names it from 3.11 on, with these fields and numbers.
- */
+/* The buffer protocol as CPython has it since 3.3. The limited API names it from 3.11 on, with these fields and numbers, and that of PyPy always. */
+#ifdef PYPY_VERSION
+typedef Py_buffer buffer;
+#else
 typedef struct {
     void *buf;
     PyObject *obj;
@@ -24,9 +25,11 @@ typedef struct {
     void *internal;
 } buffer;
 
-enum { STRIDES_AND_FORMAT = 0x1c };
 extern int PyObject_GetBuffer(PyObject *, buffer *, int);
 extern void PyBuffer_Release(buffer *);
+#endif
+
+enum { STRIDES_AND_FORMAT = 0x1c };
 
 enum { ROOM = 512, PLACES = 32, HIGHEST = 32767, LOWEST = -32768 };
 
@@ -36,6 +39,9 @@ enum { CHUNK = 4096, ASIDE = 64, DIGITS_AT_MOST = 1 << 20, EACH = 32, LEAST = 1 
 
 /* How many bytes of lines are answered together, and from how many on other threads run meanwhile. */
 enum { PIECE = 1 << 16, PIECE_ASIDE = 1 << 10 };
+
+/* How many bits an integer of 32,768 digits has at most, and how many characters of what was given an error tells. */
+enum { BITS = 108853, TOLD = 40 };
 
 /* An exponent that no digits bring back to the magnitudes of the library. */
 static const long long FAR = 1000000000000000;
@@ -88,7 +94,9 @@ struct request {
     size_t length;
     int64_t integer;
     double real;
+    int16_t exponent; /* the power of ten that an integer is times */
     legumeyet_options options;
+    PyObject *given; /* what was given, lent, or NULL: an error tells it */
     PyObject *owner; /* of the text, or NULL */
     char *made;      /* memory of it, or NULL */
 };
@@ -100,16 +108,33 @@ static void let_go(struct request *asked) {
     asked->made = NULL;
 }
 
-/* Raises the error of a number of the library; `at` is the place of a number among many, and -1 of one alone. What is of all has no place. */
-static PyObject *refused(struct shared *shared, int32_t number, Py_ssize_t at) {
-    bool is_of_one = at >= 0 && number != LEGUMEYET_CLOSED && number != LEGUMEYET_OPTION;
-    PyObject *hint, *error;
-    hint = is_of_one ? PyUnicode_FromFormat(": the number at %zd", at) : PyUnicode_FromString("");
+/* Raises the error of a number of the library with a hint, which it takes over. */
+static PyObject *refused_with(struct shared *shared, int32_t number, PyObject *hint) {
+    PyObject *error;
     error = hint == NULL ? NULL : PyObject_CallFunction(shared->error, "iO", (int)number, hint);
     Py_XDECREF(hint);
     if (error != NULL) PyErr_SetObject((PyObject *)Py_TYPE(error), error);
     Py_XDECREF(error);
     return NULL;
+}
+
+/* The same; `at` is the place of a number among many, and -1 of one alone. What is of all has no place. */
+static PyObject *refused(struct shared *shared, int32_t number, Py_ssize_t at) {
+    bool is_of_one = at >= 0 && number != LEGUMEYET_CLOSED && number != LEGUMEYET_OPTION;
+    return refused_with(shared, number, is_of_one ? PyUnicode_FromFormat(": the number at %zd", at) : PyUnicode_FromString(""));
+}
+
+/* Raises the error of a number of the library for what was given, and tells that, and the way out. */
+static PyObject *refused_given(struct shared *shared, int32_t number, const struct request *asked) {
+    PyObject *given = asked->given, *start, *hint;
+    bool is_text = given != NULL && (PyUnicode_Check(given) || PyBytes_Check(given));
+    bool is_told = number == LEGUMEYET_NUMBER || number == LEGUMEYET_UTF8 || number == LEGUMEYET_NOT_WRITTEN || number == LEGUMEYET_EXPONENT;
+    const char *way = asked->what == READ && number == LEGUMEYET_NOT_WRITTEN ? "; with lenient=True what people type is read" : "";
+    if (!is_told || !(is_text || (given != NULL && PyFloat_Check(given)))) return refused(shared, number, -1);
+    start = is_text && PySequence_Size(given) > TOLD ? PySequence_GetSlice(given, 0, TOLD) : (Py_INCREF(given), given);
+    hint = start == NULL ? NULL : PyUnicode_FromFormat(": %R%s%s", start, start == given ? "" : "..", way);
+    Py_XDECREF(start);
+    return refused_with(shared, number, hint);
 }
 
 /* Whether the interpreter ends. Then no thread but this one gets the GIL again, so what another one holds is never let go. */
@@ -243,20 +268,36 @@ static int32_t take_digits(struct request *asked, PyObject *text) {
     return LEGUMEYET_OK;
 }
 
+/* Whether an integer has more than 32,768 digits; -1 with an error. Its digits would take time that grows as their square. */
+static int is_huge(PyObject *number) {
+    PyObject *bits = PyObject_CallMethod((PyObject *)&PyLong_Type, "bit_length", "O", number);
+    Py_ssize_t count = bits == NULL ? -1 : PyLong_AsSsize_t(bits);
+    Py_XDECREF(bits);
+    return PyErr_Occurred() ? -1 : count > BITS;
+}
+
+/* The digits of an integer, with its exponent where it has one. */
+static PyObject *digits_of(struct shared *shared, PyObject *number, int16_t exponent) {
+    PyObject *exact = PyObject_CallFunctionObjArgs(shared->decimal, number, NULL); /* `str` of an int refuses one of very many digits */
+    PyObject *text = exact == NULL ? NULL : exponent == 0 ? PyObject_Str(exact) : PyUnicode_FromFormat("%Se%d", exact, (int)exponent);
+    Py_XDECREF(exact);
+    return text;
+}
+
 /* An integer that fits in 64 bits, or the digits of another. */
 static int32_t take_integer(struct shared *shared, struct request *asked, PyObject *number) {
     int overflow = 0, found;
-    PyObject *exact, *text;
+    PyObject *text;
     asked->integer = PyLong_AsLongLongAndOverflow(number, &overflow);
     if (overflow == 0) {
         if (asked->what == TEXT) asked->what = INTEGER;
         if (asked->integer == -1 && PyErr_Occurred()) return -1;
         if (asked->what == INTEGER) return LEGUMEYET_OK;
+    } else if ((found = is_huge(number)) != 0) {
+        return found < 0 ? -1 : LEGUMEYET_LIMIT;
     }
-    exact = PyObject_CallFunctionObjArgs(shared->decimal, number, NULL); /* `str` of an int refuses one of very many digits */
-    text = exact == NULL ? NULL : PyObject_Str(exact);
-    Py_XDECREF(exact);
-    found = text == NULL ? -1 : take_digits(asked, text);
+    text = digits_of(shared, number, asked->exponent);
+    found = text == NULL ? -1 : asked->exponent == 0 ? take_digits(asked, text) : take_text(asked, text) ? LEGUMEYET_OK : -1;
     Py_XDECREF(text);
     return found;
 }
@@ -286,28 +327,48 @@ static int32_t raise_wrong(struct shared *shared, PyObject *number) {
     return -1;
 }
 
-/* A number of a caller: a Decimal, an int, a float or a str, or what has an index. */
+/* An integer of what has an index. What has none, though its type does, is no number, as an element of NumPy that is masked. */
+static int32_t take_index(struct shared *shared, struct request *asked, PyObject *number) {
+    PyObject *whole = PyNumber_Index(number);
+    int32_t found;
+    if (whole == NULL && PyErr_ExceptionMatches(PyExc_TypeError)) {
+        PyErr_Clear();
+        return raise_wrong(shared, number);
+    }
+    found = whole == NULL ? -1 : take_integer(shared, asked, whole);
+    Py_XDECREF(whole);
+    return found;
+}
+
+/* A number of a caller: a Decimal, an int, a float or a str, or what has an index. One with an exponent is an integer. */
 static int32_t take_number(struct shared *shared, struct request *asked, PyObject *number) {
     int is_decimal;
-    if (PyUnicode_Check(number)) return take_text(asked, number) ? LEGUMEYET_OK : -1;
+    asked->given = number;
+    if (PyBool_Check(number)) return raise_wrong(shared, number);
     if (PyLong_Check(number)) return take_integer(shared, asked, number);
+    if (asked->exponent != 0) {
+        if (PyIndex_Check(number)) return take_index(shared, asked, number);
+        PyErr_Format(PyExc_TypeError, "an exponent is given for an int, and not for %R", Py_TYPE(number));
+        return -1;
+    }
+    if (PyUnicode_Check(number)) return take_text(asked, number) ? LEGUMEYET_OK : -1;
     if (PyFloat_Check(number)) return take_real(asked, number);
     is_decimal = (PyObject *)Py_TYPE(number) == shared->decimal ? 1 : PyObject_IsInstance(number, shared->decimal);
     if (is_decimal < 0) return -1;
-    if (is_decimal || PyIndex_Check(number)) {
-        PyObject *other = is_decimal ? PyObject_Str(number) : PyNumber_Index(number);
-        int32_t found = other == NULL ? -1 : is_decimal ? take_digits(asked, other) : take_integer(shared, asked, other);
-        Py_XDECREF(other);
+    if (is_decimal) {
+        PyObject *text = PyObject_Str(number);
+        int32_t found = text == NULL ? -1 : take_digits(asked, text);
+        Py_XDECREF(text);
         return found;
     }
-    return raise_wrong(shared, number);
+    return PyIndex_Check(number) ? take_index(shared, asked, number) : raise_wrong(shared, number);
 }
 
 /* Asks a formatter that reads too, of plain numbers or of those with a unit, by the functions of `calls`. */
 #define ASK_READING(name, handle, calls) \
     static int32_t name(handle *it, const struct request *asked, uint8_t *out, size_t room, size_t *length) { \
         const legumeyet_options *options = &asked->options; \
-        if (asked->what == INTEGER) return calls##_format_i64(it, asked->integer, 0, options, out, room, length); \
+        if (asked->what == INTEGER) return calls##_format_i64(it, asked->integer, asked->exponent, options, out, room, length); \
         if (asked->what == READ) return calls##_read(it, asked->at, asked->length, out, room, length); \
         if (asked->what == REAL) return calls##_format_double(it, asked->real, options, out, room, length); \
         if (asked->what == LENIENT) return calls##_read_lenient(it, asked->at, asked->length, out, room, length); \
@@ -320,7 +381,7 @@ ASK_READING(ask_shared_decimal, const legumeyet_shared_decimal_formatter, legume
 #define ASK_COMPACT(name, handle, calls) \
     static int32_t name(handle *it, const struct request *asked, uint8_t *out, size_t room, size_t *length) { \
         const legumeyet_options *options = &asked->options; \
-        if (asked->what == INTEGER) return calls##_format_i64(it, asked->integer, 0, options, out, room, length); \
+        if (asked->what == INTEGER) return calls##_format_i64(it, asked->integer, asked->exponent, options, out, room, length); \
         if (asked->what == SHOWN) return calls##_shown(it, asked->at, asked->length, options, out, room, length); \
         if (asked->what == EXACT) return calls##_format_exact(it, asked->at, asked->length, options, out, room, length); \
         if (asked->what == REAL) return calls##_format_double(it, asked->real, options, out, room, length); \
@@ -364,13 +425,13 @@ static PyObject *written(struct open *it, const struct request *asked, Py_ssize_
     if (number == LEGUMEYET_OK)
         text = PyUnicode_DecodeUTF8((const char *)(large == NULL ? small : large), (Py_ssize_t)length, NULL);
     else
-        refused(it->shared, number, at);
+        at < 0 ? refused_given(it->shared, number, asked) : refused(it->shared, number, at);
     PyMem_Free(large);
     return text;
 }
 
 /* The number of an option that is of an enum, 0 to 99. Returns -1 with an error for what is not. It looks at the type alone, and so runs nothing of
- * Python before an error: before 3.9 the options are in the caller's own dict, which must not change while they are taken. */
+ * Python before an error. */
 static int number_of(PyObject *kind, PyObject *option) {
     if (PyObject_TypeCheck(option, (PyTypeObject *)kind)) return (int)PyLong_AsLong(option);
     PyObject *name = PyObject_GetAttrString(kind, "__name__");
@@ -379,13 +440,17 @@ static int number_of(PyObject *kind, PyObject *option) {
     return -1;
 }
 
-/* An option that is a whole number. */
+/* An option that is a whole number: an int, or what has an index, as an integer of NumPy. */
 static bool take_whole(PyObject *option, const char *name, long least, long most, long *into) {
-    if (!PyLong_Check(option)) {
+    PyObject *whole;
+    if (PyBool_Check(option) || !PyIndex_Check(option)) {
         PyErr_Format(PyExc_TypeError, "%s is an int, and not %R", name, option);
         return false;
     }
-    *into = PyLong_AsLong(option);
+    whole = PyNumber_Index(option);
+    if (whole == NULL) return false;
+    *into = PyLong_AsLong(whole);
+    Py_DECREF(whole);
     if (*into == -1 && PyErr_Occurred()) {
         if (!PyErr_ExceptionMatches(PyExc_OverflowError)) return false;
         PyErr_Clear();
@@ -449,11 +514,12 @@ static bool take_digits_option(struct shared *shared, PyObject *name, PyObject *
     return false;
 }
 
-/* Takes the options that a call is given by their names. A rounding or a position that is None is as it was. */
-static bool take_options(struct shared *shared, PyObject *given, legumeyet_options *options) {
+/* Takes the options of a dict that nobody else has, or that has nothing which runs Python. */
+static bool take_named(struct shared *shared, PyObject *given, legumeyet_options *options, int16_t *exponent) {
     PyObject *name, *option, *rounding = NULL, *position = NULL;
+    bool has_increment = false;
     Py_ssize_t at = 0;
-    while (given != NULL && PyDict_Next(given, &at, &name, &option)) {
+    while (PyDict_Next(given, &at, &name, &option)) {
         if (!PyUnicode_Check(name)) {
             PyErr_Format(PyExc_TypeError, "the name of an option is a str, and not %R", name);
             return false;
@@ -466,11 +532,42 @@ static bool take_options(struct shared *shared, PyObject *given, legumeyet_optio
             int number = number_of(shared->sign, option);
             if (number < 0) return false;
             options->sign = (uint32_t)number;
+        } else if (exponent != NULL && PyUnicode_CompareWithASCIIString(name, "exponent") == 0) {
+            long whole = 0;
+            if (!take_whole(option, "exponent", LOWEST, HIGHEST, &whole)) return false;
+            *exponent = (int16_t)whole;
         } else if (!take_digits_option(shared, name, option, options)) {
             return false;
+        } else {
+            has_increment = has_increment || PyUnicode_CompareWithASCIIString(name, "increment") == 0;
         }
     }
-    return take_rounding(shared, rounding, position, options);
+    if (!take_rounding(shared, rounding, position, options)) return false;
+    if (!has_increment || options->increment == 1 || !is_without_position(options->rounding)) return true;
+    PyErr_SetString(PyExc_ValueError, "an increment is of a rounding at a position: give position too");
+    return false;
+}
+
+/* Whether an option has an index that may run Python. */
+static bool runs_python(PyObject *given) {
+    PyObject *name, *option;
+    Py_ssize_t at = 0;
+    while (PyDict_Next(given, &at, &name, &option))
+        if (!PyLong_Check(option) && PyIndex_Check(option)) return true;
+    return false;
+}
+
+/* Takes the options that a call is given by their names. A rounding or a position that is None is as it was. An exponent is taken where there is a
+ * place for it. Before 3.9 the options are in the caller's own dict: where one runs Python, which may change that, they are copied first. */
+static bool take_options(struct shared *shared, PyObject *given, legumeyet_options *options, int16_t *exponent) {
+    PyObject *own;
+    bool is_well;
+    if (given == NULL) return true;
+    if (!runs_python(given)) return take_named(shared, given, options, exponent);
+    own = PyDict_Copy(given);
+    is_well = own != NULL && take_named(shared, own, options, exponent);
+    Py_XDECREF(own);
+    return is_well;
 }
 
 /* The one argument of a call. */
@@ -485,14 +582,14 @@ static int32_t take_call(struct open *it, PyObject *arguments, PyObject *given, 
     PyObject *number = argument(arguments, "a number");
     if (number == NULL || !is_ready(it)) return -1;
     asked->options = it->options;
-    if (!take_options(it->shared, given, &asked->options)) return -1;
+    if (!take_options(it->shared, given, &asked->options, asked->what == TEXT ? &asked->exponent : NULL)) return -1;
     return take_number(it->shared, asked, number);
 }
 
 /* What a call of a formatter writes. */
 static PyObject *called(struct open *it, PyObject *arguments, PyObject *given, struct request *asked) {
     int32_t number = take_call(it, arguments, given, asked);
-    PyObject *text = number == LEGUMEYET_OK ? written(it, asked, -1) : number < 0 ? NULL : refused(it->shared, number, -1);
+    PyObject *text = number == LEGUMEYET_OK ? written(it, asked, -1) : number < 0 ? NULL : refused_given(it->shared, number, asked);
     let_go(asked);
     return text;
 }
@@ -529,6 +626,7 @@ static PyObject *read_back(PyObject *self, PyObject *arguments, PyObject *given)
         if (is_lenient < 0 || !is_ready(it)) return NULL;
         if (is_lenient) asked.what = LENIENT;
     }
+    asked.given = text;
     if (take_text(&asked, text)) digits = written(it, &asked, -1);
     if (digits != NULL) number = PyObject_CallFunctionObjArgs(it->shared->decimal, digits, NULL);
     Py_XDECREF(digits);
@@ -571,7 +669,7 @@ static bool annotate(struct open *it, const struct request *asked, struct annota
         room = into->length > room ? into->length : room;
         places = into->count > places ? into->count : places;
     }
-    if (number != LEGUMEYET_OK) refused(it->shared, number, -1);
+    if (number != LEGUMEYET_OK) refused_given(it->shared, number, asked);
     return number == LEGUMEYET_OK;
 }
 
@@ -638,7 +736,7 @@ static bool take_row(const buffer *from, struct row *into) {
     into->width = from->itemsize;
     into->count = from->shape[0];
     into->stride = from->strides == NULL ? from->itemsize : from->strides[0];
-    into->type = strchr("bhilqn", *format) ? SIGNED : strchr("BHILQN?", *format) ? UNSIGNED : REALS;
+    into->type = strchr("bhilqn", *format) ? SIGNED : strchr("BHILQN", *format) ? UNSIGNED : REALS;
     if (into->type == REALS) return *format == 'd' && into->width == sizeof(double);
     return into->width == 1 || into->width == 2 || into->width == 4 || into->width == 8;
 }
@@ -653,6 +751,7 @@ static bool has_other_reals(const buffer *from) {
 /* Numbers of one kind, which one call writes. */
 struct numbers {
     enum { INTEGERS, DOUBLES, DIGITS } kind;
+    int16_t exponent; /* the power of ten that integers are times */
     size_t count;
     union {
         int64_t integers[CHUNK];
@@ -682,10 +781,11 @@ struct column {
 /* Asks a formatter for the texts of numbers, by the functions of `calls`. */
 #define ASK_COLUMN(name, handle, calls) \
     static int32_t name(handle *it, const legumeyet_options *options, const struct numbers *from, struct texts *into) { \
+        const int16_t power = from->exponent; \
         size_t room = into->room, *ends = into->ends, *count = &into->count; \
         if (from->kind == DOUBLES) return calls##_format_doubles(it, from->as.doubles, from->count, options, into->out, room, ends, CHUNK, count); \
         if (from->kind == DIGITS) return calls##_format_texts(it, from->digits, from->length, options, into->out, room, ends, CHUNK, count); \
-        return calls##_format_integers(it, from->as.integers, from->count, 0, options, into->out, room, ends, CHUNK, count); \
+        return calls##_format_integers(it, from->as.integers, from->count, power, options, into->out, room, ends, CHUNK, count); \
     }
 ASK_COLUMN(ask_decimal_column, legumeyet_decimal_formatter, legumeyet_decimal_formatter)
 ASK_COLUMN(ask_compact_column, legumeyet_compact_formatter, legumeyet_compact_formatter)
@@ -797,17 +897,35 @@ static bool write_taken(struct column *all) {
     return is_well && number == LEGUMEYET_OK && let_others_run(all, count, is_aside);
 }
 
+/* Raises a TypeError that tells the place of what is no number; the error that said so is its cause. */
+static void raise_wrong_at(PyObject *cause, Py_ssize_t at) {
+    PyObject *said = PyUnicode_FromFormat("%S: the number at %zd", cause, at);
+    PyObject *error = said == NULL ? NULL : PyObject_CallFunctionObjArgs(PyExc_TypeError, said, NULL);
+    Py_XDECREF(said);
+    if (error == NULL) return;
+    Py_INCREF(cause);
+    PyException_SetCause(error, cause);
+    PyErr_SetObject(PyExc_TypeError, error);
+    Py_DECREF(error);
+}
+
 /* Ends where a number is none that can be written: by the error of Python that is there, or by a number of the library above 0. A number before
  * it that is refused comes first. */
 static bool end_wrong(struct column *all, int32_t number) {
     PyObject *kind = NULL, *error = NULL, *trace = NULL;
     PyErr_Fetch(&kind, &error, &trace);
+    if (kind != NULL) PyErr_NormalizeException(&kind, &error, &trace);
     if (!write_taken(all)) {
         Py_XDECREF(kind);
         Py_XDECREF(error);
         Py_XDECREF(trace);
     } else if (number > 0) {
         refused(all->by->shared, number, all->done);
+    } else if (kind == PyExc_TypeError && number == -1) {
+        raise_wrong_at(error, all->done);
+        Py_XDECREF(kind);
+        Py_XDECREF(error);
+        Py_XDECREF(trace);
     } else {
         PyErr_Restore(kind, error, trace);
     }
@@ -861,7 +979,7 @@ static bool put_digits_of(struct column *all, const uint8_t *digits, size_t leng
 /* Takes a number of a row. What has not its bits as an int64_t is taken as digits. */
 static bool put_item(struct column *all, const struct row *from, Py_ssize_t place) {
     const char *at = from->at + place * from->stride;
-    char digits[24];
+    char digits[32];
     union {
         int8_t b;
         int16_t h;
@@ -874,7 +992,7 @@ static bool put_item(struct column *all, const struct row *from, Py_ssize_t plac
     if (from->type == SIGNED) return put_integer(all, from->width == 1 ? it.b : from->width == 2 ? it.h : from->width == 4 ? it.i : it.q);
     if (from->width < 8) return put_integer(all, from->width == 1 ? (uint8_t)it.b : from->width == 2 ? (uint16_t)it.h : (uint32_t)it.i);
     if (it.q >= 0) return put_integer(all, it.q);
-    return put_digits_of(all, (const uint8_t *)digits, (size_t)snprintf(digits, sizeof digits, "%llu", (unsigned long long)it.q));
+    return put_digits_of(all, (const uint8_t *)digits, (size_t)snprintf(digits, sizeof digits, "%llue%d", (unsigned long long)it.q, all->from.exponent));
 }
 
 /* Takes the numbers of a row. */
@@ -886,7 +1004,7 @@ static bool take_all_of(struct column *all, const struct row *from) {
 
 /* Takes a number of a caller. */
 static bool put_number(struct column *all, PyObject *number) {
-    struct request asked = {.what = TEXT};
+    struct request asked = {.what = TEXT, .exponent = all->from.exponent};
     int32_t found = take_number(all->by->shared, &asked, number);
     bool is_well;
     if (found != LEGUMEYET_OK)
@@ -912,7 +1030,7 @@ static bool take_each(struct column *all, PyObject *numbers) {
         Py_DECREF(number);
     }
     Py_XDECREF(iterator);
-    return is_well && PyErr_Occurred() ? end_wrong(all, -1) : is_well;
+    return is_well && PyErr_Occurred() ? end_wrong(all, -2) : is_well; /* -2: an error of the iterator is of no number */
 }
 
 /* Whether there is no error, or one that only says that an object has no memory to be read; that is cleared. An interrupt stays. */
@@ -952,18 +1070,19 @@ static bool take_all(struct column *all, PyObject *numbers) {
     if (memory.ndim != 1) {
         PyErr_Format(PyExc_TypeError, "numbers are in a row, and not in %d dimensions", memory.ndim);
         is_well = false;
-    } else if (has_other_reals(&memory)) {
+    } else if (has_other_reals(&memory) && all->from.exponent == 0) {
         PyErr_Format(PyExc_TypeError, "a row of reals has doubles, and not the format '%s': give them as doubles, as numbers.astype(float)", memory.format);
         is_well = false;
     } else {
-        is_well = take_row(&memory, &row) ? take_all_of(all, &row) : take_each(all, numbers);
+        bool is_row = take_row(&memory, &row) && (row.type != REALS || all->from.exponent == 0);
+        is_well = is_row ? take_all_of(all, &row) : take_each(all, numbers);
     }
     PyBuffer_Release(&memory);
     return is_well;
 }
 
 /* A list of the texts of all numbers. */
-static PyObject *texts_of(struct open *by, const legumeyet_options *options, PyObject *numbers) {
+static PyObject *texts_of(struct open *by, const legumeyet_options *options, int16_t exponent, PyObject *numbers) {
     struct column *all = malloc(sizeof *all);
     PyObject *list = PyList_New(0);
     bool is_well = all != NULL && (all->written.out = malloc(LEAST)) != NULL;
@@ -975,6 +1094,7 @@ static PyObject *texts_of(struct open *by, const legumeyet_options *options, PyO
         all->list = list;
         all->done = 0;
         all->from.kind = INTEGERS;
+        all->from.exponent = exponent;
         all->from.digits = NULL;
         all->since = all->from.count = all->from.length = all->from.room = 0;
         is_well = list != NULL && take_all(all, numbers) && write_taken(all);
@@ -996,7 +1116,7 @@ static PyObject *format_all(PyObject *self, PyObject *arguments, PyObject *given
         return NULL;
     }
     asked.options = it->options;
-    return take_options(it->shared, given, &asked.options) ? texts_of(it, &asked.options, numbers) : NULL;
+    return take_options(it->shared, given, &asked.options, &asked.exponent) ? texts_of(it, &asked.options, asked.exponent, numbers) : NULL;
 }
 
 static PyObject *answer(PyObject *self, PyObject *line) {
@@ -1234,11 +1354,12 @@ static PyGetSetDef properties[] = {{"is_open", is_open, NULL, "Whether it is ope
      "'1.234'"}
 #define FORMAT \
     {"format", CALL(format), \
-     "format($self, number, /, **options)\n--\n\n" \
+     "format($self, number, /, *, exponent=0, **options)\n--\n\n" \
      "The text of a number: a Decimal, an int, a float, or a str as '-1234.5'. A float is written by the shortest digits that give it back.\n" \
-     "The options are sign, rounding, position, increment, trailing_zeros, minimum_integer_digits and minimum_fraction_digits; those that\n" \
+     "An int is times ten to the power `exponent`: -12345 and -2 are -123.45. The options are sign, rounding, position, increment, trailing_zeros, minimum_integer_digits and minimum_fraction_digits; those that\n" \
      "are not given are the formatter's. With a rounding the number is rounded at the position first, to a multiple of the increment, which\n" \
-     "is 1, 2, 5 or 25: 0, as without a position, is the ones, -2 the hundredths. A position without a rounding is that of HALF_EVEN.\n\n" \
+     "is 1, 2, 5 or 25: 0, as without a position, is the ones, -2 the hundredths. A position without a rounding is that of HALF_EVEN, and an\n" \
+     "increment without both is a ValueError.\n\n" \
      "Raises Error 7 where the text is no number, or a float is not finite, 8 where a digit is beyond the magnitudes -32768 to 32767, 9 where\n" \
      "what is shown in compact form does, 2 where the formatter is closed, 1 where memory was refused.\n\n" \
      ">>> german = DecimalFormatter('de')\n" \
@@ -1247,16 +1368,23 @@ static PyGetSetDef properties[] = {{"is_open", is_open, NULL, "Whether it is ope
      ">>> german.format('9.65', position=-1), german.format('9.65', sign=Sign.ALWAYS, rounding=Rounding.CEIL, position=-1)\n" \
      "('9,6', '+9,7')\n" \
      ">>> german.format(1.995, position=-2, trailing_zeros=TrailingZeros.TRIM), german.format(7, minimum_integer_digits=3)\n" \
-     "('2', '007')"}
+     "('2', '007')\n" \
+     ">>> german.format(-12345, exponent=-2)\n" \
+     "'-123,45'\n" \
+     ">>> german.format('1,5')\n" \
+     "Traceback (most recent call last):\n" \
+     "legumeyet.InputError: 7: no decimal number: '1,5'"}
 #define FORMAT_ALL \
     {"format_all", CALL(format_all), \
-     "format_all($self, numbers, /, **options)\n--\n\n" \
+     "format_all($self, numbers, /, *, exponent=0, **options)\n--\n\n" \
      "A list of the texts of many numbers, as format writes each. The numbers are what can be iterated over, or a row in memory: an array of\n" \
      "array or NumPy, a column of pandas. A row of integers, or of doubles, is read where it is. Up to 4,096 numbers of one kind are written\n" \
      "together, and other threads run meanwhile.\n\n" \
-     "Raises as format; an Error says which number it is of, from 0 on.\n\n" \
+     "Raises as format; an Error, or the TypeError of what is no number or is missing, says which number it is of, from 0 on.\n\n" \
      ">>> DecimalFormatter('de').format_all([1234, Decimal('0.50'), '1e6'])\n" \
-     "['1.234', '0,50', '1.000.000']"}
+     "['1.234', '0,50', '1.000.000']\n" \
+     ">>> DecimalFormatter('de').format_all([123456, -5], exponent=-2)\n" \
+     "['1.234,56', '-0,05']"}
 #define FORMAT_PARTS \
     {"format_parts", CALL(format_parts), \
      "format_parts($self, number, /, **options)\n--\n\n" \
@@ -1308,7 +1436,7 @@ static PyMethodDef decimal_methods[] = {
      "Decimal('-1234.50')\n"
      ">>> german.read('98.7654')\n"
      "Traceback (most recent call last):\n"
-     "legumeyet.InputError: 12: no number is written so\n"
+     "legumeyet.InputError: 12: no number is written so: '98.7654'; with lenient=True what people type is read\n"
      ">>> german.read(' 1234,5 ', lenient=True)\n"
      "Decimal('1234.5')"},
     {NULL, NULL, 0, NULL}};
@@ -1336,7 +1464,7 @@ static PyMethodDef compact_methods[] = {
      "'-1.20M'\n"
      ">>> short.format_exact('1.2c5')\n"
      "Traceback (most recent call last):\n"
-     "legumeyet.InputError: 13: numbers of this magnitude have another exponent"},
+     "legumeyet.InputError: 13: numbers of this magnitude have another exponent: '1.2c5'"},
     {NULL, NULL, 0, NULL}};
 
 static PyMethodDef unit_methods[] = {
@@ -1371,7 +1499,7 @@ static PyMethodDef unit_methods[] = {
      "Decimal('-1234.50')\n"
      ">>> CurrencyFormatter('en', 'USD').read('5.00')\n"
      "Traceback (most recent call last):\n"
-     "legumeyet.InputError: 12: no number is written so\n"
+     "legumeyet.InputError: 12: no number is written so: '5.00'; with lenient=True what people type is read\n"
      ">>> [CurrencyFormatter('en', 'USD').read(it, lenient=True) for it in ('5.00', '5 $', '-USD 1234.5')]\n"
      "[Decimal('5.00'), Decimal('5'), Decimal('-1234.5')]"},
     {NULL, NULL, 0, NULL}};
@@ -1469,7 +1597,7 @@ static PyObject *open_formatter(PyObject *module, PyObject *arguments) {
     int grouping, width;
     if (!PyArg_ParseTuple(arguments, "OOO!iiO!", &object, &book, &PyBytes_Type, &tag, &grouping, &width, &PyDict_Type, &given)) return NULL;
     if ((it = take_object(shared, object, width < 0 ? DECIMAL : COMPACT)) == NULL || (from = book_of(shared, book)) == NULL) return NULL;
-    if (!take_options(shared, given, &asked.options) || !take_text(&asked, tag)) return NULL;
+    if (!take_options(shared, given, &asked.options, NULL) || !take_text(&asked, tag)) return NULL;
     if (!is_ready(it)) return let_go(&asked), NULL;
     int32_t number = width < 0
         ? legumeyet_decimal_formatter_open(from, asked.at, asked.length, (uint32_t)grouping, &it->handle.decimal)
@@ -1497,7 +1625,7 @@ static PyObject *open_unit_formatter(PyObject *module, PyObject *arguments) {
         return NULL;
     if (code != Py_None && PyBytes_AsStringAndSize(code, &at, &length) < 0) return NULL;
     if ((it = take_object(shared, object, UNIT)) == NULL || (from = book_of(shared, book)) == NULL) return NULL;
-    if (!take_options(shared, given, &asked.options) || !take_text(&asked, tag)) return NULL;
+    if (!take_options(shared, given, &asked.options, NULL) || !take_text(&asked, tag)) return NULL;
     if (!is_ready(it)) return let_go(&asked), NULL;
     if (code == Py_None)
         number = legumeyet_percent_formatter_open(from, asked.at, asked.length, (uint32_t)grouping, &it->handle.unit);

@@ -1,6 +1,8 @@
 """What the module in C has."""
 from decimal import Decimal
-from typing import Any, AnyStr, Callable, Dict, Iterable, List, Optional, SupportsIndex, Tuple, Type, Union
+from typing import Any, AnyStr, Callable, Dict, Iterable, List, Optional, SupportsIndex, Tuple, Type, TypedDict, Union
+
+from typing_extensions import Unpack
 
 from ._errors import Error
 from ._formatters import Part
@@ -8,6 +10,15 @@ from ._options import Kind, Rounding, Sign, TrailingZeros
 
 Number = Union[Decimal, int, float, str, SupportsIndex]
 Text = Union[str, bytes]
+
+class Options(TypedDict, total=False):
+    sign: Sign
+    rounding: Optional[Rounding]
+    position: Optional[SupportsIndex]
+    increment: SupportsIndex
+    trailing_zeros: TrailingZeros
+    minimum_integer_digits: SupportsIndex
+    minimum_fraction_digits: SupportsIndex
 
 class Open:
     @property
@@ -21,76 +32,16 @@ class Book(Open):
 
 class Formatter(Open):
     def share(self) -> None: ...
-    def format(
-        self,
-        number: Number,
-        /,
-        *,
-        sign: Sign = ...,
-        rounding: Optional[Rounding] = ...,
-        position: Optional[int] = ...,
-        increment: int = ...,
-        trailing_zeros: TrailingZeros = ...,
-        minimum_integer_digits: int = ...,
-        minimum_fraction_digits: int = ...,
-    ) -> str: ...
-    def format_all(
-        self,
-        numbers: Iterable[Any],
-        /,
-        *,
-        sign: Sign = ...,
-        rounding: Optional[Rounding] = ...,
-        position: Optional[int] = ...,
-        increment: int = ...,
-        trailing_zeros: TrailingZeros = ...,
-        minimum_integer_digits: int = ...,
-        minimum_fraction_digits: int = ...,
-    ) -> List[str]: ...
-    def format_parts(
-        self,
-        number: Number,
-        /,
-        *,
-        sign: Sign = ...,
-        rounding: Optional[Rounding] = ...,
-        position: Optional[int] = ...,
-        increment: int = ...,
-        trailing_zeros: TrailingZeros = ...,
-        minimum_integer_digits: int = ...,
-        minimum_fraction_digits: int = ...,
-    ) -> Tuple[str, List[Part]]: ...
+    def format(self, number: Number, /, *, exponent: SupportsIndex = ..., **options: Unpack[Options]) -> str: ...
+    def format_all(self, numbers: Iterable[Any], /, *, exponent: SupportsIndex = ..., **options: Unpack[Options]) -> List[str]: ...
+    def format_parts(self, number: Number, /, **options: Unpack[Options]) -> Tuple[str, List[Part]]: ...
 
 class DecimalFormatter(Formatter):
     def read(self, text: Text, /, *, lenient: bool = ...) -> Decimal: ...
 
 class CompactDecimalFormatter(Formatter):
-    def shown(
-        self,
-        number: Number,
-        /,
-        *,
-        sign: Sign = ...,
-        rounding: Optional[Rounding] = ...,
-        position: Optional[int] = ...,
-        increment: int = ...,
-        trailing_zeros: TrailingZeros = ...,
-        minimum_integer_digits: int = ...,
-        minimum_fraction_digits: int = ...,
-    ) -> str: ...
-    def format_exact(
-        self,
-        number: str,
-        /,
-        *,
-        sign: Sign = ...,
-        rounding: Optional[Rounding] = ...,
-        position: Optional[int] = ...,
-        increment: int = ...,
-        trailing_zeros: TrailingZeros = ...,
-        minimum_integer_digits: int = ...,
-        minimum_fraction_digits: int = ...,
-    ) -> str: ...
+    def shown(self, number: Number, /, **options: Unpack[Options]) -> str: ...
+    def format_exact(self, number: str, /, **options: Unpack[Options]) -> str: ...
 
 class UnitFormatter(Formatter):
     def read(self, text: Text, /, *, lenient: bool = ...) -> Decimal: ...

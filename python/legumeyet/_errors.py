@@ -4,7 +4,7 @@ from typing import Any, Dict, Tuple, Type
 
 from . import _core
 
-MEMORY, CLOSED, TAG, CODE = 1, 2, 5, 14
+MEMORY, CLOSED, TAG, TABLE, CODE = 1, 2, 5, 6, 14
 
 
 class Error(Exception):
@@ -15,7 +15,7 @@ class Error(Exception):
 
     >>> DecimalFormatter("de").read("1,234.5")
     Traceback (most recent call last):
-    legumeyet.InputError: 12: no number is written so
+    legumeyet.InputError: 12: no number is written so: '1,234.5'; with lenient=True what people type is read
     """
 
     __module__ = "legumeyet"
@@ -56,8 +56,15 @@ def kind_of(number: int) -> Type[Error]:
     return kinds.get(number, InputError)
 
 
+MISSING = ("NoneType", "NAType", "NaTType", "MaskedConstant")
+
+
 def wrong_number(number: object) -> TypeError:
     """The error of what is no number that a formatter takes, with the way out where there is one."""
+    if type(number).__name__ in MISSING:
+        return TypeError(f"a number is missing: {number!r}")
+    if isinstance(number, bool) or type(number).__name__ in ("bool", "bool_"):
+        return TypeError("a number is no bool: give it as int(it)")
     if isinstance(number, Fraction):
         way = "a Fraction may have no end of digits: give Decimal(it.numerator) / it.denominator, which has those of the context"
         return TypeError(way)

@@ -5,8 +5,13 @@ from types import TracebackType
 from typing import TYPE_CHECKING, Any, Dict, NamedTuple, NoReturn, Optional, Tuple, Type, TypeVar, Union, overload
 
 from . import _core
-from ._errors import CODE, TAG, Error, wrong_number
+from ._errors import CODE, TABLE, TAG, Error, wrong_number
 from ._options import Grouping, Kind, Rounding, Sign, TrailingZeros, Width, kind_of, number_of
+
+if TYPE_CHECKING:
+    from typing_extensions import Unpack
+
+    from ._core import Options
 
 Self = TypeVar("Self", bound="Open")
 Text = Union[str, bytes]
@@ -75,7 +80,7 @@ class Book(Open, _core.Book):
     >>> with Book('[[],[["latn","0123456789"]],[],[],[]]') as own:
     ...     DecimalFormatter(own, "en")
     Traceback (most recent call last):
-    legumeyet.InputError: 6: the book lacks a table for the tag
+    legumeyet.InputError: 6: the book lacks a table for the tag: 'en'
     """
 
     __slots__ = ("__weakref__",)
@@ -114,10 +119,12 @@ def named_by(book: Union[Book, Text], tag: Optional[Text]) -> Tuple[Optional[Boo
 
 
 def expect_opened(number: int, tag: Text) -> None:
-    """Raises the error of what opened a formatter; an underscore of the tag is told."""
+    """Raises the error of what opened a formatter, which tells the tag, and how it is written where it has an underscore."""
     given = encoded(tag)
     if number == TAG and b"_" in given:
         raise Error(TAG, f": {tag!r} is written {given.replace(b'_', b'-').decode(errors='replace')!r}")
+    if number in (TAG, TABLE):
+        raise Error(number, f": {tag!r}")
     if number:
         raise Error(number)
 
@@ -153,37 +160,10 @@ class DecimalFormatter(Open, _core.DecimalFormatter):
     __slots__ = ("_tag", "__weakref__")
 
     @overload
-    def __init__(
-        self,
-        tag: Text,
-        /,
-        *,
-        grouping: Grouping = ...,
-        sign: Sign = ...,
-        rounding: Optional[Rounding] = ...,
-        position: Optional[int] = ...,
-        increment: int = ...,
-        trailing_zeros: TrailingZeros = ...,
-        minimum_integer_digits: int = ...,
-        minimum_fraction_digits: int = ...,
-    ) -> None: ...
+    def __init__(self, tag: Text, /, *, grouping: Grouping = ..., **options: "Unpack[Options]") -> None: ...
 
     @overload
-    def __init__(
-        self,
-        book: Book,
-        tag: Text,
-        /,
-        *,
-        grouping: Grouping = ...,
-        sign: Sign = ...,
-        rounding: Optional[Rounding] = ...,
-        position: Optional[int] = ...,
-        increment: int = ...,
-        trailing_zeros: TrailingZeros = ...,
-        minimum_integer_digits: int = ...,
-        minimum_fraction_digits: int = ...,
-    ) -> None: ...
+    def __init__(self, book: Book, tag: Text, /, *, grouping: Grouping = ..., **options: "Unpack[Options]") -> None: ...
 
     def __init__(self, book: Union[Book, Text], tag: Optional[Text] = None, /, *, grouping: Grouping = Grouping.AUTO, **options: Any) -> None:
         self._tag = open_by(self, book, tag, number_of(Grouping, grouping), -1, options)
@@ -207,39 +187,10 @@ class CompactDecimalFormatter(Open, _core.CompactDecimalFormatter):
     __slots__ = ("_tag", "__weakref__")
 
     @overload
-    def __init__(
-        self,
-        tag: Text,
-        /,
-        *,
-        width: Width = ...,
-        grouping: Grouping = ...,
-        sign: Sign = ...,
-        rounding: Optional[Rounding] = ...,
-        position: Optional[int] = ...,
-        increment: int = ...,
-        trailing_zeros: TrailingZeros = ...,
-        minimum_integer_digits: int = ...,
-        minimum_fraction_digits: int = ...,
-    ) -> None: ...
+    def __init__(self, tag: Text, /, *, width: Width = ..., grouping: Grouping = ..., **options: "Unpack[Options]") -> None: ...
 
     @overload
-    def __init__(
-        self,
-        book: Book,
-        tag: Text,
-        /,
-        *,
-        width: Width = ...,
-        grouping: Grouping = ...,
-        sign: Sign = ...,
-        rounding: Optional[Rounding] = ...,
-        position: Optional[int] = ...,
-        increment: int = ...,
-        trailing_zeros: TrailingZeros = ...,
-        minimum_integer_digits: int = ...,
-        minimum_fraction_digits: int = ...,
-    ) -> None: ...
+    def __init__(self, book: Book, tag: Text, /, *, width: Width = ..., grouping: Grouping = ..., **options: "Unpack[Options]") -> None: ...
 
     def __init__(
         self,
@@ -269,37 +220,10 @@ class PercentFormatter(Open, _core.UnitFormatter):
     __slots__ = ("_tag", "__weakref__")
 
     @overload
-    def __init__(
-        self,
-        tag: Text,
-        /,
-        *,
-        grouping: Grouping = ...,
-        sign: Sign = ...,
-        rounding: Optional[Rounding] = ...,
-        position: Optional[int] = ...,
-        increment: int = ...,
-        trailing_zeros: TrailingZeros = ...,
-        minimum_integer_digits: int = ...,
-        minimum_fraction_digits: int = ...,
-    ) -> None: ...
+    def __init__(self, tag: Text, /, *, grouping: Grouping = ..., **options: "Unpack[Options]") -> None: ...
 
     @overload
-    def __init__(
-        self,
-        book: Book,
-        tag: Text,
-        /,
-        *,
-        grouping: Grouping = ...,
-        sign: Sign = ...,
-        rounding: Optional[Rounding] = ...,
-        position: Optional[int] = ...,
-        increment: int = ...,
-        trailing_zeros: TrailingZeros = ...,
-        minimum_integer_digits: int = ...,
-        minimum_fraction_digits: int = ...,
-    ) -> None: ...
+    def __init__(self, book: Book, tag: Text, /, *, grouping: Grouping = ..., **options: "Unpack[Options]") -> None: ...
 
     def __init__(self, book: Union[Book, Text], tag: Optional[Text] = None, /, *, grouping: Grouping = Grouping.AUTO, **options: Any) -> None:
         of, named = named_by(book, tag)
@@ -340,13 +264,7 @@ class CurrencyFormatter(Open, _core.UnitFormatter):
         code: bool = ...,
         cash: bool = ...,
         grouping: Grouping = ...,
-        sign: Sign = ...,
-        rounding: Optional[Rounding] = ...,
-        position: Optional[int] = ...,
-        increment: int = ...,
-        trailing_zeros: TrailingZeros = ...,
-        minimum_integer_digits: int = ...,
-        minimum_fraction_digits: int = ...,
+        **options: "Unpack[Options]",
     ) -> None: ...
 
     @overload
@@ -361,13 +279,7 @@ class CurrencyFormatter(Open, _core.UnitFormatter):
         code: bool = ...,
         cash: bool = ...,
         grouping: Grouping = ...,
-        sign: Sign = ...,
-        rounding: Optional[Rounding] = ...,
-        position: Optional[int] = ...,
-        increment: int = ...,
-        trailing_zeros: TrailingZeros = ...,
-        minimum_integer_digits: int = ...,
-        minimum_fraction_digits: int = ...,
+        **options: "Unpack[Options]",
     ) -> None: ...
 
     def __init__(

@@ -78,11 +78,12 @@ class Rounding(IntEnum):
 
 class TrailingZeros(IntEnum):
     """What becomes of the zeros at the end of the fraction digits. KEEP: they stay, `1.50`. TRIM: they are trimmed, and the decimal separator
-    where no digit is left, `1.5`, and `2` of `2.00`.
+    where no digit is left, `1.5`, and `2` of `2.00`. TRIM_WHOLE: they are trimmed where no other digit is among them, `2` of `2.00`, and `1.50`.
     """
 
     KEEP = 0
     TRIM = 1
+    TRIM_WHOLE = 2
 
 
 def number_of(kind: Type[IntEnum], option: IntEnum) -> int:

@@ -72,7 +72,7 @@ class Calls(unittest.TestCase):
         for number, text in [
             (Decimal("-987654.321"), "-987,654.321"), (-1234, "-1,234"), (-(2**63), "-9,223,372,036,854,775,808"),
             (10**20, "100,000,000,000,000,000,000"), (Decimal("0E-2"), "0.00"), (Decimal("2E+3"), "2,000"), (Decimal("-0"), "-0"),
-            ("+5.0", "+5.0"), (Decimal("1.50"), "1.50"), (True, "1"), (Decimal("0E+5"), "0"), (Decimal("0E+40000"), "0"), (0, "0"),
+            ("+5.0", "+5.0"), (Decimal("1.50"), "1.50"), (Decimal("0E+5"), "0"), (Decimal("0E+40000"), "0"), (0, "0"),
         ]:
             self.assertEqual(self.english.format(number), text)
         self.assertEqual(len(self.english.format(10**30000)), 40001)
@@ -84,8 +84,20 @@ class Calls(unittest.TestCase):
             self.refused(8, self.english.format, number)
         for number in (float("nan"), float("inf"), -float("inf")):
             self.refused(7, self.english.format, number)
-        for number in (None, b"1", [1], 1j, self.english):
+        for number in (None, b"1", [1], 1j, self.english, True, False):
             self.assertRaises(TypeError, self.english.format, number)
+        for number in (None, type("NAType", (), {})(), type("MaskedConstant", (), {"__index__": lambda _: None})()):
+            self.assertRaisesRegex(TypeError, "^a number is missing: ", self.english.format, number)
+        for call, given, said in [
+            (self.english.format, "1,5", "7: no decimal number: '1,5'"), (self.english.format_parts, "x" * 50, f"7: no decimal number: '{'x' * 40}'.."),
+            (self.english.format, float("nan"), "7: no decimal number: nan"),
+            (self.english.read, "1234,5", "12: no number is written so: '1234,5'; with lenient=True what people type is read"),
+            (lambda text: self.english.read(text, lenient=True), b"1,23", "12: no number is written so: b'1,23'"),
+            (lambda tag: DecimalFormatter(self.book, tag), "xx", "6: the book lacks a table for the tag: 'xx'"),
+        ]:
+            with self.assertRaises(InputError) as caught:
+                call(given)
+            self.assertEqual(str(caught.exception), said)
         with self.assertRaisesRegex(TypeError, r"give Decimal\(it.numerator\) / it.denominator"):
             self.english.format(Fraction(1, 3))
         with decimal.localcontext() as context:
@@ -93,6 +105,53 @@ class Calls(unittest.TestCase):
             self.refused(8, self.english.format, Decimal("1E+40000"))
             self.refused(8, self.english.format, Decimal("-12E-40000"))
             self.assertEqual(self.english.format(Decimal("1.5E+3")), "1,500")
+
+    def test_huge_integers(self):
+        """An int of more digits than the library takes is refused before its digits are made, which takes time that grows as their square."""
+        huge = 1 << 3_000_000
+        began = time.monotonic()
+        for number in (huge, -huge, 10**100_000):
+            for call in (self.english.format, self.english.format_parts, self.short.shown, self.short.format):
+                self.refused(8, call, number)
+            with self.assertRaisesRegex(InputError, "^8: .*: the number at 1$"):
+                self.english.format_all([1, number])
+        self.assertLess(time.monotonic() - began, 1)
+        self.assertEqual(len(self.english.format(10**32767)), 43690)
+        self.assertEqual(self.english.format(10**32768 - 1)[:3], "99,")
+        self.refused(8, self.english.format, 10**32768)
+
+    def test_exponents(self):
+        for number, exponent, text in [(-12345, -2, "-123.45"), (5, 3, "5,000"), (0, -2, "0.00"), (2**70, -2, "11,805,916,207,174,113,034.24"), (7, 0, "7")]:
+            self.assertEqual(self.english.format(number, exponent=exponent), text)
+            self.assertEqual(self.english.format_all([number, number], exponent=exponent), [text, text])
+        self.assertEqual(self.english.format(12345, exponent=-3, position=-1), "12.3")
+        self.assertEqual(self.english.format_all(array.array("h", [1, -250]), exponent=-2), ["0.01", "-2.50"])
+        self.assertEqual(self.english.format_all(array.array("Q", [2**64 - 1]), exponent=-2), ["184,467,440,737,095,516.15"])
+        self.assertEqual(CurrencyFormatter("en", "USD").format_all([123456, -5], exponent=-2), ["$1,234.56", "-$0.05"])
+        for number in (1.5, "5", Decimal(5), None, True):
+            self.assertRaises(TypeError, self.english.format, number, exponent=-2)
+            self.assertRaisesRegex(TypeError, ": the number at 1$", self.english.format_all, [1, number], exponent=-2)
+        self.assertRaises(TypeError, self.english.format_all, array.array("d", [1]), exponent=-2)
+        for exponent, error in ((32768, ValueError), (-32769, ValueError), ("1", TypeError), (True, TypeError)):
+            self.assertRaises(error, self.english.format, 1, exponent=exponent)
+        for call in (self.english.format_parts, self.short.shown):
+            self.assertRaises(TypeError, call, 1, exponent=-2)
+        self.assertRaises(TypeError, DecimalFormatter, self.book, "en", exponent=-2)
+        self.refused(8, lambda: self.english.format(10, exponent=32767))
+
+    def test_zeros(self):
+        """A zero that a rounding above the ones leaves is one digit, and zeros may be trimmed of whole numbers alone."""
+        dollars, whole = CurrencyFormatter("en", "USD"), TrailingZeros.TRIM_WHOLE
+        for formatter, number, options, text in [
+            (self.english, 400, {"position": 3}, "0"), (self.english, 600, {"position": 3}, "1,000"), (self.english, -400, {"position": 3}, "-0"),
+            (self.english, 5, {"position": 3, "rounding": Rounding.TRUNC, "minimum_integer_digits": 3}, "000"), (self.short, 400, {"position": 3}, "0"),
+            (self.english, "000", {}, "000"), (self.english, "000", {"position": 0}, "000"), (dollars, 400, {"position": 3}, "$0"),
+            (dollars, 5, {"trailing_zeros": whole}, "$5"), (dollars, 5.5, {"trailing_zeros": whole}, "$5.50"),
+            (dollars, 0.001, {"trailing_zeros": whole}, "$0"), (self.english, "1.50", {"trailing_zeros": whole}, "1.50"),
+            (self.english, "2.00", {"trailing_zeros": whole, "minimum_fraction_digits": 1}, "2.0"),
+        ]:
+            self.assertEqual(formatter.format(number, **options), text)
+            self.assertEqual(formatter.format_all([number] * 2, **options), [text] * 2)
 
     def test_compact(self):
         for number, text in [
@@ -170,9 +229,24 @@ class Calls(unittest.TestCase):
             self.assertRaises(ValueError, self.english.format, 1, **options)
         for options in (
             {"sign": 1}, {"sign": Rounding.TRUNC}, {"sign": None}, {"rounding": Sign.AUTO}, {"rounding": 9}, {"position": "1"}, {"grouping": 1},
+            {"position": True}, {"minimum_integer_digits": False}, {"position": 1.0},
         ):
             self.assertRaises(TypeError, self.english.format, 1, **options)
             self.assertRaises(TypeError, self.short.shown, 1, **options)
+        for options in ({"increment": 5}, {"increment": 5, "rounding": Rounding.KEEP}):
+            self.assertRaisesRegex(ValueError, "give position too", self.english.format, 1, **options)
+            self.assertRaisesRegex(ValueError, "give position too", DecimalFormatter, self.book, "en", **options)
+        self.assertEqual(self.english.format("1.23", increment=5, position=-2), "1.25")
+        self.assertEqual(self.english.format("1.23", increment=1), "1.23")
+        self.assertEqual(DecimalFormatter(self.book, "en", position=-2).format("1.23", increment=5), "1.25")
+
+        class Index:
+            def __index__(self):
+                options.clear()
+                return -1
+
+        options = {"position": Index(), "sign": Sign.ALWAYS, "minimum_fraction_digits": 2}
+        self.assertEqual(self.english.format("1.25", **options), "+1.20")
         self.assertRaises(TypeError, self.english.format, 1, Sign.ALWAYS)
         for name in (b"sign", 1, None, ("sign",)):
             for call in (self.english.format, self.english.format_all, self.english.format_parts, self.short.shown):
@@ -275,7 +349,7 @@ class Calls(unittest.TestCase):
                 self.assertEqual(formatter.format("1234567.891"), text)
         self.assertEqual(CompactDecimalFormatter("hi", width=Width.LONG).format(1234567), "12 लाख")
         self.assertEqual(DecimalFormatter("de", grouping=Grouping.NEVER).format(1234), "1234")
-        for tag, hint in (("de_DE", ": 'de_DE' is written 'de-DE'"), (b"e_", ": b'e_' is written 'e-'"), ("e", "")):
+        for tag, hint in (("de_DE", ": 'de_DE' is written 'de-DE'"), (b"e_", ": b'e_' is written 'e-'"), ("e", ": 'e'")):
             with self.assertRaises(InputError) as caught:
                 CompactDecimalFormatter(tag)
             self.assertEqual(str(caught.exception), f"5: no locale tag{hint}")
@@ -489,7 +563,7 @@ class Calls(unittest.TestCase):
 
     def test_kinds_in_a_column(self):
         """Numbers of all kinds are written in their order, whatever comes after what, and however many they are."""
-        kinds = [1234, 1234.5, "1e3", Decimal("-0.50"), 2**70, True, -0.0]
+        kinds = [1234, 1234.5, "1e3", Decimal("-0.50"), 2**70, 1, -0.0]
         wanted = ["1,234", "1,234.5", "1,000", "-0.50", f"{2**70:,}", "1", "-0"]
         for times in (1, 63, 64, 65, 4095, 4096, 4097):
             self.assertEqual(self.english.format_all([it for it in kinds for _ in range(times)]), [it for it in wanted for _ in range(times)])
@@ -756,7 +830,7 @@ class Calls(unittest.TestCase):
 
     def test_all(self):
         english = self.english
-        self.assertEqual(english.format_all([1234, Decimal("-0.50"), "1e3", 2.5, True]), ["1,234", "-0.50", "1,000", "2.5", "1"])
+        self.assertEqual(english.format_all([1234, Decimal("-0.50"), "1e3", 2.5]), ["1,234", "-0.50", "1,000", "2.5"])
         self.assertEqual(english.format_all([]), [])
         self.assertEqual(english.format_all(iter((1, 2))), ["1", "2"])
         self.assertEqual(english.format_all(range(1000, 1003), sign=Sign.ALWAYS), ["+1,000", "+1,001", "+1,002"])
@@ -766,6 +840,10 @@ class Calls(unittest.TestCase):
             self.assertRaises(TypeError, english.format_all, numbers)
         for numbers in (5, None, self.english, [1, None], [[1]]):
             self.assertRaises(TypeError, english.format_all, numbers)
+        for missing in (None, True, b"1"):
+            with self.assertRaisesRegex(TypeError, ": the number at 100$") as caught:
+                english.format_all([*range(100), missing, 1])
+            self.assertIsInstance(caught.exception.__cause__, TypeError)
         for numbers in ([1, "5."], iter([1, "5."]), array.array("d", [1, float("nan")])):
             with self.assertRaisesRegex(InputError, "7: .*: the number at 1$"):
                 english.format_all(numbers)
@@ -839,7 +917,12 @@ class Calls(unittest.TestCase):
         self.assertRaisesRegex(TypeError, r"astype\(float\)", self.english.format_all, row.astype("float16"))
         self.assertEqual(self.english.format_all(numpy.ma.array([1.5, 2.5])), ["1.5", "2.5"])
         masked = numpy.ma.array([1.5, 2.5], mask=[False, True])
-        self.assertRaises(TypeError, self.english.format_all, masked)
+        self.assertRaisesRegex(TypeError, "^a number is missing: .*: the number at 1$", self.english.format_all, masked)
+        whole = numpy.ma.array([1, 2], mask=[False, True])
+        self.assertRaisesRegex(TypeError, "^a number is missing: .*: the number at 1$", self.english.format_all, whole)
+        self.assertEqual(self.english.format(1.25, position=numpy.int64(-1)), "1.2")
+        self.assertRaises(TypeError, self.english.format, numpy.bool_(True))
+        self.assertRaises(TypeError, self.english.format_all, numpy.array([True]))
         column = type("Column", (), {"to_numpy": lambda _: masked, "__iter__": lambda _: iter(masked)})()
         self.assertRaises(TypeError, self.english.format_all, column)
         try:
@@ -851,6 +934,8 @@ class Calls(unittest.TestCase):
         self.assertEqual(self.english.format_all(table["b"]), [f"{it:,}" for it in (row + 0.5).tolist()])
         self.assertEqual(self.english.format_all(table["c"]), want)
         self.assertEqual(self.english.format_all(table["a"].astype("Int64")), want)
+        missing = pandas.array([1, None], dtype="Int64")
+        self.assertRaisesRegex(TypeError, "^a number is missing: <NA>: the number at 1$", self.english.format_all, missing)
         self.assertRaises(TypeError, self.english.format_all, table[["a", "b"]])
         self.assertRaises(TypeError, self.english.format_all, table["b"].astype("float32"))
 

@@ -16,7 +16,7 @@ import time
 from concurrent.futures import FIRST_COMPLETED, ThreadPoolExecutor, wait
 
 from . import sources
-from .common import COMMAND, MINUTES, OUT, PROGRAMS, RT, TOP, Fault, make_out, out_of, program_of, read_text, say
+from .common import COMMAND, MINUTES, NO_KIT, OUT, PROGRAMS, RT, TOP, Fault, make_out, out_of, program_of, read_text, say
 from .guard import Guard
 from .trial import SHORT_CALLS
 
@@ -325,7 +325,7 @@ def needs_level(program):
 def build_programs():
     """Proves and builds the programs, where that is needed: the command too where it does not run on every processor."""
     if shutil.which(RT) is None:
-        raise Fault(f"the command {RT} of the Rattle kit is not on the PATH")
+        raise Fault(NO_KIT)
     with one_at_a_time():
         sources.look_anew()
         programs = [name for name in PROGRAMS if sources.why_not_fresh(name) or name == COMMAND and needs_level(program_of(name))]

@@ -9,6 +9,7 @@ LINES, COMMAND = "locale_numbers_program", "legumeyet"
 PROGRAMS = (LINES, COMMAND)
 RT = os.environ.get("RT") or "rt"
 MINUTES = "30 to 60 minutes on four processors"
+NO_KIT = f"the command {RT} of the Rattle kit is not on the PATH; README.md, Install, has what needs no kit"
 
 FAILED, USAGE, OUTPUT, CUT_SHORT = 1, 2, 5, 7
 

@@ -28,7 +28,19 @@ FILES_OF_A_SLICE, OTHER_FILES = 4, 32
 
 
 class Failed(Exception):
-    """Standard input or output failed, as `read` or `write` says."""
+    """Standard input or output failed: `read` or `write`, with what the system said."""
+
+    def __init__(self, what, error):
+        super().__init__(what)
+        self.what, self.error = what, error
+
+    def told_by(self, name):
+        """What standard error gets, as the program of this name would tell it."""
+        if name != COMMAND:
+            return f"fault: {self.what}\n"
+        if self.what == "write" and isinstance(self.error, BrokenPipeError):
+            return ""
+        return f"{COMMAND}: {self.what} error: {self.error.strerror} (os error {self.error.errno})\n"
 
 
 class FileSlices:
@@ -63,7 +75,7 @@ class FileSlices:
 
     @staticmethod
     def start(words, place, unread, **ends):
-        """Starts a program on a slice. Where the slice can't be read to its end, `unread` is set."""
+        """Starts a program on a slice. Where the slice can't be read to its end, `unread` gets the error."""
         reading, writing = os.pipe()
         widen(writing)
         program = subprocess.Popen(words, stdin=reading, **ends)
@@ -126,14 +138,14 @@ def write_to(file, piece):
 
 def send(start, end, pipe, program, unread):
     """Sends a part of the standard input to a program, and ends its input. A program that has ended reads no more. One whose part
-    can't be read is ended first, so that it takes no piece of a line for a whole one."""
+    can't be read is ended first, so that it takes no piece of a line for a whole one, and `unread` gets the error."""
     try:
         while start < end and (sent := send_piece(pipe, start, min(end - start, PIECE))):
             start += sent
     except BrokenPipeError:
         pass
-    except OSError:
-        unread.set()
+    except OSError as error:
+        unread.append(error)
         program.kill()
     os.close(pipe)
 
@@ -152,14 +164,14 @@ def send_piece(pipe, start, length):
 class Answers:
     """The answers of one slice: they wait until its turn comes, and then go on to standard output."""
 
-    def __init__(self, slices, place, words, room, ended):
+    def __init__(self, slices, place, program, words, room, ended):
         self.reading, writing = os.pipe()
         widen(self.reading)
         self.said = tempfile.TemporaryFile()
-        self.unread = threading.Event()
-        self.program = slices.start(words, place, self.unread, stdout=writing, stderr=self.said)
+        self.unread = []
+        self.program = slices.start(words, place, self.unread, executable=program, stdout=writing, stderr=self.said)
         os.close(writing)
-        self.turn, self.ended, self.failed = threading.Event(), ended, False
+        self.turn, self.ended, self.failed = threading.Event(), ended, None
         self.room, self.waiting, self.more = room, [], None
         self.carrier = threading.Thread(target=self.carry, daemon=True)
         self.carrier.start()
@@ -176,8 +188,8 @@ class Answers:
             self.ended()
             self.turn.wait()
             self.send_waiting()
-        except OSError:
-            self.failed = True
+        except OSError as error:
+            self.failed = error
         os.close(self.reading)
 
     def keeps(self, piece):
@@ -213,10 +225,10 @@ class Answers:
         self.turn.set()
         self.carrier.join()
         if self.failed:
-            raise Failed("write")
+            raise Failed("write", self.failed)
         status = self.program.wait()
-        if self.unread.is_set():
-            raise Failed("read")
+        if self.unread:
+            raise Failed("read", self.unread[0])
         self.said.seek(0)
         tell(self.said.read())
         return status if status >= 0 else 128 - status
@@ -225,8 +237,8 @@ class Answers:
 class Run:
     """The slices of a run, each begun as soon as a job is free, and their answers in order."""
 
-    def __init__(self, words, jobs):
-        self.words, self.room = words, WAITING // (jobs * (AHEAD + 1))
+    def __init__(self, program, words, jobs):
+        self.program, self.words, self.room = program, words, WAITING // (jobs * (AHEAD + 1))
         self.slices = FileSlices(jobs) if stat.S_ISREG(os.fstat(0).st_mode) else PipeSlices()
         self.free, self.begun, self.queue = threading.Semaphore(jobs), set(), queue.Queue(jobs * AHEAD)
         threading.Thread(target=self.begin_all, daemon=True).start()
@@ -235,7 +247,7 @@ class Run:
         """Begins each slice, and tells then what ended them: None, or what failed."""
         try:
             while self.free.acquire() and (place := self.next()) is not None:
-                answers = Answers(self.slices, place, self.words, self.room, self.free.release)
+                answers = Answers(self.slices, place, self.program, self.words, self.room, self.free.release)
                 self.begun.add(answers)
                 self.queue.put(answers)
             self.queue.put(None)
@@ -249,8 +261,8 @@ class Run:
         """The place of the next slice, or None after the last."""
         try:
             return self.slices.next()
-        except OSError:
-            raise Failed("read") from None
+        except OSError as error:
+            raise Failed("read", error) from None
 
     def status(self):
         """Has all be answered, and returns the status of the first program that fails, or 0."""
@@ -285,12 +297,13 @@ def with_files(jobs):
 
 
 def answer(program, name, words, jobs):
-    """Has so many programs answer the lines of standard input, and returns the status, as one would."""
-    run = Run([program, *words], with_files(jobs))
+    """Has so many programs answer the lines of standard input, and returns the status, as one would. The programs are started by
+    their name: their path may be no text."""
+    run = Run(program, [name, *words], with_files(jobs))
     try:
         return run.status()
     except Failed as failed:
-        tell(f"{'legumeyet: ' if name == COMMAND else ''}fault: {failed}\n".encode())
+        tell(failed.told_by(name).encode())
         return OUTPUT
     finally:
         run.end()

@@ -4,7 +4,7 @@ import os
 import re
 import subprocess
 
-from .common import RT, Fault
+from .common import NO_KIT, RT, Fault
 
 # From this kit on `rt ci` takes names, proves on a copy, and keeps on the machine what passed.
 TAKES_NAMES = (13, "f")
@@ -15,7 +15,7 @@ def said_by_rt(word):
     try:
         ran = subprocess.run([RT, word], stdin=subprocess.DEVNULL, stdout=subprocess.PIPE, check=True)
     except (OSError, subprocess.CalledProcessError):
-        raise Fault(f"the command {RT} of the Rattle kit is not on the PATH") from None
+        raise Fault(NO_KIT) from None
     return os.fsdecode(ran.stdout.strip())
 
 

@@ -4,7 +4,7 @@ import pathlib
 import re
 
 from launching import kit, sources
-from launching.common import RT, Fault
+from launching.common import NO_KIT, RT, Fault
 
 from .common import TOP
 
@@ -93,7 +93,7 @@ def check():
 def write():
     """Writes the list again. Raises a Fault without the kit."""
     if kit_folder() is None:
-        raise Fault(f"the command {RT} of the Rattle kit is not on the PATH")
+        raise Fault(NO_KIT)
     (TOP / FOLDER / LIST).write_bytes(made()[LIST])
 
 

@@ -4,6 +4,7 @@ import re
 import shutil
 import subprocess
 import tempfile
+import threading
 
 import websocket
 from selenium import webdriver
@@ -32,7 +33,7 @@ class Chromium:
         for word in WORDS:
             options.add_argument(word)
         self.driver = webdriver.Chrome(service=Service(shutil.which("chromedriver")), options=options)
-        self.driver.set_script_timeout(60)
+        self.driver.set_script_timeout(300)
 
     def open(self, address):
         self.driver.get(address)
@@ -83,6 +84,8 @@ class Firefox:
         words = ["--headless", "--no-remote", "--remote-debugging-port=0", "--profile", self.profile.name]
         self.process = subprocess.Popen([shutil.which("firefox-esr") or shutil.which("firefox"), *words], stderr=subprocess.PIPE, stdout=subprocess.DEVNULL, text=True)
         address = next(filter(None, (re.search(r"BiDi listening on (ws://\S+)", line) for line in self.process.stderr)))[1]
+        self.reader = threading.Thread(target=self.process.stderr.read, daemon=True)  # else Firefox would wait once the pipe is full
+        self.reader.start()
         self.socket = websocket.create_connection(f"{address}/session", suppress_origin=True, timeout=600)
         self.count = 0
         self.send("session.new", capabilities={})
@@ -132,6 +135,7 @@ class Firefox:
         except (OSError, RuntimeError, websocket.WebSocketException, subprocess.TimeoutExpired):
             self.process.kill()
             self.process.wait()
+        self.reader.join()
         self.process.stderr.close()
         self.profile.cleanup()
 

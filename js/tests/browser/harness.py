@@ -1,4 +1,6 @@
 """What the tests in a browser share. BROWSER names it, and PACKAGE is the folder of the package."""
+import atexit
+import functools
 import json
 import os
 import pathlib
@@ -12,6 +14,14 @@ HERE = pathlib.Path(__file__).resolve().parent
 OWN = {f"/{it}": (HERE / it).read_text(encoding="utf-8") for it in ("trial.html", "trial.js", "wander.js")}
 
 
+@functools.cache
+def browser():
+    """The browser: it is started once, and ends with the program."""
+    it = BROWSERS[os.environ["BROWSER"]]()
+    atexit.register(it.close)
+    return it
+
+
 class BrowserCase(unittest.TestCase):
     """Tests over one browser and a server of the package."""
 
@@ -19,8 +29,7 @@ class BrowserCase(unittest.TestCase):
     def setUpClass(cls):
         cls.server = Server(os.environ["PACKAGE"], instead=OWN)
         cls.addClassCleanup(cls.server.close)
-        cls.browser = BROWSERS[os.environ["BROWSER"]]()
-        cls.addClassCleanup(cls.browser.close)
+        cls.browser = browser()
 
     def look(self, expression):
         """The value of an expression of the page."""

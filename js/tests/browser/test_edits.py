@@ -3,7 +3,7 @@ import os
 
 from harness import BrowserCase
 
-PIECE = 2_000
+PIECE = 1_000
 
 
 class Edits(BrowserCase):

@@ -151,7 +151,7 @@ impl fmt::Display for ColumnError {
         if self.error == Error::OPTION {
             return self.error.fmt(out);
         }
-        write!(out, "{}: the number at {}", self.error, self.at())
+        out.pad(&format!("{}: the number at {}", self.error, self.at()))
     }
 }
 

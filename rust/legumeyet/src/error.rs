@@ -83,8 +83,11 @@ impl fmt::Display for Error {
     fn fmt(&self, out: &mut fmt::Formatter<'_>) -> fmt::Result {
         // SAFETY: `written` passes memory that is as long as it says.
         let text = written(|at, room, length| unsafe { sys::legumeyet_error_text(self.0, at, room, length) });
-        out.write_str(text.as_deref().unwrap_or("an error of another version"))?;
-        out.write_str(if *self == Error::TAG { " (`de_DE` is written `de-DE`)" } else { "" })
+        let text = text.as_deref().unwrap_or("an error of another version");
+        if *self == Error::TAG {
+            return out.pad(&format!("{text} (`de_DE` is written `de-DE`)"));
+        }
+        out.pad(text)
     }
 }
 
@@ -132,6 +135,13 @@ impl From<fmt::Error> for WriteError {
 /// So that `?` ends a `Display`, which cannot say why.
 impl From<WriteError> for fmt::Error {
     fn from(_: WriteError) -> fmt::Error {
+        fmt::Error
+    }
+}
+
+/// As of a `WriteError`.
+impl From<Error> for fmt::Error {
+    fn from(_: Error) -> fmt::Error {
         fmt::Error
     }
 }

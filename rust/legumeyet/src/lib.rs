@@ -12,23 +12,27 @@
 //! # Ok::<(), legumeyet::Error>(())
 //! ```
 //!
-//! A number is a text, an integer or a float: [`Number`]. `write_to` writes into what has `fmt::Write`, as a `fmt::Formatter`:
+//! A number is a text, an integer or a float: [`Number`]. A `Display` pads its text, so that `{:>12}` is known to it. `write_to` writes into
+//! what has `fmt::Write`, as a `String` or a `fmt::Formatter`, without a text of its own and as it is:
 //!
 //! ```
-//! use legumeyet::{DecimalFormatter, Error, Options, Rounding};
+//! use legumeyet::{DecimalFormatter, Options, Rounding};
 //! use std::fmt;
 //!
 //! struct Price<'a>(&'a DecimalFormatter, f64);
 //!
 //! impl fmt::Display for Price<'_> {
 //!     fn fmt(&self, out: &mut fmt::Formatter<'_>) -> fmt::Result {
-//!         Ok(self.0.write_to(out, self.1, &Options::default().rounded(Rounding::HalfEven, -2))?)
+//!         out.pad(&self.0.format(self.1, &Options::default().rounded(Rounding::HalfEven, -2))?)
 //!     }
 //! }
 //!
 //! let german: DecimalFormatter = "de".parse()?;
-//! assert_eq!(format!("{} €", Price(&german, 1234.5)), "1.234,50 €");
-//! # Ok::<(), Error>(())
+//! assert_eq!(format!("{:>10} €", Price(&german, 1234.5)), "  1.234,50 €");
+//! let mut line = String::from("= ");
+//! german.write_to(&mut line, 1234.5, &Options::default())?;
+//! assert_eq!(line, "= 1.234,5");
+//! # Ok::<(), Box<dyn std::error::Error>>(())
 //! ```
 //!
 //! Percents and amounts of money have formatters of their own:

@@ -30,7 +30,7 @@ words!(Grouping: "auto" Auto, "never" Never, "always" Always, "min2" Min2);
 words!(Width: "short" Short, "long" Long);
 words!(Sign: "keep" Keep, "auto" Auto, "never" Never, "always" Always, "except-zero" ExceptZero, "negative" Negative);
 words!(Increment: "1" One, "2" Two, "5" Five, "25" TwentyFive);
-words!(TrailingZeros: "keep" Keep, "trim" Trim);
+words!(TrailingZeros: "keep" Keep, "trim" Trim, "trim-whole" TrimWhole);
 words!(Rounding: "keep" Keep, "expand" Expand, "trunc" Trunc, "ceil" Ceil, "floor" Floor, "half-expand" HalfExpand,
     "half-trunc" HalfTrunc, "half-ceil" HalfCeil, "half-floor" HalfFloor, "half-even" HalfEven, "cash" Cash, "none" None);
 words!(CurrencyStyle: "standard" Standard, "accounting" Accounting);
@@ -232,6 +232,8 @@ pub enum TrailingZeros {
     Keep = 0,
     /// They are trimmed, and the decimal separator where no digit is left: `1.5`, and `2` of `2.00`.
     Trim = 1,
+    /// They are trimmed where no other digit is among them: `2` of `2.00`, and `1.50`.
+    TrimWhole = 2,
 }
 
 /// What is made of a number before it is written: it is rounded, then trimmed, then padded, and then its sign is chosen. By default it stays
