@@ -1,1 +1,5 @@
+pub mod CallFaults
+pub mod Messages
 pub mod Output
+pub mod Parts
+pub mod Trimming

@@ -1,54 +1,148 @@
 //! The numbers of standard input.
 
-use crate::numbers::{Asked, put_number};
-use locale_numbers::{Answers, Book, ProgramFault, RunError};
-use std::io::{BufRead, BufReader, BufWriter, Write};
+ghost use Rattle.std.specs.Prelude.{◌≡◌, ◌<◌, ℕ, List, None, Some, true, false, IfOk, OnOk, length};
+ghost use Rattle.std.specs.List.{before_first, position};
+ghost use Rattle.std.specs.Io.BufRead.{drop_through, take_through};
+ghost use Rattle.std.specs.Io.KnownBytes.{Appends, IsAtEnd, Keeps};
+ghost use Rattle.std.specs.Io.Buffered.{reader_remaining};
+ghost use Rattle.locale_numbers.specs.Answer.{answer_of};
+ghost use Rattle.legumeyet.specs.Output.{input_shown};
+ghost use Rattle.legumeyet.specs.Trimming.{is_blank, is_feed, trimmed, without_end, without_front};
 
-// A line without its line feed.
-fn text_of(line: &[u8]) -> &[u8] {
-    match line {
-        [text @ .., b'\n'] => text,
-        text => text,
+use crate::fault::CallFault;
+use crate::numbers::{Asked, is_last, put_number};
+use locale_numbers::{Answers, Book};
+use std::io::{self, BufRead, BufReader, Read, Write};
+
+// Whether a byte is a space, a tab or a carriage return.
+fn is_blank(byte: u8) -> bool
+    ensures value { result ≡ is_blank byte }
+{
+    byte == b' ' || byte == b'\t' || byte == b'\r'
+}
+
+// What is after the blanks in front.
+fn without_front(text: &[u8]) -> &[u8]
+    ensures value { result.now ≡ without_front text.now }
+{
+    let mut left = text;
+    while let Some((first, rest)) = left.split_first() {
+        if !is_blank(*first) {
+            return left;
+        }
+        left = rest;
+    }
+    left
+}
+
+// What is before the blanks at the end.
+fn without_end(text: &[u8]) -> &[u8]
+    ensures value { result.now ≡ without_end text.now }
+{
+    let mut left = text;
+    while let Some((last, rest)) = left.split_last() {
+        if !is_blank(*last) {
+            return left;
+        }
+        left = rest;
+    }
+    left
+}
+
+// A text without the blanks around it.
+fn trimmed(text: &[u8]) -> &[u8]
+    ensures value { result.now ≡ trimmed text.now }
+{
+    without_end(without_front(text))
+}
+
+// Where the line feed of a line is, where it has one.
+fn feed_place(line: &[u8]) -> Option<usize>
+    ensures value { result ≡ position is_feed line.now }
+{
+    line.iter().position(|byte| *byte == b'\n')
+}
+
+// What is before the line feed of a line, where it has one.
+fn before_feed(line: &[u8]) -> &[u8]
+    ensures value { result.now ≡ before_first is_feed line.now }
+{
+    match feed_place(line) {
+        Some(end) => &line[..end],
+        None => line,
+    }
+}
+
+// Reads a line, with its line feed, and returns whether there was none.
+fn read_line<R: Read>(reader: &mut BufReader<R>, line: &mut Vec<u8>) -> Result<bool, CallFault>
+    ensures line { OnOk result ((bytes : List ℕ) → reader_remaining R.remaining reader.old ≡ Some bytes
+        → (line.new.items ≡ take_through 10 bytes)
+        × (reader_remaining R.remaining reader.new ≡ Some (drop_through 10 bytes))) }
+    ensures over { IfOk result (λ is_over. is_over ≡ true → IsAtEnd (reader_remaining R.remaining reader.old)) }
+    ensures some { IfOk result (λ is_over. is_over ≡ false → 0 < length line.new.items) }
+{
+    line.clear();
+    match reader.read_until(b'\n', line) {
+        Ok(count) => Ok(count == 0),
+        Err(error) => Err(CallFault::of_read(error)),
+    }
+}
+
+// Writes out what is written so far where the reader has no whole line: what is to come may be long in coming.
+fn flush_if_waiting<R: Read, W: Write>(reader: &BufReader<R>, out: &mut W) -> Result<(), CallFault>
+    ensures same { OnOk result (Keeps (W.contents out.old) (W.contents out.new)) }
+{
+    if reader.buffer().contains(&b'\n') {
+        return Ok(());
+    }
+    match out.flush() {
+        Ok(()) => Ok(()),
+        Err(error) => Err(CallFault::Write(error)),
     }
 }
 
 // Writes each number that a reader has in a line of its own, and returns the status.
-fn put_lines<R: BufRead, W: Write>(
+fn put_lines<R: Read, W: Write>(
     rt: &HostRuntime,
     answers: &mut Answers<'_, Book>,
     asked: &Asked<'_>,
-    reader: &mut R,
+    reader: &mut BufReader<R>,
     out: &mut W,
-) -> Result<u8, ProgramFault> {
+) -> Result<u8, CallFault>
+    ensures output { asked.now.parts ≡ None → (input : List ℕ) → reader_remaining R.remaining reader.old ≡ Some input
+        → OnOk result (Appends (W.contents out.old) (W.contents out.new)
+        (input_shown asked.now.invalid (answer_of answers.old) asked.now.front.now input)) }
+    ensures same { answers.new ≡ answers.old }
+{
     let mut status = 0u8;
     let mut line = Vec::new(rt.alloc());
-    for _ in 0..u64::MAX {
-        line.clear();
-        match reader.read_until(b'\n', &mut line) {
-            Ok(0) => break,
-            Ok(_) => {}
-            Err(_) => return Err(ProgramFault::Run(RunError::Read)),
+    for _turn in 0..u64::MAX {
+        let is_over = read_line(reader, &mut line)?;
+        if is_over {
+            return Ok(status);
         }
-        status |= put_number(rt, answers, asked, text_of(&line), out)?;
+        let text = trimmed(before_feed(&line));
+        let status_of_line = put_number(rt, answers, asked, text, out)?;
+        status |= status_of_line;
+        if is_last(asked.invalid, status_of_line) {
+            return Ok(status);
+        }
+        flush_if_waiting(reader, out)?;
     }
-    Ok(status)
+    Err(CallFault::Read(io::Error::other("too many lines")))
 }
 
 /// Writes the numbers of standard input, and returns the status: 1 where one is refused.
-pub fn put_input(
+pub fn put_input<W: Write>(
     rt: &HostRuntime,
     answers: &mut Answers<'_, Book>,
     asked: &Asked<'_>,
-) -> Result<u8, ProgramFault> {
+    out: &mut W,
+) -> Result<u8, CallFault>
+    ensures same { answers.new ≡ answers.old }
+{
     let Ok(mut reader) = BufReader::new(rt.alloc(), rt.stdin()) else {
-        return Err(ProgramFault::Run(RunError::Memory));
+        return Err(CallFault::MEMORY);
     };
-    let Ok(mut writer) = BufWriter::new(rt.alloc(), rt.stdout()) else {
-        return Err(ProgramFault::Run(RunError::Memory));
-    };
-    let done = put_lines(rt, answers, asked, &mut reader, &mut writer);
-    match writer.flush() {
-        Ok(()) => done,
-        Err(_) => Err(ProgramFault::Run(RunError::Write)),
-    }
+    put_lines(rt, answers, asked, &mut reader, out)
 }

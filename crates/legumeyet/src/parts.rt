@@ -1,9 +1,15 @@
 //! The parts of a number's text.
 
-ghost use Rattle.std.specs.Prelude.{◌≡◌, ◌++◌, ◌∷◌, [], OnOk, codes, false};
+ghost use Rattle.std.specs.Prelude.{◌≡◌, ◌↔◌, ℕ, List, IfOk, OnOk, false, true};
+ghost use Rattle.std.specs.List.{flat_map};
 ghost use Rattle.std.specs.Io.KnownBytes.{Appends};
-ghost use Rattle.legumeyet.specs.Output.{line_feed};
+ghost use Rattle.writeable.specs.AnnotatedText.{Event};
+ghost use Rattle.writeable.specs.HeldParts.{held_after};
+ghost use Rattle.writeable.specs.PartName.{name_of};
+ghost use Rattle.writeable.specs.PartText.{part_texts};
+ghost use Rattle.legumeyet.specs.Parts.{ArePartLines, IsFilled, part_line};
 
+use crate::fault::CallFault;
 use fixed_decimal::ParseError;
 use icu_decimal::options::{CompactDecimalFormatterOptions, DecimalFormatterOptions};
 use icu_decimal::{CompactDecimalFormatter, DecimalFormatter, DecimalFormatterPreferences};
@@ -11,8 +17,8 @@ use icu_dimension::{
     CurrencyCode, CurrencyFormatter, CurrencyFormatterOptions, CurrencyUsage, PercentFormatter,
     PercentFormatterOptions,
 };
-use locale_numbers::prelude::{Book, Decimal, PartsSink, Writeable};
-use locale_numbers::{ProgramFault, RunError, amount_options};
+use locale_numbers::amount_options;
+use locale_numbers::prelude::{Book, Decimal, Part, PartsSink, Writeable};
 use locale_numbers_answers::{change, choose_sign, read_number};
 use locale_numbers_book::read_preferences;
 use locale_numbers_requests::{
@@ -23,31 +29,34 @@ use std::io::Write;
 use std::mem;
 
 // Writes a piece of a line.
-fn put_piece<W: Write>(piece: &[u8], out: &mut W) -> Result<(), ProgramFault>
+fn put_piece<W: Write>(piece: &[u8], out: &mut W) -> Result<(), CallFault>
     ensures output { OnOk result (Appends (W.contents out.old) (W.contents out.new) piece.now) }
 {
     match out.write_all(piece) {
         Ok(()) => Ok(()),
-        Err(_) => Err(ProgramFault::Run(RunError::Write)),
+        Err(error) => Err(CallFault::Write(error)),
     }
 }
 
 // Writes a part: its name and its text.
-fn put_part<W: Write>(name: &str, text: &str, out: &mut W) -> Result<(), ProgramFault>
+fn put_part<W: Write>(part: Part, text: &str, out: &mut W) -> Result<(), CallFault>
     ensures output { OnOk result (Appends (W.contents out.old) (W.contents out.new)
-        (codes "  " ++ (name.now ++ (codes " " ++ (text.now ++ line_feed ∷ []))))) }
+        (part_line (record { part = name_of part; text = text.now }))) }
 {
     put_piece(b"  ", out)?;
-    put_piece(name.as_bytes(), out)?;
+    put_piece(part.value.as_bytes(), out)?;
     put_piece(b" ", out)?;
     put_piece(text.as_bytes(), out)?;
     put_piece(b"\n", out)
 }
 
 // Writes the parts that a sink holds, each in a line with its name before it.
-fn put_held<W: Write>(sink: &PartsSink, out: &mut W) -> Result<(), ProgramFault> {
+fn put_held<W: Write>(sink: &PartsSink, out: &mut W) -> Result<(), CallFault>
+    ensures output { OnOk result (Appends (W.contents out.old) (W.contents out.new)
+        (flat_map part_line (part_texts sink.now.held.text sink.now.held.parts))) }
+{
     for (part, text) in sink.part_texts() {
-        put_part(part.value, text, out)?;
+        put_part(part, text, out)?;
     }
     Ok(())
 }
@@ -71,6 +80,7 @@ fn fill_plain(
     sink: &mut PartsSink,
 ) -> Result<(), AllocError>
     requires ready { sink.old.refused ≡ false }
+    ensures events { IsFilled sink.old result sink.new }
 {
     let options = DecimalFormatterOptions::from(request.grouping);
     let Ok(formatter) = DecimalFormatter::try_new_unstable(book, preferences, options) else {
@@ -89,6 +99,7 @@ fn fill_compact(
     sink: &mut PartsSink,
 ) -> Result<(), AllocError>
     requires ready { sink.old.refused ≡ false }
+    ensures events { IsFilled sink.old result sink.new }
 {
     if !formatter.can_format(number) {
         return Ok(());
@@ -110,6 +121,7 @@ fn fill_by_length(
     sink: &mut PartsSink,
 ) -> Result<(), AllocError>
     requires ready { sink.old.refused ≡ false }
+    ensures events { IsFilled sink.old result sink.new }
 {
     let options = CompactDecimalFormatterOptions::from(request.grouping);
     let made = match length {
@@ -135,6 +147,7 @@ fn fill_percent(
     sink: &mut PartsSink,
 ) -> Result<(), AllocError>
     requires ready { sink.old.refused ≡ false }
+    ensures events { IsFilled sink.old result sink.new }
 {
     let options = PercentFormatterOptions {
         grouping_strategy: Some(request.grouping),
@@ -180,6 +193,7 @@ fn write_amount(
     sink: &mut PartsSink,
 ) -> Result<(), AllocError>
     requires ready { sink.old.refused ≡ false }
+    ensures events { IsFilled sink.old result sink.new }
 {
     match formatter.format(amount).write_to(sink) {
         Ok(()) => Ok(()),
@@ -199,6 +213,7 @@ fn fill_amount(
     sink: &mut PartsSink,
 ) -> Result<(), AllocError>
     requires ready { sink.old.refused ≡ false }
+    ensures events { IsFilled sink.old result sink.new }
 {
     let Ok(formatter) = CurrencyFormatter::try_new_unstable(book, preferences, code, options) else {
         return Ok(());
@@ -218,6 +233,7 @@ fn fill(
     sink: &mut PartsSink,
 ) -> Result<(), AllocError>
     requires ready { sink.old.refused ≡ false }
+    ensures events { IsFilled sink.old result sink.new }
 {
     if let Form::Unit(UnitAsked::Currency(style, code)) = request.form {
         let options = amount_options(style, request.grouping);
@@ -252,6 +268,7 @@ fn fill_text(
     sink: &mut PartsSink,
 ) -> Result<(), AllocError>
     requires ready { sink.old.refused ≡ false }
+    ensures events { IsFilled sink.old result sink.new }
 {
     let Some(request) = read_request(front) else {
         return Ok(());
@@ -265,17 +282,45 @@ fn fill_text(
     }
 }
 
-/// Writes the parts of a number's text, each in a line with its name before it. `front` is that of its request line.
+// A sink that is filled with the text of a text's number, after a front.
+fn filled(rt: &HostRuntime, book: &Book, front: &[u8], text: &[u8]) -> Result<PartsSink, AllocError>
+    ensures events { IfOk result (λ sink. (events : List Event) × (sink.held ≡ held_after events)) }
+{
+    let mut sink = PartsSink::new(rt.alloc());
+    match fill_text(rt, book, front, text, &mut sink) {
+        Ok(()) => Ok(sink),
+        Err(refused) => Err(refused),
+    }
+}
+
+// Whether a sink has the text that was said.
+fn has_text(sink: &PartsSink, said: &[u8]) -> bool
+    ensures value { (result ≡ true) ↔ (sink.now.held.text ≡ said.now) }
+{
+    sink.text().as_bytes() == said
+}
+
+/// Writes the parts of what was said of a number, each in a line with its name before it. `front` is that of its request
+/// line.
+///
+/// The number is made anew for its parts: where their text is not what was said, nothing is written.
 pub fn put_parts<W: Write>(
     rt: &HostRuntime,
     book: &Book,
     front: &[u8],
     text: &[u8],
+    said: &[u8],
     out: &mut W,
-) -> Result<(), ProgramFault> {
-    let mut sink = PartsSink::new(rt.alloc());
-    match fill_text(rt, book, front, text, &mut sink) {
-        Ok(()) => put_held(&sink, out),
-        Err(_) => Err(ProgramFault::Run(RunError::Memory)),
+) -> Result<(), CallFault>
+    ensures output { OnOk result ((lines : List ℕ) × ArePartLines said.now lines
+        × Appends (W.contents out.old) (W.contents out.new) lines) }
+{
+    let Ok(sink) = filled(rt, book, front, text) else {
+        return Err(CallFault::MEMORY);
+    };
+    if has_text(&sink, said) {
+        put_held(&sink, out)
+    } else {
+        Ok(())
     }
 }

@@ -1,9 +1,12 @@
 //! What standard error is told.
 
 ghost use Rattle.std.specs.Prelude.{◌≡◌};
-ghost use Rattle.locale_numbers.specs.Fault.{status_of};
+ghost use Rattle.legumeyet.specs.CallFaults.{call_status};
 
-use locale_numbers::ProgramFault;
+use crate::fault::CallFault;
+use crate::messages::{Shown, ShownBytes};
+use clap::error::ErrorKind;
+use std::io;
 
 // What a word of refusal means.
 fn meaning(word: &[u8]) -> &'static str {
@@ -30,29 +33,37 @@ fn meaning(word: &[u8]) -> &'static str {
 
 /// Tells that a number or a text is refused, and why: `legumeyet: abc (de): the text is no decimal number`.
 pub fn tell_refused(rt: &HostRuntime, tag: &str, text: &[u8], word: &[u8]) {
-    let why = meaning(word);
-    let _ = match str::from_utf8(text) {
-        Ok(text) => eprintln!(rt; "legumeyet: {text} ({tag}): {why}"),
-        Err(_) => eprintln!(rt; "legumeyet: a number ({tag}): {why}"),
-    };
+    let (text, tag, why) = (ShownBytes(text), Shown(tag), meaning(word));
+    let _ = eprintln!(rt; "legumeyet: {text} ({tag}): {why}");
 }
 
-/// Tells a fault, and returns its status.
-pub fn tell_fault(rt: &HostRuntime, fault: &ProgramFault) -> u8
-    ensures status { result ≡ status_of fault.now }
+/// Tells a fault, and returns its status. Where nobody reads standard output any more nothing is told.
+pub fn tell_fault(rt: &HostRuntime, fault: &CallFault) -> u8
+    ensures status { result ≡ call_status fault.now }
 {
-    let _ = eprintln!(rt; "legumeyet: {fault}");
+    if !is_unread(fault) {
+        let _ = eprintln!(rt; "legumeyet: {fault}");
+    }
     fault.status()
+}
+
+// Whether standard output is a pipe that nobody reads any more.
+fn is_unread(fault: &CallFault) -> bool {
+    match fault {
+        CallFault::Write(error) => error.kind() == io::ErrorKind::BrokenPipe,
+        _ => false,
+    }
 }
 
 /// Tells what `clap` says of the words, on standard output for help and the version, and returns the status.
 pub fn tell_usage(rt: &HostRuntime, error: &clap::Error) -> u8 {
-    if error.print(rt).is_err() {
-        5
-    } else if error.use_stderr() {
-        2
-    } else {
-        0
+    if error.kind() == ErrorKind::OutOfMemory {
+        return tell_fault(rt, &CallFault::MEMORY);
+    }
+    match error.print(rt) {
+        Err(cause) => tell_fault(rt, &CallFault::Write(cause)),
+        Ok(()) if error.use_stderr() => 2,
+        Ok(()) => 0,
     }
 }
 
@@ -76,8 +87,20 @@ pub fn tell_tag(rt: &HostRuntime) -> u8
 pub fn tell_code(rt: &HostRuntime, code: &str) -> u8
     ensures status { result ≡ 2 }
 {
+    let code = Shown(code);
     let _ = eprintln!(rt;
         "error: --currency {code}: the code of a currency is three capitals, as EUR"
+    );
+    2
+}
+
+/// Tells that a capacity is not one, and returns the status.
+pub fn tell_capacity(rt: &HostRuntime, capacity: &str) -> u8
+    ensures status { result ≡ 2 }
+{
+    let capacity = Shown(capacity);
+    let _ = eprintln!(rt;
+        "error: invalid value '{capacity}' for '--capacity <N>': a capacity is one to five digits, from 1 to 65535"
     );
     2
 }
@@ -86,6 +109,7 @@ pub fn tell_code(rt: &HostRuntime, code: &str) -> u8
 pub fn tell_fields(rt: &HostRuntime, form: &str, sign: &str, rounding: &str) -> u8
     ensures status { result ≡ 2 }
 {
+    let rounding = Shown(rounding);
     let _ = eprintln!(rt;
         "error: --form {form} --sign {sign} --round {rounding}: a rounding is a position from -32768 to 32767, then, where given, a mode and an increment of 1, 2, 5 or 25, as -2,half-even,5; exact forms take no rounding, and read and read-lenient neither sign nor rounding"
     );

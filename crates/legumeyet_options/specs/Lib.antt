@@ -1,4 +1,5 @@
 pub mod Fields
+pub mod Invalids
 pub mod Line
 pub mod LocaleName
 pub mod Outcomes

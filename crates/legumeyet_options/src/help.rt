@@ -17,7 +17,14 @@ Tags:
 Numbers:
   A number is written as 1234567.891, -0.5 or 1.5e6; for exact-short and exact-long as 1.20c6, which
   is 1.20 million; for --form read and read-lenient it is a text, as 1.234.567,891. Words after --
-  are no options: -- -1.20c6. With - the numbers are those of standard input, a line each.
+  are no options: -- -1.20c6. With - the numbers are those of standard input, a line each; spaces,
+  tabs and a carriage return around one are left out.
+
+Refused numbers:
+  A number or a text that is refused gets a line on standard error that says why, and the others are
+  written. In place of a line of - an empty line is written, so that the lines stay beside those of
+  the input; in place of a word nothing is. --invalid says something else for both: empty, an empty
+  line; keep, the text as it is; skip, nothing; abort, nothing, and nothing after it.
 
 Reading:
   --read takes what people type: with all separators between groups or with none, with spaces around
@@ -60,7 +67,7 @@ Lines:
 
 Statuses:
   0  all is written; of --lines, each line has an answer, which may be err
-  1  a number or a text is refused: a line on standard error says why, and the others are written
+  1  a number or a text is refused
   2  the words are wrong
   3  the file of --book can't be read
   4  the file of --book is no book
@@ -92,6 +99,10 @@ Examples:
   $ printf '1234.5\\n-7\\n' | legumeyet --tag hi-u-nu-deva -
   १,२३४.५
   -७
+
+  $ printf 'amount\\n1234.5\\n' | legumeyet --tag de --invalid keep - 2>/dev/null
+  amount
+  1.234,5
 
   $ printf 'de\\tshort\\tauto\\tkeep\\t-\\t1234567\\n' | legumeyet --lines
   ok\t1,2 Mio.\t1.2c6";

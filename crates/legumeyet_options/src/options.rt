@@ -19,6 +19,8 @@ static GROUPINGS: [&str; 4] = ["auto", "always", "min2", "never"];
 
 static SIGNS: [&str; 6] = ["keep", "auto", "always", "never", "except-zero", "negative"];
 
+static INVALIDS: [&str; 4] = ["empty", "keep", "skip", "abort"];
+
 fn tag<'a>(alloc: Global) -> Arg<'a> {
     Arg::new(alloc, "tag")
         .short('t')
@@ -145,6 +147,16 @@ fn parts<'a>(alloc: Global) -> Result<Arg<'a>, AllocError> {
         .conflicts_with("read-exact")
 }
 
+fn invalid<'a>(alloc: Global) -> Arg<'a> {
+    Arg::new(alloc, "invalid")
+        .long("invalid")
+        .value_name("MODE")
+        .value_parser(INVALIDS.as_slice())
+        .help(
+            "What is written for what is refused: an empty line, the text as it is, nothing, or nothing more at all [default: empty for lines of -, else skip]",
+        )
+}
+
 fn book<'a>(alloc: Global) -> Arg<'a> {
     Arg::new(alloc, "book")
         .short('b')
@@ -153,25 +165,9 @@ fn book<'a>(alloc: Global) -> Arg<'a> {
         .help("A book of tables in place of that of all locales")
 }
 
-fn locales<'a>(alloc: Global) -> Result<Arg<'a>, AllocError> {
-    Arg::new(alloc, "locales")
-        .long("locales")
-        .action(ArgAction::SetTrue)
-        .help(
-            "Lists the locales of the book of all locales, or those that the book of --book has symbols for",
-        )
-        .conflicts_with("numbers")?
-        .conflicts_with("read")?
-        .conflicts_with("read-exact")?
-        .conflicts_with("parts")
-}
-
-// A line names all that is asked for.
-fn lines<'a>(alloc: Global) -> Result<Arg<'a>, AllocError> {
-    Arg::new(alloc, "lines")
-        .long("lines")
-        .action(ArgAction::SetTrue)
-        .help("Answers the request lines of standard input")
+// An option that does not go with those that say which numbers and texts are written or read, and how.
+fn beside_no_number<'a>(option: Arg<'a>) -> Result<Arg<'a>, AllocError> {
+    option
         .conflicts_with("numbers")?
         .conflicts_with("tag")?
         .conflicts_with("form")?
@@ -183,7 +179,26 @@ fn lines<'a>(alloc: Global) -> Result<Arg<'a>, AllocError> {
         .conflicts_with("read")?
         .conflicts_with("read-exact")?
         .conflicts_with("parts")?
-        .conflicts_with("locales")
+        .conflicts_with("invalid")
+}
+
+fn locales<'a>(alloc: Global) -> Result<Arg<'a>, AllocError> {
+    let option = Arg::new(alloc, "locales")
+        .long("locales")
+        .action(ArgAction::SetTrue)
+        .help(
+            "Lists the locales of the book of all locales, or those that the book of --book has symbols for",
+        );
+    beside_no_number(option)
+}
+
+// A line names all that is asked for.
+fn lines<'a>(alloc: Global) -> Result<Arg<'a>, AllocError> {
+    let option = Arg::new(alloc, "lines")
+        .long("lines")
+        .action(ArgAction::SetTrue)
+        .help("Answers the request lines of standard input");
+    beside_no_number(option)?.conflicts_with("locales")
 }
 
 fn capacity<'a>(alloc: Global) -> Result<Arg<'a>, AllocError> {
@@ -240,6 +255,7 @@ fn put_others<'a>(alloc: Global, args: &mut Vec<Arg<'a>>) -> Result<(), AllocErr
     put(args, Ok(read(alloc)))?;
     put(args, Ok(read_exact(alloc)))?;
     put(args, parts(alloc))?;
+    put(args, Ok(invalid(alloc)))?;
     put(args, Ok(book(alloc)))?;
     put(args, locales(alloc))?;
     put(args, lines(alloc))?;
@@ -267,7 +283,7 @@ fn all_args<'a>(alloc: Global) -> Result<Vec<Arg<'a>>, AllocError> {
 // The command before its options.
 fn empty<'a>(alloc: Global) -> Result<Command<'a>, AllocError> {
     Command::new(alloc, "legumeyet")
-        .version("1")
+        .version("1.4 (CLDR 48)")
         .about("Writes numbers as the readers of a locale write them, and reads what they type")
         .after_help(AFTER_HELP)
         .after_long_help(AFTER_LONG_HELP)
@@ -277,7 +293,7 @@ fn empty<'a>(alloc: Global) -> Result<Command<'a>, AllocError> {
 
 /// The command `legumeyet` with its options: [`try_get_matches_from`](clap::Command::try_get_matches_from) reads words by it.
 ///
-/// The version is that of `include/legumeyet.h`. Allocates. `AllocError`: out of memory.
+/// The version is that of `include/legumeyet.h`, with that of CLDR, of which the tables are. Allocates. `AllocError`: out of memory.
 pub fn command<'a>(alloc: Global) -> Result<Command<'a>, AllocError> {
     let args = all_args(alloc)?;
     match empty(alloc) {

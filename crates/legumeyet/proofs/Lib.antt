@@ -1,0 +1,3 @@
+mod LinesLemmas
+mod PartsLemmas
+mod TrimmingLemmas
