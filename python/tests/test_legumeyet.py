@@ -379,6 +379,7 @@ class Calls(unittest.TestCase):
         """
         subprocess.run([sys.executable, "-W", "ignore::DeprecationWarning", "-c", words], check=True, timeout=60)
 
+    @unittest.skipIf("libasan" in os.environ.get("LD_PRELOAD", ""), "the memory of the sanitizer is not for a child of a fork with threads")
     def test_child_of_a_thread_inside_a_call(self):
         words = """if True:
             import array, os, threading, time
