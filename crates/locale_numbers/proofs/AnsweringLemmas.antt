@@ -1,5 +1,5 @@
 -- A call that refuses before it has written leaves what was there; what was found last is one thing; what makes a call succeed is not so where it fails.
-use Rattle.std.proofs.Common.{◌≡◌, List, [], ℕ, sym, ◌∙◌, Option, Some, Result, Ok, Err, OnErr}
+use Rattle.std.proofs.Common.{◌≡◌, List, [], ◌++◌, ℕ, sym, ap, ◌∙◌, Option, Some, Result, Ok, Err, OnErr, OnOk}
 use Rattle.std.proofs.lemmas.Bool.{false≢true}
 use Rattle.std.proofs.lemmas.List.{append-nil}
 use Rattle.std.specs.Prelude.{IsOk}
@@ -22,3 +22,8 @@ so_on_err (Err e) Q q = q
 pub not_on_err : {T E : Type 0} (r : Result T E) (Q : Type 0) → (Q → IsOk r) → OnErr r (Q → ⊥)
 not_on_err (Ok t) Q succeeds = tt
 not_on_err (Err e) Q succeeds = λ q. false≢true (succeeds q)
+
+-- what is written is another answer, which is the same
+pub on_ok_same : {T E : Type 0} (r : Result T E) (text held one two : List ℕ) → one ≡ two → OnOk r (text ≡ held ++ one) → OnOk r (text ≡ held ++ two)
+on_ok_same (Ok t) text held one two same is = is ∙ ap (λ answer. held ++ answer) same
+on_ok_same (Err e) text held one two same is = is

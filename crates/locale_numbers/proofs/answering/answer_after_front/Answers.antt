@@ -1,7 +1,7 @@
-use Rattle.std.proofs.Common.{◌++◌, sym, ap, ◌∙◌, subst, inl, inr}
+use Rattle.std.proofs.Common.{sym, subst, inl, inr}
 use Rattle.std.specs.Prelude.{string_bytes}
 use Rattle.locale_numbers_answers.specs.AnswerSink.{HasRoom}
-use Rattle.locale_numbers.proofs.AnsweringLemmas.{on_ok_by}
+use Rattle.locale_numbers.proofs.AnsweringLemmas.{on_ok_same}
 use Rattle.locale_numbers.proofs.FrontMemory.{answer_exact, answer_lenient_unit, answer_number, answer_read_unit, answer_unit, exact_may_take_after, lenient_unit_may_take_after, number_may_take_after, of_key, read_unit_may_take_after, unit_may_take_after}
 use Rattle.locale_numbers.proofs.answering.answer_after_front.Goals as goal
 
@@ -40,16 +40,15 @@ returns-in-Some-as_text-4-clause-room g c = λ room quiet small.
 pub returns-in-Unit-clause-text : goal.returns-in-Unit-clause-text
 returns-in-Unit-clause-text g c =
     let book = g.F.Formatters.book c.args.formatters.now in
-    on_ok_by c.answer_unit.result
-    (λ p. p ∙ ap (λ answer. string_bytes c.args.out.now ++ answer) (sym (answer_unit book c.args.front.now c.in-Some.front c.in-Some-key.key c.args.text.now c.in-Some.is c.in-Some-key.is c.in-Unit.field-0 c.in-Unit.is c.requires.kind)))
+    on_ok_same c.answer_unit.result _ (string_bytes c.args.out.now) _ _
+    (sym (answer_unit book c.args.front.now c.in-Some.front c.in-Some-key.key c.args.text.now c.in-Some.is c.in-Some-key.is c.in-Unit.field-0 c.in-Unit.is c.requires.kind))
     c.answer_unit.ensures.text
 
 pub returns-in-Some-as_text-4-clause-text : goal.returns-in-Some-as_text-4-clause-text
 returns-in-Some-as_text-4-clause-text g c =
     let book = g.F.Formatters.book c.args.formatters.now in
-    on_ok_by c.answer_read_unit.result
-    (λ p. p ∙ ap (λ answer. string_bytes c.args.out.now ++ answer)
-    (sym (answer_read_unit book c.args.front.now c.in-Some.front c.in-Some-key.key c.args.text.now c.in-Some.is c.in-Some-key.is c.in-ReadUnit.field-0 c.in-Some-as_text-4.text.now c.in-ReadUnit.is c.requires.kind c.in-Some-as_text-4.ensures.0 c.in-Some-as_text-4.ensures.1)))
+    on_ok_same c.answer_read_unit.result _ (string_bytes c.args.out.now) _ _
+    (sym (answer_read_unit book c.args.front.now c.in-Some.front c.in-Some-key.key c.args.text.now c.in-Some.is c.in-Some-key.is c.in-ReadUnit.field-0 c.in-Some-as_text-4.text.now c.in-ReadUnit.is c.requires.kind c.in-Some-as_text-4.ensures.0 c.in-Some-as_text-4.ensures.1))
     c.answer_read_unit.ensures.text
 
 pub returns-in-Some-as_text-5-clause-room : goal.returns-in-Some-as_text-5-clause-room
@@ -60,8 +59,7 @@ returns-in-Some-as_text-5-clause-room g c = λ room quiet small.
 pub returns-in-Some-as_text-5-clause-text : goal.returns-in-Some-as_text-5-clause-text
 returns-in-Some-as_text-5-clause-text g c =
     let book = g.F.Formatters.book c.args.formatters.now in
-    on_ok_by c.answer_lenient_unit.result
-    (λ p. p ∙ ap (λ answer. string_bytes c.args.out.now ++ answer)
+    on_ok_same c.answer_lenient_unit.result _ (string_bytes c.args.out.now) _ _
     (sym (answer_lenient_unit book c.args.front.now c.in-Some.front c.in-Some-key.key c.args.text.now c.in-Some.is c.in-Some-key.is c.in-ReadLenientUnit.unit c.keyed_unit-unit.result c.in-Some-as_text-5.text.now
-    c.in-ReadLenientUnit.is c.keyed_unit-unit.ensures c.requires.kind c.in-Some-as_text-5.ensures.0 c.in-Some-as_text-5.ensures.1)))
+    c.in-ReadLenientUnit.is c.keyed_unit-unit.ensures c.requires.kind c.in-Some-as_text-5.ensures.0 c.in-Some-as_text-5.ensures.1))
     c.answer_lenient_unit.ensures.text

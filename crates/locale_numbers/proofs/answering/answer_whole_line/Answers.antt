@@ -1,8 +1,8 @@
-use Rattle.std.proofs.Common.{◌++◌, Some, refl, sym, ap, ◌∙◌, subst}
+use Rattle.std.proofs.Common.{Some, refl, sym, ap, ◌∙◌, subst}
 use Rattle.std.specs.Prelude.{string_bytes}
 use Rattle.locale_numbers_answers.specs.AnswerSink.{HasRoom}
 use Rattle.locale_numbers.specs.Front.{MayTakeAfter, answer_after, front_asked}
-use Rattle.locale_numbers.proofs.AnsweringLemmas.{grows_by_none, on_ok_by}
+use Rattle.locale_numbers.proofs.AnsweringLemmas.{grows_by_none, on_ok_same}
 use Rattle.locale_numbers.proofs.FrontLemmas.{answer_of_line, fits_form, of_each}
 use Rattle.locale_numbers.proofs.LineMemoryLemmas.{formatter_after, front_of_request, text_after}
 use Rattle.locale_numbers.proofs.answering.answer_whole_line.Goals as goal
@@ -13,10 +13,9 @@ answer_after_front-requires g c κs = ((refl, tt {0}), (c.requires.ready, (fits_
 pub returns-clause-text : goal.returns-clause-text
 returns-clause-text g c =
     let book = g.F.Formatters.book c.args.formatters.now in
-    on_ok_by c.answer_after_front.result
-    (λ p. p ∙ ap (λ answer. string_bytes c.args.out.now ++ answer)
+    on_ok_same c.answer_after_front.result _ (string_bytes c.args.out.now) _ _
     (ap (λ front. answer_after book front c.cut_text.result.1.now) c.in_ok-front.ensures.value
-    ∙ sym (answer_of_line c.args.line.now c.cut_text.result.0.now c.cut_text.result.1.now c.cut_text.ensures.asks book)))
+    ∙ sym (answer_of_line c.args.line.now c.cut_text.result.0.now c.cut_text.result.1.now c.cut_text.ensures.asks book))
     c.answer_after_front.ensures.text
 
 pub returns-in_err-front-clause-err : goal.returns-in_err-front-clause-err

@@ -4,7 +4,7 @@ use Rattle.locale_numbers_book.specs.Book.{BookTables}
 use Rattle.locale_numbers.specs.Answer.{answer_of}
 use Rattle.locale_numbers.specs.KeptAnswers.{Keeping}
 use Rattle.locale_numbers.specs.contracts.formatter_key.FormatterKeyPartialEq.TheImpl as keys
-use Rattle.locale_numbers.proofs.AnsweringLemmas.{on_ok_by}
+use Rattle.locale_numbers.proofs.AnsweringLemmas.{on_ok_by, on_ok_same}
 use Rattle.locale_numbers.proofs.KeptAnswersLemmas.{counts}
 use Rattle.locale_numbers.proofs.SameKeyLemmas.{test_is}
 use Rattle.locale_numbers.proofs.answers.Answers.answer_onto.Goals as goal
@@ -14,8 +14,8 @@ invariant_of-self g c = (c.answer_line.ensures.ready, c.answer_line.ensures.same
 
 pub returns-clause-text : goal.returns-clause-text
 returns-clause-text g c =
-    on_ok_by c.answer_line.result
-    (λ p. p ∙ ap (λ (book : BookTables). string_bytes c.args.out.now ++ answer_of book c.args.line.now) (c.self.invariant.1 ∙ ap (λ (k : Keeping). k.book) c.self.view_is))
+    on_ok_same c.answer_line.result _ (string_bytes c.args.out.now) _ _
+    (ap (λ (book : BookTables). answer_of book c.args.line.now) (c.self.invariant.1 ∙ ap (λ (k : Keeping). k.book) c.self.view_is))
     c.answer_line.ensures.text
 
 pub returns-clause-made : goal.returns-clause-made

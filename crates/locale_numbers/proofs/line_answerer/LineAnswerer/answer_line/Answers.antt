@@ -9,7 +9,7 @@ use Rattle.locale_numbers.specs.LineFormatters.{IsKeptFor}
 use Rattle.locale_numbers.specs.Front.{answer_after, key_after}
 use Rattle.locale_numbers.specs.LineMemory.{IsRemembered}
 use Rattle.locale_numbers.specs.contracts.formatter_key.FormatterKeyPartialEq.TheImpl as keys
-use Rattle.locale_numbers.proofs.AnsweringLemmas.{grows_by_none, on_ok_by, one_of}
+use Rattle.locale_numbers.proofs.AnsweringLemmas.{grows_by_none, on_ok_by, on_ok_same, one_of}
 use Rattle.locale_numbers.proofs.FrontLemmas.{answer_of_line, fits_form, key_of_line, still_right}
 use Rattle.locale_numbers.proofs.LineMemoryLemmas.{formatter_after, front_is_before, front_of_request, text_after}
 use Rattle.locale_numbers.proofs.line_answerer.LineAnswerer.answer_line.Goals as goal
@@ -31,10 +31,9 @@ answer_after_front-requires g c κs =
 pub returns-clause-text : goal.returns-clause-text
 returns-clause-text g c =
     let book = g.T.Tables.book c.args.self.now.kept.maker.tables.now in
-    on_ok_by c.answer_after_front.result
-    (λ p. p ∙ ap (λ answer. string_bytes c.args.out.now ++ answer)
+    on_ok_same c.answer_after_front.result _ (string_bytes c.args.out.now) _ _
     (ap (λ front. answer_after book front c.cut_text.result.1.now) (one_of _ _ _ c.latest.ensures c.in_ok-same.ensures.value)
-    ∙ sym (answer_of_line c.args.line.now c.cut_text.result.0.now c.cut_text.result.1.now c.cut_text.ensures.asks book)))
+    ∙ sym (answer_of_line c.args.line.now c.cut_text.result.0.now c.cut_text.result.1.now c.cut_text.ensures.asks book))
     c.answer_after_front.ensures.text
 
 pub returns-clause-made : goal.returns-clause-made
