@@ -111,8 +111,8 @@ fn put_lines<R: Read, W: Write>(
 ) -> Result<u8, CallFault>
     ensures output { asked.now.parts ≡ None → (input : List ℕ) → reader_remaining R.remaining reader.old ≡ Some input
         → OnOk result (Appends (W.contents out.old) (W.contents out.new)
-        (input_shown asked.now.invalid (answer_of answers.old) asked.now.front.now input)) }
-    ensures same { answers.new ≡ answers.old }
+        (input_shown asked.now.invalid (answer_of answers.old.book) asked.now.front.now input)) }
+    ensures same { answers.new.book ≡ answers.old.book }
 {
     let mut status = 0u8;
     let mut line = Vec::new(rt.alloc());
@@ -139,7 +139,7 @@ pub fn put_input<W: Write>(
     asked: &Asked<'_>,
     out: &mut W,
 ) -> Result<u8, CallFault>
-    ensures same { answers.new ≡ answers.old }
+    ensures same { answers.new.book ≡ answers.old.book }
 {
     let Ok(mut reader) = BufReader::new(rt.alloc(), rt.stdin()) else {
         return Err(CallFault::MEMORY);

@@ -37,8 +37,8 @@ fn answer_to(
     front: &[u8],
     text: &[u8],
 ) -> Result<String, AllocError>
-    ensures text { IfOk result (λ said. string_bytes said ≡ answer_of answers.old (front.now ++ text.now)) }
-    ensures same { answers.new ≡ answers.old }
+    ensures text { IfOk result (λ said. string_bytes said ≡ answer_of answers.old.book (front.now ++ text.now)) }
+    ensures same { answers.new.book ≡ answers.old.book }
 {
     let mut line = Vec::new(rt.alloc());
     put_line(&mut line, front, text)?;
@@ -150,13 +150,13 @@ pub fn put_number<W: Write>(
     out: &mut W,
 ) -> Result<u8, CallFault>
     ensures output { asked.now.parts ≡ None → OnOk result (Appends (W.contents out.old) (W.contents out.new)
-        (shown asked.now.invalid text.now (answer_of answers.old (asked.now.front.now ++ text.now)))) }
+        (shown asked.now.invalid text.now (answer_of answers.old.book (asked.now.front.now ++ text.now)))) }
     ensures parts { OnOk result (PartsFollow
-        (text_said (fields (answer_of answers.old (asked.now.front.now ++ text.now))))
+        (text_said (fields (answer_of answers.old.book (asked.now.front.now ++ text.now))))
         (stand_in asked.now.invalid text.now) (W.contents out.old) (W.contents out.new)) }
     ensures status { IfOk result (λ status.
-        status ≡ status_said (answer_of answers.old (asked.now.front.now ++ text.now))) }
-    ensures same { answers.new ≡ answers.old }
+        status ≡ status_said (answer_of answers.old.book (asked.now.front.now ++ text.now))) }
+    ensures same { answers.new.book ≡ answers.old.book }
 {
     match answer_to(rt, answers, asked.front, text) {
         Ok(said) => put_answer(rt, asked, text, said.as_bytes(), out),
@@ -173,8 +173,8 @@ pub fn put_texts<W: Write>(
     out: &mut W,
 ) -> Result<u8, CallFault>
     ensures output { asked.now.parts ≡ None → OnOk result (Appends (W.contents out.old) (W.contents out.new)
-        (texts_shown asked.now.invalid (answer_of answers.old) asked.now.front.now (map (λ text. text.now) texts.now))) }
-    ensures same { answers.new ≡ answers.old }
+        (texts_shown asked.now.invalid (answer_of answers.old.book) asked.now.front.now (map (λ text. text.now) texts.now))) }
+    ensures same { answers.new.book ≡ answers.old.book }
 {
     let mut status = 0u8;
     for text in texts {

@@ -23,10 +23,10 @@ fn put_word<W: Write>(
 ) -> Result<u8, CallFault>
     ensures output { asked.now.parts ≡ None → number.now ≢ codes "-"
         → OnOk result (Appends (W.contents out.old) (W.contents out.new)
-        (shown asked.now.invalid number.now (answer_of answers.old (asked.now.front.now ++ number.now)))) }
+        (shown asked.now.invalid number.now (answer_of answers.old.book (asked.now.front.now ++ number.now)))) }
     ensures status { number.now ≢ codes "-" → IfOk result (λ status.
-        status ≡ status_said (answer_of answers.old (asked.now.front.now ++ number.now))) }
-    ensures same { answers.new ≡ answers.old }
+        status ≡ status_said (answer_of answers.old.book (asked.now.front.now ++ number.now))) }
+    ensures same { answers.new.book ≡ answers.old.book }
 {
     if number == "-" {
         put_input(rt, answers, asked_of_input, out)
@@ -48,8 +48,8 @@ pub fn put_words<W: Write>(
     ensures output { asked.now.parts ≡ None
         → ReadNothing (map (λ number. number.now) numbers.now)
         → OnOk result (Appends (W.contents out.old) (W.contents out.new)
-        (texts_shown asked.now.invalid (answer_of answers.old) asked.now.front.now (map (λ number. number.now) numbers.now))) }
-    ensures same { answers.new ≡ answers.old }
+        (texts_shown asked.now.invalid (answer_of answers.old.book) asked.now.front.now (map (λ number. number.now) numbers.now))) }
+    ensures same { answers.new.book ≡ answers.old.book }
 {
     let mut status = 0u8;
     for number in numbers {
@@ -71,9 +71,9 @@ pub fn put_read<W: Write>(
     out: &mut W,
 ) -> Result<u8, CallFault>
     ensures output { asked.now.parts ≡ None → OnOk result (Appends (W.contents out.old) (W.contents out.new)
-        (option_shown asked.now.invalid (answer_of answers.old) asked.now.front.now
+        (option_shown asked.now.invalid (answer_of answers.old.book) asked.now.front.now
         (option_map (λ texts. map (λ text. text.now) texts.now) texts.entry))) }
-    ensures same { answers.new ≡ answers.old }
+    ensures same { answers.new.book ≡ answers.old.book }
 {
     match texts {
         Some(texts) => put_texts(rt, answers, asked, texts, out),

@@ -15,7 +15,7 @@ returns-then-is_over-clause-output g c = λ parts input known.
     let left = c.loop-turn.invariant.0 parts input known in
     let over = subst IsAtEnd left.1 (c.in_ok-is_over.ensures.over c.if-is_over.true) in
     let out = g.W.Write.contents c.loop-turn.out in
-    left.2 out (subst (λ rest. Appends out out (input_shown c.args.asked.now.invalid (answer_of c.args.answers.now)
+    left.2 out (subst (λ rest. Appends out out (input_shown c.args.asked.now.invalid (answer_of c.args.answers.now.book)
     c.args.asked.now.front.now rest)) (sym over) (Appends-nil out))
 
 -- the last line is shown
@@ -25,7 +25,7 @@ returns-then-is_last-clause-output g c = λ parts input known.
     let read = c.in_ok-is_over.ensures.line left.0 left.1 in
     let last : is_last c.args.asked.now.invalid c.in_ok-status_of_line.status_of_line ≡ true = cc in
     left.2 (g.W.Write.contents c.put_number.new.out)
-    (last_line_shown c.args.asked.now.invalid (answer_of c.args.answers.now) c.args.asked.now.front.now left.0
+    (last_line_shown c.args.asked.now.invalid (answer_of c.args.answers.now.book) c.args.asked.now.front.now left.0
     c.trimmed-text.result.now c.in_ok-status_of_line.status_of_line last
     (subst (λ line. 0 < length line) read.0 (c.in_ok-is_over.ensures.some c.if-is_over.false))
     (c.trimmed-text.ensures.value ∙ ap trimmed (c.before_feed.ensures.value ∙ ap (before_first is_feed) (c.deref.ensures.value ∙ read.0)))
@@ -45,7 +45,7 @@ loop-turn-preserved g c = (
         drop_through 10 left.0,
         read.1,
         λ end more. left.2 end
-            (line_and_more c.args.asked.now.invalid (answer_of c.args.answers.now) c.args.asked.now.front.now left.0
+            (line_and_more c.args.asked.now.invalid (answer_of c.args.answers.now.book) c.args.asked.now.front.now left.0
             c.trimmed-text.result.now c.in_ok-status_of_line.status_of_line last
             (subst (λ line. 0 < length line) read.0 (c.in_ok-is_over.ensures.some c.if-is_over.false))
             (c.trimmed-text.ensures.value ∙ ap trimmed (c.before_feed.ensures.value ∙ ap (before_first is_feed) (c.deref.ensures.value ∙ read.0)))

@@ -11,6 +11,6 @@ invariant-loop-turn g l =
     (l.asked.parts ≡ None → (input : List ℕ) → reader_remaining g.R.Read.remaining l.initial.reader ≡ Some input
     → (rest : List ℕ) × (reader_remaining g.R.Read.remaining l.reader ≡ Some rest)
     × ((end : Option (List ℕ))
-    → Appends (g.W.Write.contents l.out) end (input_shown l.asked.invalid (answer_of l.initial.answers) l.asked.front.now rest)
-    → Appends (g.W.Write.contents l.initial.out) end (input_shown l.asked.invalid (answer_of l.initial.answers) l.asked.front.now input)))
-    × (l.answers ≡ l.initial.answers)
+    → Appends (g.W.Write.contents l.out) end (input_shown l.asked.invalid (answer_of l.initial.answers.book) l.asked.front.now rest)
+    → Appends (g.W.Write.contents l.initial.out) end (input_shown l.asked.invalid (answer_of l.initial.answers.book) l.asked.front.now input)))
+    × (l.answers.book ≡ l.initial.answers.book)

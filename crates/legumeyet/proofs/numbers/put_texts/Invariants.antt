@@ -9,7 +9,7 @@ abbrev pub invariant-loop-text : goal.invariant-loop-text
 invariant-loop-text g l =
     (l.asked.parts ≡ None → (end : Option (List ℕ))
     → Appends (g.W.Write.contents l.out) end
-    (texts_shown l.asked.invalid (answer_of l.initial.answers) l.asked.front.now (map (λ text. text.now) (drop l.text-index l.texts)))
+    (texts_shown l.asked.invalid (answer_of l.initial.answers.book) l.asked.front.now (map (λ text. text.now) (drop l.text-index l.texts)))
     → Appends (g.W.Write.contents l.initial.out) end
-    (texts_shown l.asked.invalid (answer_of l.initial.answers) l.asked.front.now (map (λ text. text.now) l.texts)))
-    × (l.answers ≡ l.initial.answers)
+    (texts_shown l.asked.invalid (answer_of l.initial.answers.book) l.asked.front.now (map (λ text. text.now) l.texts)))
+    × (l.answers.book ≡ l.initial.answers.book)

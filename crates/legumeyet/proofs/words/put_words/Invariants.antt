@@ -11,7 +11,7 @@ invariant-loop-number g l =
     → ReadNothing (map (λ number. number.now) (drop l.number-index l.numbers))
     × ((end : Option (List ℕ))
     → Appends (g.W.Write.contents l.out) end
-    (texts_shown l.asked.invalid (answer_of l.initial.answers) l.asked.front.now (map (λ number. number.now) (drop l.number-index l.numbers)))
+    (texts_shown l.asked.invalid (answer_of l.initial.answers.book) l.asked.front.now (map (λ number. number.now) (drop l.number-index l.numbers)))
     → Appends (g.W.Write.contents l.initial.out) end
-    (texts_shown l.asked.invalid (answer_of l.initial.answers) l.asked.front.now (map (λ number. number.now) l.numbers))))
-    × (l.answers ≡ l.initial.answers)
+    (texts_shown l.asked.invalid (answer_of l.initial.answers.book) l.asked.front.now (map (λ number. number.now) l.numbers))))
+    × (l.answers.book ≡ l.initial.answers.book)
