@@ -1,2 +1,1 @@
-pub mod EnglishLines
 pub mod Shouting

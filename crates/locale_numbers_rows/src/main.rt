@@ -13,7 +13,6 @@ mod faults;
 mod formatters;
 mod giving;
 mod narrow;
-mod one_by_one;
 mod pieces;
 mod plain;
 mod repeated;
@@ -25,7 +24,6 @@ mod sides;
 mod starts;
 mod taking;
 mod tracked;
-mod unit_caller;
 
 use calls::Calls;
 use rows::print_answers;
