@@ -1,10 +1,11 @@
 """The number that a typed text is, of a percent or of an amount of money.
 
-This is a definition: it goes by docs/reading.md ("Lenient reading"), docs/units.md ("Lenient reading") and docs/requests.md
+This is a definition: it goes by docs/reading.md ("Lenient reading", "Native digits"), docs/units.md ("Lenient reading") and docs/requests.md
 ("Answer line"), and shares nothing with the program. What the formatter writes is that of unit_text.py.
 """
 import re
 import typing
+import unicodedata
 
 import unit_text
 from look_up import locale_of
@@ -12,6 +13,8 @@ from unit_text import GROUPINGS, Format, Symbols, currency_format, is_readable, 
 
 FORM = re.compile("read-lenient-(?:percent|(currency|code|accounting)-([A-Z]{3}))", re.A)
 ASCII = "0123456789"
+# The zeros of Arabic digits, and their decimal separator and the one between groups.
+ARABIC, ARABIC_SEPARATORS = (0x660, 0x6F0), "\u066b\u066c"
 UNREADABLE = "unreadable"
 # What each of these characters becomes; `..` is between the first and the last of a row.
 FOLDED = {
@@ -41,7 +44,8 @@ FOLDS = folds()
 
 class Reader(typing.NamedTuple):
     """What typed texts are read by: the format, that of its numbers without the unit, whether texts can be read by them, what
-    characters become, both formats folded, or None where texts can't be read leniently, and the unit and its code folded."""
+    characters become, both formats folded, or None where texts can't be read leniently, the unit and its code folded, and what
+    reads texts with the separators of Arabic digits in place of the format's, or None."""
 
     form: Format
     plain: Format
@@ -50,6 +54,7 @@ class Reader(typing.NamedTuple):
     folded: Format
     folded_plain: Format
     names: tuple
+    arabic: typing.Optional["Reader"]
 
 
 def without_unit(form):
@@ -66,13 +71,23 @@ def folded_format(form, table):
     return Format(Symbols(form.symbols.numsys, *texts, *form.symbols[7:9], 1), ASCII, affixes)
 
 
+def arabic_reader(form, unit, code):
+    """What texts are read by with the separators of Arabic digits, where the format has neither and they can be read so."""
+    its = form.symbols
+    if set(ARABIC_SEPARATORS) & set(its.decimal + its.grouping):
+        return None
+    found = reader(form._replace(symbols=its._replace(decimal=ARABIC_SEPARATORS[0], grouping=ARABIC_SEPARATORS[1])), unit, code)
+    return found if found.folded else None
+
+
 def reader(form, unit, code):
     """What typed texts of a format are read by, with its unit and the code of that."""
     table, plain = {**FOLDS, **{ord(it): str(place) for place, it in enumerate(form.digits)}}, without_unit(form)
     folded, is_exact = [folded_format(it, table) for it in (form, plain)], is_readable(form) and is_readable(plain)
     if not is_exact or not all(map(is_readable, folded)):
         folded = [None, None]
-    return Reader(form, plain, is_exact, table, *folded, (unit.translate(table), code.translate(table)))
+    arabic = arabic_reader(form, unit, code)
+    return Reader(form, plain, is_exact, table, *folded, (unit.translate(table), code.translate(table)), arabic)
 
 
 def first(found):
@@ -138,13 +153,8 @@ def read_named(its, name, text):
     return first(found)
 
 
-def read_typed(its, text, grouping="auto"):
-    """The number that a text is, None where it is none, or two in two ways, and UNREADABLE where the tables do not tell."""
-    if not its.is_readable:
-        return UNREADABLE
-    exact = read_as(its.form, text, grouping)
-    if exact is not None or its.folded is None:
-        return exact or UNREADABLE
+def read_leniently(its, text, grouping):
+    """The number that a text is that the format does not write, None where it is none, or two in two ways."""
     folded = text.translate(its.folds).strip(BLANK)
     return agreed([
         read_unitless(its, text, grouping),
@@ -152,6 +162,16 @@ def read_typed(its, text, grouping="auto"):
         *(read_named(its, name, folded) for name in its.names),
         read_folded(its.folded, filled(its.folded.symbols.decimal, folded)),
     ])
+
+
+def read_typed(its, text, grouping="auto"):
+    """The number that a text is without native digits, and UNREADABLE where the tables do not tell."""
+    if not its.is_readable:
+        return UNREADABLE
+    exact = read_as(its.form, text, grouping)
+    if exact is not None or its.folded is None:
+        return exact or UNREADABLE
+    return read_leniently(its, text, grouping)
 
 
 def found_reader(book, locale, system, style, code):
@@ -174,7 +194,7 @@ def readers(book, locale, system, style, code):
     return [found, *([latin] if latin else [])]
 
 
-def read_in_turn(its, text, grouping="auto"):
+def read_as_it_is(its, text, grouping):
     """The number that a text is by one of these readers, where the other one reads none or the same. What the format of the first
     one writes of it, under any grouping, is read by that one alone."""
     found = read_typed(its[0], text, grouping)
@@ -184,6 +204,33 @@ def read_in_turn(its, text, grouping="auto"):
     if found is None:
         return other
     return found if other in (None, UNREADABLE, found) else None
+
+
+def zero_of(it):
+    """The zero of the system that a digit is of, by the Unicode that Python has; None of any other character."""
+    return ord(it) - unicodedata.decimal(it) if unicodedata.category(it) == "Nd" else None
+
+
+def in_ascii(text):
+    """The zero of the one system, not that of ASCII, that all digits of a text are of, and the text with these in ASCII; or None
+    twice."""
+    zeros = {zero_of(it) for it in text} - {None}
+    if len(zeros) != 1 or zeros == {ord("0")}:
+        return None, None
+    return zeros.pop(), "".join(it if zero_of(it) is None else str(unicodedata.decimal(it)) for it in text)
+
+
+def read_in_turn(its, text, grouping="auto"):
+    """The number that a text is by these readers: as it is, else with its native digits in ASCII, else, of Arabic digits, so with
+    their separators by the first reader."""
+    found = read_as_it_is(its, text, grouping)
+    zero, native = in_ascii(text)
+    if found is not None or native is None:
+        return found
+    found = read_as_it_is(its, native, grouping)
+    if found is not None or zero not in ARABIC or its[0].arabic is None:
+        return found
+    return read_leniently(its[0].arabic, native, grouping)
 
 
 def answer(book, line):

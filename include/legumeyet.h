@@ -49,7 +49,7 @@
  * of one book; to open a formatter is a call on its book. No call is made in a signal handler, or in a forked child of a process with
  * threads.
  *
- * A call takes at most 80 KiB of stack, and 160 KiB where it opens a book of a JSON that is nested far deeper than a book.
+ * A call takes at most 52 KiB of stack, and 160 KiB where it opens a book of a JSON that is nested far deeper than a book.
  */
 #ifndef LEGUMEYET_H
 #define LEGUMEYET_H
@@ -571,7 +571,7 @@ int32_t legumeyet_unit_formatter_close(legumeyet_unit_formatter *formatter);
  * number is. What comes after the rounding is that of any number: LEGUMEYET_TRAILING_ZEROS_TRIM writes 5 dollars as `$5`.
  *
  * Returns 0; LEGUMEYET_CLOSED; LEGUMEYET_OPTION, of the options; LEGUMEYET_NUMBER; LEGUMEYET_LIMIT; LEGUMEYET_MEMORY, which a number of
- * sixteen digits at most takes only where it is rounded to multiples of 25; LEGUMEYET_TOO_SMALL.
+ * sixteen digits at most takes only where multiples of 25 give it a seventeenth; LEGUMEYET_TOO_SMALL.
  */
 int32_t legumeyet_unit_formatter_format(legumeyet_unit_formatter *formatter, const uint8_t *number, size_t number_length,
                                         const legumeyet_options *options, uint8_t *out, size_t room, size_t *length);
@@ -625,7 +625,8 @@ int32_t legumeyet_unit_formatter_read(legumeyet_unit_formatter *formatter, const
  * Reads a text that somebody typed: as legumeyet_unit_formatter_read does what the formatter writes, and other texts by folding, with the
  * unit or its code before or after the number, with a space between or none, or without it. The code is the one of the currency, and of
  * percents `%`. In English with euros ` 1234.5 `, `€1234.5`, `1,234.5 €`, `EUR 5` and `-5 EUR` are read, as `1234.5`, `1234.5`, `1234.5`,
- * `5` and `-5`; `$5`, `€1,23` and `5 euros` are not.
+ * `5` and `-5`; `$5`, `€1,23` and `5 euros` are not. Native digits are read as those of ASCII where the text is no number as it is: `१२३ €` is
+ * `123`.
  *
  * docs/units.md of the repository has the rule. Nothing is dropped or guessed: another unit is none of the formatter's, and a number is
  * grouped wholly or not at all. A formatter of a kept book folds its symbols, affixes and unit at the first call, and keeps them so until

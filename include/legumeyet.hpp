@@ -139,7 +139,7 @@ enum class Sign : uint32_t {
 };
 
 // Which multiple of the increment, at the position, a number is rounded to: LEGUMEYET_ROUND. Keep rounds an amount of money to the digits of
-// its currency. Cash and None are of amounts alone.
+// its currency. Cash and None are only of amounts.
 enum class Rounding : uint32_t {
     Keep = LEGUMEYET_ROUND_KEEP,
     Expand = LEGUMEYET_ROUND_EXPAND,
@@ -1333,8 +1333,8 @@ class CompactDecimalFormatter : public inner::Formatter<legumeyet_compact_format
 #endif
 };
 
-// The formatter of percents for a locale tag. It may outlive its book. A percent is written as it is given: 12.5 as `12.5%`. Of amounts
-// alone are Rounding::Cash and Rounding::None: Code::Option.
+// The formatter of percents for a locale tag. It may outlive its book. A percent is written as it is given: 12.5 as `12.5%`. Only amounts
+// have Rounding::Cash and Rounding::None: Code::Option.
 class PercentFormatter : public inner::UnitFormatter {
     friend class SharedUnitFormatter;
 

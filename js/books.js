@@ -1,5 +1,6 @@
 // Books of tables, and what formatters and answers are opened from.
-import { begun, calls, expected, got, inside, put, written } from "./instance.js";
+import { alwaysOf } from "./always.js";
+import { LoadError, age, begun, calls, expected, got, inside, put, written } from "./instance.js";
 import { Open, closeHandle, handleOf, isOpen, openHandle } from "./open.js";
 import { forget } from "./sharing.js";
 
@@ -7,8 +8,9 @@ const { at: atOf } = Open;
 
 /**
  * What a book is opened from, again too: `isKept` says whether its memory is never given back, `other` is open in its place where it was closed,
- * and `always` is the book of the same tables in which the least count of digits is 1.
- * @typedef {{ json: string | Uint8Array, isKept: boolean, handle: import("./open.js").Handle, other?: import("./open.js").Handle, always?: Book }} Source
+ * and `always` is the book of the same tables in which the least count of digits is 1. One that is inside the module has a place there, and no JSON.
+ * @typedef {{ json: string | Uint8Array, isKept: boolean, handle: import("./open.js").Handle, other?: import("./open.js").Handle, always?: Book,
+ *   place?: number }} Source
  */
 
 /** The same memory as a typed array of JavaScript's own, where it is one of a subclass. */
@@ -72,6 +74,10 @@ function localeAt(at, index) {
 }
 
 function openBook(source, handle) {
+  if (source.place !== undefined) {
+    Object.assign(handle, { at: inside(() => calls.js_book_inside(source.place)), age });
+    return;
+  }
   openHandle(handle, (at) => {
     const told = calls.js_book_open(at, put(source.json));
     return told === 0 && source.isKept ? calls.js_book_keep(at) : told;
@@ -96,29 +102,35 @@ export function withBook(source, use) {
   }
 }
 
-// The text of a book in which each locale has separators from the first group on: the last field of symbols, also of those that units have of their
-// own, says from which count of digits. Its tables are else the same.
-function alwaysOf(json) {
-  const book = JSON.parse(typeof json === "string" ? json : new TextDecoder().decode(json));
-  const [[symbols], [percents, currencies, accounts]] = book.length === 2 ? book : [book, [[], [], []]];
-  const own = [...percents.map((it) => it[3]), ...[...currencies, ...accounts].map((it) => it[2])].filter((it) => it !== null);
-  for (const it of [...symbols, ...own]) it[it.length - 1] = 1;
-  return JSON.stringify(book);
-}
-
 /**
  * The same tables, but with separators from the first group on also in a locale that has them later, as Spanish has.
  * @param {Source} source
  * @returns {Source}
  */
 export function alwaysGrouped(source) {
+  if (source === INSIDE) return ALWAYS_INSIDE;
   source.always ??= new Book(alwaysOf(source.json));
   const found = Book.source(source.always);
   if (source.isKept && !found.isKept) source.always.keep();
   return found;
 }
 
+// The books inside a module of pages: that of formatters, and that with separators from the first group on.
+const [INSIDE, ALWAYS_INSIDE] = [0, 1].map((place) => ({ json: "", isKept: true, handle: handleOf(""), place }));
+
 let world = null;
+
+/** Makes the book inside the module that of formatters for which none is named. Throws a LoadError where there is none. */
+export function useInside() {
+  begun();
+  if (calls.js_book_inside(INSIDE.place) === 0) throw new LoadError("the module", "module", "there is no book inside: legumeyet-page makes one that has it");
+  world = INSIDE;
+}
+
+/** Whether formatters have a book for which none is named. */
+export function hasWorld() {
+  return world !== null;
+}
 
 /** Makes the book of formatters for which none is named: a Book, or the JSON of one. It is kept. */
 export function setWorld(book) {
@@ -132,7 +144,7 @@ export function setWorld(book) {
  */
 export function sourceOf(book = world) {
   if (book === null && world === null) {
-    throw new TypeError("no book is named, and there is none of the world: await init() of legumeyet/inline, or setWorld(..) of legumeyet/core, comes first");
+    throw new TypeError("no book is named, and there is none of the world: await init() of legumeyet/inline, setWorld(..) of legumeyet/core or load(..) of legumeyet/page comes first");
   }
-  return Book.source(book);
+  return book === INSIDE ? book : Book.source(book);
 }

@@ -43,6 +43,13 @@ function addTogether(writer, digits, texts) {
   }
 }
 
+// The texts of numbers, each written alone.
+function addedAlone(writer, numbers) {
+  const texts = [];
+  for (const it of numbers) addOne(writer, digitsOf(it), texts);
+  return texts;
+}
+
 // Adds the texts of doubles or integers, which are a typed array, and no subclass of one.
 function addColumn(writer, call, column, texts) {
   for (const end = texts.length + column.length; texts.length < end; ) {
@@ -69,6 +76,7 @@ export function allWritten(writer, numbers) {
   }
   const texts = [];
   writer.at(); // a closed one is refused also where there is no number
+  if (!(writer.texts in calls)) return addedAlone(writer, numbers); // as of a module of pages
   const Type = [Float64Array, BigInt64Array].find((it) => numbers instanceof it);
   const all = Type === undefined ? Array.from(numbers) : plain(Type, numbers);
   if (Type !== undefined && writer.hasColumns) addColumn(writer, Type === Float64Array ? writer.doubles : writer.integers, all, texts);

@@ -192,8 +192,8 @@ export interface FileResponse {
   arrayBuffer(): Promise<ArrayBuffer>;
 }
 
-/** Takes the module: its bytes, a WebAssembly.Module, or the response to a request for it. A second call does nothing. */
-export function load(source: Bytes | CompiledModule | FileResponse): Promise<void>;
+/** Takes the module: its bytes, a WebAssembly.Module, or the response to a request for it, or its promise. A second call does nothing. */
+export function load(source: Bytes | CompiledModule | FileResponse | Promise<FileResponse>): Promise<void>;
 /** Takes the module at once. */
 export function loadSync(source: Bytes | CompiledModule): void;
 /** Makes the book of formatters for which none is named: a Book, or the JSON of one. It is kept. */

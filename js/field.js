@@ -1,9 +1,9 @@
 // What a form field does while somebody types. A text that is a number is written anew at each edit, with the caret where it was among the digits;
 // one that is none stays as it was typed, and nothing is guessed. What the field writes by itself, as separators, a unit and marks of direction, is
 // its own: an edit is one of the other characters, those that somebody typed.
+import { Digits } from "./field-digits.js";
 import { ErrorNumber, LegumeyetError } from "./instance.js";
 
-const DIGIT = /^\p{Nd}$/u;
 const UNSEEN = /^[\s\p{Cf}]*$/u;
 const TYPED = ["integer", "fraction", "decimal"];
 const SIGNS = ["minusSign", "plusSign"];
@@ -31,9 +31,16 @@ function leftOf(before, after, caret) {
   const most = Math.min(before.length, after.length);
   let front = 0;
   while (front < Math.min(most, caret) && before[front] === after[front]) front += 1;
+  if (isInPair(before, front) || isInPair(after, front)) front -= 1;
   let back = 0;
   while (back < Math.min(most - front, after.length - caret) && before.at(-1 - back) === after.at(-1 - back)) back += 1;
+  if (isInPair(before, before.length - back) || isInPair(after, after.length - back)) back -= 1;
   return { front, back };
+}
+
+// Whether a place is between the two halves of a character.
+function isInPair(text, at) {
+  return at > 0 && at < text.length && text.codePointAt(at - 1) > 0xffff;
 }
 
 // Whether so much was left at both ends.
@@ -60,8 +67,7 @@ function moved(places, { start, end, inserted }) {
 export class FieldText {
   #formatter;
   #latin;
-  #digits; // its own, each with that of ASCII
-  #decimal;
+  #digits;
   #state = EMPTY;
 
   /**
@@ -69,13 +75,10 @@ export class FieldText {
    * Without a formatter no text is a number.
    */
   constructor(formatter, latin = null) {
-    const parts = formatter?.formatToParts("9876543210.5") ?? [{ type: "decimal", value: "." }];
-    const digits = parts.flatMap(({ type, value }) => (type === "integer" ? [...value] : []));
     this.#formatter = formatter;
     this.#latin = latin;
-    this.#digits = new Map(digits.map((it, at) => [it, String(9 - at)]));
-    this.#decimal = parts.find(({ type }) => type === "decimal")?.value;
-    if (this.#decimal === undefined) throw new RangeError("the formatter of a field shows a fraction as it is: it rounds no number, and is not compact");
+    this.#digits = new Digits(formatter?.formatToParts("9876543210.5") ?? [{ type: "decimal", value: "." }]);
+    if (this.#digits.decimal === undefined) throw new RangeError("the formatter of a field shows a fraction as it is: it rounds no number, and is not compact");
   }
 
   /** What is shown, as it is kept for `restore`: its text, the caret, and its value. */
@@ -101,11 +104,12 @@ export class FieldText {
   /**
    * The field after an edit that left this text, with the caret there. `left` is how many characters of the old text it left at both ends, as a
    * paste over all of it leaves none; without it an edit is taken that only removed characters, or put some at the caret. `isForward` is whether it
-   * removed what is behind the caret. An edit that put something before or behind the number is one at its start or end. One that only removed
-   * what the field writes by itself removes the character beside that. Where no character is left that somebody typed, the field is empty.
+   * removed what is behind the caret. Digits that it put, of whatever system, become those of the formatter. An edit that put something before or
+   * behind the number is one at its start or end. One that only removed what the field writes by itself removes the character beside that. Where
+   * no character is left that somebody typed, the field is empty.
    */
   edited(text, caret, left, isForward = false) {
-    const edit = this.#editOf(text, caret, left);
+    const edit = this.#taken(this.#editOf(text, caret, left));
     this.#state = this.#after(this.#aimed(edit, isForward));
     return this.#state;
   }
@@ -113,14 +117,16 @@ export class FieldText {
   /** The same where the text has to stay as it is, as long as it is composed: nothing is written anew before `settled`. */
   composed(text, caret) {
     const value = this.#read(text);
-    this.#state = { ...this.#raw(this.#editOf(text, caret)), caret, value: UNSEEN.test(text) ? "" : value && plainOf(value) };
+    const { from = this.#state } = this.#state; // what it is composed into
+    this.#state = { ...this.#raw(this.#editOf(text, caret)), caret, value: UNSEEN.test(text) ? "" : value && plainOf(value), from };
     return this.#state;
   }
 
   /** Writes anew what was composed. */
   settled() {
-    const { caret } = this.#state;
-    this.#state = this.#after({ start: caret, end: caret, inserted: "" });
+    const { text, caret, from = this.#state } = this.#state;
+    this.#state = from;
+    this.#state = this.#after(this.#taken(this.#editOf(text, caret)));
     return this.#state;
   }
 
@@ -134,6 +140,11 @@ export class FieldText {
     const before = this.text;
     const { front, back } = left !== undefined && isLeft(before, text, left) ? left : leftOf(before, text, caret);
     return { start: front, end: before.length - back, inserted: text.slice(front, text.length - back) };
+  }
+
+  // The edit with what it put in the digits that are written here.
+  #taken(edit) {
+    return { ...edit, inserted: this.#digits.written(edit.inserted) };
   }
 
   // The places of the characters that are not the field's own.
@@ -191,7 +202,7 @@ export class FieldText {
   // Whether a decimal separator is last: one more digit would be of the fraction.
   #endsInDecimal(typed, value) {
     const text = typed.trimEnd();
-    return !this.#isDigit([...text].at(-1)) && this.#read(`${text}0`) === `${value}.0`;
+    return !this.#digits.has([...text].at(-1)) && this.#read(`${text}0`) === `${value}.0`;
   }
 
   // The state of a number's parts, and of a decimal separator after its last digit. The caret is at its end.
@@ -204,7 +215,7 @@ export class FieldText {
     };
     for (const [at, { type, value }] of parts.entries()) {
       add(value, SIGNS.includes(type) ? (it) => UNSEEN.test(it) : () => !TYPED.includes(type));
-      if (at === last && isDecimalLast) add(this.#decimal, () => false);
+      if (at === last && isDecimalLast) add(this.#digits.decimal, () => false);
       if (at === last) state.caret = state.text.length;
     }
     return state;
@@ -215,26 +226,22 @@ export class FieldText {
     if (this.#formatter === null) return null;
     const value = unlessNone(() => this.#formatter.readLenient(text));
     if (value !== null || this.#latin === null) return value;
-    return unlessNone(() => this.#latin.readLenient([...text].map((it) => this.#digits.get(it) ?? it).join("")));
-  }
-
-  #isDigit(char) {
-    return char !== undefined && (this.#digits.has(char) || DIGIT.test(char));
+    return unlessNone(() => this.#latin.readLenient(this.#digits.inAscii(text)));
   }
 
   #isOfNumber(char) {
-    return this.#isDigit(char) || char === this.#decimal;
+    return this.#digits.has(char) || char === this.#digits.decimal;
   }
 
   // The place in the text of a number that as many digits follow as `back` has. Behind a digit it stays there, and else it is before the next one.
   #caretIn({ text, caret: end, value }, front, back) {
-    const digits = placesOf(text).filter(([from, to]) => this.#isDigit(text.slice(from, to)));
-    const behind = [...back].filter((it) => this.#isDigit(it)).length;
+    const digits = placesOf(text).filter(([from, to]) => this.#digits.has(text.slice(from, to)));
+    const behind = [...back].filter((it) => this.#digits.has(it)).length;
     const fraction = value.split(".")[1]?.length ?? 0;
     const next = Math.max(0, digits.length - behind);
-    const isBeforeDecimal = !UNSEEN.test(back) && !this.#isDigit([...back.trimStart()][0]);
+    const isBeforeDecimal = !UNSEEN.test(back) && !this.#digits.has([...back.trimStart()][0]);
     if (behind < fraction || (behind === fraction && !isBeforeDecimal)) return digits[next]?.[0] ?? end;
-    return next > 0 && (behind === fraction || this.#isDigit([...front].at(-1))) ? digits[next - 1][1] : digits[next][0];
+    return next > 0 && (behind === fraction || this.#digits.has([...front].at(-1))) ? digits[next - 1][1] : digits[next][0];
   }
 }
 

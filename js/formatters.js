@@ -1,5 +1,5 @@
 // Formatters, as classes in the manner of Intl.
-import { ErrorNumber, LegumeyetError, calls, partsWritten, put, written } from "./instance.js";
+import { ErrorNumber, LegumeyetError, calling, calls, partsWritten, put, written } from "./instance.js";
 import { alwaysGrouped, sourceOf, withBook } from "./books.js";
 import { allWritten } from "./columns.js";
 import { roundAsCurrency, setOptions } from "./currency.js";
@@ -10,15 +10,15 @@ import { ALWAYS, read as readOptions } from "./options.js";
 import { CLOSED, shared } from "./sharing.js";
 import { isTag, listed, tagsOf } from "./tags.js";
 
-const callsOf = (name, open) => ({
-  open, close: `js_${name}_close`, doubles: `js_${name}_doubles`, integers: `js_${name}_integers`, texts: `js_${name}_texts`,
+const callsOf = (name, opening, open) => ({
+  opening, open, close: `js_${name}_close`, doubles: `js_${name}_doubles`, integers: `js_${name}_integers`, texts: `js_${name}_texts`,
 });
 // The calls of each kind: by which one is opened and closed, and those for columns.
 const KINDS = {
-  decimal: callsOf("decimal", (book, length, { grouping }, at) => calls.js_decimal_open(book, length, grouping, at)),
-  compact: callsOf("compact", (book, length, { width, grouping }, at) => calls.js_compact_open(book, length, width, grouping, at)),
-  percent: callsOf("unit", (book, length, { grouping }, at) => calls.js_percent_open(book, length, grouping, at)),
-  currency: callsOf("unit", (book, length, { code, style, display, grouping }, at) =>
+  decimal: callsOf("decimal", "js_decimal_open", (book, length, { grouping }, at) => calls.js_decimal_open(book, length, grouping, at)),
+  compact: callsOf("compact", "js_compact_open", (book, length, { width, grouping }, at) => calls.js_compact_open(book, length, width, grouping, at)),
+  percent: callsOf("unit", "js_percent_open", (book, length, { grouping }, at) => calls.js_percent_open(book, length, grouping, at)),
+  currency: callsOf("unit", "js_currency_open", (book, length, { code, style, display, grouping }, at) =>
     calls.js_currency_open(book, length, code, style, display, grouping, at),
   ),
 };
@@ -37,6 +37,7 @@ function hint(number, tag, currency) {
  * @param {import("./sharing.js").Asked} asked
  */
 function openNative(native, { source, kind, tag, numbers, currency }) {
+  calling(KINDS[kind].opening);
   const fill = (book, at) => {
     setOptions(at, numbers);
     return KINDS[kind].open(book, put(tag), numbers, at);
@@ -169,12 +170,12 @@ export class DecimalFormatter extends Formatter {
 
   /** The digits of the one number that is written so. */
   read(text) {
-    return written(atOf(this), calls.js_decimal_read, textOf(text));
+    return written(atOf(this), calling("js_decimal_read"), textOf(text));
   }
 
   /** The digits of the number that was typed so. */
   readLenient(text) {
-    return written(atOf(this), calls.js_decimal_read_lenient, textOf(text));
+    return written(atOf(this), calling("js_decimal_read_lenient"), textOf(text));
   }
 }
 
@@ -251,12 +252,12 @@ class UnitFormatter extends Formatter {
 
   /** The digits of the one number that is written so. */
   read(text) {
-    return written(atOf(this), calls.js_unit_read, textOf(text));
+    return written(atOf(this), calling("js_unit_read"), textOf(text));
   }
 
   /** The digits of the number that was typed so, with its unit or code on either side, or without it. */
   readLenient(text) {
-    return written(atOf(this), calls.js_unit_read_lenient, textOf(text));
+    return written(atOf(this), calling("js_unit_read_lenient"), textOf(text));
   }
 }
 

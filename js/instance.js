@@ -99,10 +99,11 @@ export async function fetched(file, asked) {
   }
 }
 
-/** Takes the module: its bytes, a WebAssembly.Module, or the response to a request for it. A second call does nothing. Throws a LoadError. */
+/** Takes the module: its bytes, a WebAssembly.Module, or the response to a request for it, or its promise. A second call does nothing. Throws a LoadError. */
 export async function load(source) {
   if (module !== null) return;
-  const given = typeof source?.arrayBuffer === "function" ? await fetched("legumeyet.wasm", source) : source;
+  const isAsked = typeof source?.arrayBuffer === "function" || typeof source?.then === "function";
+  const given = isAsked ? await fetched("legumeyet.wasm", source) : source;
   try {
     const compiled = given instanceof WebAssembly.Module ? given : await WebAssembly.compile(given);
     take(compiled, await WebAssembly.instantiate(compiled, {}));
@@ -138,8 +139,14 @@ export function begun() {
     isInside = false;
   }
   if (calls !== null) return;
-  if (module === null) throw new Error("the library is not loaded: await init() of legumeyet/inline, or load(..) of legumeyet/core, comes first");
+  if (module === null) throw new Error("the library is not loaded: await init() of legumeyet/inline, or load(..) of legumeyet/core or legumeyet/page, comes first");
   begin(new WebAssembly.Instance(module, {}));
+}
+
+/** A call of the instance that a module of a page may be made without. */
+export function calling(name) {
+  if (!(name in calls)) throw new Error(`the module of the page was made without ${name}`);
+  return calls[name];
 }
 
 /** Runs what calls the module. It throws nothing of its own, and does not call this. */

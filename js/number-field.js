@@ -1,6 +1,8 @@
 // <number-field locale="de">: a form field of a number, which is written as the readers of a locale write it while somebody types. With
 // `currency="EUR"` it is of amounts of money, with `percent` of percents. docs/field.md of the repository says what it does. It is defined where
-// this module is imported, over the world's book.
+// this module is imported, over what was loaded before, as a module of pages, and else over the world's book.
+import * as formatters from "./formatters.js";
+import { hasWorld } from "./books.js";
 import { FieldText, History, plainOf } from "./field.js";
 import { compare, neighbours, padded, plus } from "./field-decimals.js";
 import { MESSAGES, languageOf } from "./field-messages.js";
@@ -28,7 +30,7 @@ const STYLE = `
 const SHEET = new CSSStyleSheet();
 SHEET.replaceSync(STYLE);
 // Where the library does not load a field can be typed into, and says why no text is a number.
-const library = await import("./index.js").catch((error) => ({ error }));
+const library = hasWorld() ? formatters : await import("./index.js").catch((error) => ({ error }));
 
 /** The direction in which a locale is written: `rtl` or `ltr`. */
 export function directionOf(locale) {

@@ -1,6 +1,7 @@
-// Prints the bytes of each file that a page loads: as it is, by gzip -9, and by brotli -11. `classes` and `field` are the modules as they are, each by
-// itself. Where esbuild is on the PATH, `bundle` is one file of the classes, and `page` what a page of two languages loads: the module, the book of
-// English and German, and that file.
+// Prints the bytes of each file that a page loads: as it is, by gzip -9, and by brotli -11. `small` is the module of a page of English and German, with
+// their book inside, and `two` that book by itself; `classes` and `field` are the modules as they are, each by itself. Where esbuild is on the PATH,
+// `bundle` is one file of the classes, `page` the module of the page with one file of its classes, and `all` the module of all calls, that book and
+// `bundle`.
 // usage: node sizes.js PACKAGE
 import { spawnSync } from "node:child_process";
 import { readFileSync } from "node:fs";
@@ -8,7 +9,7 @@ import { pathToFileURL } from "node:url";
 import { brotliCompressSync, gzipSync } from "node:zlib";
 
 const folder = process.argv[2];
-const { smallerBook } = await import(new URL("smaller.js", pathToFileURL(`${folder}/`)));
+const [{ smallerBook }, { pageModule }] = await Promise.all(["smaller.js", "pages.js"].map((it) => import(new URL(it, pathToFileURL(`${folder}/`)))));
 const read = (name) => readFileSync(`${folder}/${name}`);
 
 // The modules that one imports, itself first, and those that it leaves out.
@@ -22,10 +23,13 @@ function modulesOf(name, known = []) {
 const classes = modulesOf("index.js");
 const fields = modulesOf("number-field.js").filter((it) => !classes.includes(it));
 const module = read("legumeyet.wasm");
-const two = Buffer.from(smallerBook(String(read("world.json")), ["en", "de"]));
-const rows = { module: [module], world: [read("world.json")], two: [two], classes: classes.map(read), field: fields.map(read) };
-const bundled = spawnSync("esbuild", [`${folder}/core.js`, "--bundle", "--minify", "--format=esm"], { maxBuffer: 1e8 });
-if (bundled.status === 0) Object.assign(rows, { bundle: [bundled.stdout], page: [module, two, bundled.stdout] });
+const TAGS = ["en", "de"];
+const two = Buffer.from(smallerBook(String(read("world.json")), TAGS));
+const small = Buffer.from(pageModule(read("page.wasm"), String(read("world.json")), TAGS));
+const rows = { module: [module], small: [small], world: [read("world.json")], two: [two], classes: classes.map(read), field: fields.map(read) };
+const bundleOf = (name) => spawnSync("esbuild", [`${folder}/${name}`, "--bundle", "--minify", "--format=esm"], { maxBuffer: 1e8 });
+const [bundled, ofPage] = [bundleOf("core.js"), bundleOf("page.js")];
+if (bundled.status === 0) Object.assign(rows, { bundle: [bundled.stdout], page: [small, ofPage.stdout], all: [module, two, bundled.stdout] });
 for (const [name, files] of Object.entries(rows)) {
   const sizes = [(it) => it, (it) => gzipSync(it, { level: 9 }), brotliCompressSync].map((packed) => files.reduce((sum, it) => sum + packed(it).length, 0));
   console.log(name.padEnd(8), ...sizes.map((it) => String(it).padStart(8)));

@@ -1,7 +1,19 @@
-// Prints the milliseconds from the import of the package to its first text, and those that Intl.NumberFormat takes for the same.
-// usage: node start.js PACKAGE
+// Prints the milliseconds from the import of the package to its first text, and those that Intl.NumberFormat takes for the same. With MODULE, that of
+// a page, it is the package for pages, with that module.
+// usage: node start.js PACKAGE [MODULE]
+import { readFileSync } from "node:fs";
+
+const [folder, module] = process.argv.slice(2);
+
+async function classes() {
+  if (module === undefined) return import(`${folder}/node.js`);
+  const page = await import(`${folder}/page.js`);
+  await page.load(readFileSync(module));
+  return page;
+}
+
 const start = performance.now();
-const { DecimalFormatter } = await import(`${process.argv[2]}/node.js`);
+const { DecimalFormatter } = await classes();
 const ours = new DecimalFormatter("de").format("1234.5");
 const middle = performance.now();
 const theirs = new Intl.NumberFormat("de").format("1234.5");

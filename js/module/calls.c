@@ -14,6 +14,7 @@ typedef int number;
 
 void *malloc(__SIZE_TYPE__);
 void free(void *);
+void zero_freed(void);
 
 typedef struct {
     u64 content, is_open;
@@ -209,6 +210,18 @@ void js_book_close(opened *it) {
     legumeyet_book_close(&it->of);
     free(it);
 }
+
+/*
+ * The books inside a module that is made of this one's memory, once they are kept: that of formatters, and that of the same tables with separators
+ * from the first group on, where there is one.
+ */
+enum { INSIDE = 2 };
+static opened *inside[INSIDE];
+void js_book_put_inside(opened *book, u32 place) {
+    if (place < INSIDE) inside[place] = book;
+}
+opened *js_book_inside(u32 place) { return place < INSIDE ? inside[place] : 0; }
+void js_zero_freed(void) { zero_freed(); }
 
 /* Answers to request lines. */
 number js_answers_open(opened *book, u32 capacity, opened *it) { return -legumeyet_answers_open(&book->of, capacity, &it->of); }

@@ -72,6 +72,12 @@ void free(void *at) {
     freed[list] = it;
 }
 
+/* Fills what is freed with zeros, for a module that is made of the memory as it is. */
+void zero_freed(void) {
+    for (unsigned list = 0; list < LISTS; list++)
+        for (block *it = freed[list]; it; it = it->next) __builtin_memset((u8 *)it + HEAD, 0, (size_t)it->size);
+}
+
 /* memory.copy and memory.fill are these three. */
 void *memcpy(void *to, const void *from, size_t size) {
     __asm__ volatile("local.get %0\nlocal.get %1\nlocal.get %2\nmemory.copy 0, 0" : : "r"(to), "r"(from), "r"(size) : "memory");

@@ -25,9 +25,33 @@ test("typing", () => {
     ["de", "-1234567,89", "-1.234.567,89| -1234567.89"], ["de", "1.5", "1.5| null"], ["de", "1.234", "1.234| 1234"], ["de", "1234,", "1.234,| 1234"],
     ["fr", "1234,5", "1\u202f234,5| 1234.5"], ["sv", "-1", "\u22121| -1"], ["de-CH", "1234.5", "1'234.5| 1234.5"],
     ["ar-EG", "1234٫5", "١٬٢٣٤٫٥| 1234.5"], ["ar-EG", "-٥", "\u061c-٥| -5"], ["hi", "1234567", "12,34,567| 1234567"], ["hi-u-nu-deva", "१२३४५६", "१,२३,४५६| 123456"],
-    ["ar-EG", "1234.5", "١٬٢٣٤٫٥| 1234.5"], ["ar-EG", "1234.", "١٬٢٣٤٫| 1234"], ["ar-EG", "12,5", "١٢,5| null"], ["fa", "-1234.5", "\u200e\u2212۱٬۲۳۴٫۵| -1234.5"], ["es", "1234", "1234| 1234"], ["es", "12345", "12.345| 12345"],
+    ["ar-EG", "1234.5", "١٬٢٣٤٫٥| 1234.5"], ["ar-EG", "1234.", "١٬٢٣٤٫| 1234"], ["ar-EG", "12,5", "١٢,٥| null"], ["fa", "-1234.5", "\u200e\u2212۱٬۲۳۴٫۵| -1234.5"], ["es", "1234", "1234| 1234"], ["es", "12345", "12.345| 12345"],
   ];
   for (const [locale, keys, wanted] of rows) assert.equal(typed(locale, keys), wanted, `${locale} ${keys}`);
+});
+
+test("typing in digits of another system", () => {
+  const rows = [
+    ["hi", "१२३", "123| 123"], ["ar", "٤٥٦", "456| 456"], ["ur", "۴۵۶", "456| 456"], ["th", "๑๒๓", "123| 123"], ["fa", "٤٥٦", "۴۵۶| 456"],
+    ["hi", "१२३४५६७.५", "12,34,567.5| 1234567.5"], ["hi", "1234<<५", "12,5|34 12534"], ["hi", "१२x~३", "123| 123"], ["en", "𝟏𝟐𝟛", "123| 123"], ["en", "１２３४", "1,234| 1234"],
+    ["ar-EG", "१२३", "١٢٣| 123"], ["mr", "1234.5", "१,२३४.५| 1234.5"], ["zh-u-nu-hanidec", "1234", "一,二三四| 1234"], ["ff-Adlm", "12345<<<<9", "𞥑𞥒𞥓⹁𞥙|𞥔𞥕 123945"],
+    ["ar-AE", "٤٥٦٧٫٥", "4,567.5| 4567.5"], ["ar-AE", "٤٬٥٦٧", "4,567| 4567"], ["de", "١٫٥", "1,5| 1.5"], ["ur", "۴۵۶۷٫۵", "4,567.5| 4567.5"],
+  ];
+  for (const [locale, keys, wanted] of rows) assert.equal(typed(locale, keys), wanted, `${locale} ${keys}`);
+});
+
+test("pasting in digits of another system", () => {
+  const amounts = (currency) => (it) => new CurrencyFormatter(it, { currency, currencyDigits: "given" });
+  const plain = undefined;
+  const rows = [
+    ["hi", "१,२३,४५६.७", plain, "1,23,456.7| 123456.7"], ["fr", "१ २३४,५", plain, "1\u202f234,5| 1234.5"], ["fa", "٤٥٦٬٧٨٩٫٥", plain, "۴۵۶٬۷۸۹٫۵| 456789.5"], ["ar-EG", "१٫५", plain, "١٫٥| 1.5"],
+    ["ar-AE", "١٬٢٣٤٫٥", plain, "1,234.5| 1234.5"], ["ar-AE", "١,٢٣٤.٥", plain, "1,234.5| 1234.5"], ["de", "١٫٥", plain, "1,5| 1.5"],
+    ["hi", "₹१,२३४.५०", amounts("INR"), "₹1,234.50| 1234.50"], ["de", "१२३,५ €", amounts("EUR"), "123,5|\u00a0€ 123.5"],
+    // digits of two systems, separators of two systems, and those of Arabic digits among others
+    ["hi", "1२3", plain, "1२3| null"], ["hi", "१٢", plain, "१٢| null"], ["en", "𝟏𝟛", plain, "𝟏𝟛| null"], ["ar-AE", "١٬٢٣٤.٥", plain, "1٬234.5| null"], ["fr", "١ ٢٣٤٫٥", plain, "1 234٫5| null"],
+    ["ar-AE", "1٬234٫5", plain, "1٬234٫5| null"], ["hi", "₹1२", amounts("INR"), "₹1२| null"],
+  ];
+  for (const [locale, text, open, wanted] of rows) assert.equal(typed(locale, [text], open), wanted, `${locale} ${text}`);
 });
 
 test("typing amounts and percents", () => {
@@ -90,6 +114,16 @@ test("what is composed stays as it is until it is settled", () => {
   const { text, value } = field.composed("1,234５", 6);
   assert.deepEqual([text, value], ["1,234５", null]);
   assert.deepEqual([field.settled().text, field.value], ["12,345", "12345"]);
+  field.composed("12,345६", 7);
+  field.composed("12,345६७", 8);
+  assert.deepEqual([field.value, field.settled().text, field.value], [null, "1,234,567", "1234567"]);
+});
+
+test("a text is cut between characters", () => {
+  const field = new FieldText(new DecimalFormatter("ff-Adlm"));
+  assert.equal(field.put("12"), "𞥑𞥒");
+  assert.deepEqual([field.edited("𞥑𞥓𞥒", 4).text, field.value], ["𞥑𞥓𞥒", "132"]);
+  assert.deepEqual([field.edited("𞥑𞥒", 2).text, field.value], ["𞥑𞥒", "12"]);
 });
 
 test("what is shown is read back exactly", () => {

@@ -7,6 +7,8 @@ import { load, loadSync, memorySize, setWorld } from "legumeyet/core";
 import { FieldText } from "legumeyet/field";
 import { CurrencyFormatter as Inside, init } from "legumeyet/inline";
 import locales from "legumeyet/locales";
+import { DecimalFormatter as OfPage, load as loadPage, loadSync as loadPageSync } from "legumeyet/page";
+import { pageModule } from "legumeyet/pages";
 import { smallerBook } from "legumeyet/smaller";
 
 const options: DecimalFormatterOptions = { minimumFractionDigits: 2, maximumFractionDigits: 2, roundingMode: "halfEven", useGrouping: false };
@@ -31,10 +33,11 @@ const { value, text, caret } = new FieldText(german).edited("1", 1, { front: 0, 
 german[Symbol.dispose]();
 const world: Book = setWorld("[]");
 const response = { ok: true, status: 200, statusText: "", arrayBuffer: async () => new ArrayBuffer(0) };
-const loaded: Promise<void>[] = [load(new Uint8Array(0)), load(response), init()];
+const loaded: Promise<void>[] = [load(new Uint8Array(0)), load(response), init(), loadPage(response)];
 loadSync(new ArrayBuffer(0));
+loadPageSync(pageModule(new Uint8Array(0), "[]", ["en"]));
 const told: (string | number | null | undefined)[] = [
-  digits, locale, answer, value, text, caret, ...supported, ...locales, same.format(5), memorySize(), version(), world.closed ? 1 : 0, ErrorNumber.TAG,
+  digits, locale, answer, value, text, caret, ...supported, ...locales, same.format(5), new OfPage("en").format(5), memorySize(), version(), world.closed ? 1 : 0, ErrorNumber.TAG,
   new LegumeyetError(5).word, new LoadError("a", "fetch", "b").reason, parts[0]?.type, percent, answered, bytes.length, ...types, ...listed, ErrorNumber.CODE,
 ];
 export { told, loaded };

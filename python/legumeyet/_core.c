@@ -327,10 +327,23 @@ static int32_t raise_wrong(struct shared *shared, PyObject *number) {
     return -1;
 }
 
-/* An integer of what has an index. What has none, though its type does, is no number, as an element of NumPy that is masked. */
+/* Whether something is a bool, or one of NumPy, to which NumPy 1 gives an index; -1 with an error. */
+static int is_bool(PyObject *given) {
+    PyObject *name;
+    int found;
+    if (PyLong_Check(given)) return PyBool_Check(given);
+    name = PyObject_GetAttrString((PyObject *)Py_TYPE(given), "__name__");
+    found = name == NULL ? -1 : PyUnicode_CompareWithASCIIString(name, "bool_") == 0;
+    Py_XDECREF(name);
+    return found;
+}
+
+/* An integer of what has an index. What has none, though its type does, is no number, as an element of NumPy that is masked; nor is a bool. */
 static int32_t take_index(struct shared *shared, struct request *asked, PyObject *number) {
-    PyObject *whole = PyNumber_Index(number);
-    int32_t found;
+    int32_t found = is_bool(number);
+    PyObject *whole;
+    if (found != 0) return found < 0 ? -1 : raise_wrong(shared, number);
+    whole = PyNumber_Index(number);
     if (whole == NULL && PyErr_ExceptionMatches(PyExc_TypeError)) {
         PyErr_Clear();
         return raise_wrong(shared, number);
@@ -443,7 +456,9 @@ static int number_of(PyObject *kind, PyObject *option) {
 /* An option that is a whole number: an int, or what has an index, as an integer of NumPy. */
 static bool take_whole(PyObject *option, const char *name, long least, long most, long *into) {
     PyObject *whole;
-    if (PyBool_Check(option) || !PyIndex_Check(option)) {
+    const int is_wrong = PyIndex_Check(option) ? is_bool(option) : 1;
+    if (is_wrong < 0) return false;
+    if (is_wrong) {
         PyErr_Format(PyExc_TypeError, "%s is an int, and not %R", name, option);
         return false;
     }

@@ -58,7 +58,7 @@ class Rounding(IntEnum):
     """Which of its neighbours at the position a number is rounded to.
 
     KEEP: it is not rounded, and an amount of money to the digits of its currency. EXPAND: the one away from zero. TRUNC: towards zero. CEIL:
-    upwards. FLOOR: downwards. Those of HALF: the nearest, and at a tie as their names say; HALF_EVEN: the even one. Of amounts alone are
+    upwards. FLOOR: downwards. Those of HALF: the nearest, and at a tie as their names say; HALF_EVEN: the even one. Only amounts have
     CASH: to the digits of the currency in cash, and NONE: it is not rounded.
     """
 

@@ -7,8 +7,10 @@ from launching.common import Fault
 from releasing.common import TOP, committed, version, write_tar
 from releasing.notices import licences
 
+from .module import OF_PAGE, WHOLE
+from .sections import HEAD
+
 NAME = "legumeyet"
-MODULE = b"\0asm"  # how each begins
 LEFT_OUT = ("module/", "tests/", "example.js")
 LOCALES = TOP / "books/world-locales.txt"
 LOCALES_TEXT = "// The tags of the locales of the world's book, in order.\nexport default {tags};\n"
@@ -27,15 +29,16 @@ def packed(data):
     return base64.b64encode(gzip.compress(data, 9, mtime=0)).decode()
 
 
-def files_of(wasm):
-    """The files of the package, by their paths."""
+def files_of(modules):
+    """The files of the package, by their paths. The modules are in a folder."""
     files = {name: data for name, data in committed("js").items() if not name.startswith(LEFT_OUT)}
     files["package.json"] = stamped_manifest(files["package.json"])
-    files["legumeyet.wasm"] = wasm.read_bytes()
-    if not files["legumeyet.wasm"].startswith(MODULE):
-        raise Fault(f"{wasm} is no WebAssembly module")
+    for name in (WHOLE, OF_PAGE):
+        files[name] = (modules / name).read_bytes()
+        if not files[name].startswith(HEAD):
+            raise Fault(f"{modules / name} is no WebAssembly module")
     files["world.json"] = (TOP / "books/world.json").read_bytes()
-    inside = {"module": files["legumeyet.wasm"], "world": files["world.json"]}
+    inside = {"module": files[WHOLE], "world": files["world.json"]}
     texts = "".join(f'export const {name} = "{packed(data)}";\n' for name, data in inside.items())
     files["files.js"] = INSIDE_TEXT.format(texts=texts).encode()
     files["locales.js"] = LOCALES_TEXT.format(tags=json.dumps(LOCALES.read_text(encoding="ascii").split(), indent=1)).encode()

@@ -38,7 +38,7 @@ SHARES = {
     "icu_locale_core_extensions": 185, "icu_locale_core_locale": 531, "icu_decimal_compact_value": 68,
     "icu_locale_core": 150, "locale_numbers_parents": 106,
     "icu_decimal_plurals": 118, "icu_decimal_grouping": 44, "icu_decimal_plain": 283, "icu_decimal_patterns": 343,
-    "icu_decimal_reading": 184, "icu_decimal_lenient": 150, "icu_decimal": 320,
+    "icu_decimal_reading": 184, "icu_decimal_direct": 60, "icu_decimal_lenient": 150, "icu_decimal": 320,
     "locale_numbers_faults": 15, "locale_numbers_tables": 220, "locale_numbers_book": 140,
     "locale_numbers_requests": 90, "locale_numbers_answers": 150, "locale_numbers_world": 30, "locale_numbers": 240,
     "locale_numbers_program": 180, "legumeyet_options": 71, "legumeyet": 300,

@@ -6,7 +6,7 @@ PACKAGES = {
     "cc": "gcc", "c++": "g++", "dpkg-deb": "dpkg", "qemu-aarch64-static": "qemu-user-static", "chroot": "coreutils", "unshare": "util-linux",
     **dict.fromkeys(("ar", "ld", "objcopy", "objdump", "readelf", "strip"), "binutils"),
 }
-KNOWN = {*PACKAGES, "cargo", "debootstrap", "git", "lintian", "valgrind"}
+KNOWN = {*PACKAGES, "cargo", "debootstrap", "git", "lintian", "mypy", "valgrind"}
 ARM64 = "aarch64-linux-gnu-"
 
 

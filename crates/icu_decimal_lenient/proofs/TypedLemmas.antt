@@ -44,12 +44,12 @@ from_option : (read : List ℕ → PlainReading) (o : Option (List ℕ)) (v : Si
 from_option read None v e = absurd (no_decimal v e)
 from_option read (Some native) v e = (native, refl, e)
 
-from_takes : (b : Bool) (r : PlainReading) (v : SignedValue Number) → cond b r not_written ≡ decimal v → (b ≡ true) × (r ≡ decimal v)
+pub from_takes : (b : Bool) (r : PlainReading) (v : SignedValue Number) → cond b r not_written ≡ decimal v → (b ≡ true) × (r ≡ decimal v)
 from_takes true r v e = (refl, e)
 from_takes false r v e = absurd (no_decimal v e)
 
 -- by the three tries
-from_tries : (read arabic : List ℕ → PlainReading) (text : List ℕ) (v : SignedValue Number) → typed_by read arabic text ≡ decimal v
+pub from_tries : (read arabic : List ℕ → PlainReading) (text : List ℕ) (v : SignedValue Number) → typed_by read arabic text ≡ decimal v
     → (read text ≡ decimal v)
     ⊎ (((native : List ℕ) × (native_text text ≡ Some native) × (read native ≡ decimal v))
     ⊎ ((native : List ℕ) × (arabic_text text ≡ Some native) × (arabic native ≡ decimal v)))
@@ -214,19 +214,18 @@ typed_both_miss t other text are others utf8 e =
 
 -- ---- the laws
 
-pub lenient_is_typed_so : LenientIsTypedSo
-lenient_is_typed_so t text v e = ap (λ r. or_else r (or_else (by_option (lenient_reading t) (native_text text)) (by_option (arabic_reading t) (arabic_text text)))) e
-
-pub both_are_typed_so : BothAreTypedSo
-both_are_typed_so t other text v e = ap (λ r. or_else r (or_else (by_option (reading_by_both t other) (native_text text)) (by_option (arabic_reading t) (arabic_text text)))) e
+-- what is read as it is
+pub typed_first : (read arabic : List ℕ → PlainReading) (text : List ℕ) (v : SignedValue Number) → read text ≡ decimal v → typed_by read arabic text ≡ decimal v
+typed_first read arabic text v e = ap (λ r. or_else r (or_else (by_option read (native_text text)) (by_option arabic (arabic_text text)))) e
 
 else_nothing : (r : PlainReading) → or_else r not_written ≡ r
 else_nothing unreadable = refl
 else_nothing not_written = refl
 else_nothing (decimal v) = refl
 
-pub others_stay : OthersStay
-others_stay t text none = ap (or_else (lenient_reading t text)) (no_native (lenient_reading t) (arabic_reading t) text (sym none)) ∙ else_nothing (lenient_reading t text)
+-- a text without native digits
+pub typed_others : (read arabic : List ℕ → PlainReading) (text : List ℕ) → native_text text ≡ None → typed_by read arabic text ≡ read text
+typed_others read arabic text none = ap (or_else (read text)) (no_native read arabic text (sym none)) ∙ else_nothing (read text)
 
 -- a text in ASCII, where it is no number as it is
 in_ascii_is : (read arabic : List ℕ → PlainReading) (text native : List ℕ) → native_text text ≡ Some native → read text ≡ not_written → typed_by read arabic text ≡ or_else (read native) (by_option arabic (arabic_text text))
@@ -234,23 +233,44 @@ in_ascii_is read arabic text native is none =
     ap (λ r. or_else r (or_else (by_option read (native_text text)) (by_option arabic (arabic_text text)))) none
     ∙ ap (λ o. or_else (by_option read o) (by_option arabic (arabic_text text))) is
 
+pub typed_in_ascii : (read arabic : List ℕ → PlainReading) (text native : List ℕ) (v : SignedValue Number) → native_text text ≡ Some native → read text ≡ not_written → read native ≡ decimal v
+    → typed_by read arabic text ≡ decimal v
+typed_in_ascii read arabic text native v is none e = in_ascii_is read arabic text native is none ∙ ap (λ r. or_else r (by_option arabic (arabic_text text))) e
+
+-- one whose digits are not Arabic
+pub typed_unless_arabic : (read arabic : List ℕ → PlainReading) (text native : List ℕ) → native_text text ≡ Some native → has_arabic_digits text ≡ false → read text ≡ not_written
+    → typed_by read arabic text ≡ read native
+typed_unless_arabic read arabic text native is others none =
+    in_ascii_is read arabic text native is none
+    ∙ ap (λ b. or_else (read native) (by_option arabic (cond b (native_text text) None))) others
+    ∙ else_nothing (read native)
+
+-- one whose digits are, where it is no number in ASCII
+pub typed_arabic : (read arabic : List ℕ → PlainReading) (text native : List ℕ) (v : SignedValue Number) → arabic_text text ≡ Some native → read text ≡ not_written → read native ≡ not_written
+    → arabic native ≡ decimal v → typed_by read arabic text ≡ decimal v
+typed_arabic read arabic text native v is none plain e =
+    in_ascii_is read arabic text native (arabic_native text native is) none
+    ∙ ap (λ r. or_else r (by_option arabic (arabic_text text))) plain
+    ∙ ap (by_option arabic) is
+    ∙ e
+
+pub lenient_is_typed_so : LenientIsTypedSo
+lenient_is_typed_so t text v e = typed_first (lenient_reading t) (arabic_reading t) text v e
+
+pub both_are_typed_so : BothAreTypedSo
+both_are_typed_so t other text v e = typed_first (reading_by_both t other) (arabic_reading t) text v e
+
+pub others_stay : OthersStay
+others_stay t text none = typed_others (lenient_reading t) (arabic_reading t) text none
+
 pub native_is_ascii : NativeIsAscii
-native_is_ascii t text native v is none e =
-    in_ascii_is (lenient_reading t) (arabic_reading t) text native is none ∙ ap (λ r. or_else r (by_option (arabic_reading t) (arabic_text text))) e
+native_is_ascii t text native v is none e = typed_in_ascii (lenient_reading t) (arabic_reading t) text native v is none e
 
 pub native_is_ascii_by_both : NativeIsAsciiByBoth
-native_is_ascii_by_both t other text native v is none e =
-    in_ascii_is (reading_by_both t other) (arabic_reading t) text native is none ∙ ap (λ r. or_else r (by_option (arabic_reading t) (arabic_text text))) e
+native_is_ascii_by_both t other text native v is none e = typed_in_ascii (reading_by_both t other) (arabic_reading t) text native v is none e
 
 pub only_arabic_differs : OnlyArabicDiffers
-only_arabic_differs t text native is others none =
-    in_ascii_is (lenient_reading t) (arabic_reading t) text native is none
-    ∙ ap (λ b. or_else (lenient_reading t native) (by_option (arabic_reading t) (cond b (native_text text) None))) others
-    ∙ else_nothing (lenient_reading t native)
+only_arabic_differs t text native is others none = typed_unless_arabic (lenient_reading t) (arabic_reading t) text native is others none
 
 pub arabic_is_read : ArabicIsRead
-arabic_is_read t text native v is none plain e =
-    in_ascii_is (lenient_reading t) (arabic_reading t) text native (arabic_native text native is) none
-    ∙ ap (λ r. or_else r (by_option (arabic_reading t) (arabic_text text))) plain
-    ∙ ap (by_option (arabic_reading t)) is
-    ∙ e
+arabic_is_read t text native v is none plain e = typed_arabic (lenient_reading t) (arabic_reading t) text native v is none plain e

@@ -29,8 +29,12 @@ arabic_tables t = record { symbols = arabic_symbols t.symbols; digits = t.digits
 abbrev pub takes_arabic : Tables → Bool
 takes_arabic t = not (has_arabic_separator t.symbols.strings) && is_leniently_readable_by (arabic_tables t)
 
+-- a reading by tables, with these separators in place of theirs
+abbrev pub arabic_by : (Tables → List ℕ → PlainReading) → Tables → List ℕ → PlainReading
+arabic_by read t text = cond (takes_arabic t) (read (arabic_tables t) text) not_written
+
 abbrev pub arabic_reading : Tables → List ℕ → PlainReading
-arabic_reading t text = cond (takes_arabic t) (lenient_reading (arabic_tables t) text) not_written
+arabic_reading t text = arabic_by lenient_reading t text
 
 -- any text
 abbrev pub typed_reading : Tables → List ℕ → PlainReading

@@ -28,4 +28,7 @@ pub use lenient::{LenientTables, read_lenient};
 pub use native::{arabic_symbols, has_arabic_digits, has_arabic_separator, native_text};
 pub use readable::is_leniently_readable;
 pub use second::{is_own_text, unless_other};
-pub use typed::{NativeReader, TableReader, read_in_native, read_typed, read_typed_or};
+pub use typed::{
+    MadeTablesReader, NativeReader, TableReader, read_arabic, read_in_native, read_typed,
+    read_typed_or,
+};

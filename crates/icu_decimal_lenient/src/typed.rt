@@ -6,7 +6,7 @@ ghost use Rattle.icu_decimal_plain.specs.PlainText.{Tables};
 ghost use Rattle.icu_decimal_reading.specs.DecimalOfText.{IsAnswered, PlainReading, not_written};
 ghost use Rattle.icu_decimal_lenient.specs.LenientReading.{MayAllocate, is_leniently_readable_by, lenient_reading, or_else, reading_by_both};
 ghost use Rattle.icu_decimal_lenient.specs.Native.{arabic_text, native_text};
-ghost use Rattle.icu_decimal_lenient.specs.TypedReading.{arabic_reading, by_option, typed_by, typed_by_both, typed_reading};
+ghost use Rattle.icu_decimal_lenient.specs.TypedReading.{arabic_by, arabic_reading, by_option, typed_by, typed_by_both, typed_reading};
 
 use crate::lenient::LenientTables;
 use crate::native::{arabic_symbols, has_arabic_digits, has_arabic_separator, native_text};
@@ -28,13 +28,18 @@ pub trait NativeReader {
     // Where the first of them may be out of memory.
     ghost allocates: { Self → List ℕ → Type 0 };
 
+    // Whether texts may be unreadable.
+    ghost lacks: { Self → Type 0 };
+
     /// The decimal of a text as it is: in Hindi of `1,234.5` 1234.5, of `१` none.
     fn read_as_is(&self, alloc: Global, text: &str) -> Result<Decimal, ReadError>
+        ensures unreadable { IsErrOf result ReadError.Unreadable → lacks self.now }
         ensures memory { IsErrOf result ReadError.Memory → allocates self.now text.now }
         ensures reading { IsAnswered result (reading self.now text.now) };
 
     /// The decimal of a text with the separators of Arabic digits: in Hindi of `1٬234٫5` 1234.5.
     fn read_with_arabic(&self, alloc: Global, text: &str) -> Result<Decimal, ReadError>
+        ensures unreadable { IsErrOf result ReadError.Unreadable → lacks self.now }
         ensures reading { IsAnswered result (arabic self.now text.now) };
 }
 
@@ -46,7 +51,8 @@ fn read_spelled<R: NativeReader>(
     text: &str,
     is_arabic: bool,
 ) -> Result<Decimal, ReadError>
-    ensures { IsAnswered result (or_else (R.reading reader.now text.now)
+    ensures unreadable { IsErrOf result ReadError.Unreadable → R.lacks reader.now }
+    ensures reading { IsAnswered result (or_else (R.reading reader.now text.now)
         (by_option (R.arabic reader.now) (cond is_arabic (Some text.now) None))) }
 {
     match reader.read_as_is(alloc, text) {
@@ -64,7 +70,8 @@ fn read_spelled<R: NativeReader>(
 // A text that is no number as it is.
 #[tactic(auto, using(crate::proofs::TypedLemmas::no_native, crate::proofs::TypedStepLemmas::spelled_again))]
 fn read_digits<R: NativeReader>(alloc: Global, reader: &R, text: &str) -> Result<Decimal, ReadError>
-    ensures { IsAnswered result (or_else (by_option (R.reading reader.now) (native_text text.now))
+    ensures unreadable { IsErrOf result ReadError.Unreadable → R.lacks reader.now }
+    ensures reading { IsAnswered result (or_else (by_option (R.reading reader.now) (native_text text.now))
         (by_option (R.arabic reader.now) (arabic_text text.now))) }
 {
     let Some(native) = native_text(alloc, text)? else {
@@ -86,6 +93,7 @@ pub fn read_in_native<R: NativeReader>(
     reader: &R,
     text: &str,
 ) -> Result<Decimal, ReadError>
+    ensures unreadable { IsErrOf result ReadError.Unreadable → R.lacks reader.now }
     ensures memory { IsErrOf result ReadError.Memory
         → R.allocates reader.now text.now ⊎ (R.reading reader.now text.now ≡ not_written) }
     ensures reading { IsAnswered result (typed_by (R.reading reader.now) (R.arabic reader.now) text.now) }
@@ -100,37 +108,83 @@ pub fn read_in_native<R: NativeReader>(
 
 // ---- with tables
 
+/// What reads by tables that are made for a text: those of a formatter, with the separators of Arabic digits.
+pub trait MadeTablesReader {
+    // What a text is read as by tables.
+    ghost reading_by: { Self → Tables → List ℕ → PlainReading };
+
+    /// The decimal of a text by these tables: by those of Hindi with U+066C between groups, of `1٬234` 1234.
+    fn read_by_tables(
+        &self,
+        alloc: Global,
+        tables: &LenientTables<'_>,
+        text: &str,
+    ) -> Result<Decimal, ReadError>
+        ensures unreadable { ¬ (IsErrOf result ReadError.Unreadable) }
+        ensures reading { IsAnswered result (reading_by self.now tables.now text.now) };
+}
+
 // A text by tables, where they are leniently readable.
-fn read_if_readable(
+fn read_if_readable<R: MadeTablesReader>(
     alloc: Global,
+    reader: &R,
     tables: &DecimalTables<'_>,
     text: &str,
 ) -> Result<Decimal, ReadError>
-    ensures { IsAnswered result (cond (is_leniently_readable_by (borrowed_tables tables.now))
-        (lenient_reading (borrowed_tables tables.now) text.now) not_written) }
+    ensures unreadable { ¬ (IsErrOf result ReadError.Unreadable) }
+    ensures reading { IsAnswered result (cond (is_leniently_readable_by (borrowed_tables tables.now))
+        (R.reading_by reader.now (borrowed_tables tables.now) text.now) not_written) }
 {
     let kept = match LenientTables::new(alloc, tables) {
         Ok(kept) => kept,
         Err(ReadError::Memory) => return Err(ReadError::Memory),
         Err(ReadError::Unreadable | ReadError::NotWritten) => return Err(ReadError::NotWritten),
     };
-    let read = kept.read_without_native(alloc, text);
+    let read = reader.read_by_tables(alloc, &kept, text);
     drop(kept);
     read
 }
 
-// A text by tables whose separators are those of Arabic digits, in place of others.
-fn read_arabic(alloc: Global, tables: &DecimalTables<'_>, text: &str) -> Result<Decimal, ReadError>
-    ensures { IsAnswered result (arabic_reading (borrowed_tables tables.now) text.now) }
+/// The decimal of a text by tables whose separators are those of Arabic digits, in place of others: by those of Hindi of
+/// `1٬234٫5` 1234.5.
+///
+/// `NotWritten`: as by the reader, or the tables have such a separator already, or with these can't be read leniently.
+/// `Memory`: out of memory. Allocates.
+pub fn read_arabic<R: MadeTablesReader>(
+    alloc: Global,
+    reader: &R,
+    tables: &DecimalTables<'_>,
+    text: &str,
+) -> Result<Decimal, ReadError>
+    ensures unreadable { ¬ (IsErrOf result ReadError.Unreadable) }
+    ensures reading { IsAnswered result
+        (arabic_by (R.reading_by reader.now) (borrowed_tables tables.now) text.now) }
 {
     if has_arabic_separator(tables.symbols()) {
         return Err(ReadError::NotWritten);
     }
     let symbols = arabic_symbols(alloc, tables.symbols())?;
     let arabic = DecimalTables::new(&symbols, tables.digits(), GroupingStrategy::Auto);
-    let read = read_if_readable(alloc, &arabic, text);
+    let read = read_if_readable(alloc, reader, &arabic, text);
     drop(symbols);
     read
+}
+
+// A text of a number alone.
+#[derive(Clone, Copy)]
+struct NumberAlone;
+
+impl MadeTablesReader for NumberAlone {
+    ghost reading_by = { λ alone. lenient_reading };
+
+    fn read_by_tables(
+        &self,
+        alloc: Global,
+        tables: &LenientTables<'_>,
+        text: &str,
+    ) -> Result<Decimal, ReadError> {
+        tables.read_without_native(alloc, text)
+    }
 }
 
 /// What reads by tables: what the formatter writes, and that once it is folded.
@@ -161,12 +215,14 @@ impl<'r, R: TableReader> NativeReader for One<'r, R> {
 
     ghost allocates = { λ one. MayAllocate (R.reads_by one.reader.now) };
 
+    ghost lacks = { λ one. Unit {0} };
+
     fn read_as_is(&self, alloc: Global, text: &str) -> Result<Decimal, ReadError> {
         self.reader.read_folded(alloc, text)
     }
 
     fn read_with_arabic(&self, alloc: Global, text: &str) -> Result<Decimal, ReadError> {
-        read_arabic(alloc, self.reader.tables(), text)
+        read_arabic(alloc, &NumberAlone, self.reader.tables(), text)
     }
 }
 
@@ -185,6 +241,8 @@ impl<'r, R: TableReader, O: TableReader> NativeReader for Both<'r, R, O> {
     ghost allocates = { λ both text. MayAllocate (R.reads_by both.reader.now) text
         ⊎ MayAllocate (O.reads_by both.other.now) text };
 
+    ghost lacks = { λ both. Unit {0} };
+
     #[tactic(auto, using(crate::proofs::AgreementLemmas::own_agrees, crate::proofs::AgreementLemmas::answered_other))]
     fn read_as_is(&self, alloc: Global, text: &str) -> Result<Decimal, ReadError> {
         let number = match self.reader.read_folded(alloc, text) {
@@ -199,7 +257,7 @@ impl<'r, R: TableReader, O: TableReader> NativeReader for Both<'r, R, O> {
     }
 
     fn read_with_arabic(&self, alloc: Global, text: &str) -> Result<Decimal, ReadError> {
-        read_arabic(alloc, self.reader.tables(), text)
+        read_arabic(alloc, &NumberAlone, self.reader.tables(), text)
     }
 }
 

@@ -19,10 +19,10 @@ use Rattle.icu_dimension.specs.FoundUnits.{CurrencySettings, found_currency, fou
 use Rattle.icu_dimension.specs.ProvidedUnits.{AmountTexts, PercentTexts, two_digits, usual_fractions}
 use Rattle.icu_dimension.specs.UnitSources.{CurrencySource, DecimalSource}
 use Rattle.icu_dimension.specs.declared.options.CurrencyFormatterOptions.{CurrencyFormatterOptions}
-use Rattle.icu_dimension.specs.declared.options.CurrencyStyle.{CurrencyStyle}
-use Rattle.icu_dimension.specs.declared.options.CurrencyStyle.TheVariants.{Standard, Accounting}
-use Rattle.icu_dimension.specs.declared.options.CurrencyWidth.{CurrencyWidth}
-use Rattle.icu_dimension.specs.declared.options.CurrencyWidth.TheVariants.{Short, IsoCode}
+use Rattle.icu_dimension_fractions.specs.declared.CurrencyStyle.{CurrencyStyle}
+use Rattle.icu_dimension_fractions.specs.declared.CurrencyStyle.TheVariants.{Standard, Accounting}
+use Rattle.icu_dimension_fractions.specs.declared.CurrencyWidth.{CurrencyWidth}
+use Rattle.icu_dimension_fractions.specs.declared.CurrencyWidth.TheVariants.{Short, IsoCode}
 
 -- ---- small tables
 

@@ -23,8 +23,11 @@ pub use Rattle.icu_dimension_lenient.specs.Agreement
 pub use Rattle.icu_dimension_lenient.specs.HeldPairs
 pub use Rattle.icu_dimension_lenient.specs.LenientUnitLaws
 pub use Rattle.icu_dimension_lenient.specs.LenientUnits
+pub use Rattle.icu_dimension_lenient.specs.NativeUnitLaws
+pub use Rattle.icu_dimension_lenient.specs.NativeUnits
 pub use Rattle.icu_dimension_lenient.specs.OwnUnitTexts
 pub use Rattle.icu_dimension_lenient.specs.TypedUnits
+pub use Rattle.icu_dimension_lenient.specs.UnitReadings
 -- Codes and digits of currencies, and rounding to them.
 pub use Rattle.icu_dimension_fractions.specs.CurrencyCodes
 pub use Rattle.icu_dimension_fractions.specs.FractionLaws

@@ -11,10 +11,10 @@ use Rattle.icu_decimal.specs.Identifiers.{Identifier, identifiers_along, of_syst
 use Rattle.icu_decimal.specs.declared.error.DataError.{DataError}
 use Rattle.icu_dimension_fractions.specs.declared.fraction.FractionInfo.{FractionInfo}
 use Rattle.icu_dimension.specs.ProvidedUnits.{AmountTexts, PercentTexts, SymbolText, usual_fractions, written_as}
-use Rattle.icu_dimension.specs.declared.options.CurrencyStyle.{CurrencyStyle}
-use Rattle.icu_dimension.specs.declared.options.CurrencyStyle.TheVariants.{Standard, Accounting}
-use Rattle.icu_dimension.specs.declared.options.CurrencyWidth.{CurrencyWidth}
-use Rattle.icu_dimension.specs.declared.options.CurrencyWidth.TheVariants.{Short, IsoCode}
+use Rattle.icu_dimension_fractions.specs.declared.CurrencyStyle.{CurrencyStyle}
+use Rattle.icu_dimension_fractions.specs.declared.CurrencyStyle.TheVariants.{Standard, Accounting}
+use Rattle.icu_dimension_fractions.specs.declared.CurrencyWidth.{CurrencyWidth}
+use Rattle.icu_dimension_fractions.specs.declared.CurrencyWidth.TheVariants.{Short, IsoCode}
 
 -- ---- along the locales
 

@@ -1,7 +1,9 @@
 //! A formatter of amounts of money.
 
 ghost use Rattle.std.specs.Prelude.{◌≡◌, ◌≢◌, ◌⊎◌, false, true, IfErr, IfOk, IsErrOf, IsOk, OnErr, OnOk, string_bytes};
+ghost use Rattle.std.specs.Option.{option_copied};
 ghost use Rattle.std.specs.Result.{result_map_both};
+ghost use Rattle.icu_decimal.specs.BorrowedTables.{borrowed_tables};
 ghost use Rattle.icu_dimension_affixes.specs.HeldUnits.{name_of, settings_of};
 ghost use Rattle.icu_dimension_affixes.specs.UnitReading.{AreReaderTexts, HasNoDecimal, IsUnitText, is_unit_readable_by, reader_texts};
 ghost use Rattle.icu_dimension_affixes.specs.UnitText.{unit_decimal_text, unit_formatted};
@@ -11,6 +13,7 @@ ghost use Rattle.icu_dimension_fractions.specs.FractionRounding.{RoundsAmount, S
 ghost use Rattle.icu_dimension_fractions.specs.Fractions.{fraction_for};
 ghost use Rattle.icu_dimension_fractions.specs.declared.increment.FractionIncrement.{FractionIncrement};
 ghost use Rattle.icu_dimension.specs.FoundUnits.{found_currency};
+ghost use Rattle.icu_dimension.specs.ProvidedUnits.{written_as};
 ghost use Rattle.icu_dimension.specs.HeldFormatters.{code_of, currency_settings_of, fractions_of, settings_of_currency};
 
 use crate::options::CurrencyFormatterOptions;
@@ -93,6 +96,37 @@ impl<'b> CurrencyFormatter<'b> {
         })
     }
 
+    /// The formatter of tables that the caller has: what decimals are written with, a pattern, the symbol of the
+    /// currency, where it has one, its code and its digits.
+    ///
+    /// With the tables of English, `¤` before the number and `€` it writes 1234.5 as `€1,234.5`. It does not allocate.
+    pub fn from_parts(
+        decimals: DecimalTables<'b>,
+        pattern: &'b UnitPattern,
+        symbol: Option<&'b CurrencySymbol>,
+        code: CurrencyCode,
+        fractions: FractionInfo,
+    ) -> Self
+        ensures code { code_of result ≡ code }
+        ensures value { currency_settings_of result
+            ≡ record {
+              unit = record {
+                tables = borrowed_tables decimals.entry;
+                pattern = pattern.now;
+                unit = record { kind = UnitKind.Currency; text = (written_as (option_copied symbol.entry) code).text };
+              };
+              fractions = fractions;
+            } }
+    {
+        CurrencyFormatter {
+            decimals,
+            pattern,
+            symbol,
+            code,
+            fractions,
+        }
+    }
+
     /// The currency: `EUR`. It does not allocate.
     pub fn code(&self) -> CurrencyCode
         ensures { result ≡ code_of self.now }
@@ -107,6 +141,21 @@ impl<'b> CurrencyFormatter<'b> {
         self.fractions
     }
 
+    /// The pattern that its amounts are written in: of `en` and `EUR` `¤` before the number. It does not allocate.
+    pub fn pattern(&self) -> &'b UnitPattern
+        ensures { result.now ≡ (settings_of_currency self.now).pattern }
+    {
+        self.pattern
+    }
+
+    /// The symbol of the currency, where it is written by one: of `en` and `EUR` `€`. It does not allocate.
+    pub fn symbol(&self) -> Option<&'b CurrencySymbol>
+        ensures { (written_as (option_copied result) (code_of self.now)).text
+            ≡ (settings_of_currency self.now).unit.text }
+    {
+        self.symbol
+    }
+
     // The symbol or the code, as a unit.
     fn unit(&self) -> Unit<'_>
         ensures { name_of result ≡ (settings_of_currency self.now).unit }
@@ -115,6 +164,13 @@ impl<'b> CurrencyFormatter<'b> {
             kind: UnitKind::Currency,
             text: CurrencyName::new(self.symbol, &self.code).text,
         }
+    }
+
+    /// What its decimals are written with: of the formatter of `en` and `EUR` those of English. It does not allocate.
+    pub fn decimals(&self) -> &DecimalTables<'b>
+        ensures { borrowed_tables result.now ≡ (settings_of_currency self.now).tables }
+    {
+        &self.decimals
     }
 
     /// What it writes with, as one value: of `en` and `EUR` what writes -1234.5 as `-€1,234.5`. It does not allocate.

@@ -28,10 +28,9 @@ pub use icu_dimension_affixes::{
     UnitPatternError, UnitPatterns, UnitPlace, UnitReader, UnitTables, parts,
 };
 pub use icu_dimension_fractions::{
-    CurrencyCode, CurrencyCodeError, CurrencyUsage, Fraction, FractionIncrement, FractionInfo,
+    CurrencyCode, CurrencyCodeError, CurrencyStyle, CurrencyUsage, CurrencyWidth, Fraction,
+    FractionIncrement, FractionInfo,
 };
 pub use icu_dimension_lenient::LenientUnitReader;
-pub use options::{
-    CurrencyFormatterOptions, CurrencyStyle, CurrencyWidth, PercentFormatterOptions,
-};
+pub use options::{CurrencyFormatterOptions, PercentFormatterOptions};
 pub use percent::PercentFormatter;

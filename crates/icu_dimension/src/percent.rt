@@ -2,6 +2,7 @@
 
 ghost use Rattle.std.specs.Prelude.{◌≡◌, ◌⊎◌, false, true, IfOk, IsErrOf, OnOk, codes, string_bytes};
 ghost use Rattle.std.specs.Result.{result_map_both};
+ghost use Rattle.icu_decimal.specs.BorrowedTables.{borrowed_tables};
 ghost use Rattle.icu_dimension_affixes.specs.HeldUnits.{name_of, settings_of};
 ghost use Rattle.icu_dimension_affixes.specs.UnitReading.{AreReaderTexts, HasNoDecimal, IsUnitText, is_unit_readable_by, reader_texts};
 ghost use Rattle.icu_dimension_affixes.specs.UnitText.{unit_decimal_text, unit_formatted};
@@ -68,6 +69,24 @@ impl<'b> PercentFormatter<'b> {
         })
     }
 
+    /// The formatter of tables that the caller has: what decimals are written with, a pattern and a percent sign.
+    ///
+    /// With the tables of English, `¤` after the number and `%` it writes 12.5 as `12.5%`. It does not allocate.
+    pub fn from_parts(decimals: DecimalTables<'b>, pattern: &'b UnitPattern, sign: &'b str) -> Self
+        ensures { settings_of_percent result
+            ≡ record {
+              tables = borrowed_tables decimals.entry;
+              pattern = pattern.now;
+              unit = record { kind = UnitKind.Percent; text = sign.now };
+            } }
+    {
+        PercentFormatter {
+            decimals,
+            pattern,
+            sign,
+        }
+    }
+
     // The percent sign, as a unit.
     fn unit(&self) -> Unit<'b>
         ensures { name_of result ≡ (settings_of_percent self.now).unit }
@@ -76,6 +95,13 @@ impl<'b> PercentFormatter<'b> {
             kind: UnitKind::Percent,
             text: self.sign,
         }
+    }
+
+    /// What its decimals are written with: of the formatter of `en` those of English. It does not allocate.
+    pub fn decimals(&self) -> &DecimalTables<'b>
+        ensures { borrowed_tables result.now ≡ (settings_of_percent self.now).tables }
+    {
+        &self.decimals
     }
 
     /// What it writes with, as one value: of the formatter of `en` what writes 12.5 as `12.5%`. It does not allocate.

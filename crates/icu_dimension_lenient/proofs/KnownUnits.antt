@@ -15,7 +15,7 @@ use Rattle.icu_dimension_lenient.specs.Agreement.{agreed_reading}
 use Rattle.icu_dimension_lenient.specs.LenientUnits.{LenientTexts, folded_ways, is_leniently_unit_readable_by, lenient_texts, read_own, typed_unit_reading}
 
 -- U+20AC and U+00A0, in UTF-8
-abbrev euro : List ℕ
+abbrev pub euro : List ℕ
 euro = 226 ∷ 130 ∷ 172 ∷ []
 
 abbrev no_break_space : List ℕ
@@ -28,7 +28,7 @@ abbrev settings : PatternTexts → List ℕ → UnitSettings
 settings pattern unit = record { tables = english; pattern = pattern; unit = record { kind = Currency; text = unit } }
 
 -- in English `€`, in accounting `$`, and `Rs`, which is written `Rs 5`
-abbrev euros : LenientTexts
+abbrev pub euros : LenientTexts
 euros = lenient_texts (settings (record { unsigned = before [] [] []; minus = None; plus = None }) euro) (codes "EUR")
 
 abbrev accounts : LenientTexts
@@ -60,7 +60,7 @@ after : typed euros (codes "5" ++ euro) ≡ number NoSign 5 1 0
 unfolding fold_of chars trim_start trim_end encode
 after = refl
 
-after_space : typed euros (codes "5 " ++ euro) ≡ number NoSign 5 1 0
+pub after_space : typed euros (codes "5 " ++ euro) ≡ number NoSign 5 1 0
 unfolding fold_of chars trim_start trim_end encode
 after_space = refl
 

@@ -1,7 +1,10 @@
 pub mod AgreementSteps
 pub mod EndLemmas
+pub mod KnownNativeUnits
 pub mod KnownUnits
+pub mod NativeUnitLemmas
 pub mod OwnUnitLemmas
 pub mod TypedUnitLemmas
 pub mod UnitSteps
 pub mod UnitLawLemmas
+pub mod UnitReadingsLemmas

@@ -10,8 +10,7 @@ use Rattle.icu_decimal_reading.specs.declared.error.ReadError.{ReadError}
 use Rattle.icu_decimal_reading.specs.declared.error.ReadError.TheVariants.{Unreadable, NotWritten, Memory}
 use Rattle.icu_decimal_lenient.specs.LenientReading.{read_either}
 use Rattle.icu_dimension_affixes.specs.UnitPatterns.{AffixPair}
-use Rattle.icu_dimension_affixes.specs.UnitReading.{HasNoDecimal, IsUnitText}
-use Rattle.icu_dimension_lenient.specs.LenientUnits.{IsUnitAnswer, LenientTexts, beside_within, between, read_between, read_rest, signed_as, signed_within, typed_unit_reading, with_own_sign}
+use Rattle.icu_dimension_lenient.specs.LenientUnits.{LenientTexts, beside_within, between, read_between, read_rest, signed_as, signed_within, typed_unit_reading, with_own_sign}
 
 -- ---- a sign
 
@@ -44,19 +43,6 @@ within_same r folded name sign one other same answered = subst (λ o. IsAnswered
 
 -- ---- any text
 
-pub exactly_read : (a : LenientTexts) (text : List ℕ) (v : SignedValue Number) → IsUnitText a.reader text v → IsUnitAnswer a text (Ok v)
-exactly_read a text v is = inl (v, (is, refl))
-
 pub kept_answers : (a : LenientTexts) (kept : Tables) (text : List ℕ) (r : Result (SignedValue Number) ReadError)
     → kept ≡ a.reader.tables → IsAnswered r (typed_unit_reading kept a.folded text) → IsAnswered r (typed_unit_reading a.reader.tables a.folded text)
 kept_answers a kept text r same answered = subst (λ t. IsAnswered r (typed_unit_reading t a.folded text)) same answered
-
-pub typed_read : (a : LenientTexts) (kept : Tables) (text : List ℕ) (r : Result (SignedValue Number) ReadError)
-    → kept ≡ a.reader.tables → HasNoDecimal a.reader text → IsAnswered r (typed_unit_reading kept a.folded text) → IsUnitAnswer a text r
-typed_read a kept text r same none answered = by r (kept_answers a kept text r same answered)
-  where
-    by : (r : Result (SignedValue Number) ReadError) → IsAnswered r (typed_unit_reading a.reader.tables a.folded text) → IsUnitAnswer a text r
-    by (Ok v) is = inr (none, sym is)
-    by (Err Unreadable) is = inr (none, sym is)
-    by (Err NotWritten) is = inr (none, sym is)
-    by (Err Memory) is = tt

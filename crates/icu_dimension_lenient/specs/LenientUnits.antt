@@ -1,7 +1,7 @@
 -- What a typed text with a unit is read as: as the exact reader reads it; else as the decimal that it is without its unit, as plain lenient reading reads it, or folded, with the affixes of its sign, or with the unit or its code beside the number, where it is no other decimal in another one of these ways.
 -- Defined in docs/units.md, "Lenient reading".
--- Cited by the calls of `LenientUnitReader`, and by the laws.
-use Rattle.std.specs.Prelude.{◌≡◌, ◌⊎◌, ℕ, ◌-◌, Bool, true, false, ◌&&◌, List, [], ◌∷◌, length, take, drop, Option, None, Some, Result, Ok, Err}
+-- Cited by the calls of `LenientUnitReader`, by NativeUnits.antt, and by the laws.
+use Rattle.std.specs.Prelude.{◌≡◌, ◌⊎◌, ℕ, ◌-◌, Bool, true, false, ◌&&◌, List, [], ◌∷◌, length, take, drop, Option, None, Some}
 use Rattle.std.specs.Str.{bytes_eq, trim}
 use Rattle.fixed_decimal.specs.Number.{Number}
 use Rattle.fixed_decimal.specs.SignedValue.{SignedValue}
@@ -10,12 +10,10 @@ use Rattle.fixed_decimal.specs.declared.Sign.TheVariants.{None as NoSign, Negati
 use Rattle.icu_decimal_symbols.specs.Symbols.{Symbols}
 use Rattle.icu_decimal_plain.specs.PlainText.{Tables}
 use Rattle.icu_decimal_reading.specs.DecimalOfText.{PlainReading, decimal, not_written, unreadable}
-use Rattle.icu_decimal_reading.specs.declared.error.ReadError.{ReadError}
-use Rattle.icu_decimal_reading.specs.declared.error.ReadError.TheVariants.{Unreadable, NotWritten, Memory}
 use Rattle.icu_decimal_lenient.specs.Folding.{folded_symbols, folded_text, plain_digits}
 use Rattle.icu_decimal_lenient.specs.LenientReading.{filled_text, is_leniently_readable_by, lenient_reading, or_else, read_either, trimmed_fold}
 use Rattle.icu_dimension_affixes.specs.UnitPatterns.{AffixPair}
-use Rattle.icu_dimension_affixes.specs.UnitReading.{HasManyBetween, HasNoDecimal, IsUnitText, ReaderTexts, SignPairs, are_clear_pairs, do_pairs_differ, is_unit_readable_by, reader_texts}
+use Rattle.icu_dimension_affixes.specs.UnitReading.{AreReaderTexts, HasManyBetween, HasNoDecimal, IsUnitText, ReaderTexts, SignPairs, are_clear_pairs, do_pairs_differ, is_unit_readable_by, reader_texts}
 use Rattle.icu_dimension_affixes.specs.UnitText.{UnitSettings}
 use Rattle.icu_dimension_lenient.specs.Agreement.{agreed_reading}
 
@@ -162,13 +160,6 @@ IsLenientUnitReading a text reading =
     ((v : SignedValue Number) × (IsUnitText a.reader text v × (reading ≡ decimal v)))
     ⊎ (HasNoDecimal a.reader text × (reading ≡ typed_unit_reading a.reader.tables a.folded text))
 
--- a call answers so, where it is not out of memory
-abbrev pub IsUnitAnswer : LenientTexts → List ℕ → Result (SignedValue Number) ReadError → Type 0
-IsUnitAnswer a text (Ok v) = IsLenientUnitReading a text (decimal v)
-IsUnitAnswer a text (Err Unreadable) = IsLenientUnitReading a text unreadable
-IsUnitAnswer a text (Err NotWritten) = IsLenientUnitReading a text not_written
-IsUnitAnswer a text (Err Memory) = Unit {0}
-
 -- memory is asked for where more than sixteen digits are between the affixes of a sign, or where the formatter does not write the text
 abbrev pub MayAllocateUnit : LenientTexts → List ℕ → Type 0
 MayAllocateUnit a text = HasManyBetween a.reader text ⊎ HasNoDecimal a.reader text
@@ -177,4 +168,5 @@ MayAllocateUnit a text = HasManyBetween a.reader text ⊎ HasNoDecimal a.reader 
 pub record AreKeptTexts (reader : ReaderTexts) (decimals kept : Tables) : Type 0 where
   pub own : decimals ≡ reader.tables
   pub tables : kept ≡ reader.tables
+  pub texts : AreReaderTexts reader
   pub readable : is_unit_readable_by reader ≡ true

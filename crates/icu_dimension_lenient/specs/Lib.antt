@@ -2,5 +2,8 @@ pub mod Agreement
 pub mod HeldPairs
 pub mod LenientUnitLaws
 pub mod LenientUnits
+pub mod NativeUnitLaws
+pub mod NativeUnits
 pub mod OwnUnitTexts
 pub mod TypedUnits
+pub mod UnitReadings

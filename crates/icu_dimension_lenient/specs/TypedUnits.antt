@@ -8,6 +8,7 @@ use Rattle.fixed_decimal.specs.SignedValue.{SignedValue}
 use Rattle.fixed_decimal.specs.declared.Sign.{Sign}
 use Rattle.fixed_decimal.specs.declared.Sign.TheVariants.{None as NoSign, Negative, Positive}
 use Rattle.icu_decimal_symbols.specs.Symbols.{Symbols}
+use Rattle.icu_decimal_plain.specs.PlainText.{Tables}
 use Rattle.icu_decimal_lenient.specs.Folding.{folded_symbols}
 use Rattle.icu_decimal_lenient.specs.LenientReading.{IsGroupedText, IsTypedText, filled_text, trimmed_fold}
 use Rattle.icu_dimension_affixes.specs.UnitPatterns.{AffixPair}
@@ -58,8 +59,10 @@ IsFoldedSpelling folded u text v =
     ⊎ (IsNamedSpelling folded u.unit text v
     ⊎ (IsNamedSpelling folded u.code text v ⊎ IsOwnSpelling folded u.pairs (filled_text folded.strings.decimal_separator text) v))
 
--- any text: as the formatter writes it, without its unit, or folded
+-- any text that the formatter does not write: without its unit, or folded
+abbrev pub IsUnitSpelling : Tables → FoldedUnit → List ℕ → SignedValue Number → Type 0
+IsUnitSpelling t u text v = IsTypedText t text v ⊎ IsFoldedSpelling (folded_symbols t) u (trimmed_fold t text) v
+
+-- any text
 abbrev pub IsTypedUnit : LenientTexts → List ℕ → SignedValue Number → Type 0
-IsTypedUnit a text v =
-    IsUnitText a.reader text v
-    ⊎ (IsTypedText a.reader.tables text v ⊎ IsFoldedSpelling (folded_symbols a.reader.tables) a.folded (trimmed_fold a.reader.tables text) v)
+IsTypedUnit a text v = IsUnitText a.reader text v ⊎ IsUnitSpelling a.reader.tables a.folded text v

@@ -1,6 +1,7 @@
 //! Laws of lenient reading of numbers with a unit. No call is made: each clause is the law.
 
 ghost use Rattle.icu_dimension_lenient.specs.LenientUnitLaws.{ExactUnitIsLenient, HasOneLenientUnitReading, LenientUnitIsTyped, LenientUnitMisses, UnitMayBeLeftOff, UnitWaysAgree, WrittenUnitReadsLeniently};
+ghost use Rattle.icu_dimension_lenient.specs.NativeUnitLaws.{ArabicUnitIsRead, HasOneExactReading, HasOneReadingByFunction, LenientUnitIsNativeSo, NativeUnitIsAscii, NativeUnitIsTyped, OnlyArabicUnitDiffers, OtherUnitsStay};
 
 /// A law: a text has one lenient reading. In English with `€` that of ` € 5 ` is 5, and that of `€1,23` is not one.
 pub fn texts_have_one_lenient_reading()
@@ -26,4 +27,32 @@ pub fn lenient_reading_agrees()
 /// that number: `1234.5` is 1234.5 in English.
 pub fn unit_may_be_left_off()
     ensures { UnitMayBeLeftOff }
+{}
+
+/// A law: the readings without native digits are answered by functions: in English with `€` of `€1,234.50` both the exact
+/// one and the lenient one is 1234.50, and of `5 €` only the lenient one is 5.
+pub fn functions_answer_readings()
+    ensures exact { HasOneExactReading }
+    ensures lenient { HasOneReadingByFunction }
+{}
+
+/// A law: native digits add to what is read: what is read without them stays, and so does every text that has none or a
+/// mixture. In Hindi with `₹` `₹1,234` is 1234, and `₹1२3` is not read.
+pub fn native_digits_add()
+    ensures same { LenientUnitIsNativeSo }
+    ensures others { OtherUnitsStay }
+{}
+
+/// A law: a text in native digits that was not read is read as it is in ASCII: in Hindi with `₹` `₹१२३` as `₹123`. Only
+/// Arabic digits are read in another way besides: `٤٥٫٥ ₹` with their separators.
+pub fn native_digits_are_ascii()
+    ensures same { NativeUnitIsAscii }
+    ensures others { OnlyArabicUnitDiffers }
+    ensures arabic { ArabicUnitIsRead }
+{}
+
+/// A law: what is read with native digits is a spelling of that decimal: as it is, in ASCII, or so with the separators of
+/// Arabic digits: in Hindi with `₹` `₹१२३` is one of 123.
+pub fn native_reading_is_typed()
+    ensures { NativeUnitIsTyped }
 {}

@@ -15,6 +15,7 @@ mod agreement;
 mod beside;
 mod ends;
 pub mod laws;
+mod native;
 mod own;
 mod pairs;
 mod reader;

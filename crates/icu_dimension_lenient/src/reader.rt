@@ -10,7 +10,8 @@ ghost use Rattle.icu_dimension_affixes.specs.UnitReading.{AreReaderTexts, HasMan
 ghost use Rattle.icu_dimension_lenient.specs.Agreement.{agreed_after};
 ghost use Rattle.icu_dimension_lenient.specs.HeldPairs.{pairs_of, unit_of};
 ghost use Rattle.icu_dimension_lenient.specs.OwnUnitTexts.{is_own_unit_text};
-ghost use Rattle.icu_dimension_lenient.specs.LenientUnits.{IsUnitAnswer, MayAllocateUnit, folded_ways, is_leniently_unit_readable_by, lenient_texts, read_named, read_own, texts_with, typed_unit_reading};
+ghost use Rattle.icu_dimension_lenient.specs.LenientUnits.{folded_ways, is_leniently_unit_readable_by, lenient_texts, read_named, read_own, texts_with, typed_unit_reading};
+ghost use Rattle.icu_dimension_lenient.specs.UnitReadings.{unit_reading};
 
 use crate::agreement::{add_reading, found_reading};
 use crate::beside::read_by_name;
@@ -18,7 +19,7 @@ use crate::ends::strip_pair;
 use crate::own::read_affixes;
 use crate::pairs::{FoldedTexts, do_tell, fold_texts};
 use fixed_decimal::{Decimal, Sign};
-use icu_decimal_lenient::{LenientTables, is_own_text};
+use icu_decimal_lenient::{LenientTables, MadeTablesReader, is_own_text};
 use icu_decimal_plain::DecimalTables;
 use icu_decimal_reading::ReadError;
 use icu_dimension_affixes::{Unit, UnitPattern, UnitReader, UnitTables};
@@ -155,6 +156,20 @@ fn read_typed(
     }
 }
 
+// By tables that are made for a text.
+impl MadeTablesReader for FoldedTexts {
+    ghost reading_by = { λ texts tables text. typed_unit_reading tables (unit_of texts) text };
+
+    fn read_by_tables(
+        &self,
+        alloc: Global,
+        tables: &LenientTables<'_>,
+        text: &str,
+    ) -> Result<Decimal, ReadError> {
+        read_typed(alloc, tables, self, text)
+    }
+}
+
 /// What numbers with a unit are read with leniently: a reader of what the formatter writes, and beside it the symbols,
 /// the affixes of each sign, the unit and its code, folded once.
 ///
@@ -162,9 +177,9 @@ fn read_typed(
 #[derive(Debug, Drop)]
 pub struct LenientUnitReader<'b> {
     exact: UnitReader<'b>,
-    decimals: DecimalTables<'b>,
+    pub(crate) decimals: DecimalTables<'b>,
     kept: LenientTables<'b>,
-    texts: FoldedTexts,
+    pub(crate) texts: FoldedTexts,
 }
 
 impl<'b> Model for LenientUnitReader<'b> {
@@ -314,25 +329,6 @@ impl<'b> LenientUnitReader<'b> {
         with_folded(alloc, exact, decimals, unit.text, code)
     }
 
-    /// The decimal that was typed, with its unit or without: in English with `€` and `EUR` the texts `1234.5`,
-    /// `€1234.5`, `1,234.5 €` and `EUR 1,234.5` are 1234.5, and `$5` and `€1,23` are none.
-    ///
-    /// Sign, digits and visible range are those of the text. `NotWritten`: it is a text of no decimal, or of two: with the
-    /// unit `.` and a space before it, `.50` is 50 and 0.50. `Memory`: out of memory. What the formatter writes is read in
-    /// one pass, and allocates where it has more than sixteen digits; any other text is folded, which allocates.
-    #[tactic(auto, using(crate::proofs::UnitSteps::exactly_read, crate::proofs::UnitSteps::typed_read))]
-    pub fn read(&self, alloc: Global, text: &str) -> Result<Decimal, ReadError>
-        ensures unreadable { ¬ (IsErrOf result ReadError.Unreadable) }
-        ensures memory { IsErrOf result ReadError.Memory → MayAllocateUnit self.now text.now }
-        ensures reading { IsUnitAnswer self.now text.now result }
-    {
-        match self.exact.read_readable(alloc, text) {
-            Ok(number) => Ok(number),
-            Err(ReadError::NotWritten) => read_typed(alloc, &self.kept, &self.texts, text),
-            Err(error) => Err(error),
-        }
-    }
-
     /// The first step of `read`: the decimal that the formatter writes so. In English with `€`, `€1,234.5` is 1234.5, and
     /// `€1234.5` is none.
     ///
@@ -343,6 +339,7 @@ impl<'b> LenientUnitReader<'b> {
         ensures not_written { IsErrOf result ReadError.NotWritten → HasNoDecimal self.now.reader text.now }
         ensures memory { IsErrOf result ReadError.Memory → HasManyBetween self.now.reader text.now }
         ensures value { IfOk result (λ v. IsUnitText self.now.reader text.now v) }
+        ensures reading { IsAnswered result (unit_reading self.now.reader text.now) }
     {
         self.exact.read_readable(alloc, text)
     }
@@ -359,7 +356,7 @@ impl<'b> LenientUnitReader<'b> {
     }
 
     /// The second step of `read`, for a text that the formatter does not write: in English with `€` and `EUR`, `€1234.5`
-    /// and `5 EUR` are 1234.5 and 5.
+    /// and `5 EUR` are 1234.5 and 5. Native digits are not read.
     ///
     /// `NotWritten`: it is a text of no decimal, folded, or of two. `Memory`: out of memory. It allocates.
     pub fn read_leniently(&self, alloc: Global, text: &str) -> Result<Decimal, ReadError>

@@ -1,8 +1,8 @@
 //! What the words ask for.
 
-use crate::book_text::{book_of, read_text};
+use crate::book_text::{book_of, read_text, world_text_for};
 use crate::fault::CallFault;
-use crate::fronts::{Fronts, invalid_of, make_fronts, word};
+use crate::fronts::{Fronts, has_units, invalid_of, make_fronts, word};
 use crate::listing::{list_of_file, list_of_world};
 use crate::numbers::{Asked, is_last};
 use crate::report::{tell_capacity, tell_code, tell_fields, tell_parts, tell_tag};
@@ -12,6 +12,7 @@ use clap::ArgMatches;
 use legumeyet_options::{Invalid, is_asked};
 use locale_numbers::prelude::CurrencyCode;
 use locale_numbers::{Answers, Book, world_text};
+use std::alloc::AllocError;
 use std::io::Write;
 
 // How many formatters a call keeps: one to write, one to read what was typed and one to read exactly.
@@ -121,6 +122,19 @@ fn act_by_text<W: Write>(
     }
 }
 
+// The text of the book of all locales, where any line may be asked, or of the part of it that the tag can ask for.
+fn text_of_world(
+    rt: &HostRuntime,
+    matches: &ArgMatches<'_>,
+    tag: &str,
+) -> Result<String, AllocError> {
+    if matches.get_flag("lines") {
+        world_text(rt.alloc())
+    } else {
+        world_text_for(rt.alloc(), tag, has_units(matches))
+    }
+}
+
 // Does what is asked for by the book that the words name, or by that of all locales.
 fn act_asked<W: Write>(
     rt: &HostRuntime,
@@ -129,7 +143,7 @@ fn act_asked<W: Write>(
     out: &mut W,
 ) -> Result<u8, CallFault> {
     match matches.get_str("book") {
-        None => match world_text(rt.alloc()) {
+        None => match text_of_world(rt, matches, fronts.tag) {
             Ok(text) => act_by_text(rt, text.as_bytes(), matches, fronts, out),
             Err(_) => Err(CallFault::MEMORY),
         },

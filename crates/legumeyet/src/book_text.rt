@@ -1,10 +1,15 @@
 //! The book that is asked for.
 
-ghost use Rattle.std.specs.Prelude.{IfErr, IfOk};
+ghost use Rattle.std.specs.Prelude.{◌≡◌, IfErr, IfOk, Some, string_bytes};
+ghost use Rattle.icu_locale_core.specs.TagPreferences.{Preferences};
 ghost use Rattle.locale_numbers.specs.Program.{IsOfFile, IsRefusal, Says};
+ghost use Rattle.locale_numbers.specs.SelectedText.{selected_text};
+ghost use Rattle.locale_numbers.specs.Wanted.{wanted_of};
+ghost use Rattle.locale_numbers.specs.declared.BookTexts.{BookTexts};
 
-use locale_numbers::{Book, ProgramFault};
-use std::alloc::Global;
+use locale_numbers::{Book, BookTexts, ProgramFault, book_text_for, world_text, world_texts};
+use locale_numbers_book::read_preferences;
+use std::alloc::{AllocError, Global};
 use std::fs;
 
 /// The bytes of a file. `File` where it can't be read, `Book` where it is out of memory.
@@ -25,5 +30,33 @@ pub fn book_of(alloc: Global, text: &[u8]) -> Result<Book, ProgramFault>
     match Book::from_json(alloc, text) {
         Ok(book) => Ok(book),
         Err(refusal) => Err(ProgramFault::Book(refusal)),
+    }
+}
+
+// The texts of the world's book, without units where none are asked for.
+fn texts_for(has_units: bool) -> BookTexts<'static> {
+    let texts = world_texts();
+    if has_units {
+        texts
+    } else {
+        BookTexts {
+            units: None,
+            ..texts
+        }
+    }
+}
+
+/// The text of the small book that the lines of a tag can ask for, of the world's book. Where the tag is none, it is the
+/// whole: each line is then refused by any book.
+///
+/// It answers lines of this tag only, and without units only those of numbers. `AllocError`: out of memory.
+pub fn world_text_for(alloc: Global, tag: &str, has_units: bool) -> Result<String, AllocError>
+    ensures small { (preferences : Preferences) → wanted_of tag.now ≡ Some preferences → IfOk result (λ text.
+        (texts : BookTexts) × (string_bytes text ≡ selected_text texts preferences)) }
+{
+    match read_preferences(alloc, tag.as_bytes()) {
+        Ok(Some(preferences)) => book_text_for(alloc, &texts_for(has_units), &preferences),
+        Ok(None) => world_text(alloc),
+        Err(refused) => Err(refused),
     }
 }

@@ -53,6 +53,11 @@ fn style_of(matches: &ArgMatches<'_>) -> Option<UnitStyle> {
     }
 }
 
+/// Whether percents or amounts are asked for, so that units are.
+pub fn has_units(matches: &ArgMatches<'_>) -> bool {
+    style_of(matches).is_some()
+}
+
 // A form: that of percents or amounts, after a word, or else another.
 fn form_by(
     alloc: Global,

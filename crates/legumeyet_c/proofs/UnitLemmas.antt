@@ -2,13 +2,14 @@
 use Rattle.std.proofs.Common.{◌≡◌, ◌≢◌, ◌↔◌, ℕ, Bool, true, false, List, Option, Some, None, Result, Ok, Err, IfOk, IfErr, IsErrOf, refl, sym, subst, inl, inr}
 use Rattle.fixed_decimal.specs.Number.{Number}
 use Rattle.fixed_decimal.specs.SignedValue.{SignedValue}
-use Rattle.icu_decimal.specs.PlainReading.{PlainReading, decimal, not_written}
+use Rattle.icu_decimal.specs.PlainReading.{IsAnswered, PlainReading, decimal, not_written}
 use Rattle.icu_decimal.specs.declared.error.ReadError.{ReadError}
 use Rattle.icu_decimal.specs.declared.error.ReadError.TheVariants.{Unreadable as ReadUnreadable, NotWritten as ReadNotWritten}
 use Rattle.icu_dimension.specs.UnitReading.{HasNoDecimal, IsUnitReading, IsUnitText as IsReadText, ReaderTexts, is_unit_readable_by}
 use Rattle.icu_dimension.specs.UnitText.{UnitSettings}
 use Rattle.icu_dimension.specs.declared.FractionInfo.{FractionInfo}
-use Rattle.icu_dimension_lenient.specs.LenientUnits.{IsUnitAnswer, LenientTexts, is_leniently_unit_readable_by}
+use Rattle.icu_dimension_lenient.specs.LenientUnits.{LenientTexts, is_leniently_unit_readable_by}
+use Rattle.icu_dimension_lenient.specs.NativeUnits.{native_unit_reading}
 use Rattle.writeable.specs.HeldParts.{HeldParts}
 use Rattle.locale_numbers.specs.Book.{BookTables}
 use Rattle.locale_numbers.specs.declared.FormatterError.{FormatterError}
@@ -186,10 +187,10 @@ exactly_missing r text outcome unreadable none missing = (true_if_not_false (is_
 
 -- what a lenient reader reads
 pub typed_read : (a : LenientTexts) (text : List ℕ) (outcome : Result (SignedValue Number) ReadError) → is_leniently_unit_readable_by a ≡ true
-    → IsUnitAnswer a text outcome → IfOk outcome (λ v. IsTypedReading a text (decimal v))
+    → IsAnswered outcome (native_unit_reading a text) → IfOk outcome (λ v. IsTypedReading a text (decimal v))
 typed_read a text (Ok v) readable is = (readable, is)
 typed_read a text (Err error) readable is = tt
 
 pub typed_missing : (a : LenientTexts) (text : List ℕ) (outcome : Result (SignedValue Number) ReadError) → is_leniently_unit_readable_by a ≡ true
-    → IsUnitAnswer a text outcome → IsErrOf outcome ReadNotWritten → IsTypedReading a text not_written
-typed_missing a text outcome readable is missing = (readable, subst (λ (r : Result (SignedValue Number) ReadError). IsUnitAnswer a text r) missing is)
+    → IsAnswered outcome (native_unit_reading a text) → IsErrOf outcome ReadNotWritten → IsTypedReading a text not_written
+typed_missing a text outcome readable is missing = (readable, subst (λ (r : Result (SignedValue Number) ReadError). IsAnswered r (native_unit_reading a text)) missing is)

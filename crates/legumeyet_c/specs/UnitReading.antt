@@ -7,7 +7,8 @@ use Rattle.fixed_decimal.specs.SignedText.{signed_text_of}
 use Rattle.fixed_decimal.specs.SignedValue.{SignedValue}
 use Rattle.icu_decimal.specs.PlainReading.{PlainReading, decimal, not_written, unreadable}
 use Rattle.icu_dimension.specs.UnitReading.{IsUnitReading, reader_texts}
-use Rattle.icu_dimension_lenient.specs.LenientUnits.{IsLenientUnitReading, LenientTexts, is_leniently_unit_readable_by, lenient_texts}
+use Rattle.icu_dimension_lenient.specs.LenientUnits.{LenientTexts, is_leniently_unit_readable_by, lenient_texts}
+use Rattle.icu_dimension_lenient.specs.NativeUnits.{native_unit_reading}
 use Rattle.legumeyet_c_values.specs.declared.CallError.{CallError}
 use Rattle.legumeyet_c_values.specs.declared.CallError.TheVariants.{Memory, Closed, NoUtf8, Unreadable, NotWritten}
 use Rattle.legumeyet_c.specs.HeldUnits.{HeldUnit}
@@ -21,8 +22,8 @@ IsExactUnit held text reading = IsUnitReading (reader_texts held.settings) text 
 -- as people type them: no text is read where, once folded, a text may be of two numbers
 abbrev pub IsTypedReading : LenientTexts → List ℕ → PlainReading → Type 0
 IsTypedReading texts text unreadable = is_leniently_unit_readable_by texts ≡ false
-IsTypedReading texts text not_written = (is_leniently_unit_readable_by texts ≡ true) × IsLenientUnitReading texts text not_written
-IsTypedReading texts text (decimal v) = (is_leniently_unit_readable_by texts ≡ true) × IsLenientUnitReading texts text (decimal v)
+IsTypedReading texts text not_written = (is_leniently_unit_readable_by texts ≡ true) × (native_unit_reading texts text ≡ not_written)
+IsTypedReading texts text (decimal v) = (is_leniently_unit_readable_by texts ≡ true) × (native_unit_reading texts text ≡ decimal v)
 
 abbrev pub IsTypedUnit : HeldUnit → List ℕ → PlainReading → Type 0
 IsTypedUnit held text reading = IsTypedReading (lenient_texts held.settings held.code) text reading

@@ -1,3 +1,4 @@
+pub mod ChangeLawsLemmas
 pub mod ColumnLemmas
 pub mod DoublesLemmas
 mod KnownValues

@@ -1,4 +1,5 @@
 pub mod CallErrors
+pub mod ChangeLaws
 pub mod Choices
 pub mod Columns
 pub mod Information

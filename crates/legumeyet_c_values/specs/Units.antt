@@ -4,11 +4,11 @@
 use Rattle.std.specs.Prelude.{◌≡◌, ◌⊎◌, ◌==◌, Option, Some, None, if◌then◌else◌}
 use Rattle.fixed_decimal.specs.Number.{Number}
 use Rattle.fixed_decimal.specs.SignedValue.{SignedValue}
+use Rattle.icu_dimension_fractions.specs.FractionMemory.{MayGrowAmount}
 use Rattle.icu_dimension_fractions.specs.FractionRounding.{RoundsAmount}
 use Rattle.icu_dimension_fractions.specs.Fractions.{fraction_for}
 use Rattle.icu_dimension_fractions.specs.declared.CurrencyUsage.{CurrencyUsage}
 use Rattle.icu_dimension_fractions.specs.declared.CurrencyUsage.TheVariants.{Standard, Cash}
-use Rattle.icu_dimension_fractions.specs.declared.FractionIncrement.TheVariants.{MultiplesOf25}
 use Rattle.icu_dimension_fractions.specs.declared.FractionInfo.{FractionInfo}
 use Rattle.legumeyet_c_values.specs.Choices.{Changes, IsChangeRefused, choices_of}
 use Rattle.legumeyet_c_values.specs.declared.call_error.CallError.{CallError}
@@ -54,11 +54,11 @@ pub record ChangesUnit (fractions : Option FractionInfo) (choices : UnitChoices)
   pub fits : FitsAs fractions choices.usage old fitted
   pub changes : Changes choices.choices fitted new
 
--- only a rounding to multiples of 25 of the last digit may take memory
-abbrev pub MayGrowTo : Option FractionInfo → Option CurrencyUsage → Type 0
-MayGrowTo None usage = ⊥
-MayGrowTo (Some fractions) None = ⊥
-MayGrowTo (Some fractions) (Some usage) = (fraction_for fractions usage).increment ≡ MultiplesOf25
+-- only a rounding to multiples of 25 of the last digit may take memory, and that only where it gives a number more digits than it has room for
+abbrev pub MayGrowTo : Option FractionInfo → Option CurrencyUsage → SignedValue Number → Type 0
+MayGrowTo None usage old = ⊥
+MayGrowTo (Some fractions) None old = ⊥
+MayGrowTo (Some fractions) (Some usage) old = MayGrowAmount (fraction_for fractions usage) old.absolute
 
 -- what was rounded so is not changed
 pub record IsFittedRefused (fractions : Option FractionInfo) (choices : UnitChoices) (old : SignedValue Number) (error : CallError) : Type 0 where
@@ -68,7 +68,7 @@ pub record IsFittedRefused (fractions : Option FractionInfo) (choices : UnitChoi
 
 -- why a number is not changed
 abbrev pub IsUnitRefused : Option FractionInfo → UnitChoices → SignedValue Number → CallError → Type 0
-IsUnitRefused fractions choices old error = ((error ≡ Memory) × MayGrowTo fractions choices.usage) ⊎ IsFittedRefused fractions choices old error
+IsUnitRefused fractions choices old error = ((error ≡ Memory) × MayGrowTo fractions choices.usage old) ⊎ IsFittedRefused fractions choices old error
 
 -- ---- the number that is given
 

@@ -16,6 +16,7 @@ mod call_error;
 mod choices;
 mod columns;
 mod intervals;
+pub mod laws;
 mod line_buffers;
 mod numbers;
 mod parts;

@@ -64,7 +64,7 @@ fn fit(
     value: &mut Decimal,
 ) -> Result<(), CallError>
     ensures value { OnOk result (FitsAs fractions usage value.old value.new) }
-    ensures fault { IfErr result (λ error. (error ≡ CallError.Memory) × MayGrowTo fractions usage) }
+    ensures fault { IfErr result (λ error. (error ≡ CallError.Memory) × MayGrowTo fractions usage value.old) }
 {
     match (fractions, usage) {
         (Some(fractions), Some(usage)) => match fractions.fraction(usage).round(value) {
@@ -77,7 +77,8 @@ fn fit(
 
 impl UnitChoices {
     /// Rounds a number to the digits of a currency, where it has some, and then changes it as any number is. `Memory`:
-    /// out of memory, which only multiples of 25 take.
+    /// out of memory, which only multiples of 25 take, and those only for a number that gets more digits than it has
+    /// room for.
     pub fn change(
         self,
         fractions: Option<FractionInfo>,

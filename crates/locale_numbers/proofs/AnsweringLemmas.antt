@@ -10,6 +10,10 @@ pub grows_by_none : {T E : Type 0} (r : Result T E) (held : List ℕ) → OnErr 
 grows_by_none (Ok t) held = tt
 grows_by_none (Err e) held = record { more = []; grew = sym (append-nil held) }
 
+pub grows_same : {T E : Type 0} (r : Result T E) (held new : List ℕ) → OnErr r (new ≡ held) → OnErr r (Grows held new)
+grows_same (Ok t) held new same = tt
+grows_same (Err e) held new same = record { more = []; grew = same ∙ sym (append-nil held) }
+
 -- of two that the latest is, one is the other
 pub one_of : {K : Type 0} (one other : K) (latest : Option K) → latest ≡ Some one → latest ≡ Some other → one ≡ other
 one_of one other latest is found = let same : Some one ≡ Some other = sym is ∙ found in cc

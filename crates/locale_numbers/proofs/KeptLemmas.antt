@@ -9,8 +9,9 @@ use Rattle.icu_decimal.specs.declared.error.DataError.{DataError}
 use Rattle.icu_decimal.specs.declared.options.DecimalFormatterOptions.{DecimalFormatterOptions}
 use Rattle.icu_decimal.specs.declared.options.GroupingStrategy.{GroupingStrategy}
 use Rattle.icu_decimal.specs.CompactTables.{CompactTables}
-use Rattle.icu_decimal.specs.FoundTables.{found_tables}
-use Rattle.icu_decimal.specs.Identifiers.{Identifier}
+use Rattle.icu_decimal.specs.Choice.{first_found}
+use Rattle.icu_decimal.specs.FoundTables.{found_tables, with_digits, with_symbols}
+use Rattle.icu_decimal.specs.Identifiers.{Identifier, digits_identifiers, symbols_identifiers}
 use Rattle.icu_decimal.specs.PlainText.{Tables}
 use Rattle.icu_decimal.specs.Symbols.{Symbols}
 use Rattle.icu_dimension.specs.UnitText.{UnitSettings, unit_decimal_text}
@@ -26,7 +27,7 @@ use Rattle.locale_numbers.specs.Answer.{answer_with, found_in, in_latin, refused
 use Rattle.locale_numbers.specs.CompactAnswer.{compact_with, found_compact}
 use Rattle.locale_numbers.specs.FormatterKeys.{finds, finds_kind, found_keyed_unit, keyed_unit, unit_code}
 use Rattle.locale_numbers.specs.FoundUnit.{found_unit}
-use Rattle.locale_numbers.specs.LineFormatters.{HasKind, IsMadeFor, IsOfUnit, answer_of_kind, found_keyed}
+use Rattle.locale_numbers.specs.LineFormatters.{HasKind, IsMadeFor, IsOfUnit, KnowsTextsOf, answer_by, answer_of_kind, found_keyed}
 use Rattle.locale_numbers.specs.UnitHeld.{ReadsUnit, WritesUnit, keyed_code, typed_of_both, unit_held}
 use Rattle.locale_numbers.specs.declared.formatter_key.FormatterKey.{FormatterKey}
 use Rattle.locale_numbers.specs.declared.formatter_key.KeyedUnit.{KeyedUnit}
@@ -59,6 +60,71 @@ found_by chain symbols digits book p grouping options found chains_agree symbols
     ∙ ap (λ along. found_tables along symbols digits p (Some grouping)) chains_are
     ∙ ap (λ s. found_tables (chain_in book) s digits p (Some grouping)) symbols_are
     ∙ ap (λ d. found_tables (chain_in book) (symbols_under book) d p (Some grouping)) digits_are
+
+-- the strategy of tables that are found is the grouping
+abbrev strategy_or : GroupingStrategy → Result Tables DataError → GroupingStrategy
+strategy_or grouping (Ok tables) = tables.strategy
+strategy_or grouping (Err error) = grouping
+
+strategy_digits : (grouping : GroupingStrategy) (symbols : Symbols) (digits : Result (List ℕ) DataError) → strategy_or grouping (with_digits grouping symbols digits) ≡ grouping
+strategy_digits grouping symbols (Ok digits) = refl
+strategy_digits grouping symbols (Err error) = refl
+
+strategy_symbols : (grouping : GroupingStrategy) (digits : Identifier → Result (List ℕ) DataError) (p : Preferences) (symbols : Result Symbols DataError) → strategy_or grouping (with_symbols grouping digits p symbols) ≡ grouping
+strategy_symbols grouping digits p (Ok symbols) = strategy_digits grouping symbols (first_found digits (digits_identifiers p.numbering_system symbols.strings.numsys))
+strategy_symbols grouping digits p (Err error) = refl
+
+pub strategy_found : (book : BookTables) (p : Preferences) (grouping : GroupingStrategy) (tables : Tables) → Ok tables ≡ found_in book p grouping → tables.strategy ≡ grouping
+strategy_found book p grouping tables is =
+    ap (strategy_or grouping) is ∙ strategy_symbols grouping (digits_under book) p (first_found (symbols_under book) (symbols_identifiers (chain_in book) p))
+
+-- what texts are put with in a formatter of the key
+texts_by : (kind : Kind) (code : Option (List ℕ)) (book : BookTables) (p : Preferences) (grouping : GroupingStrategy) (formatter : LineFormatter) → HasKind kind code book p grouping formatter → KnowsTextsOf formatter
+texts_by Plain code book p grouping (kept.Plain plain) made = made.texts
+texts_by (Compact length) code book p grouping (kept.Plain plain) made = absurd made
+texts_by Lenient code book p grouping (kept.Plain plain) made = absurd made
+texts_by (Unit unit) code book p grouping (kept.Plain plain) made = absurd made
+texts_by (LenientUnit unit) code book p grouping (kept.Plain plain) made = absurd made
+texts_by kind code book p grouping (kept.Compact formatter) made = tt
+texts_by kind code book p grouping (kept.Lenient reader) made = tt
+texts_by kind code book p grouping (kept.Units formatter) made = tt
+texts_by kind code book p grouping (kept.LenientUnits formatter) made = tt
+
+pub texts_made : (book : BookTables) (key : FormatterKey) (formatter : LineFormatter) → IsMadeFor book key formatter → KnowsTextsOf formatter
+texts_made book key formatter made = texts_by key.kind key.code book key.preferences key.grouping formatter made
+
+-- a formatter of the key answers as its kind does
+answers_by : (kind : Kind) (code : Option (List ℕ)) (book : BookTables) (p : Preferences) (grouping : GroupingStrategy) (formatter : LineFormatter) (value : SignedValue Number)
+    → HasKind kind code book p grouping formatter → answer_of_kind kind code book p grouping value ≡ answer_by formatter value
+answers_by Plain code book p grouping (kept.Plain plain) value made = ap (λ found. answer_with found value) made.tables
+answers_by Plain code book p grouping (kept.Compact formatter) value made = absurd made
+answers_by Plain code book p grouping (kept.Lenient reader) value made = absurd made
+answers_by Plain code book p grouping (kept.Units formatter) value made = absurd made
+answers_by Plain code book p grouping (kept.LenientUnits formatter) value made = absurd made
+answers_by (Compact length) code book p grouping (kept.Plain plain) value made = absurd made
+answers_by (Compact length) code book p grouping (kept.Compact formatter) value made = ap (λ found. compact_with found value) made
+answers_by (Compact length) code book p grouping (kept.Lenient reader) value made = absurd made
+answers_by (Compact length) code book p grouping (kept.Units formatter) value made = absurd made
+answers_by (Compact length) code book p grouping (kept.LenientUnits formatter) value made = absurd made
+answers_by Lenient code book p grouping (kept.Plain plain) value made = absurd made
+answers_by Lenient code book p grouping (kept.Compact formatter) value made = absurd made
+answers_by Lenient code book p grouping (kept.Lenient reader) value made = ap (λ found. answer_with found value) made.tables
+answers_by Lenient code book p grouping (kept.Units formatter) value made = absurd made
+answers_by Lenient code book p grouping (kept.LenientUnits formatter) value made = absurd made
+answers_by (Unit unit) code book p grouping (kept.Plain plain) value made = absurd made
+answers_by (Unit unit) code book p grouping (kept.Compact formatter) value made = absurd made
+answers_by (Unit unit) code book p grouping (kept.Lenient reader) value made = absurd made
+answers_by (Unit unit) code book p grouping (kept.Units formatter) value made = ap (λ found. unit_written found value) made.found
+answers_by (Unit unit) code book p grouping (kept.LenientUnits formatter) value made = absurd made
+answers_by (LenientUnit unit) code book p grouping (kept.Plain plain) value made = absurd made
+answers_by (LenientUnit unit) code book p grouping (kept.Compact formatter) value made = absurd made
+answers_by (LenientUnit unit) code book p grouping (kept.Lenient reader) value made = absurd made
+answers_by (LenientUnit unit) code book p grouping (kept.Units formatter) value made = absurd made
+answers_by (LenientUnit unit) code book p grouping (kept.LenientUnits formatter) value made = ap (λ found. unit_written found value) made.found
+
+pub answers_made : (book : BookTables) (key : FormatterKey) (formatter : LineFormatter) (value : SignedValue Number) → IsMadeFor book key formatter
+    → answer_of_kind key.kind key.code book key.preferences key.grouping value ≡ answer_by formatter value
+answers_made book key formatter value made = answers_by key.kind key.code book key.preferences key.grouping formatter value made
 
 -- ---- where no tables are found, each kind answers so
 

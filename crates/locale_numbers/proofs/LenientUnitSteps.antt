@@ -1,16 +1,14 @@
 -- What reads typed texts with a unit is what the definition has: `specs/UnitHeld.antt`.
-use Rattle.std.proofs.Common.{◌≡◌, ◌&&◌, ℕ, Bool, List, true, false, cond, Option, None, Some, Result, Ok, refl, ap, ◌∙◌, sym, subst}
+use Rattle.std.proofs.Common.{◌≡◌, ℕ, Bool, List, true, false, cond, Option, None, Some, Result, Ok, refl, ap, ◌∙◌, sym}
 use Rattle.std.specs.Prelude.{if◌then◌else◌, option_map, IfSome}
 use Rattle.std.specs.Str.{bytes_eq}
-use Rattle.std.proofs.lemmas.Bool.{and_parts}
 use Rattle.icu_decimal.specs.declared.error.DataError.{DataError}
-use Rattle.icu_decimal.specs.LenientReading.{is_leniently_readable_by}
 use Rattle.icu_decimal.specs.Folding.{plain_digits}
 use Rattle.icu_dimension.specs.LenientUnits.{LenientTexts, is_leniently_unit_readable_by, lenient_texts}
-use Rattle.icu_dimension.specs.UnitReading.{AreReaderTexts, ReaderTexts, are_clear_pairs, do_pairs_differ, is_unit_readable_by, reader_texts}
+use Rattle.icu_dimension.specs.UnitReading.{ReaderTexts, reader_texts}
 use Rattle.locale_numbers_answers.specs.LenientAnswer.{where_found}
 use Rattle.locale_numbers_answers.specs.LenientUnitAnswer.{TypedInTurn, TypedTexts, second_unit, typed_found, typed_in_turn}
-use Rattle.locale_numbers_answers.specs.TypedHeld.{IsLenient, leniently}
+use Rattle.locale_numbers_answers.specs.TypedHeld.{leniently}
 use Rattle.locale_numbers_answers.specs.UnitAnswer.{UnitFound}
 use Rattle.locale_numbers.specs.UnitHeld.{ReadsUnit, code_held, typed_of, typed_of_both, unit_held}
 use Rattle.locale_numbers.specs.declared.unit_formatter.UnitNumbers.{UnitNumbers}
@@ -18,19 +16,9 @@ use Rattle.locale_numbers.specs.declared.unit_formatter.UnitNumbers.{UnitNumbers
 abbrev in_turn_of : TypedTexts → Option TypedTexts → TypedInTurn
 in_turn_of first second = record { first = first; second = second }
 
-readable_part : (a : LenientTexts) → is_leniently_unit_readable_by a ≡ true → is_unit_readable_by a.reader ≡ true
-readable_part a is =
-    (and_parts (is_unit_readable_by a.reader)
-    (is_leniently_readable_by a.reader.tables && (are_clear_pairs plain_digits a.folded.pairs && do_pairs_differ a.folded.pairs)) is).0
-
 -- what reads the typed texts of numbers, where they can be read leniently
 abbrev lenient_of : UnitNumbers → LenientTexts
 lenient_of numbers = lenient_texts (unit_held numbers).settings (code_held numbers)
-
-pub is_lenient : (reader : LenientTexts) (numbers : UnitNumbers) → reader ≡ lenient_texts (unit_held numbers).settings (code_held numbers) → AreReaderTexts (reader_texts (unit_held numbers).settings)
-    → is_leniently_unit_readable_by (lenient_texts (unit_held numbers).settings (code_held numbers)) ≡ true → IsLenient reader
-is_lenient reader numbers is texts readable =
-    subst IsLenient (sym is) (record { texts = texts; readable = readable_part (lenient_of numbers) readable })
 
 -- the texts, with what is folded where this is so
 abbrev with_folded : UnitNumbers → Bool → TypedTexts

@@ -5,12 +5,12 @@ use Rattle.fixed_decimal.specs.SignedText.{signed_text_of}
 use Rattle.fixed_decimal.specs.SignedValue.{SignedValue}
 use Rattle.icu_decimal.specs.PlainReading.{PlainReading, decimal, not_written, unreadable}
 use Rattle.icu_decimal.specs.declared.error.DataError.{DataError}
+use Rattle.icu_dimension.specs.UnitReadings.{unit_reading}
 use Rattle.icu_locale_core.specs.TagPreferences.{Preferences}
 use Rattle.locale_numbers_answers.specs.LenientUnitAnswer.{lenient_unit_with, second_unit, typed_code, typed_in_turn}
 use Rattle.locale_numbers_answers.specs.ReadAnswer.{read_answer}
 use Rattle.locale_numbers_answers.specs.UnitAnswer.{UnitFound, fraction_asked, read_unit_with, reading_found}
-use Rattle.locale_numbers_answers.specs.UnitReadings.{unit_reading}
-use Rattle.locale_numbers_answers.proofs.LenientUnitLemmas.{read_exactly}
+use Rattle.locale_numbers_answers.proofs.LenientUnitLemmas.{in_turn_first, read_exactly}
 use Rattle.locale_numbers_answers.proofs.UnitLemmas.{own_parts}
 use Rattle.locale_numbers_book.specs.Book.{BookTables}
 use Rattle.locale_numbers_book.specs.Wanted.{wanted_of}
@@ -42,7 +42,7 @@ read_leniently code (Ok found) latin rounding text digits same =
     let readers = typed_in_turn code found (second_unit found latin) in
     let read = read_as (reading_found found rounding text) digits same in
     let exact = (own_parts (fraction_asked found.digits rounding) (unit_reading readers.first.reader text) read.value read.is).0 in
-    ap read_answer (read_exactly readers.first readers.second text read.value exact)
+    ap read_answer (in_turn_first readers text read.value (read_exactly readers.first readers.second text read.value exact))
     ∙ ap written read.printed
 
 read_tagged : (book : BookTables) (asked : Asked) (unit : UnitAsked) (rounding other : RoundingAsked) (wanted : Option Preferences) (text digits : List ℕ)

@@ -16,10 +16,14 @@ pub mod LineMemoryLemmas
 pub mod LastTabLemmas
 pub mod LenientUnitSteps
 pub mod LenientUnitTrips
+pub mod NumbersAlone
 pub mod OldLinesLemmas
 pub mod PrintedLemmas
 pub mod PrintedSizes
 pub mod ReadingTrips
 pub mod SameKeyLemmas
+pub mod ServingLemmas
+pub mod SelectionLemmas
 pub use Rattle.locale_numbers_answers.proofs.CompactAnswerLemmas
+pub mod TextDigitsLemmas
 pub mod UnitTrips

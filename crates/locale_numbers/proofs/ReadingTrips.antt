@@ -33,10 +33,11 @@ use Rattle.locale_numbers.specs.CompactAnswer.{compact_with, exact_with, found_c
 use Rattle.locale_numbers_answers.specs.CompactReading.{CompactReading, compact_beyond, compact_nothing, compact_number, compact_reading_of}
 use Rattle.locale_numbers.specs.Laws.{AutoIsAnsweredAsAlways, EachGroupingIsReadLeniently, FindsTables, ReadIsReadLeniently, ReadIsWrittenAgain, RoundedIsWrittenAgain, WrittenReadsBack, grouped_by, lenient_request, plain_request, reading_request}
 use Rattle.locale_numbers_answers.specs.LenientAnswer.{lenient_with, reading_by, second_of, where_found}
-use Rattle.locale_numbers_answers.specs.LenientUnitAnswer.{lenient_unit_reading, lenient_unit_with, typed_code, typed_found, unit_reading_by}
+use Rattle.locale_numbers_answers.specs.LenientUnitAnswer.{lenient_unit_reading, lenient_unit_with, second_unit, typed_code, typed_found, typed_in_turn, unit_reading_by}
 use Rattle.locale_numbers_answers.specs.NumberReading.{Reading, beyond, nothing, number, reading_of}
 use Rattle.locale_numbers_answers.specs.ReadAnswer.{read_answer, read_with}
 use Rattle.locale_numbers_answers.specs.UnitAnswer.{UnitFound, read_unit_with, unit_to}
+use Rattle.locale_numbers_answers.proofs.LenientUnitLemmas.{in_turn_same}
 use Rattle.icu_dimension.specs.FoundUnits.{amount_settings, percent_settings, then_found, unit_locales, with_own}
 use Rattle.icu_dimension.specs.ProvidedUnits.{AmountTexts, PercentTexts, SymbolText}
 use Rattle.icu_dimension.specs.UnitChoice.{amounts_found, fractions_found, name_found, percent_found}
@@ -225,7 +226,15 @@ typed_twins code latin latin_two (unit_failed error) symbols digits pattern unit
 twins_lenient_unit : (code : List ℕ) (one two latin latin_two : Result UnitFound DataError) → AreUnitTwins one two → AreUnitTwins latin latin_two → (text : List ℕ)
     → lenient_unit_with code one latin text ≡ lenient_unit_with code two latin_two text
 twins_lenient_unit code one two latin latin_two (unit_found symbols digits pattern unit fractions) twins text =
-    ap read_answer (typed_twins code latin latin_two twins symbols digits pattern unit fractions text (bytes_eq digits plain_digits))
+    ap read_answer
+    (in_turn_same
+    (typed_in_turn code (unit_with Auto) (second_unit (unit_with Auto) latin))
+    (typed_in_turn code (unit_with Always) (second_unit (unit_with Always) latin_two))
+    (λ some. typed_twins code latin latin_two twins symbols digits pattern unit fractions some (bytes_eq digits plain_digits))
+    (λ some. refl) text)
+  where
+    unit_with : GroupingStrategy → UnitFound
+    unit_with strategy = record { settings = record { tables = record { symbols = symbols; digits = digits; strategy = strategy }; pattern = pattern; unit = unit }; digits = fractions }
 twins_lenient_unit code one two latin latin_two (unit_failed error) twins text = refl
 
 auto_in : (book : BookTables) (p : Preferences) (asked : Asked) (form : Form)

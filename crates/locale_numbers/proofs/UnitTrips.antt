@@ -20,7 +20,7 @@ use Rattle.locale_numbers_answers.specs.Laws.{HasOneUnitReading, IsAtMagnitude}
 use Rattle.locale_numbers_answers.specs.NumberReading.{number, reading_of}
 use Rattle.locale_numbers_answers.specs.ReadAnswer.{read_answer}
 use Rattle.locale_numbers_answers.specs.UnitAnswer.{UnitFound, fraction_asked, is_own_rounding, own_reading, read_unit_with, reading_found, unit_changed, unit_to, unit_with}
-use Rattle.locale_numbers_answers.specs.UnitReadings.{unit_reading}
+use Rattle.icu_dimension.specs.UnitReadings.{unit_reading}
 use Rattle.locale_numbers_answers.proofs.NumberBounds.{reading_is_decimal}
 use Rattle.locale_numbers_answers.proofs.NumberReadingLemmas.{signed_number}
 use Rattle.locale_numbers_answers.proofs.UnitLemmas.{changed_unit_is_decimal, own_of_changed, own_parts, own_stays}

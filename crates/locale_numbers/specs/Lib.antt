@@ -24,8 +24,12 @@ pub mod PrintedLaws
 pub mod UnitLaws
 pub mod LenientUnitLaws
 pub mod OldLines
+pub mod Serving
+pub mod Selection
 -- Of the inner crates: books.
+pub use Rattle.locale_numbers_book.specs.Allocation as EntryAllocation
 pub use Rattle.locale_numbers_book.specs.Book
+pub use Rattle.locale_numbers_book.specs.BookAllocation
 pub use Rattle.locale_numbers_book.specs.BookError
 pub use Rattle.locale_numbers_book.specs.CompactEntries
 pub use Rattle.locale_numbers_book.specs.Entries as BookEntries
@@ -46,6 +50,7 @@ pub use Rattle.locale_numbers_book.specs.TagFormatters
 pub use Rattle.locale_numbers_book.specs.TagReading
 pub use Rattle.locale_numbers_book.specs.Wanted
 -- Of the inner crates: units of books.
+pub use Rattle.locale_numbers_book.specs.UnitAllocation
 pub use Rattle.locale_numbers_book.specs.Amounts
 pub use Rattle.locale_numbers_book.specs.CurrencyDigits
 pub use Rattle.locale_numbers_book.specs.CurrencySymbols
@@ -55,6 +60,10 @@ pub use Rattle.locale_numbers_book.specs.UnitFaults
 pub use Rattle.locale_numbers_book.specs.UnitFields
 pub use Rattle.locale_numbers_book.specs.UnitPatterns
 pub use Rattle.locale_numbers_book.specs.Units
+-- Of the inner crates: texts of books, and the small book of a tag as a text.
+pub use Rattle.locale_numbers_world.specs.BookText
+pub use Rattle.locale_numbers_world.specs.EntryFields
+pub use Rattle.locale_numbers_world.specs.SelectedText
 -- Of the inner crates: what is kept from line to line.
 pub use Rattle.locale_numbers_cache.specs.Cached
 pub use Rattle.locale_numbers_cache.specs.Laws as CacheLaws
@@ -74,15 +83,17 @@ pub use Rattle.locale_numbers_answers.specs.AnswerSink
 pub use Rattle.locale_numbers_answers.specs.AnswerSinkLaws
 pub use Rattle.locale_numbers_answers.specs.AmountRounding
 pub use Rattle.locale_numbers_answers.specs.Changing
+pub use Rattle.locale_numbers_answers.specs.CompactAnswer as CompactAnswers
 pub use Rattle.locale_numbers_answers.specs.CompactReading
 pub use Rattle.locale_numbers_answers.specs.Laws as AnswerLaws
 pub use Rattle.locale_numbers_answers.specs.LenientAnswer
 pub use Rattle.locale_numbers_answers.specs.LenientUnitAnswer
+pub use Rattle.locale_numbers_answers.specs.NumberAnswer
 pub use Rattle.locale_numbers_answers.specs.NumberReading
 pub use Rattle.locale_numbers_answers.specs.ReadAnswer
 pub use Rattle.locale_numbers_answers.specs.Rounded
 pub use Rattle.locale_numbers_answers.specs.UnitAnswer
-pub use Rattle.locale_numbers_answers.specs.UnitReadings
+pub use Rattle.icu_dimension.specs.UnitReadings
 -- Of the inner crates: lines, readers and writers.
 pub use Rattle.locale_numbers_lines.specs.ByteIo
 pub use Rattle.locale_numbers_lines.specs.Growth

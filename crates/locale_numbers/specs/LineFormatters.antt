@@ -11,6 +11,7 @@ use Rattle.icu_decimal.specs.HeldTables.{tables_of}
 use Rattle.icu_decimal.specs.PlainText.{Tables, decimal_text}
 use Rattle.icu_decimal.specs.Readable.{is_readable_by}
 use Rattle.icu_decimal.specs.declared.error.DataError.{DataError}
+use Rattle.icu_decimal_direct.specs.TextTables.{text_tables}
 use Rattle.icu_locale_core.specs.TagPreferences.{Preferences}
 use Rattle.locale_numbers_book.specs.Book.{BookTables}
 use Rattle.icu_dimension.specs.UnitText.{unit_decimal_text}
@@ -31,10 +32,15 @@ use Rattle.locale_numbers.specs.declared.line_formatter.LineFormatter.TheVariant
 abbrev pub KnowsReadable : PlainFormatter → Type 0
 KnowsReadable plain = IfSome plain.is_readable (λ known. is_readable_by (tables_of plain.formatter) ≡ known)
 
+-- what it puts texts with are its tables
+abbrev pub KnowsTexts : PlainFormatter → Type 0
+KnowsTexts plain = IfSome plain.texts (λ texts. text_tables texts ≡ tables_of plain.formatter)
+
 -- it has the tables that are found, and knows no more of them than is so
 pub record HasTables (found : Result Tables DataError) (plain : PlainFormatter) : Type 0 where
   pub tables : found ≡ Ok (tables_of plain.formatter)
   pub readable : KnowsReadable plain
+  pub texts : KnowsTexts plain
 
 -- what reads leniently has the tables that are found, and reads as they do with those of the system `latn`
 pub record ReadsInTurn (found latin : Result Tables DataError) (reader : TablesInTurn) : Type 0 where
@@ -101,6 +107,14 @@ KnowsAll (LenientUnits formatter) = Unit {0}
 pub record IsKeptFor (book : BookTables) (key : FormatterKey) (formatter : LineFormatter) : Type 0 where
   pub made : IsMadeFor book key formatter
   pub known : KnowsAll formatter
+
+-- what texts are put with, where a formatter has it, are its tables
+abbrev pub KnowsTextsOf : LineFormatter → Type 0
+KnowsTextsOf (Plain plain) = KnowsTexts plain
+KnowsTextsOf (Compact formatter) = Unit {0}
+KnowsTextsOf (Lenient reader) = Unit {0}
+KnowsTextsOf (Units formatter) = Unit {0}
+KnowsTextsOf (LenientUnits formatter) = Unit {0}
 
 -- the answer of a formatter to a number
 abbrev pub answer_by : LineFormatter → SignedValue Number → List ℕ

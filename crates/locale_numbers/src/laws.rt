@@ -7,6 +7,8 @@ ghost use Rattle.locale_numbers.specs.FormatterKeys.{same_keys};
 ghost use Rattle.locale_numbers.specs.Laws.{AlikeTagsAreAnsweredAlike, NormalTextIsAnsweredAlike, AutoIsAnsweredAsAlways, AreTexts, EachGroupingIsReadLeniently, FoundTablesAreTexts, LinesAskTheirFields, ReadIsReadLeniently, ReadIsWrittenAgain, RoundedIsWrittenAgain, TellsKeys, WrittenIsUtf8, WrittenReadsBack};
 ghost use Rattle.locale_numbers.specs.OldLines.{OldLinesStay};
 ghost use Rattle.locale_numbers.specs.PrintedLaws.{FoundTablesAreSound, IsSoundWhereFound, PrintedIsAnswered, PrintedIsNear, PrintedIsWrittenAgain, PrintedKeepsOrder, PrintedPrintsItself, ZeroIsPrintedForZero};
+ghost use Rattle.locale_numbers.specs.Selection.{NumbersNeedNoUnits, SelectedBooksAnswerAlike, SelectedParentsAreParents};
+ghost use Rattle.locale_numbers.specs.Serving.{ServedBooksAnswerAlike};
 ghost use Rattle.locale_numbers.specs.LenientUnitLaws.{ReadUnitIsReadLeniently};
 ghost use Rattle.locale_numbers.specs.UnitLaws.{FoundUnitsAreTexts, ReadUnitIsWrittenAgain, WrittenPercentReadsBack, WrittenUnitIsUtf8, WrittenUnitReadsBack};
 ghost use Rattle.locale_numbers_requests.specs.declared.PatternLength.TheVariants.{Short, Long};
@@ -67,6 +69,32 @@ pub fn alike_tags_are_answered_alike()
 /// A tag and its normal text have the same answer to every request: `ar-EG-U-Nu-THAI` has that of `ar-EG-u-nu-thai`.
 pub fn normal_text_is_answered_alike()
     ensures { NormalTextIsAnsweredAlike }
+{}
+
+/// A book that has of another what the preferences of a tag ask for, and what they ask for with the system `latn`, as lenient
+/// lines do, answers each line of the tag as that one does. With `de` a book of the entries of `de` and of the digits of
+/// `latn` answers as the sample book with units.
+pub fn served_books_answer_alike()
+    ensures { ServedBooksAnswerAlike }
+{}
+
+/// The small book of a tag answers each line of the tag as the whole book does: it has the entries of the locales of the
+/// chain, of `und` too for units, under no system, `latn` and that of the tag, the digits of these systems and of those that its
+/// symbols name, and the parents along the chain. That of `de-AT` has the symbols of `de-AT` and of `de`.
+pub fn selected_books_answer_alike()
+    ensures { SelectedBooksAnswerAlike }
+{}
+
+/// The parents along a chain, from its end to its front, are parents of a book: no locale is twice, and none closes a cycle.
+/// Of `en-AU` they are that of `en-001` and that of `en-AU`. In another order one could close a cycle under those before it.
+pub fn selected_parents_are_parents()
+    ensures { SelectedParentsAreParents }
+{}
+
+/// A line of a form without a unit has the same answer by a book with units and by the same book without them: with `en`,
+/// `plain` and `1000` both answer `1,000`.
+pub fn numbers_need_no_units()
+    ensures { NumbersNeedNoUnits }
 {}
 
 /// The groupings `auto` and `always` have the same answer to every request: with `en` and `1000` both have `1,000`.

@@ -87,7 +87,8 @@ fn reader_by<'a, T: Tables>(
 
 // What reads the typed texts of a key; `None` where the book lacks one of its tables.
 //
-// One that is to be kept folds its symbols now, which allocates.
+// One that is to be kept folds its symbols now, which allocates. It is apart, as each kind of formatter is.
+#[inline(never)]
 pub(crate) fn lenient_reader<'a, T: Tables>(
     alloc: Global,
     tables: &'a T,

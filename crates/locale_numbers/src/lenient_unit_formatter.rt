@@ -60,7 +60,9 @@ pub(crate) fn readers_in_turn<'a>(
     }
 }
 
-// The same, put together now where it is to be kept; where memory is refused, for each text.
+// The same, put together now where it is to be kept; where memory is refused, for each text. It is apart, so that it
+// takes room on the stack after what writes them.
+#[inline(never)]
 fn kept_readers<'a>(
     alloc: Global,
     numbers: &UnitNumbers<'a>,
@@ -108,7 +110,9 @@ fn are_ascii(numbers: &UnitNumbers<'_>) -> bool
 
 // What reads the typed texts of a unit of a key; `None` where the book lacks one of its tables.
 //
-// One that is to be kept puts together and folds now what it reads with, which allocates.
+// One that is to be kept puts together and folds now what it reads with, which allocates. It is apart, as each kind of
+// formatter is.
+#[inline(never)]
 pub(crate) fn made_lenient_units<'a, T: Tables>(
     alloc: Global,
     tables: &'a T,

@@ -50,7 +50,10 @@ pub use locale_numbers_lines::{
 pub use locale_numbers_requests::{
     AmountStyle, Form, PatternLength, RoundingAsked, SignAsked, UnitAsked,
 };
-pub use locale_numbers_world::{WORLD_LOCALES, world_tags, world_text};
+pub use locale_numbers_world::{
+    BookTexts, NumberTexts, UnitTexts, WORLD_LOCALES, book_text_for, put_book, world_tags,
+    world_text, world_texts,
+};
 pub use program_run::program;
 pub use running::run;
 pub use starting::start;

@@ -7,7 +7,7 @@ ghost use Rattle.icu_decimal.specs.HeldTables.{tables_of};
 ghost use Rattle.locale_numbers.specs.Answer.{found_in};
 ghost use Rattle.locale_numbers.specs.CompactAnswer.{found_compact};
 ghost use Rattle.locale_numbers.specs.FormatterKeys.{finds};
-ghost use Rattle.locale_numbers.specs.LineFormatters.{IsMadeFor, KnowsAll, KnowsReadable};
+ghost use Rattle.locale_numbers.specs.LineFormatters.{IsMadeFor, KnowsAll, KnowsReadable, KnowsTexts};
 
 use crate::formatter_key::{FormatterKey, Kind};
 use crate::formatters::Formatters;
@@ -15,9 +15,12 @@ use crate::lenient_reader::lenient_reader;
 use crate::lenient_unit_formatter::{LenientUnitFormatter, made_lenient_units};
 use crate::tables::Tables;
 use crate::unit_formatter::{UnitFormatter, made_units};
-use icu_decimal::options::{CompactDecimalFormatterOptions, DecimalFormatterOptions};
+use icu_decimal::options::{
+    CompactDecimalFormatterOptions, DecimalFormatterOptions, GroupingStrategy,
+};
 use icu_decimal::provider::DataError;
 use icu_decimal::{CompactDecimalFormatter, DecimalFormatter, is_readable};
+use icu_decimal_direct::TextTables;
 use locale_numbers_answers::LenientReader;
 use locale_numbers_cache::{Hashed, Maker};
 use locale_numbers_requests::PatternLength;
@@ -30,6 +33,8 @@ pub(crate) struct PlainFormatter<'a> {
     pub formatter: DecimalFormatter<'a>,
     /// Whether its symbols are readable; `None` where they were not asked.
     pub is_readable: Option<bool>,
+    /// Its tables, as texts are put with directly; `None` where they can't be, or were not asked.
+    pub texts: Option<TextTables<'a>>,
 }
 
 // A formatter that is kept. It borrows its tables.
@@ -71,24 +76,36 @@ pub(crate) fn plain_formatter<'a, T: Tables>(
     )
 }
 
-// A formatter whose symbols are asked whether they are readable, or are not asked.
-fn asked(formatter: DecimalFormatter<'_>, asks: bool) -> PlainFormatter<'_>
+// A formatter whose symbols are asked whether they are readable, and whether texts are put with them directly, or are not
+// asked.
+fn asked(
+    formatter: DecimalFormatter<'_>,
+    grouping: GroupingStrategy,
+    asks: bool,
+) -> PlainFormatter<'_>
+    requires { (tables_of formatter).strategy ≡ grouping }
     ensures formatter { result.formatter ≡ formatter.entry }
     ensures readable { KnowsReadable result }
+    ensures texts { KnowsTexts result }
     ensures known { IsTrue asks → IsSome result.is_readable }
 {
-    let readable = if asks {
-        Some(is_readable(&formatter))
-    } else {
-        None
-    };
+    if !asks {
+        return PlainFormatter {
+            formatter,
+            is_readable: None,
+            texts: None,
+        };
+    }
     PlainFormatter {
         formatter,
-        is_readable: readable,
+        is_readable: Some(is_readable(&formatter)),
+        texts: TextTables::of(formatter.symbols(), formatter.digits(), grouping),
     }
 }
 
-// The compact formatter of a key's preferences and grouping, with the patterns of a length.
+// The compact formatter of a key's preferences and grouping, with the patterns of a length. It is apart, so that each kind
+// of formatter takes room on the stack where it is made, and not beside the others.
+#[inline(never)]
 pub(crate) fn compact_formatter<'a, T: Tables>(
     tables: &'a T,
     length: PatternLength,
@@ -124,7 +141,7 @@ fn formatter_by<'a, T: Tables>(
 {
     match key.kind {
         Kind::Plain => match plain_formatter(tables, key) {
-            Ok(formatter) => Some(LineFormatter::Plain(asked(formatter, asks))),
+            Ok(formatter) => Some(LineFormatter::Plain(asked(formatter, key.grouping, asks))),
             Err(_) => None,
         },
         Kind::Compact(length) => match compact_formatter(tables, length, key) {

@@ -100,7 +100,7 @@ impl<'a> UnitNumbers<'a> {
     }
 
     // The same, or what reads exactly alone. It allocates the affixes of each sign, and each folded text.
-    #[tactic(auto, using(crate::proofs::LenientUnitSteps::is_lenient, crate::proofs::LenientUnitSteps::read_leniently, crate::proofs::LenientUnitSteps::read_exactly))]
+    #[tactic(auto, using(crate::proofs::LenientUnitSteps::read_leniently, crate::proofs::LenientUnitSteps::read_exactly))]
     pub(crate) fn lenient_reader(&self, alloc: Global) -> Result<KnownLenientReader<'a>, AllocError>
         ensures { IfOk result (λ reader. reader ≡ typed_of self.now) }
     {
@@ -220,7 +220,8 @@ fn found_amounts<'a, T: Tables>(
     }
 }
 
-// What writes the numbers of a unit of a key.
+// What writes the numbers of a unit of a key. It is apart, so that it and what reads them take room on the stack in turn.
+#[inline(never)]
 pub(crate) fn found_numbers<'a, T: Tables>(
     tables: &'a T,
     unit: KeyedUnit,
@@ -251,7 +252,9 @@ fn kept_reader<'a>(alloc: Global, numbers: &UnitNumbers<'a>, keeps: bool) -> Opt
 
 // The formatter of the numbers of a unit of a key; `None` where the book lacks one of its tables.
 //
-// One that is to be kept puts together now what it reads texts with, which allocates.
+// One that is to be kept puts together now what it reads texts with, which allocates. It is apart, as each kind of
+// formatter is.
+#[inline(never)]
 pub(crate) fn made_units<'a, T: Tables>(
     alloc: Global,
     tables: &'a T,

@@ -14,7 +14,7 @@ use Rattle.fixed_decimal.specs.declared.SignedRoundingMode.TheVariants.{Unsigned
 use Rattle.fixed_decimal.specs.declared.UnsignedRoundingMode.TheVariants.{Expand, Trunc, HalfEven}
 use Rattle.fixed_decimal.specs.declared.RoundingIncrement.TheVariants.{MultiplesOf1, MultiplesOf2}
 use Rattle.locale_numbers_answers.specs.Changing.{changed}
-use Rattle.locale_numbers_answers.specs.Rounded.{multiple_of, highest_of}
+use Rattle.locale_numbers_formats.specs.Rounded.{multiple_of, highest_of}
 use Rattle.locale_numbers_answers.specs.LenientAnswer.{lenient_with, second_of}
 use Rattle.locale_numbers_answers.specs.ReadAnswer.{read_answer, read_with}
 use Rattle.locale_numbers_answers.specs.NumberReading.{reading_of, parts_of, nothing, beyond}

@@ -1,5 +1,6 @@
 pub mod AmountLemmas
 pub mod AnswerLineLemmas
+pub mod ChangeLawsLemmas
 pub mod CompactAnswerLemmas
 pub mod CompactReadingLemmas
 pub mod ExponentLemmas
@@ -17,5 +18,4 @@ pub mod ReadingLemmas
 pub mod RoundedLemmas
 pub mod TextLemmas
 pub mod UnitLemmas
-pub mod UnitReadingsLemmas
 pub mod ValueLemmas

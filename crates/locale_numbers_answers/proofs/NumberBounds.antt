@@ -21,7 +21,7 @@ use Rattle.fixed_decimal.proofs.TenLemmas.{mod_below_power, tens_positive}
 use Rattle.locale_numbers_answers.specs.Changing.{changed}
 use Rattle.locale_numbers_answers.specs.Laws.{IsAtMagnitude}
 use Rattle.locale_numbers_answers.specs.NumberReading.{number, reading_of}
-use Rattle.locale_numbers_answers.specs.Rounded.{limited, multiple_of, rounded, rounded_size}
+use Rattle.locale_numbers_formats.specs.Rounded.{limited, multiple_of, rounded, rounded_size}
 use Rattle.locale_numbers_requests.specs.declared.RoundingAsked.{RoundingAsked}
 use Rattle.locale_numbers_requests.specs.declared.RoundingAsked.TheVariants.{Unrounded, Cash, At}
 use Rattle.locale_numbers_requests.specs.declared.SignAsked.{SignAsked}
@@ -30,9 +30,9 @@ use Rattle.locale_numbers_answers.proofs.LawsLemmas.{one_reading}
 use Rattle.icu_dimension_fractions.specs.FractionRounding.{RoundsToFraction}
 use Rattle.icu_dimension_fractions.specs.Fractions.{increment_of, last_place, step}
 use Rattle.icu_dimension_fractions.specs.declared.Fraction.{Fraction}
-use Rattle.locale_numbers_answers.specs.AmountRounding.{amount_rounded, amount_size}
-use Rattle.locale_numbers_answers.proofs.AmountLemmas.{increment_positive, size_once as one_size, size_right as amount_once}
-use Rattle.locale_numbers_answers.proofs.RoundedLemmas.{multiple_right, rounds_as, size_right, unit_positive}
+use Rattle.locale_numbers_formats.specs.AmountRounding.{amount_rounded, amount_size}
+use Rattle.locale_numbers_formats.proofs.AmountLemmas.{increment_positive, size_once as one_size, size_right as amount_once}
+use Rattle.locale_numbers_formats.proofs.RoundedLemmas.{multiple_right, rounds_as, size_right, unit_positive}
 
 -- ---- counts at a place
 

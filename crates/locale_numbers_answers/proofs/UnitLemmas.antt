@@ -9,7 +9,7 @@ use Rattle.fixed_decimal.proofs.SignedEqualityLemmas.{decimals_decide}
 use Rattle.icu_decimal.specs.PlainReading.{PlainReading, decimal, not_written, unreadable}
 use Rattle.icu_dimension_fractions.specs.declared.Fraction.{Fraction}
 use Rattle.icu_dimension_fractions.specs.declared.FractionInfo.{FractionInfo}
-use Rattle.locale_numbers_answers.specs.AmountRounding.{amount_rounded, amount_size}
+use Rattle.locale_numbers_formats.specs.AmountRounding.{amount_rounded, amount_size}
 use Rattle.locale_numbers_answers.specs.Changing.{signed_as}
 use Rattle.locale_numbers_answers.specs.Laws.{IsAtMagnitude}
 use Rattle.locale_numbers_answers.specs.UnitAnswer.{fraction_asked, is_own_rounding, own_reading, rounded_by, unit_changed}

@@ -10,7 +10,7 @@ use Rattle.fixed_decimal.specs.SignedText.{ReadsLongSigned, ReadsLongerSigned}
 use Rattle.fixed_decimal.specs.SignedValue.{SignedValue}
 use Rattle.fixed_decimal.specs.declared.call.Call.TheVariants.{Round}
 use Rattle.locale_numbers_answers.specs.NumberReading.{Reading, number, beyond, nothing}
-use Rattle.locale_numbers_answers.specs.Rounded.{rounded}
+use Rattle.locale_numbers_formats.specs.Rounded.{rounded}
 use Rattle.locale_numbers_requests.specs.declared.SignAsked.{SignAsked}
 use Rattle.locale_numbers_requests.specs.declared.SignAsked.TheVariants.{Keep, Show}
 use Rattle.locale_numbers_requests.specs.declared.RoundingAsked.{RoundingAsked}

@@ -10,15 +10,13 @@ use Rattle.fixed_decimal.specs.SignedText.{ReadsSigned, IsBeyondSigned, IsNoSign
 use Rattle.fixed_decimal.specs.SignedValue.{SignedValue}
 use Rattle.fixed_decimal.specs.declared.RoundingIncrement.{RoundingIncrement}
 use Rattle.fixed_decimal.specs.declared.SignedRoundingMode.{SignedRoundingMode}
-use Rattle.icu_decimal.specs.PlainReading.{PlainReading}
-use Rattle.icu_dimension_affixes.specs.UnitReading.{AreReaderTexts, IsUnitReading, ReaderTexts}
 use Rattle.icu_dimension_fractions.specs.FractionRounding.{RoundsAmount}
 use Rattle.icu_dimension_fractions.specs.declared.Fraction.{Fraction}
-use Rattle.locale_numbers_answers.specs.AmountRounding.{amount_rounded}
+use Rattle.icu_dimension_lenient.specs.NativeUnitLaws.{HasOneExactReading}
+use Rattle.locale_numbers_formats.specs.AmountRounding.{amount_rounded}
 use Rattle.locale_numbers_answers.specs.CompactReading.{CompactReading, compact_beyond, compact_nothing, compact_number, compact_reading_of}
 use Rattle.locale_numbers_answers.specs.NumberReading.{Reading, number, beyond, nothing, reading_of}
-use Rattle.locale_numbers_answers.specs.Rounded.{rounded}
-use Rattle.locale_numbers_answers.specs.UnitReadings.{unit_reading}
+use Rattle.locale_numbers_formats.specs.Rounded.{rounded}
 use Rattle.locale_numbers_requests.specs.Request.{Asked, request_of}
 use Rattle.locale_numbers_requests.specs.declared.RoundingAsked.{RoundingAsked}
 use Rattle.locale_numbers_requests.specs.declared.RoundingAsked.TheVariants.{Unrounded, Cash, At}
@@ -46,8 +44,7 @@ HasOneCompactReading = (text : List ℕ) (reading : CompactReading) → IsCompac
 
 -- a text with a unit has one reading, and the function answers it; texts are what every reader has
 abbrev pub HasOneUnitReading : Type 0
-HasOneUnitReading = (r : ReaderTexts) (text : List ℕ) (reading : PlainReading) → AreReaderTexts r
-    → IsUnitReading r text reading ↔ (reading ≡ unit_reading r text)
+HasOneUnitReading = HasOneExactReading
 
 -- ---- roundings
 

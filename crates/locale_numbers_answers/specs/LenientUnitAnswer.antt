@@ -6,17 +6,19 @@ use Rattle.std.specs.Prelude.{◌≡◌, ◌⊎◌, ℕ, true, cond, List, [], �
 use Rattle.icu_decimal.specs.LenientReading.{or_else}
 use Rattle.icu_decimal.specs.PlainReading.{PlainReading, not_written, unreadable}
 use Rattle.icu_decimal.specs.PlainText.{Tables}
+use Rattle.icu_decimal.specs.TypedReading.{typed_by}
 use Rattle.icu_decimal.specs.declared.error.DataError.{DataError}
 use Rattle.icu_dimension_affixes.specs.UnitReading.{HasManyBetween, ReaderTexts, reader_texts}
 use Rattle.icu_dimension_affixes.specs.UnitText.{UnitSettings}
 use Rattle.icu_dimension_lenient.specs.Agreement.{own_or_agreed}
 use Rattle.icu_dimension_lenient.specs.LenientUnits.{FoldedUnit, is_leniently_unit_readable_by, lenient_texts, typed_unit_reading}
+use Rattle.icu_dimension_lenient.specs.NativeUnits.{arabic_unit_reading}
 use Rattle.icu_dimension_lenient.specs.OwnUnitTexts.{is_own_unit_text}
+use Rattle.icu_dimension_lenient.specs.UnitReadings.{unit_reading}
 use Rattle.locale_numbers_answers.specs.AnswerLine.{refused}
 use Rattle.locale_numbers_answers.specs.LenientAnswer.{second_found}
 use Rattle.locale_numbers_answers.specs.ReadAnswer.{read_answer}
 use Rattle.locale_numbers_answers.specs.UnitAnswer.{UnitFound}
-use Rattle.locale_numbers_answers.specs.UnitReadings.{unit_reading}
 use Rattle.locale_numbers_requests.specs.declared.Refusal.TheVariants as refusal
 use Rattle.locale_numbers_requests.specs.declared.UnitAsked.{UnitAsked}
 use Rattle.locale_numbers_requests.specs.declared.UnitAsked.TheVariants.{Percent, Currency}
@@ -33,13 +35,13 @@ typed_texts s code = record {
 }
 
 -- a text that the formatter does not write
-abbrev pub typed_by : Tables → Option FoldedUnit → List ℕ → PlainReading
-typed_by tables None text = unreadable
-typed_by tables (Some folded) text = typed_unit_reading tables folded text
+abbrev pub typed_unit_by : Tables → Option FoldedUnit → List ℕ → PlainReading
+typed_unit_by tables None text = unreadable
+typed_unit_by tables (Some folded) text = typed_unit_reading tables folded text
 
--- any text: exactly, or else leniently
+-- any text without native digits: exactly, or else leniently
 unfoldable pub lenient_unit_reading : TypedTexts → List ℕ → PlainReading
-lenient_unit_reading a text = or_else (unit_reading a.reader text) (typed_by a.reader.tables a.folded text)
+lenient_unit_reading a text = or_else (unit_reading a.reader text) (typed_unit_by a.reader.tables a.folded text)
 
 -- ---- in turn
 
@@ -54,8 +56,15 @@ unit_reading_by first None text = lenient_unit_reading first text
 unit_reading_by first (Some second) text =
     own_or_agreed (λ v. is_own_unit_text first.reader text v) (lenient_unit_reading first text) (lenient_unit_reading second text ∷ [])
 
-abbrev pub unit_reading_in_turn : TypedInTurn → List ℕ → PlainReading
-unit_reading_in_turn readers text = unit_reading_by readers.first readers.second text
+-- with the separators of Arabic digits, where texts can be read leniently
+abbrev pub arabic_unit_by : Tables → Option FoldedUnit → List ℕ → PlainReading
+arabic_unit_by tables None text = not_written
+arabic_unit_by tables (Some folded) text = arabic_unit_reading tables folded text
+
+-- as it is, or with its native digits in ASCII; the first ones alone are asked with these separators
+unfoldable pub unit_reading_in_turn : TypedInTurn → List ℕ → PlainReading
+unit_reading_in_turn readers text =
+    typed_by (unit_reading_by readers.first readers.second) (arabic_unit_by readers.first.reader.tables readers.first.folded) text
 
 -- memory is asked for where more than sixteen digits are between the affixes of a sign, or where the formatter does not write the text, and texts can be read leniently
 abbrev pub MayAllocateTyped : TypedTexts → List ℕ → Type 0

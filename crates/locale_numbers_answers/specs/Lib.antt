@@ -10,9 +10,8 @@ pub mod LenientUnitAnswer
 -- What the answers go by, which a law makes needless to believe.
 pub mod NumberReading
 pub mod CompactReading
-pub mod Rounded
-pub mod AmountRounding
-pub mod UnitReadings
+pub use Rattle.locale_numbers_formats.specs.Rounded
+pub use Rattle.locale_numbers_formats.specs.AmountRounding
 -- What private steps follow.
 pub mod AnswerSink
 pub mod AnswerSinkLaws
@@ -20,5 +19,6 @@ pub mod JoinedUnit
 pub mod TypedHeld
 pub mod KnownTexts
 -- Statements of laws.
+pub mod ChangeLaws
 pub mod Laws
 pub mod OwnUnitLaws

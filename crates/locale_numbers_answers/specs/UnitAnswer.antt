@@ -2,7 +2,7 @@
 -- Defined in docs/requests.md, "Answer line", and docs/units.md, "Digits of a currency" and "Reading".
 -- Cited by `answer` and `run`, through Answer.antt of `locale_numbers`, and by `UnitFormatter` and the calls that write its answers.
 -- An answer goes through rounding, sign, text and reading, each defined in a file of its own to import.
-use Rattle.std.specs.Prelude.{◌≡◌, ℕ, Bool, true, cond, List, Option, Some, None, Result, Ok, Err}
+use Rattle.std.specs.Prelude.{ℕ, Bool, true, cond, List, Option, Some, None, Result, Ok, Err}
 use Rattle.fixed_decimal.specs.Number.{Number}
 use Rattle.fixed_decimal.specs.SignedEquality.{are_equal_decimals}
 use Rattle.fixed_decimal.specs.SignedValue.{SignedValue}
@@ -13,12 +13,12 @@ use Rattle.icu_dimension_affixes.specs.UnitText.{UnitSettings, unit_decimal_text
 use Rattle.icu_dimension_fractions.specs.FractionMemory.{MayGrowAmount}
 use Rattle.icu_dimension_fractions.specs.declared.Fraction.{Fraction}
 use Rattle.icu_dimension_fractions.specs.declared.FractionInfo.{FractionInfo}
-use Rattle.locale_numbers_answers.specs.AmountRounding.{amount_rounded}
+use Rattle.locale_numbers_formats.specs.AmountRounding.{amount_rounded}
 use Rattle.locale_numbers_answers.specs.AnswerLine.{refused, written}
 use Rattle.locale_numbers_answers.specs.Changing.{MayGrow, rounded_as, signed_as}
 use Rattle.locale_numbers_answers.specs.NumberReading.{Reading, beyond, nothing, number}
 use Rattle.locale_numbers_answers.specs.ReadAnswer.{read_answer}
-use Rattle.locale_numbers_answers.specs.UnitReadings.{unit_reading}
+use Rattle.icu_dimension_lenient.specs.UnitReadings.{unit_reading}
 use Rattle.locale_numbers_requests.specs.declared.Refusal.TheVariants as refusal
 use Rattle.locale_numbers_requests.specs.declared.RoundingAsked.{RoundingAsked}
 use Rattle.locale_numbers_requests.specs.declared.RoundingAsked.TheVariants.{Unrounded, Cash, At}

@@ -2,7 +2,7 @@
 
 ghost use Rattle.std.specs.Prelude.{◌≡◌, OnOk, OnErr, Some};
 ghost use Rattle.icu_dimension_fractions.specs.FractionMemory.{MayGrowAmount};
-ghost use Rattle.locale_numbers_answers.specs.AmountRounding.{amount_rounded};
+ghost use Rattle.locale_numbers_formats.specs.AmountRounding.{amount_rounded};
 ghost use Rattle.locale_numbers_answers.specs.UnitAnswer.{is_own_rounding};
 
 use fixed_decimal::Decimal;

@@ -50,7 +50,7 @@ fn write_piece_and_grow(out: &mut String, text: &str) -> Result<(), AllocError>
 }
 
 // Writes a piece of a text after what `out` holds.
-fn write_piece(out: &mut String, text: &str) -> Result<(), AllocError>
+pub(crate) fn write_piece(out: &mut String, text: &str) -> Result<(), AllocError>
     ensures text { OnOk result (string_bytes out.new ≡ string_bytes out.old ++ text.now) }
     ensures same { OnErr result (string_bytes out.new ≡ string_bytes out.old) }
     ensures capacity { string_capacity out.old ≤ string_capacity out.new }

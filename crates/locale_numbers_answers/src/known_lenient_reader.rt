@@ -4,15 +4,14 @@ ghost use Rattle.std.specs.Prelude.{◌≡◌, ◌⊎◌, true, None, Some, IsEr
 ghost use Rattle.icu_decimal.specs.PlainReading.{IsAnswered, decimal, not_written};
 ghost use Rattle.icu_dimension_affixes.specs.UnitReading.{HasManyBetween};
 ghost use Rattle.icu_dimension_lenient.specs.OwnUnitTexts.{is_own_unit_text};
-ghost use Rattle.locale_numbers_answers.specs.LenientUnitAnswer.{MayAllocateTyped, lenient_unit_reading, typed_by, unit_reading_by};
-ghost use Rattle.locale_numbers_answers.specs.TypedHeld.{IsLenient, leniently};
-ghost use Rattle.locale_numbers_answers.specs.UnitReadings.{unit_reading};
+ghost use Rattle.locale_numbers_answers.specs.LenientUnitAnswer.{MayAllocateTyped, arabic_unit_by, lenient_unit_reading, typed_unit_by, unit_reading_by};
+ghost use Rattle.locale_numbers_answers.specs.TypedHeld.{leniently};
+ghost use Rattle.icu_dimension_lenient.specs.UnitReadings.{unit_reading};
 
 use crate::known_reader::KnownReader;
 use fixed_decimal::Decimal;
 use icu_decimal::error::ReadError;
-use icu_decimal::laws::reading::{both_trips as plain_trips, plain_reading_is_the_reading};
-use icu_dimension_affixes::laws::both_trips as unit_trips;
+use icu_decimal_lenient::NativeReader;
 use icu_dimension_lenient::{LenientUnitReader, add_reading, found_reading};
 use std::alloc::Global;
 use std::marker::Model;
@@ -35,32 +34,16 @@ pub struct KnownLenientReader<'a> {
 
 impl<'a> Model for KnownLenientReader<'a> {
     ghost use Rattle.locale_numbers_answers.specs.LenientUnitAnswer.{TypedTexts};
-    ghost use Rattle.locale_numbers_answers.specs.TypedHeld.{IsHeld, typed_held};
+    ghost use Rattle.locale_numbers_answers.specs.TypedHeld.{typed_held};
 
     ghost Value = { TypedTexts };
 
     ghost view = { λ s. typed_held s.reader };
-
-    ghost invariant = { λ s. IsHeld s.reader };
-}
-
-// What the formatter of a reader writes.
-fn read_own(alloc: Global, reader: &LenientUnitReader<'_>, text: &str) -> Result<Decimal, ReadError>
-    requires { IsLenient reader.now }
-    ensures memory { IsErrOf result ReadError.Memory → HasManyBetween reader.now.reader text.now }
-    ensures reading { IsAnswered result (unit_reading reader.now.reader text.now) }
-{
-    plain_reading_is_the_reading();
-    plain_trips();
-    unit_trips();
-    reader.read_exactly(alloc, text)
 }
 
 impl<'a> KnownLenientReader<'a> {
-    /// The reader of typed texts. The condition is that its exact reader is readable, as `try_new` says it of each. It does
-    /// not allocate.
+    /// The reader of typed texts. It does not allocate.
     pub fn leniently(reader: LenientUnitReader<'a>) -> Self
-        requires { IsLenient reader }
         ensures { result ≡ leniently reader.entry }
     {
         KnownLenientReader {
@@ -84,7 +67,7 @@ impl<'a> KnownLenientReader<'a> {
         ensures reading { IsAnswered result (unit_reading self.now.reader text.now) }
     {
         match &self.reader {
-            TypedReader::Leniently(reader) => read_own(alloc, reader, text),
+            TypedReader::Leniently(reader) => reader.read_exactly(alloc, text),
             TypedReader::Exactly(reader) => reader.read(alloc, text),
         }
     }
@@ -92,7 +75,7 @@ impl<'a> KnownLenientReader<'a> {
     // Any other text: where texts can't be read leniently it is unreadable.
     fn read_leniently(&self, alloc: Global, text: &str) -> Result<Decimal, ReadError>
         ensures memory { IsErrOf result ReadError.Memory → is_some self.now.folded ≡ true }
-        ensures reading { IsAnswered result (typed_by self.now.reader.tables self.now.folded text.now) }
+        ensures reading { IsAnswered result (typed_unit_by self.now.reader.tables self.now.folded text.now) }
     {
         match &self.reader {
             TypedReader::Leniently(reader) => reader.read_leniently(alloc, text),
@@ -100,7 +83,18 @@ impl<'a> KnownLenientReader<'a> {
         }
     }
 
-    /// The number that was typed: of English, `€` and `EUR` 1.5 of `€1.5`, `1.5` and `1.5 EUR`.
+    // A text with the separators of Arabic digits: where texts can't be read leniently it is none.
+    pub(crate) fn read_arabic(&self, alloc: Global, text: &str) -> Result<Decimal, ReadError>
+        ensures { IsAnswered result (arabic_unit_by self.now.reader.tables self.now.folded text.now) }
+    {
+        match &self.reader {
+            TypedReader::Leniently(reader) => reader.read_with_arabic(alloc, text),
+            TypedReader::Exactly(_) => Err(ReadError::NotWritten),
+        }
+    }
+
+    /// The number that was typed: of English, `€` and `EUR` 1.5 of `€1.5`, `1.5` and `1.5 EUR`. Native digits are not
+    /// read.
     ///
     /// `Unreadable`: texts can't be read, or not leniently and no number is written so. `NotWritten`: it is a text of no
     /// number, or of two. `Memory`: out of memory. It allocates where the text has more than sixteen digits, or is folded.
@@ -140,7 +134,7 @@ impl<'a> KnownLenientReader<'a> {
         text: &str,
     ) -> Result<Decimal, ReadError>
         requires none { unit_reading self.now.reader text.now ≡ not_written }
-        requires typed { typed_by self.now.reader.tables self.now.folded text.now ≡ decimal number }
+        requires typed { typed_unit_by self.now.reader.tables self.now.folded text.now ≡ decimal number }
         ensures memory { IsErrOf result ReadError.Memory → MayAllocateTyped other.now text.now }
         ensures reading { IsAnswered result (unit_reading_by self.now (Some other.now) text.now) }
     {

@@ -4,13 +4,11 @@ ghost use Rattle.std.specs.Prelude.{◌≡◌, IsErrOf};
 ghost use Rattle.icu_decimal.specs.PlainReading.{IsAnswered};
 ghost use Rattle.icu_dimension_affixes.specs.HeldReaders.{pair_of};
 ghost use Rattle.icu_dimension_affixes.specs.UnitReading.{HasManyBetween, pair_for};
-ghost use Rattle.locale_numbers_answers.specs.UnitReadings.{unit_reading};
+ghost use Rattle.icu_dimension_lenient.specs.UnitReadings.{unit_reading};
 
 use fixed_decimal::{Decimal, Sign};
 use icu_decimal::error::ReadError;
-use icu_decimal::laws::reading::{both_trips as plain_trips, plain_reading_is_the_reading};
 use icu_dimension_affixes::UnitReader;
-use icu_dimension_affixes::laws::both_trips as unit_trips;
 use icu_dimension_affixes::steps::SignAffixes;
 use std::alloc::Global;
 use std::marker::Model;
@@ -60,9 +58,6 @@ impl<'a> KnownReader<'a> {
         ensures memory { IsErrOf result ReadError.Memory → HasManyBetween self.now text.now }
         ensures reading { IsAnswered result (unit_reading self.now text.now) }
     {
-        plain_reading_is_the_reading();
-        plain_trips();
-        unit_trips();
         if self.is_readable {
             self.reader.read_readable(alloc, text)
         } else {

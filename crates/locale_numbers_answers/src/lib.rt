@@ -43,7 +43,7 @@ pub use known_reader::KnownReader;
 pub use lenient_answer::write_lenient_answer;
 pub use lenient_reader::{LenientReader, has_ascii_digits};
 pub use lenient_unit_answer::write_lenient_unit_answer;
-pub use number_answer::{read_number, write_plain_answer};
+pub use number_answer::{read_number, write_digits_answer, write_plain_answer};
 pub use read_answer::write_read_answer;
 pub use unit_answer::{write_unit_answer, write_with_unit};
 pub use unit_parts::UnitParts;

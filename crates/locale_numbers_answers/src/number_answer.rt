@@ -4,6 +4,8 @@ ghost use Rattle.std.specs.Prelude.{◌≡◌, true, ◌++◌, IsOk, OnOk, OnErr
 ghost use Rattle.std.specs.Str.{is_utf8};
 ghost use Rattle.icu_decimal.specs.HeldTables.{tables_of};
 ghost use Rattle.icu_decimal.specs.PlainText.{decimal_text};
+ghost use Rattle.icu_decimal_direct.specs.TextDigits.{number_spelled};
+ghost use Rattle.icu_decimal_direct.specs.TextTables.{text_tables};
 ghost use Rattle.locale_numbers_lines.specs.Growth.{Grows};
 ghost use Rattle.locale_numbers_answers.specs.AnswerLine.{written};
 ghost use Rattle.locale_numbers_answers.specs.AnswerSink.{HasRoom};
@@ -11,8 +13,10 @@ ghost use Rattle.locale_numbers_answers.specs.Changing.{ReadsMore};
 ghost use Rattle.locale_numbers_answers.specs.NumberReading.{number, beyond, nothing, reading_of};
 
 use crate::answer_line::write_ok;
+use crate::answer_sink::write_piece;
 use fixed_decimal::{Decimal, ParseError};
 use icu_decimal::DecimalFormatter;
+use icu_decimal_direct::{TextDigits, TextTables};
 use std::alloc::AllocError;
 
 /// Reads the number that a text says in place of the one that is there: of `-987654.321` it reads -987654.321.
@@ -47,4 +51,30 @@ pub fn write_plain_answer(
     ensures room { HasRoom out.old (written (decimal_text (tables_of formatter.now) value.now)) → IsOk result }
 {
     write_ok(out, &formatter.format(value))
+}
+
+// The bytes that an answer may have whose text is put directly.
+const ROOM: usize = 128;
+
+/// Writes the answer that is the number of a text, put directly with these tables, after what `out` holds.
+///
+/// With those of `en` the digits of -987654.321 are answered by `ok`, a tab and `-987,654.321`. Where there is room, it
+/// does not allocate. `AllocError`: out of memory; `out` is then as before.
+pub fn write_digits_answer(
+    tables: &TextTables<'_>,
+    digits: &TextDigits<'_>,
+    out: &mut String,
+) -> Result<(), AllocError>
+    ensures text { OnOk result (string_bytes out.new
+        ≡ string_bytes out.old ++ written (decimal_text (text_tables tables.now) (number_spelled digits.now))) }
+    ensures err { OnErr result (string_bytes out.new ≡ string_bytes out.old) }
+    ensures room { HasRoom out.old (written (decimal_text (text_tables tables.now) (number_spelled digits.now)))
+        → IsOk result }
+{
+    let mut answer = [0; ROOM];
+    answer[0] = b'o';
+    answer[1] = b'k';
+    answer[2] = b'\t';
+    let end = tables.put(digits, &mut answer, 3);
+    write_piece(out, unsafe { str::from_utf8_unchecked(&answer[..end]) })
 }

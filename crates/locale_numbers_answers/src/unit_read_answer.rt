@@ -7,7 +7,7 @@ ghost use Rattle.locale_numbers_lines.specs.Growth.{Grows};
 ghost use Rattle.locale_numbers_answers.specs.AnswerSink.{HasRoom};
 ghost use Rattle.locale_numbers_answers.specs.ReadAnswer.{read_answer};
 ghost use Rattle.locale_numbers_answers.specs.UnitAnswer.{fraction_asked, own_reading};
-ghost use Rattle.locale_numbers_answers.specs.UnitReadings.{unit_reading};
+ghost use Rattle.icu_dimension_lenient.specs.UnitReadings.{unit_reading};
 
 use crate::amount_rounding::is_rounded;
 use crate::answer_line::write_refusal;

@@ -18,6 +18,7 @@ pub mod Laws
 -- Of the inner crate of parents: the step from a locale to the next, and the entries that close no cycle.
 pub use Rattle.locale_numbers_parents.specs.Parents
 -- Of the inner crate of tables: entries, fields and keys.
+pub use Rattle.locale_numbers_tables.specs.Allocation
 pub use Rattle.locale_numbers_tables.specs.BookError
 pub use Rattle.locale_numbers_tables.specs.CompactEntries
 pub use Rattle.locale_numbers_tables.specs.Entries
@@ -27,6 +28,7 @@ pub use Rattle.locale_numbers_tables.specs.Keys
 pub use Rattle.locale_numbers_tables.specs.RulesEntries
 pub use Rattle.locale_numbers_tables.specs.TagReading
 -- Of the inner crate of units: entries and tables.
+pub use Rattle.locale_numbers_units.specs.Allocation as UnitAllocation
 pub use Rattle.locale_numbers_units.specs.Amounts
 pub use Rattle.locale_numbers_units.specs.CurrencyDigits
 pub use Rattle.locale_numbers_units.specs.CurrencySymbols

@@ -12,7 +12,7 @@ use Rattle.locale_numbers_requests.specs.declared.form_field.AmountWord.{AmountW
 use Rattle.locale_numbers_requests.specs.declared.form_field.AmountWord.TheVariants.{Written, ReadBack, ReadTyped}
 use Rattle.locale_numbers_requests.specs.declared.form_field.Form.{Form}
 use Rattle.locale_numbers_requests.specs.declared.rounding_field.RoundingAsked.{RoundingAsked}
-use Rattle.locale_numbers_requests.specs.declared.sign_field.SignAsked.{SignAsked}
+use Rattle.locale_numbers_formats.specs.declared.SignAsked.{SignAsked}
 
 -- ---- words of forms
 

@@ -11,7 +11,7 @@ use Rattle.locale_numbers_requests.specs.RoundingField.{position_named, rounding
 use Rattle.locale_numbers_requests.specs.declared.form_field.Form.TheVariants.{Plain, Read, ReadLenient, Unit, ReadUnit, ReadLenientUnit}
 use Rattle.locale_numbers_requests.specs.declared.form_field.AmountStyle.TheVariants.{Standard, Accounting, Code}
 use Rattle.locale_numbers_requests.specs.declared.form_field.UnitAsked.TheVariants.{Percent, Currency}
-use Rattle.locale_numbers_requests.specs.declared.sign_field.SignAsked.TheVariants.{Keep}
+use Rattle.locale_numbers_formats.specs.declared.SignAsked.TheVariants.{Keep}
 use Rattle.locale_numbers_requests.specs.declared.rounding_field.RoundingAsked.TheVariants.{Unrounded, Cash, At}
 
 -- ---- request lines

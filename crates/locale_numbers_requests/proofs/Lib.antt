@@ -1,5 +1,4 @@
 pub mod CodeLemmas
-pub mod CuttingLemmas
 pub mod DigitsLemmas
 mod KnownValues
 pub mod OldRequestsLemmas

@@ -5,7 +5,7 @@ use Rattle.std.specs.Prelude.{codes}
 use Rattle.std.specs.Str.{bytes_eq, is_utf8}
 use Rattle.icu_decimal_symbols.specs.declared.options.GroupingStrategy.{GroupingStrategy}
 use Rattle.icu_dimension_fractions.specs.CurrencyCodes.{is_currency_code}
-use Rattle.locale_numbers_requests.specs.Cutting.{cut_at}
+use Rattle.locale_numbers_formats.specs.Cutting.{cut_at}
 use Rattle.locale_numbers_requests.specs.FormField.{amount_by, amount_form, amount_word, form_named}
 use Rattle.locale_numbers_requests.specs.OldRequests.{OldRequestsStay, StaysRequest, same, none, added, is_added, old_form_named, old_request_by, old_request_in, old_rounding_named, old_takes}
 use Rattle.locale_numbers_requests.specs.Request.{Asked, fields, grouping_named, request_by, request_in, sign_named, takes}
@@ -16,8 +16,8 @@ use Rattle.locale_numbers_requests.specs.declared.form_field.Form.{Form}
 use Rattle.locale_numbers_requests.specs.declared.form_field.Form.TheVariants.{Plain, Compact, Exact, Read, ReadLenient, Unit, ReadUnit, ReadLenientUnit}
 use Rattle.locale_numbers_requests.specs.declared.rounding_field.RoundingAsked.{RoundingAsked}
 use Rattle.locale_numbers_requests.specs.declared.rounding_field.RoundingAsked.TheVariants.{Unrounded, Cash, At}
-use Rattle.locale_numbers_requests.specs.declared.sign_field.SignAsked.{SignAsked}
-use Rattle.locale_numbers_requests.specs.declared.sign_field.SignAsked.TheVariants.{Keep, Show}
+use Rattle.locale_numbers_formats.specs.declared.SignAsked.{SignAsked}
+use Rattle.locale_numbers_formats.specs.declared.SignAsked.TheVariants.{Keep, Show}
 
 -- ---- words of forms
 

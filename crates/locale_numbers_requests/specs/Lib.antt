@@ -1,12 +1,11 @@
 -- What a reader must believe: request lines, and the words that refuse them.
-pub mod Cutting
 pub mod Digits
 pub mod FormField
 pub mod Request
 pub mod RoundingField
 pub mod Refusal
--- What private steps follow.
-pub mod WordTable
+-- Of `locale_numbers_formats`: the pieces of a line.
+pub use Rattle.locale_numbers_formats.specs.Cutting
 -- Statements of laws.
 pub mod Laws
 pub mod OldRequests

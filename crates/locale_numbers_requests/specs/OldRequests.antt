@@ -6,7 +6,7 @@
 use Rattle.std.specs.Prelude.{◌≡◌, ℕ, Bool, true, false, ◌&&◌, if◌then◌else◌, List, [], ◌∷◌, Option, Some, None, codes}
 use Rattle.std.specs.Str.{bytes_eq, is_utf8}
 use Rattle.icu_decimal_symbols.specs.declared.options.GroupingStrategy.{GroupingStrategy}
-use Rattle.locale_numbers_requests.specs.Cutting.{cut_at}
+use Rattle.locale_numbers_formats.specs.Cutting.{cut_at}
 use Rattle.locale_numbers_requests.specs.Request.{Asked, fields, grouping_named, keeps_sign, request_of, sign_named}
 use Rattle.locale_numbers_requests.specs.RoundingField.{comma, keeps_digits, rounding_in}
 use Rattle.locale_numbers_requests.specs.declared.form_field.Form.{Form}
@@ -14,7 +14,7 @@ use Rattle.locale_numbers_requests.specs.declared.form_field.Form.TheVariants.{P
 use Rattle.locale_numbers_requests.specs.declared.form_field.PatternLength.TheVariants.{Short, Long}
 use Rattle.locale_numbers_requests.specs.declared.rounding_field.RoundingAsked.{RoundingAsked}
 use Rattle.locale_numbers_requests.specs.declared.rounding_field.RoundingAsked.TheVariants.{Unrounded}
-use Rattle.locale_numbers_requests.specs.declared.sign_field.SignAsked.{SignAsked}
+use Rattle.locale_numbers_formats.specs.declared.SignAsked.{SignAsked}
 
 -- the six forms
 abbrev pub old_form_named : List ℕ → Option Form

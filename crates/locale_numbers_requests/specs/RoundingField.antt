@@ -12,7 +12,7 @@ use Rattle.fixed_decimal.specs.declared.UnsignedRoundingMode.TheVariants.{Expand
 use Rattle.fixed_decimal.specs.declared.RoundingIncrement.{RoundingIncrement}
 use Rattle.fixed_decimal.specs.declared.RoundingIncrement.TheVariants.{MultiplesOf1, MultiplesOf2, MultiplesOf5, MultiplesOf25}
 use Rattle.locale_numbers_requests.specs.Digits.{is_digit}
-use Rattle.locale_numbers_requests.specs.Cutting.{cut_at}
+use Rattle.locale_numbers_formats.specs.Cutting.{cut_at}
 use Rattle.locale_numbers_requests.specs.declared.rounding_field.RoundingAsked.{RoundingAsked}
 use Rattle.locale_numbers_requests.specs.declared.rounding_field.RoundingAsked.TheVariants.{Unrounded, Cash, At}
 

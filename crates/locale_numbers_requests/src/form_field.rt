@@ -3,8 +3,8 @@
 ghost use Rattle.std.specs.Prelude.{◌≡◌};
 ghost use Rattle.locale_numbers_requests.specs.FormField.{amount_form, coded_form, form_named};
 
-use crate::word_table::value_beside;
 use icu_dimension_fractions::CurrencyCode;
+use locale_numbers_formats::value_beside;
 
 /// Which patterns a compact number is written with.
 #[derive(Clone, Copy, PartialEq, Eq, Hash)]

@@ -13,7 +13,6 @@
 
 #![tactic(auto)]
 
-mod cutting;
 mod digits;
 mod form_field;
 pub mod laws;
@@ -21,12 +20,10 @@ mod refusal;
 mod request;
 mod rounding_field;
 mod sign_field;
-mod word_table;
 
-pub use cutting::{cut_field, cut_last};
 pub use digits::{are_digits, capped_number};
 pub use form_field::{AmountStyle, Form, PatternLength, UnitAsked};
+pub use locale_numbers_formats::{SignAsked, cut_field, cut_last};
 pub use refusal::Refusal;
 pub use request::{Request, as_text, is_text, read_request};
 pub use rounding_field::RoundingAsked;
-pub use sign_field::SignAsked;

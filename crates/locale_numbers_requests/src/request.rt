@@ -4,12 +4,11 @@ ghost use Rattle.std.specs.Prelude.{◌≡◌, true, false, ◌∷◌, [], ◌�
 ghost use Rattle.std.specs.Str.{is_utf8};
 ghost use Rattle.locale_numbers_requests.specs.Request.{fields, grouping_named, request_of, takes, with_text};
 
-use crate::cutting::cut_field;
 use crate::form_field::{Form, UnitAsked, form_named};
 use crate::rounding_field::{RoundingAsked, is_cash, keeps_digits, rounding_named};
-use crate::sign_field::{SignAsked, keeps_sign, sign_named};
-use crate::word_table::value_beside;
+use crate::sign_field::{keeps_sign, sign_named};
 use icu_decimal_symbols::options::GroupingStrategy;
+use locale_numbers_formats::{SignAsked, cut_field, value_beside};
 
 const TAB: u8 = b'\t';
 

@@ -2,12 +2,11 @@
 
 ghost use Rattle.std.specs.Prelude.{◌≡◌, ◌≤◌, ◌∷◌, [], ◌↔◌, length, IsSome, IfSome};
 ghost use Rattle.locale_numbers_requests.specs.RoundingField.{comma, is_cash, keeps_digits, is_size, size_named, position_named, mode_named, increment_named, rounding_in, rounding_named};
-ghost use Rattle.locale_numbers_requests.specs.Cutting.{cut_at};
+ghost use Rattle.locale_numbers_formats.specs.Cutting.{cut_at};
 
-use crate::cutting::cut_field;
 use crate::digits::{are_digits, capped_number};
-use crate::word_table::value_beside;
 use fixed_decimal::{RoundingIncrement, SignedRoundingMode, UnsignedRoundingMode};
+use locale_numbers_formats::{cut_field, value_beside};
 
 const COMMA: u8 = b',';
 

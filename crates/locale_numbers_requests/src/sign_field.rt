@@ -3,17 +3,8 @@
 ghost use Rattle.std.specs.Prelude.{◌≡◌};
 ghost use Rattle.locale_numbers_requests.specs.Request.{keeps_sign, sign_named};
 
-use crate::word_table::value_beside;
 use fixed_decimal::SignDisplay;
-
-/// Which sign is written.
-#[derive(Clone, Copy)]
-pub enum SignAsked {
-    /// The one of the text.
-    Keep,
-    /// The one that is chosen by the number.
-    Show(SignDisplay),
-}
+use locale_numbers_formats::{SignAsked, value_beside};
 
 // The words of signs.
 const SIGNS: [(&[u8], SignAsked); 6] = [

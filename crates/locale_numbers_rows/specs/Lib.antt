@@ -1,1 +1,2 @@
+pub mod EnglishLines
 pub mod Shouting

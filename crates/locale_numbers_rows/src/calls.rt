@@ -2,7 +2,9 @@
 
 use crate::answers::{book_bytes, book_of, put_answer, put_beginnings, put_verdict};
 use crate::repeated::repeated;
-use crate::{faults, formatters, plain, repeated, runs, sent_back, shouter, starts, tracked};
+use crate::{
+    faults, formatters, one_by_one, plain, repeated, runs, sent_back, shouter, starts, tracked,
+};
 use locale_numbers::Book;
 use rows::{Stop, Table, unescaped};
 use std::alloc::Global;
@@ -97,6 +99,9 @@ fn answer_of_book(
     match passed {
         [_] if call == "answer" => put_answer(book, bytes, out),
         [_] if call == "sent_back" => sent_back::answer(book, bytes, out),
+        [capacity, _] if call == "answers" || call == "answers_without_units" => {
+            one_by_one::answer(book, call, capacity, bytes, out)
+        }
         [input, _] if call == "run_long" => repeated::answer(book, input, bytes, out),
         [tag, number] if call.ends_with("formatter") => {
             formatters::answer(book, call, tag, number, out)

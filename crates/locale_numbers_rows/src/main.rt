@@ -13,6 +13,7 @@ mod faults;
 mod formatters;
 mod giving;
 mod narrow;
+mod one_by_one;
 mod pieces;
 mod plain;
 mod repeated;
@@ -24,6 +25,7 @@ mod sides;
 mod starts;
 mod taking;
 mod tracked;
+mod unit_caller;
 
 use calls::Calls;
 use rows::print_answers;

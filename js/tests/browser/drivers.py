@@ -1,10 +1,15 @@
-"""Browsers without a window, driven by WebDriver: Chromium by selenium, Firefox by its own BiDi, since Debian has no geckodriver."""
+"""
+Browsers, driven by WebDriver: Chromium by selenium, Firefox by its own BiDi, since Debian has no geckodriver. Chromium has no window. Firefox has one,
+on a screen without a monitor: by its protocol nothing can be dragged there, and so the X server moves what is.
+"""
 import json
+import os
 import re
 import shutil
 import subprocess
 import tempfile
 import threading
+import time
 
 import websocket
 from selenium import webdriver
@@ -72,6 +77,26 @@ class Chromium:
 
     def close(self):
         self.driver.quit()
+# The last event of each kind of a drag that the page is told of.
+WATCHED = """(globalThis.seen = {}, ["mousedown", "dragover", "dragend"].forEach((it) => addEventListener(it, (event) => { seen[it] = event; }, true)))"""
+
+
+class Screen:
+    """A screen without a monitor, by the X server Xvfb; its mouse is moved by xdotool."""
+
+    def __init__(self):
+        words = [shutil.which("Xvfb"), "-displayfd", "1", "-screen", "0", "1280x1024x24", "-nolisten", "tcp"]
+        self.process = subprocess.Popen(words, stdout=subprocess.PIPE, stderr=subprocess.DEVNULL, text=True)
+        self.environment = {**os.environ, "DISPLAY": f":{self.process.stdout.readline().strip()}", "MOZ_ENABLE_WAYLAND": "0"}
+
+    def point(self, *words):
+        """What the mouse does, in words of xdotool."""
+        subprocess.run(["xdotool", *map(str, words)], check=True, env=self.environment)
+
+    def close(self):
+        self.process.terminate()
+        self.process.wait()
+        self.process.stdout.close()
 
 
 class Firefox:
@@ -80,9 +105,10 @@ class Firefox:
     name = "firefox"
 
     def __init__(self):
+        self.screen = Screen()
         self.profile = tempfile.TemporaryDirectory(prefix="try js ", ignore_cleanup_errors=True)
-        words = ["--headless", "--no-remote", "--remote-debugging-port=0", "--profile", self.profile.name]
-        self.process = subprocess.Popen([shutil.which("firefox-esr") or shutil.which("firefox"), *words], stderr=subprocess.PIPE, stdout=subprocess.DEVNULL, text=True)
+        words = ["--no-remote", "--remote-debugging-port=0", "--profile", self.profile.name]
+        self.process = subprocess.Popen([shutil.which("firefox-esr") or shutil.which("firefox"), *words], stderr=subprocess.PIPE, stdout=subprocess.DEVNULL, text=True, env=self.screen.environment)
         address = next(filter(None, (re.search(r"BiDi listening on (ws://\S+)", line) for line in self.process.stderr)))[1]
         self.reader = threading.Thread(target=self.process.stderr.read, daemon=True)  # else Firefox would wait once the pipe is full
         self.reader.start()
@@ -128,6 +154,26 @@ class Firefox:
         """Clicks at a place of the window."""
         self._point({"type": "pointerMove", "x": round(x), "y": round(y)}, {"type": "pointerDown", "button": 0}, {"type": "pointerUp", "button": 0})
 
+    def drag(self, start, end):
+        """As Chromium.drag, in small steps. It ends once the page is told that it has."""
+        left, top = self.evaluate("[window.mozInnerScreenX, window.mozInnerScreenY]")
+        places = [[round(left + a + (b - a) * step / 10) for left, a, b in zip((left, top), start, end)] for step in range(11)]
+        self.evaluate(WATCHED)
+        self.screen.point("mousemove", *places[0], "sleep", 0.1, "mousedown", 1)
+        self.until("seen.mousedown")
+        for place in places[1:]:
+            self.screen.point("sleep", 0.05, "mousemove", *place)
+        self.until("seen.dragover")
+        self.screen.point("mousemove", places[-1][0] + 1, places[-1][1], "sleep", 0.1, "mousemove", *places[-1], "sleep", 0.1, "mouseup", 1)
+        self.until("seen.dragend")
+
+    def until(self, expression):
+        """Waits until an expression holds, five seconds at the most."""
+        for _ in range(250):
+            if self.evaluate(f"Boolean({expression})"):
+                return
+            time.sleep(0.02)
+
     def close(self):
         try:
             self.send("browser.close")
@@ -138,6 +184,7 @@ class Firefox:
         self.reader.join()
         self.process.stderr.close()
         self.profile.cleanup()
+        self.screen.close()
 
 
 BROWSERS = {it.name: it for it in (Chromium, Firefox)}

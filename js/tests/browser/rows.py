@@ -4,13 +4,15 @@ A row has the field's attributes, the keys, the text that is shown with the care
 that ValidityState has. The shown text is without marks of direction, and each of its spaces is U+0020. Where it has no `|` the caret is not looked at.
 
 Keys are characters, and in braces: a key by its name, with those held meanwhile and a count, `{Ctrl+z*2}`; `{leave}`, Tab; `{click left}`, a click at
-that end of the field; `{at 2}`, a caret that the page sets; `{paste TEXT}`, by Ctrl+V; `{do CODE}`, what the page does with `field`. Only Chromium
-has: `{menu undo}`, by the menu; `{layout я KeyZ}`, Control and a key of another keyboard; `{compose TEXT}` and `{commit TEXT}`, as an input method
-does; `{drop TEXT}`, dropped at the field's end; `{drag 8 11 1}`, the characters from 8 to 11 moved to 1.
+that end of the field; `{at 2}`, a caret that the page sets; `{paste TEXT}`, by Ctrl+V; `{drag 8 11 1}`, the characters from 8 to 11 moved to 1;
+`{do CODE}`, what the page does with `field`. Only Chromium has: `{menu undo}`, by the menu; `{layout я KeyZ}`, Control and a key of another keyboard;
+`{compose TEXT}` and `{commit TEXT}`, as an input method does; `{drop TEXT}`, dropped at the field's end.
 """
 EN, DE, AR, FA, HE = "locale=en", "locale=de", "locale=ar-EG", "locale=fa", "locale=he"
+HI, UR, AE = "locale=hi", "locale=ur", "locale=ar-AE"
 EURO, DOLLAR, YEN = "locale=de currency=EUR", "locale=en currency=USD", "locale=en currency=JPY"
 POUND, SHEKEL, FRANC = "locale=ar-EG currency=EGP", "locale=he currency=ILS", "locale=de-CH currency=CHF"
+RUPEE, DIRHAM = "locale=hi currency=INR", "locale=ar-AE currency=AED"
 PERCENT, PROZENT, YUZDE = "locale=en percent", "locale=de percent", "locale=tr percent"
 CONTROLLED = "{do field.oninput = () => { field.value = field.value }}"
 BY_NUMBER = "{do field.oninput = () => { if (field.value) field.value = Number(field.value) }}"
@@ -54,7 +56,7 @@ ROWS = (
     (AR, "١٢٣٤٫٥", "١٬٢٣٤٫٥|", "1234.5", ""),
     (AR, "1234.", "١٬٢٣٤٫|", "1234", ""),
     (AR, "-1234", "-١٬٢٣٤|", "-1234", ""),
-    (AR, "12,5", "١٢,5|", "", BAD),
+    (AR, "12,5", "١٢,٥|", "", BAD),
     (FA, "-1234.5", "−۱٬۲۳۴٫۵|", "-1234.5", ""),
     (HE, "-5", "-5|", "-5", ""),
     # the caret, and deletions
@@ -150,6 +152,64 @@ ROWS = (
     (SHEKEL, "-12{Home}{Delete}", "|12 ₪", "12", ""),
     ("locale=fa percent", "12{End}{Backspace}", "۱|٪", "1", ""),
     ("locale=ur currency=PKR", "12{Home}{Delete}", "Rs |2", "2", ""),
+    # digits of a system that is not the usual one of the locale
+    (HI, "१२३", "123|", "123", ""),
+    ("locale=ar", "٤٥٦", "456|", "456", ""),
+    (UR, "۴۵۶", "456|", "456", ""),
+    ("locale=th", "๑๒๓", "123|", "123", ""),
+    (FA, "٤٥٦", "۴۵۶|", "456", ""),
+    (HI, "१२३४५६७.५०", "12,34,567.50|", "1234567.50", ""),
+    (HI, "-१", "-1|", "-1", ""),
+    (HI, "१२x", "12x|", "", BAD),
+    (HI, "१2३", "123|", "123", ""),
+    (HI, "1234{Left*2}५", "12,5|34", "12534", ""),
+    (HI, "१२३४{Left*2}{Backspace}", "1|34", "134", ""),
+    (HI, "१२३{Ctrl+z}", "12|", "12", ""),
+    (HI, "{paste १,२३,४५६.७}", "1,23,456.7|", "123456.7", ""),
+    (HI, "{paste १२३४५६}", "1,23,456|", "123456", ""),
+    (HI, "12{Left}{paste ३४}", "1,34|2", "1342", ""),
+    (HI, "{paste १,२३४,५६७}", "1,234,567|", "", BAD),
+    (HI, "{paste 1२3}", "1२3|", "", BAD),
+    (HI, "{paste 1२3}4", "1२34|", "", BAD),
+    (HI, "{paste १٢}", "१٢|", "", BAD),
+    (HI + " value=१२३", "", "123|", "123", ""),
+    (EN, "१२३४.५", "1,234.5|", "1234.5", ""),
+    ("locale=fr", "{paste १ २३४,५}", "1 234,5|", "1234.5", ""),
+    (AR, "१२३४.५", "١٬٢٣٤٫٥|", "1234.5", ""),
+    (AR, "{paste १٫५}", "١٫٥|", "1.5", ""),
+    ("locale=mr", "1234.5", "१,२३४.५|", "1234.5", ""),
+    ("locale=mr", "٤٥", "४५|", "45", ""),
+    ("locale=ff-Adlm", "12345{Right*2}9", "𞥑𞥒𞥓⹁𞥙|𞥔𞥕", "123945", ""),
+    ("locale=ff-Adlm", "12345{Backspace}", "𞥑⹁𞥒𞥓𞥔|", "1234", ""),
+    # the separators of Arabic digits
+    (AE, "٤٥٦٧٫٥", "4,567.5|", "4567.5", ""),
+    (AE, "٤٬٥٦٧", "4,567|", "4567", ""),
+    (AE, "٫٥", "0.5|", "0.5", ""),
+    (AE, "{paste ١٬٢٣٤٫٥}", "1,234.5|", "1234.5", ""),
+    (AE, "{paste ١,٢٣٤.٥}", "1,234.5|", "1234.5", ""),
+    (AE, "{paste ١٬٢٣٤.٥}", "1٬234.5|", "", BAD),
+    (AE, "{paste 1٬234٫5}", "1٬234٫5|", "", BAD),
+    (UR, "۴۵۶۷٫۵", "4,567.5|", "4567.5", ""),
+    (DE, "١٢٣٤٫٥", "1.234,5|", "1234.5", ""),
+    (DE, "{paste ١٫٥}", "1,5|", "1.5", ""),
+    ("locale=fr", "{paste ١ ٢٣٤٫٥}", "1 234٫5|", "", BAD),
+    (FA, "{paste ٤٥٦٬٧٨٩٫٥}", "۴۵۶٬۷۸۹٫۵|", "456789.5", ""),
+    # the same with a unit
+    (RUPEE, "१२३४", "₹1,234|", "1234", ""),
+    (RUPEE, "१२३४{Home}५", "₹5|1,234", "51234", ""),
+    (RUPEE, "{paste ₹१,२३४.५०}", "₹1,234.50|", "1234.50", ""),
+    (RUPEE, "{paste १२ INR}", "₹12|", "12", ""),
+    (RUPEE, "{paste ₹1२}", "₹1२|", "", BAD),
+    (RUPEE, "१२{leave}", "₹12.00", "12.00", ""),
+    ("locale=th currency=THB", "๑๒๓", "฿123|", "123", ""),
+    (EURO, "१२३४,५", "1.234,5| €", "1234.5", ""),
+    (EURO, "12{End}३", "123| €", "123", ""),
+    (POUND, "१२३", "١٢٣| ج.م.", "123", ""),
+    (DIRHAM, "٤٥٦٧٫٥", "4,567.5| د.إ.", "4567.5", ""),
+    (DIRHAM, "{paste ١٬٢٣٤٫٥ د.إ.}", "1,234.5| د.إ.", "1234.5", ""),
+    (HI + " percent", "१२.५", "12.5|%", "12.5", ""),
+    (HI + " percent", "{paste १२%}", "12|%", "12", ""),
+    ("locale=fa percent", "١٢", "۱۲|٪", "12", ""),
     # undo and redo
     (EN, "12345{Ctrl+z*2}", "123|", "123", ""),
     (EN, "12345{Ctrl+z*2}{Ctrl+y}", "1,234|", "1234", ""),
@@ -191,7 +251,7 @@ ROWS = (
     (EURO, "12{drop 34}", "1.234 €", "1234", ""),
     (EN, "123456789{drag 8 11 1}", "178,923,456", "178923456", ""),
     (EN, "123456789{drag 8 11 1}{Ctrl+z}", "123,456,789", "123456789", ""),
-    (EN, "12345x{drag 6 7 0}", "x12,345", "", BAD),
+    (EN, "12345xy{drag 6 8 0}", "xy12,345", "", BAD),
     # composed
     (EN, "12{compose ３４}", "12３４|", "1234", ""),
     (EN, "12{compose ３４}{commit ３４５}", "12,345|", "12345", ""),
@@ -206,6 +266,11 @@ ROWS = (
     (EN, CONTROLLED + "12{compose ３}{commit ３}45", "12,345|", "12345", ""),
     (EN, CONTROLLED + "12{compose ３}{commit ３}{compose ４}{commit ４}", "1,234|", "1234", ""),
     (EURO, "12{End}{compose ３}{commit ３}", "123| €", "123", ""),
+    (HI, "{compose १२}", "१२|", "12", ""),
+    (HI, "12{compose ३४}", "12३४|", "", BAD),
+    (HI, "12{compose ३४}{commit ३४५}", "12,345|", "12345", ""),
+    (HI, "12{compose ३४}{commit ३४५}{Ctrl+z}", "12|", "12", ""),
+    (RUPEE, "12{compose ३४}{commit ३४५}", "₹12,345|", "12345", ""),
     # set by the page at each edit
     (EN, CONTROLLED + "-1234.50", "-1,234.50|", "-1234.50", ""),
     (EN, CONTROLLED + "12x", "12x|", "", BAD),

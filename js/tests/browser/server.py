@@ -5,7 +5,7 @@ import urllib.parse
 
 
 class Server:
-    """Serves a folder. `headers` go with each file; `instead` has the text of a path, or None where there is none, and may be changed."""
+    """Serves a folder. `headers` go with each file; `instead` has the text or the bytes of a path, or None where there is none, and may be changed."""
 
     def __init__(self, folder, headers=(), instead=()):
         self.instead = dict(instead)
@@ -24,7 +24,8 @@ class Server:
                 elif server.instead[path] is None:
                     self.send_error(404)
                 else:
-                    data = server.instead[path].encode()
+                    data = server.instead[path]
+                    data = data if isinstance(data, bytes) else data.encode()
                     self.send_response(200)
                     self.send_header("content-type", self.guess_type(path))
                     self.send_header("content-length", str(len(data)))

@@ -5,7 +5,7 @@ import unittest
 from harness import BrowserCase
 from rows import ROWS
 
-CHROMIUM_ONLY = ("{menu ", "{layout ", "{compose ", "{commit ", "{drop ", "{drag ")
+CHROMIUM_ONLY = ("{menu ", "{layout ", "{compose ", "{commit ", "{drop ")
 
 
 def tokens_of(keys):
@@ -77,7 +77,7 @@ class Keys(BrowserCase):
         start, end, to = map(int, places.split())
         self.look(f"field.setSelectionRange({start}, {end})")
         place = self.look("place()")
-        self.browser.drag(*((place["first"] + place["width"] * it, place["middle"]) for it in ((start + end) / 2, to)))
+        self.browser.drag(*((place["first"] + place["width"] * it, place["middle"]) for it in (start + 0.4 * (end - start), to)))
 
     def press(self, keys):
         """Does what the keys of a row say. Those that follow each other are pressed together."""

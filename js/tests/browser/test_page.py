@@ -1,6 +1,7 @@
 """The page js/page, and pages of one's own with a field, as people and programs use them."""
 import json
 import os
+import subprocess
 import unittest
 
 from harness import BrowserCase
@@ -271,6 +272,19 @@ class Around(BrowserCase):
             self.look("late()")
             self.assertEqual(self.look("[number.text, number.value, number.validity.badInput ? 'badInput' : '']"), wanted)
             self.assertEqual(self.look("[document.querySelectorAll('input').length, [...new FormData(document.forms[0])], number.required, document.activeElement === number]"), [0, [["a", wanted[1]]], True, keys != ""])
+
+    def test_module_of_page(self):
+        """A field takes the module of a page that was loaded before it, and no other file."""
+        self.server.instead["/mine.wasm"] = subprocess.run(["node", f"{PACKAGE}/make-page.js", "de"], check=True, stdout=subprocess.PIPE).stdout
+        script = "import { load } from './page.js'; await load(fetch('mine.wasm')); await import('./number-field.js');"
+        field = f"<script type=module>{script}</script><form><number-field id=number name=a locale=de-AT currency=EUR value=1234.5></number-field></form>"
+        self.server.instead["/mine.html"] = f'<!doctype html><html lang="en"><meta charset="utf-8">{field}'
+        self.open("mine.html")
+        self.look("number.focus()")
+        self.type("७")
+        self.assertEqual(self.look("[number.text.replaceAll('\u00a0', ' '), [...new FormData(document.forms[0])]]"), ["€ 1.234,57", [["a", "1234.57"]]])
+        names = self.look("performance.getEntriesByType('resource').map(({ name }) => name.split('/').at(-1)).filter((it) => /wasm|json/.test(it))")
+        self.assertEqual(names, ["mine.wasm"])
 
     def test_worker(self):
         """A module worker writes too."""

@@ -2,8 +2,8 @@
 // events it trusts; keys for undo and redo, and what an input method tells, are events of this page.
 import { disagreements, input, readers } from "./trial.js";
 
-const LOCALES = ["en", "de", "fr", "hi", "ar-EG", "fa", "he", "ur", "sv", "de-CH", "es", "bn", "tlh", "de_AT", "!!"];
-const CURRENCIES = [null, null, "EUR", "USD", "JPY", "EGP", "ILS", "CHF", "euro"];
+const LOCALES = ["en", "de", "fr", "hi", "ar-EG", "fa", "he", "ur", "sv", "de-CH", "es", "bn", "ar-AE", "ff-Adlm", "tlh", "de_AT", "!!"];
+const CURRENCIES = [null, null, "EUR", "USD", "JPY", "EGP", "ILS", "INR", "CHF", "euro"];
 const TEXTS = [..."0123456789012345678901234567890123456789.,.,-+ x€$%٣५３", "1,234.50", "-5", "1.5", "1,5", "€5", "5 €", "1 234", "000", "12345678", "-", ".", "\u061c", "\u22127"];
 const VALUES = ["", "5", "-1234567.5", "0.00", "007", "1e3", "1,5", "x", "12345678901234567890"];
 

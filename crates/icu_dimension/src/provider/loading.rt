@@ -8,9 +8,8 @@ ghost use Rattle.icu_decimal.specs.Identifiers.{identifiers_along};
 ghost use Rattle.icu_locale_core.specs.TagPreferences.{language_priority};
 ghost use Rattle.icu_dimension.specs.ProvidedUnits.{written_as};
 ghost use Rattle.icu_dimension.specs.UnitChoice.{amounts_found, fractions_found, name_found, percent_found, unit_chain, usual_amounts};
-ghost use Rattle.icu_dimension.specs.declared.options.CurrencyStyle.TheVariants.{Accounting};
+ghost use Rattle.icu_dimension_fractions.specs.declared.CurrencyStyle.TheVariants.{Accounting};
 
-use crate::options::{CurrencyStyle, CurrencyWidth};
 use crate::provider::amounts::AmountPatterns;
 use crate::provider::chain_loading::load_under;
 use crate::provider::markers::{
@@ -21,7 +20,7 @@ use crate::provider::names::CurrencySymbol;
 use crate::provider::percents::PercentPattern;
 use icu_decimal::preferences::{DecimalFormatterPreferences, NumberingSystem};
 use icu_decimal::provider::{DataError, DataIdentifier, DataMarker, DataProvider, ParentProvider};
-use icu_dimension_fractions::{CurrencyCode, Fraction, FractionInfo};
+use icu_dimension_fractions::{CurrencyCode, CurrencyStyle, CurrencyWidth, Fraction, FractionInfo};
 use icu_locale_core::DataLocale;
 use tinystr::TinyAsciiStr;
 

@@ -8,7 +8,8 @@ use locale_numbers_tables::BookError;
 use serde_json::Value;
 use std::alloc::Global;
 
-/// The JSON value that bytes say.
+/// The JSON value that bytes say. It is apart, so that the reader's room on the stack is free again where tables are made.
+#[inline(never)]
 pub fn value_of(alloc: Global, bytes: &[u8]) -> Result<Value, BookError>
     ensures value { IfOk result (λ value. Reads bytes.now (view value)) }
     ensures json { IsErrOf result BookError.Json → IsNoJson bytes.now }

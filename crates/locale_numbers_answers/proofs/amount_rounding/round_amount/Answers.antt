@@ -1,5 +1,5 @@
 use Rattle.std.proofs.lemmas.Result.{on_ok_weaker}
-use Rattle.locale_numbers_answers.proofs.AmountLemmas.{amount_is}
+use Rattle.locale_numbers_formats.proofs.AmountLemmas.{amount_is}
 use Rattle.locale_numbers_answers.proofs.amount_rounding.round_amount.Goals as goal
 
 pub returns-clause-value : goal.returns-clause-value

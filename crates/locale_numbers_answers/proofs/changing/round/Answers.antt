@@ -2,7 +2,7 @@ use Rattle.std.proofs.Common.{rules, OnOk}
 use Rattle.std.proofs.lemmas.Result.{on_ok_weaker}
 use Rattle.fixed_decimal.specs.Number.{place}
 use Rattle.fixed_decimal.specs.SignedRounding.{RoundsSigned}
-use Rattle.locale_numbers_answers.proofs.RoundedLemmas.{rounds_as}
+use Rattle.locale_numbers_formats.proofs.RoundedLemmas.{rounds_as}
 use Rattle.locale_numbers_answers.proofs.changing.round.Goals as goal
 
 pub returns-in-At-clause-value : goal.returns-in-At-clause-value

@@ -1,6 +1,6 @@
 use Rattle.std.proofs.Common.{sym, subst, ◌∙◌}
 use Rattle.icu_dimension_affixes.specs.UnitReading.{HasManyBetween}
-use Rattle.locale_numbers_answers.proofs.UnitReadingsLemmas.{answered, unread}
+use Rattle.icu_dimension_lenient.proofs.UnitReadingsLemmas.{answered, unread}
 use Rattle.locale_numbers_answers.proofs.known_reader.KnownReader.read.Goals as goal
 
 pub read_readable-requires : goal.read_readable-requires
@@ -8,7 +8,7 @@ read_readable-requires c = sym c.self.invariant.1 ∙ c.if-self.true
 
 pub returns-then-self-clause-reading : goal.returns-then-self-clause-reading
 returns-then-self-clause-reading c =
-    rw (sym c.self.view_is) (answered c.plain_reading_is_the_reading.ensures c.both_trips.ensures.back c.both_trips-2.ensures.one c.self.inside.reader c.args.text.now c.read_readable.result
+    rw (sym c.self.view_is) (answered c.self.inside.reader c.args.text.now c.read_readable.result
     c.self.invariant.0 (sym c.self.invariant.1 ∙ c.if-self.true) c.read_readable.ensures.unreadable c.read_readable.ensures.not_written c.read_readable.ensures.value)
 
 pub returns-else-self-clause-reading : goal.returns-else-self-clause-reading

@@ -1,0 +1,6 @@
+pub mod FewLemmas
+pub mod LaneLemmas
+pub mod PuttingLemmas
+pub mod ShownLemmas
+pub mod TextLemmas
+pub mod Utf8Lemmas

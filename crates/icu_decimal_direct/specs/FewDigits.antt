@@ -1,0 +1,39 @@
+-- The number of a few digits: those before a point, those after it, and a minus before them or none.
+-- Defined in docs/numbers.md, "The text".
+-- Cited by `TextDigits::of` and `TextTables::put`, through TextDigits.antt.
+use Rattle.std.specs.Prelude.{◌≡◌, ℕ, ◌<◌, ◌≤◌, nat_lt, Bool, true, false, List, ◌++◌, length}
+use Rattle.std.specs.Char.{digit_value}
+use Rattle.std.specs.List.{list_all}
+use Rattle.fixed_decimal.specs.Number.{Number}
+use Rattle.fixed_decimal.specs.NumberText.{after_point, minus_if, number_at, spelled}
+use Rattle.fixed_decimal.specs.declared.Sign.{Sign}
+use Rattle.fixed_decimal.specs.declared.Sign.TheVariants.{None, Negative}
+
+-- the number of the digits before a point and of those after it
+abbrev pub plain_number : List ℕ → List ℕ → Number
+plain_number integer fraction = number_at (spelled (integer ++ fraction)) (length integer) (length fraction) 0 0
+
+-- each character is a digit
+abbrev pub are_digits : List ℕ → Bool
+are_digits text = list_all (λ c. nat_lt (digit_value c) 10) text
+
+-- one to sixteen digits before the point, and none or up to sixteen after it
+pub record AreFewDigits (integer fraction : List ℕ) : Type 0 where
+  pub whole : are_digits integer ≡ true
+  pub part : are_digits fraction ≡ true
+  pub some : 0 < length integer
+  pub few : length integer ≤ 16
+  pub few_below : length fraction ≤ 16
+
+-- a minus, or no sign
+abbrev pub sign_if : Bool → Sign
+sign_if true = Negative
+sign_if false = None
+
+-- the text is made of few digits: a minus or none, those before the point, and a point and those after it where there are any
+pub record IsFewText (text : List ℕ) : Type 0 where
+  pub negative : Bool
+  pub integer : List ℕ
+  pub fraction : List ℕ
+  pub whole : text ≡ minus_if negative ++ (integer ++ after_point fraction)
+  pub digits : AreFewDigits integer fraction

@@ -1,0 +1,10 @@
+-- The number that the digits of a text spell.
+-- Defined in docs/numbers.md, "The text".
+-- Cited by `TextDigits::of` and `TextTables::put`.
+use Rattle.fixed_decimal.specs.Number.{Number}
+use Rattle.fixed_decimal.specs.SignedValue.{SignedValue}
+use Rattle.icu_decimal_direct.specs.FewDigits.{plain_number, sign_if}
+use Rattle.icu_decimal_direct.specs.declared.text_digits.TextDigits.{TextDigits}
+
+abbrev pub number_spelled : TextDigits → SignedValue Number
+number_spelled d = record { sign = sign_if d.is_negative; absolute = plain_number d.integer.now d.fraction.now }

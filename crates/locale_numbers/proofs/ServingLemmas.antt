@@ -1,0 +1,156 @@
+-- A book that serves preferences answers as the larger one: `specs/Serving.antt`.
+use Rattle.std.proofs.Common.{◌≡◌, ℕ, List, [], ◌∷◌, ◌++◌, Some, None, Result, Ok, Err, refl, sym, ap, ap₂, ◌∙◌}
+use Rattle.icu_decimal.specs.Choice.{first_found, found_or, or_next}
+use Rattle.icu_decimal.specs.FoundCompactTables.{patterns_identifiers, rules_identifiers, with_plain}
+use Rattle.icu_decimal.specs.FoundTables.{found_tables, with_digits, with_symbols}
+use Rattle.icu_decimal.specs.Identifiers.{Identifier, digits_identifiers, identifiers_along, symbols_identifiers, under_each}
+use Rattle.icu_decimal.specs.PlainText.{Tables}
+use Rattle.icu_decimal.specs.Symbols.{Symbols}
+use Rattle.icu_decimal.specs.declared.error.DataError.{DataError}
+use Rattle.icu_decimal.specs.declared.options.GroupingStrategy.{GroupingStrategy}
+use Rattle.icu_dimension.specs.FoundUnits.{CurrencySettings, amount_settings, percent_settings, then_found}
+use Rattle.icu_dimension.specs.ProvidedUnits.{AmountTexts, SymbolText, usual_fractions, written_as}
+use Rattle.icu_dimension.specs.UnitChoice.{amounts_found, fractions_found, name_found, or_usual, percent_found, usual_amounts}
+use Rattle.icu_dimension.specs.declared.CurrencyFormatterOptions.{CurrencyFormatterOptions}
+use Rattle.icu_dimension.specs.declared.CurrencyStyle.{CurrencyStyle}
+use Rattle.icu_dimension.specs.declared.CurrencyStyle.TheVariants as way
+use Rattle.icu_dimension.specs.declared.CurrencyWidth.{CurrencyWidth}
+use Rattle.icu_dimension.specs.declared.CurrencyWidth.TheVariants as width
+use Rattle.icu_dimension.specs.declared.FractionInfo.{FractionInfo}
+use Rattle.icu_locale_core.specs.Subtags.{Text}
+use Rattle.icu_locale_core.specs.TagPreferences.{Preferences}
+use Rattle.locale_numbers.specs.Answer.{answer_asked, answer_in, answer_of, answer_tagged, answer_to, answer_with, exact_to, found_in, in_latin}
+use Rattle.locale_numbers.specs.CompactAnswer.{compact_with, found_compact, patterns_under}
+use Rattle.locale_numbers.specs.FoundUnit.{as_amounts, as_percents, found_unit, options_of}
+use Rattle.locale_numbers_answers.specs.CompactReading.{compact_reading_of}
+use Rattle.locale_numbers_answers.specs.LenientAnswer.{lenient_with}
+use Rattle.locale_numbers_answers.specs.LenientUnitAnswer.{lenient_unit_with, typed_code}
+use Rattle.locale_numbers_answers.specs.NumberReading.{reading_of}
+use Rattle.locale_numbers_answers.specs.ReadAnswer.{read_with}
+use Rattle.locale_numbers_answers.specs.UnitAnswer.{read_unit_with, unit_to}
+use Rattle.locale_numbers_book.specs.Book.{BookTables}
+use Rattle.locale_numbers_book.specs.TagFormatters.{currency_found_in, percent_found_in}
+use Rattle.locale_numbers_book.specs.Tables.{accounts_under, chain_in, currencies_under, currency_symbols_under, digits_under, fractions_under, long_under, percents_under, rules_under, short_under, symbols_under}
+use Rattle.locale_numbers_book.specs.Wanted.{wanted_of}
+use Rattle.locale_numbers_requests.specs.Request.{Asked, request_of}
+use Rattle.locale_numbers_requests.specs.declared.Form.{Form}
+use Rattle.locale_numbers_requests.specs.declared.Form.TheVariants.{Plain, Compact, Exact, Read, ReadLenient, Unit as OfUnit, ReadUnit, ReadLenientUnit}
+use Rattle.locale_numbers_requests.specs.declared.PatternLength.{PatternLength}
+use Rattle.locale_numbers_requests.specs.declared.PatternLength.TheVariants as patterns
+use Rattle.locale_numbers_requests.specs.declared.UnitAsked.{UnitAsked}
+use Rattle.locale_numbers_requests.specs.declared.UnitAsked.TheVariants.{Percent, Currency}
+use Rattle.locale_numbers.specs.Serving.{Agree, Serves, unit_locales_in}
+
+-- ---- the first that is found
+
+agreed_or : {T : Type 0} (small whole : Identifier → Result T DataError) (otherwise : DataError) (ids : List Identifier) → Agree small whole ids → found_or small otherwise ids ≡ found_or whole otherwise ids
+agreed_or small whole otherwise [] h = refl
+agreed_or small whole otherwise (id ∷ ids) h = ap₂ or_next h.0 (agreed_or small whole DataError.IdentifierNotFound ids h.1)
+
+pub agreed : {T : Type 0} (small whole : Identifier → Result T DataError) (ids : List Identifier) → Agree small whole ids → first_found small ids ≡ first_found whole ids
+agreed small whole ids h = agreed_or small whole DataError.InvalidRequest ids h
+
+module _ (small whole : BookTables) (p : Preferences) (serves : Serves small whole p) where
+  -- ---- numbers
+
+  symbols_ids : symbols_identifiers (chain_in small) p ≡ symbols_identifiers (chain_in whole) p
+  symbols_ids = ap (identifiers_along p.numbering_system) serves.chains
+
+  symbols_same : first_found (symbols_under small) (symbols_identifiers (chain_in small) p) ≡ first_found (symbols_under whole) (symbols_identifiers (chain_in whole) p)
+  symbols_same = ap (first_found (symbols_under small)) symbols_ids ∙ agreed (symbols_under small) (symbols_under whole) (symbols_identifiers (chain_in whole) p) serves.symbols
+
+  digits_same : (strategy : GroupingStrategy) (answer : Result Symbols DataError) → first_found (symbols_under whole) (symbols_identifiers (chain_in whole) p) ≡ answer
+      → with_symbols strategy (digits_under small) p answer ≡ with_symbols strategy (digits_under whole) p answer
+  digits_same strategy (Ok symbols) is =
+      ap (with_digits strategy symbols) (agreed (digits_under small) (digits_under whole) (digits_identifiers p.numbering_system symbols.strings.numsys) (serves.digits symbols is))
+  digits_same strategy (Err error) is = refl
+
+  plain_same : (grouping : GroupingStrategy) → found_in small p grouping ≡ found_in whole p grouping
+  plain_same grouping =
+      ap (with_symbols grouping (digits_under small) p) symbols_same
+      ∙ digits_same grouping (first_found (symbols_under whole) (symbols_identifiers (chain_in whole) p)) refl
+
+  rules_same : first_found (rules_under small) (rules_identifiers (chain_in small) p) ≡ first_found (rules_under whole) (rules_identifiers (chain_in whole) p)
+  rules_same =
+      ap (λ locales. first_found (rules_under small) (identifiers_along None locales)) serves.chains
+      ∙ agreed (rules_under small) (rules_under whole) (rules_identifiers (chain_in whole) p) serves.rules
+
+  patterns_same : (length : PatternLength) → first_found (patterns_under length small) (patterns_identifiers (chain_in small) p) ≡ first_found (patterns_under length whole) (patterns_identifiers (chain_in whole) p)
+  patterns_same patterns.Short = ap (first_found (short_under small)) symbols_ids ∙ agreed (short_under small) (short_under whole) (patterns_identifiers (chain_in whole) p) serves.short
+  patterns_same patterns.Long = ap (first_found (long_under small)) symbols_ids ∙ agreed (long_under small) (long_under whole) (patterns_identifiers (chain_in whole) p) serves.long
+
+  compact_same : (length : PatternLength) (grouping : GroupingStrategy) → found_compact length small p grouping ≡ found_compact length whole p grouping
+  compact_same length grouping =
+      ap₂ (λ plain rules. with_plain plain rules (first_found (patterns_under length small) (patterns_identifiers (chain_in small) p))) (plain_same grouping) rules_same
+      ∙ ap (with_plain (found_in whole p grouping) (first_found (rules_under whole) (rules_identifiers (chain_in whole) p))) (patterns_same length)
+
+  -- ---- units
+
+  locales_same : unit_locales_in small p ≡ unit_locales_in whole p
+  locales_same = ap₂ (λ along last. along ++ last) serves.chains serves.rooted
+
+  percents_same : (grouping : GroupingStrategy) → percent_found_in small p (Some grouping) ≡ percent_found_in whole p (Some grouping)
+  percents_same grouping =
+      ap₂ (λ tables locales. then_found tables (λ t. then_found (percent_found (percents_under small) locales p.numbering_system) (λ e. Ok (percent_settings t e)))) (plain_same grouping) locales_same
+      ∙ ap (λ found. then_found (found_in whole p grouping) (λ t. then_found found (λ e. Ok (percent_settings t e))))
+      (agreed (percents_under small) (percents_under whole) (identifiers_along p.numbering_system (unit_locales_in whole p)) serves.percents)
+
+  usual_same : (style : CurrencyStyle) → usual_amounts style (currencies_under small) (accounts_under small) (unit_locales_in whole p) p.numbering_system
+      ≡ usual_amounts style (currencies_under whole) (accounts_under whole) (unit_locales_in whole p) p.numbering_system
+  usual_same way.Standard = agreed (currencies_under small) (currencies_under whole) (identifiers_along p.numbering_system (unit_locales_in whole p)) serves.currencies
+  usual_same way.Accounting =
+      ap₂ or_next (agreed (accounts_under small) (accounts_under whole) (identifiers_along p.numbering_system (unit_locales_in whole p)) serves.accounts)
+      (agreed (currencies_under small) (currencies_under whole) (identifiers_along p.numbering_system (unit_locales_in whole p)) serves.currencies)
+
+  amounts_same : (style : CurrencyStyle) (code : Text) → amounts_found style (currencies_under small) (accounts_under small) (unit_locales_in small p) p.numbering_system code
+      ≡ amounts_found style (currencies_under whole) (accounts_under whole) (unit_locales_in whole p) p.numbering_system code
+  amounts_same style code =
+      ap (λ locales. amounts_found style (currencies_under small) (accounts_under small) locales p.numbering_system code) locales_same
+      ∙ ap₂ or_next (agreed (currencies_under small) (currencies_under whole) (under_each code (unit_locales_in whole p)) (serves.coded code)) (usual_same style)
+
+  names_same : (wide : CurrencyWidth) (code : Text) → name_found wide (currency_symbols_under small) (unit_locales_in small p) code ≡ name_found wide (currency_symbols_under whole) (unit_locales_in whole p) code
+  names_same width.Short code =
+      ap (λ locales. or_usual (first_found (currency_symbols_under small) (under_each code locales)) (written_as None code)) locales_same
+      ∙ ap (λ found. or_usual found (written_as None code)) (agreed (currency_symbols_under small) (currency_symbols_under whole) (under_each code (unit_locales_in whole p)) (serves.names code))
+  names_same width.IsoCode code = refl
+
+  abbrev put_together : Result Tables DataError → Result AmountTexts DataError → Result SymbolText DataError → Result FractionInfo DataError → Result CurrencySettings DataError
+  put_together tables texts names fractions =
+      then_found tables (λ t. then_found texts (λ e. then_found names (λ name. then_found fractions (λ fractions. Ok (record { unit = amount_settings t e name; fractions = fractions })))))
+
+  currency_same : (code : Text) (options : CurrencyFormatterOptions) (grouping : GroupingStrategy) → options.grouping_strategy ≡ Some grouping → currency_found_in small p code options ≡ currency_found_in whole p code options
+  currency_same code options grouping is =
+      let plain : found_tables (chain_in small) (symbols_under small) (digits_under small) p options.grouping_strategy ≡ found_tables (chain_in whole) (symbols_under whole) (digits_under whole) p options.grouping_strategy =
+      ap (found_tables (chain_in small) (symbols_under small) (digits_under small) p) is ∙ plain_same grouping ∙ sym (ap (found_tables (chain_in whole) (symbols_under whole) (digits_under whole) p) is) in
+      ap₂ (λ tables texts. put_together tables texts (name_found options.width (currency_symbols_under small) (unit_locales_in small p) code) (fractions_found (fractions_under small) code)) plain (amounts_same options.style code)
+      ∙ ap₂ (put_together (found_tables (chain_in whole) (symbols_under whole) (digits_under whole) p options.grouping_strategy) (amounts_found options.style (currencies_under whole) (accounts_under whole) (unit_locales_in whole p) p.numbering_system code))
+      (names_same options.width code) (ap (λ found. or_usual found usual_fractions) (serves.fractions code))
+
+  unit_same : (unit : UnitAsked) (grouping : GroupingStrategy) → found_unit unit small p grouping ≡ found_unit unit whole p grouping
+  unit_same Percent grouping = ap as_percents (percents_same grouping)
+  unit_same (Currency style code) grouping = ap as_amounts (currency_same code (options_of style grouping) grouping refl)
+
+-- ---- answers
+
+module _ (small whole : BookTables) (p : Preferences) (serves : Serves small whole p) (latin : Serves small whole (in_latin p)) where
+  form_same : (form : Form) (asked : Asked) → answer_in form small p asked ≡ answer_in form whole p asked
+  form_same Plain asked = ap (λ found. answer_to (answer_with found) asked.sign asked.rounding (reading_of asked.text)) (plain_same small whole p serves asked.grouping)
+  form_same (Compact length) asked = ap (λ found. answer_to (compact_with found) asked.sign asked.rounding (reading_of asked.text)) (compact_same small whole p serves length asked.grouping)
+  form_same (Exact length) asked = ap (λ found. exact_to found asked.sign (compact_reading_of asked.text)) (compact_same small whole p serves length asked.grouping)
+  form_same Read asked = ap (λ found. read_with found asked.text) (plain_same small whole p serves asked.grouping)
+  form_same ReadLenient asked =
+      ap₂ (λ found second. lenient_with found second asked.text) (plain_same small whole p serves asked.grouping) (plain_same small whole (in_latin p) latin asked.grouping)
+  form_same (OfUnit unit) asked = ap (λ found. unit_to found asked.sign asked.rounding (reading_of asked.text)) (unit_same small whole p serves unit asked.grouping)
+  form_same (ReadUnit unit) asked = ap (λ found. read_unit_with found asked.rounding asked.text) (unit_same small whole p serves unit asked.grouping)
+  form_same (ReadLenientUnit unit) asked =
+      ap₂ (λ found second. lenient_unit_with (typed_code unit) found second asked.text) (unit_same small whole p serves unit asked.grouping) (unit_same small whole (in_latin p) latin unit asked.grouping)
+
+pub answered_alike : (small whole : BookTables) (line : List ℕ) (asked : Asked) (p : Preferences)
+    → request_of line ≡ Some asked → wanted_of asked.tag ≡ Some p → Serves small whole p → Serves small whole (in_latin p)
+    → answer_of small line ≡ answer_of whole line
+answered_alike small whole line asked p is wants serves latin =
+    ap (answer_asked small) is
+    ∙ ap (λ preferences. answer_tagged small preferences asked) wants
+    ∙ form_same small whole p serves latin asked.form asked
+    ∙ sym (ap (λ preferences. answer_tagged whole preferences asked) wants)
+    ∙ sym (ap (answer_asked whole) is)

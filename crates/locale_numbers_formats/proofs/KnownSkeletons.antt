@@ -1,0 +1,243 @@
+-- Spellings of skeletons, and faults, as ICU4C 72 has them but for docs/skeletons.md, "Where ICU differs", so that a wrong definition does not pass.
+use Rattle.std.proofs.Common.{◌≡◌, codes, Ok, Err, refl}
+use Rattle.std.specs.Prelude.{pos, negsuc}
+use Rattle.fixed_decimal.specs.declared.RoundingIncrement.TheVariants.{MultiplesOf1}
+use Rattle.fixed_decimal.specs.declared.SignDisplay.TheVariants as display
+use Rattle.fixed_decimal.specs.declared.SignedRoundingMode.TheVariants.{Unsigned}
+use Rattle.fixed_decimal.specs.declared.UnsignedRoundingMode.TheVariants.{Expand, HalfEven}
+use Rattle.icu_decimal_symbols.specs.declared.options.GroupingStrategy.TheVariants as strategy
+use Rattle.icu_dimension_fractions.specs.declared.CurrencyStyle.TheVariants as style
+use Rattle.icu_dimension_fractions.specs.declared.CurrencyStyle.TheVariants.{Accounting}
+use Rattle.icu_dimension_fractions.specs.declared.CurrencyUsage.TheVariants.{Standard, Cash}
+use Rattle.icu_dimension_fractions.specs.declared.CurrencyWidth.TheVariants.{IsoCode}
+use Rattle.locale_numbers_formats.specs.SkeletonFormats.{format_of}
+use Rattle.locale_numbers_formats.specs.Skeletons.{no_words, settled, skeleton_of}
+use Rattle.locale_numbers_formats.specs.declared.options.LeadingZeros.TheVariants as leading
+use Rattle.locale_numbers_formats.specs.declared.options.Rounding.TheVariants as rounding
+use Rattle.locale_numbers_formats.specs.declared.options.SignAsked.TheVariants.{Show}
+use Rattle.locale_numbers_formats.specs.declared.options.TrailingZeros.TheVariants.{Keep, Trim, TrimWhole}
+use Rattle.locale_numbers_formats.specs.declared.shape.CompactWidth.TheVariants.{Short, Long}
+use Rattle.locale_numbers_formats.specs.declared.shape.Notation.TheVariants as notation
+use Rattle.locale_numbers_formats.specs.declared.shape.Notation.TheVariants.{Compact}
+use Rattle.locale_numbers_formats.specs.declared.shape.NumberUnit.TheVariants as beside
+use Rattle.locale_numbers_formats.specs.declared.skeleton.Skeleton.{Skeleton}
+use Rattle.locale_numbers_formats.specs.declared.skeleton_error.SkeletonError.TheVariants.{Unknown, Twice, Code, Pair, System, Later, Unsupported}
+use Rattle.locale_numbers_formats.specs.declared.stems.Precision.TheVariants as precision
+use Rattle.locale_numbers_formats.specs.declared.stems.Precision.TheVariants.{Unlimited, Fraction, AtLeast, Whole, WholeCurrency}
+use Rattle.locale_numbers_formats.specs.declared.stems.SkeletonGrouping.TheVariants as grouping
+use Rattle.locale_numbers_formats.specs.declared.stems.SkeletonUnit.TheVariants.{Percent, Currency}
+
+-- what no word asks for
+abbrev plain : Skeleton
+plain = settled no_words
+
+-- ---- skeletons
+
+is_nothing : skeleton_of (codes "") ≡ Ok plain
+is_nothing = refl
+
+is_spaced : skeleton_of (codes " percent  .00 ") ≡ Ok (record plain { unit = Percent; precision = Fraction 2 0 })
+is_spaced = refl
+
+is_franc : skeleton_of (codes "currency/CHF precision-currency-cash") ≡ Ok (record plain { unit = Currency (codes "CHF"); precision = precision.Currency Cash })
+is_franc = refl
+
+is_whole_cents : skeleton_of (codes "currency/USD .00/w") ≡ Ok (record plain { unit = Currency (codes "USD"); precision = Whole 2 })
+is_whole_cents = refl
+
+is_whole_currency : skeleton_of (codes "precision-currency-standard/w currency/USD") ≡ Ok (record plain { unit = Currency (codes "USD"); precision = WholeCurrency Standard })
+is_whole_currency = refl
+
+is_compact : skeleton_of (codes "K") ≡ Ok (record plain { notation = Compact Short; grouping = grouping.Min2 })
+is_compact = refl
+
+is_compact_long : skeleton_of (codes "KK group-auto") ≡ Ok (record plain { notation = Compact Long })
+is_compact_long = refl
+
+is_simple : skeleton_of (codes "notation-simple base-unit sign-auto group-auto unit-width-short") ≡ Ok plain
+is_simple = refl
+
+is_whole_number : skeleton_of (codes ".") ≡ Ok (record plain { precision = Fraction 0 0 })
+is_whole_number = refl
+
+is_unlimited : skeleton_of (codes ".+") ≡ Ok (record plain { precision = Unlimited })
+is_unlimited = refl
+
+is_two_to_four : skeleton_of (codes ".00##") ≡ Ok (record plain { precision = Fraction 2 2 })
+is_two_to_four = refl
+
+is_at_least : skeleton_of (codes ".00*") ≡ Ok (record plain { precision = AtLeast 2 })
+is_at_least = refl
+
+is_at_least_plus : skeleton_of (codes ".00+") ≡ Ok (record plain { precision = AtLeast 2 })
+is_at_least_plus = refl
+
+is_three_digits : skeleton_of (codes "000") ≡ Ok (record plain { integer_digits = 3 })
+is_three_digits = refl
+
+is_three_digits_long : skeleton_of (codes "integer-width/*000") ≡ Ok (record plain { integer_digits = 3 })
+is_three_digits_long = refl
+
+is_off : skeleton_of (codes ",_") ≡ Ok (record plain { grouping = grouping.Off })
+is_off = refl
+
+is_min2 : skeleton_of (codes ",?") ≡ Ok (record plain { grouping = grouping.Min2 })
+is_min2 = refl
+
+is_up : skeleton_of (codes ".0 rounding-mode-up") ≡ Ok (record plain { precision = Fraction 1 0; mode = Unsigned Expand })
+is_up = refl
+
+is_always : skeleton_of (codes "+!") ≡ Ok (record plain { sign = record { display = display.Always; style = style.Standard } })
+is_always = refl
+
+is_accounting : skeleton_of (codes "currency/USD ()") ≡ Ok (record plain { unit = Currency (codes "USD"); sign = record { display = display.Auto; style = Accounting } })
+is_accounting = refl
+
+is_code : skeleton_of (codes "currency/USD unit-width-iso-code") ≡ Ok (record plain { unit = Currency (codes "USD"); width = IsoCode })
+is_code = refl
+
+-- ---- faults, each with the place of a word
+
+is_no_code : skeleton_of (codes "currency/EURO") ≡ Err (Code 0)
+is_no_code = refl
+
+is_small : skeleton_of (codes "currency/usd") ≡ Ok (record plain { unit = Currency (codes "USD") })
+is_small = refl
+
+is_digit_code : skeleton_of (codes "currency/US1") ≡ Err (Code 0)
+is_digit_code = refl
+
+is_no_word : skeleton_of (codes "foo") ≡ Err (Unknown 0)
+is_no_word = refl
+
+is_no_second_word : skeleton_of (codes "percent foo") ≡ Err (Unknown 8)
+is_no_second_word = refl
+
+is_no_marks : skeleton_of (codes ".0x") ≡ Err (Unknown 0)
+is_no_marks = refl
+
+is_no_mode : skeleton_of (codes "rounding-mode-foo") ≡ Err (Unknown 0)
+is_no_mode = refl
+
+is_no_sign : skeleton_of (codes "+!! ") ≡ Err (Unknown 0)
+is_no_sign = refl
+
+is_no_exponent : skeleton_of (codes "EEE0") ≡ Err (Unknown 0)
+is_no_exponent = refl
+
+is_percents : skeleton_of (codes "percent percent") ≡ Err (Twice 8)
+is_percents = refl
+
+is_units : skeleton_of (codes "percent currency/EUR") ≡ Err (Twice 8)
+is_units = refl
+
+is_usual_unit_twice : skeleton_of (codes "base-unit percent") ≡ Err (Twice 10)
+is_usual_unit_twice = refl
+
+is_precisions : skeleton_of (codes ".00 .0") ≡ Err (Twice 4)
+is_precisions = refl
+
+is_notations : skeleton_of (codes "K KK") ≡ Err (Twice 2)
+is_notations = refl
+
+is_groupings : skeleton_of (codes "group-off group-off") ≡ Err (Twice 10)
+is_groupings = refl
+
+is_signs : skeleton_of (codes "sign-never sign-never") ≡ Err (Twice 11)
+is_signs = refl
+
+is_no_currency : skeleton_of (codes "percent sign-accounting") ≡ Err (Pair 8)
+is_no_currency = refl
+
+is_no_currency_digits : skeleton_of (codes "precision-currency-standard") ≡ Err (Pair 0)
+is_no_currency_digits = refl
+
+is_no_currency_width : skeleton_of (codes ".00 unit-width-iso-code percent") ≡ Err (Pair 4)
+is_no_currency_width = refl
+
+is_system : skeleton_of (codes "numbering-system/thai") ≡ Err (System 0)
+is_system = refl
+
+is_latin_system : skeleton_of (codes "percent latin") ≡ Err (System 8)
+is_latin_system = refl
+
+is_scientific : skeleton_of (codes "E0") ≡ Err (Later 0)
+is_scientific = refl
+
+is_permille : skeleton_of (codes "permille") ≡ Err (Later 0)
+is_permille = refl
+
+is_significant : skeleton_of (codes "@@#") ≡ Err (Later 0)
+is_significant = refl
+
+is_both_digits : skeleton_of (codes ".##/@@@+") ≡ Err (Later 0)
+is_both_digits = refl
+
+is_aligned : skeleton_of (codes ",!") ≡ Err (Later 0)
+is_aligned = refl
+
+is_scaled : skeleton_of (codes "percent scale/100") ≡ Err (Later 8)
+is_scaled = refl
+
+is_compact_digits : skeleton_of (codes "compact-short .00") ≡ Err (Later 14)
+is_compact_digits = refl
+
+is_amount_mode : skeleton_of (codes "currency/EUR rounding-mode-up") ≡ Err (Later 13)
+is_amount_mode = refl
+
+is_cut : skeleton_of (codes "integer-width-trunc") ≡ Err (Unsupported 0)
+is_cut = refl
+
+is_at_most : skeleton_of (codes "integer-width/##00") ≡ Err (Unsupported 0)
+is_at_most = refl
+
+is_hidden : skeleton_of (codes "unit-width-hidden currency/USD") ≡ Err (Unsupported 0)
+is_hidden = refl
+
+is_point : skeleton_of (codes "decimal-always") ≡ Err (Unsupported 0)
+is_point = refl
+
+-- ---- what they mean
+
+-- six digits after the point at most, and a number is a value
+plain_format : format_of plain ≡ record {
+  shape = record { notation = notation.Standard; unit = beside.None; grouping = strategy.Auto };
+  options = record {
+    rounding = rounding.At (negsuc 5) (Unsigned HalfEven) MultiplesOf1;
+    leading_zeros = leading.Trim;
+    zeros = Trim;
+    integer_digits = pos 0;
+    fraction_digits = pos 0;
+    sign = Show display.Auto;
+  };
+}
+plain_format = refl
+
+-- an amount has the digits of its currency
+amount_format : format_of (record plain { unit = Currency (codes "EUR") }) ≡ record {
+  shape = record { notation = notation.Standard; unit = beside.Currency (record { code = codes "EUR"; style = style.Standard; width = plain.width }); grouping = strategy.Auto };
+  options = record {
+    rounding = rounding.Usual;
+    leading_zeros = leading.Trim;
+    zeros = Keep;
+    integer_digits = pos 0;
+    fraction_digits = pos 0;
+    sign = Show display.Auto;
+  };
+}
+amount_format = refl
+
+-- `.00##`: four digits after the point at most, and two at least
+digits_rounding : (format_of (record plain { precision = Fraction 2 2 })).options.rounding ≡ rounding.At (negsuc 3) (Unsigned HalfEven) MultiplesOf1
+digits_rounding = refl
+
+digits_least : (format_of (record plain { precision = Fraction 2 2 })).options.fraction_digits ≡ pos 2
+digits_least = refl
+
+-- `.00/w`
+whole_zeros : (format_of (record plain { precision = Whole 2 })).options.zeros ≡ TrimWhole
+whole_zeros = refl
+
+-- a compact pattern rounds by itself
+compact_rounding : (format_of (record plain { notation = Compact Short })).options.rounding ≡ rounding.AsGiven
+compact_rounding = refl

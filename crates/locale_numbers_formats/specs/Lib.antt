@@ -1,0 +1,16 @@
+-- What a reader must believe: what is made of a number before it is written.
+pub mod Changed
+-- And what the words of a skeleton ask for.
+pub mod Marks
+pub mod NormalText
+pub mod SkeletonErrors
+pub mod SkeletonFormats
+pub mod SkeletonLaws
+pub mod Skeletons
+pub mod Stems
+-- The pieces of a text, and what is beside a word in a table.
+pub mod Cutting
+pub mod WordTable
+-- What it goes by, which laws make needless to believe.
+pub mod Rounded
+pub mod AmountRounding

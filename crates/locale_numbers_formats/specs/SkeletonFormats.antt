@@ -1,0 +1,99 @@
+-- The format that a skeleton asks for: its shape, and what is made of a number.
+-- ICU's number skeletons; docs/skeletons.md, "What they mean".
+-- Cited by `Skeleton::format` and `NumberFormat::try_from_str`.
+-- A skeleton and a format have many types with cases, and the cases of each are imported beside it.
+use Rattle.std.specs.Prelude.{ℕ, pos, neg_ℤ, ◌+◌, ◌&&◌, not, Bool, if◌then◌else◌}
+use Rattle.fixed_decimal.specs.declared.RoundingIncrement.TheVariants.{MultiplesOf1}
+use Rattle.fixed_decimal.specs.declared.SignedRoundingMode.{SignedRoundingMode}
+use Rattle.icu_decimal_symbols.specs.declared.options.GroupingStrategy.{GroupingStrategy}
+use Rattle.icu_decimal_symbols.specs.declared.options.GroupingStrategy.TheVariants as strategy
+use Rattle.icu_dimension_fractions.specs.declared.CurrencyUsage.{CurrencyUsage}
+use Rattle.icu_dimension_fractions.specs.declared.CurrencyUsage.TheVariants.{Standard, Cash}
+use Rattle.locale_numbers_formats.specs.Skeletons.{is_compact, is_currency}
+use Rattle.locale_numbers_formats.specs.declared.options.LeadingZeros.TheVariants as leading
+use Rattle.locale_numbers_formats.specs.declared.options.Rounding.{Rounding}
+use Rattle.locale_numbers_formats.specs.declared.options.Rounding.TheVariants as rounding
+use Rattle.locale_numbers_formats.specs.declared.options.SignAsked.TheVariants.{Show}
+use Rattle.locale_numbers_formats.specs.declared.options.TrailingZeros.{TrailingZeros}
+use Rattle.locale_numbers_formats.specs.declared.options.TrailingZeros.TheVariants.{Keep, Trim, TrimWhole}
+use Rattle.locale_numbers_formats.specs.declared.shape.NumberFormat.{NumberFormat}
+use Rattle.locale_numbers_formats.specs.declared.shape.NumberUnit.{NumberUnit}
+use Rattle.locale_numbers_formats.specs.declared.shape.NumberUnit.TheVariants as beside
+use Rattle.locale_numbers_formats.specs.declared.skeleton.Skeleton.{Skeleton}
+use Rattle.locale_numbers_formats.specs.declared.stems.Precision.{Precision}
+use Rattle.locale_numbers_formats.specs.declared.stems.Precision.TheVariants.{Usual, Unlimited, Fraction, AtLeast, Whole, Currency, WholeCurrency}
+use Rattle.locale_numbers_formats.specs.declared.stems.SkeletonGrouping.{SkeletonGrouping}
+use Rattle.locale_numbers_formats.specs.declared.stems.SkeletonGrouping.TheVariants as grouping
+use Rattle.locale_numbers_formats.specs.declared.stems.SkeletonUnit.{SkeletonUnit}
+use Rattle.locale_numbers_formats.specs.declared.stems.SkeletonUnit.TheVariants as unit
+
+-- to so many digits after the point
+abbrev pub to_digits : ℕ → SignedRoundingMode → Rounding
+to_digits digits mode = rounding.At (neg_ℤ (pos digits)) mode MultiplesOf1
+
+-- to the digits of a currency
+abbrev pub by_usage : CurrencyUsage → Rounding
+by_usage Standard = rounding.Usual
+by_usage Cash = rounding.Cash
+
+-- without a word an amount has the digits of its currency, and another number six after the point at most
+abbrev pub rounding_by : Bool → SignedRoundingMode → Precision → Rounding
+rounding_by amount mode Usual = if amount then rounding.Usual else to_digits 6 mode
+rounding_by amount mode Unlimited = rounding.AsGiven
+rounding_by amount mode (Fraction least more) = to_digits (least + more) mode
+rounding_by amount mode (AtLeast least) = rounding.AsGiven
+rounding_by amount mode (Whole least) = to_digits least mode
+rounding_by amount mode (Currency usage) = by_usage usage
+rounding_by amount mode (WholeCurrency usage) = by_usage usage
+
+-- a compact pattern rounds by itself
+abbrev pub rounding_of : Skeleton → Rounding
+rounding_of s = if is_compact s.notation then rounding.AsGiven else rounding_by (is_currency s.unit) s.mode s.precision
+
+-- a number is a value, so that zeros that it was given with are not shown
+abbrev pub zeros_by : Bool → Precision → TrailingZeros
+zeros_by amount Usual = if amount then Keep else Trim
+zeros_by amount Unlimited = Trim
+zeros_by amount (Fraction least more) = Trim
+zeros_by amount (AtLeast least) = Trim
+zeros_by amount (Whole least) = TrimWhole
+zeros_by amount (Currency usage) = Keep
+zeros_by amount (WholeCurrency usage) = TrimWhole
+
+abbrev pub zeros_of : Skeleton → TrailingZeros
+zeros_of s = zeros_by (is_currency s.unit && not (is_compact s.notation)) s.precision
+
+abbrev pub digits_of : Precision → ℕ
+digits_of Usual = 0
+digits_of Unlimited = 0
+digits_of (Fraction least more) = least
+digits_of (AtLeast least) = least
+digits_of (Whole least) = 0
+digits_of (Currency usage) = 0
+digits_of (WholeCurrency usage) = 0
+
+abbrev pub unit_by : SkeletonUnit → Skeleton → NumberUnit
+unit_by unit.None s = beside.None
+unit_by unit.Percent s = beside.Percent
+unit_by (unit.Currency code) s = beside.Currency (record { code = code; style = s.sign.style; width = s.width })
+
+abbrev pub unit_of : Skeleton → NumberUnit
+unit_of s = unit_by s.unit s
+
+abbrev pub strategy_of : SkeletonGrouping → GroupingStrategy
+strategy_of grouping.Auto = strategy.Auto
+strategy_of grouping.Off = strategy.Never
+strategy_of grouping.Min2 = strategy.Min2
+
+abbrev pub format_of : Skeleton → NumberFormat
+format_of s = record {
+  shape = record { notation = s.notation; unit = unit_of s; grouping = strategy_of s.grouping };
+  options = record {
+    rounding = rounding_of s;
+    leading_zeros = leading.Trim;
+    zeros = zeros_of s;
+    integer_digits = pos s.integer_digits;
+    fraction_digits = pos (digits_of s.precision);
+    sign = Show s.sign.display;
+  };
+}

@@ -1,0 +1,162 @@
+-- What each word of a skeleton sets.
+-- ICU's number skeletons; docs/skeletons.md, "Words".
+-- Cited by the calls that read skeletons.
+-- A word sets one of many types with cases, and the cases of each are imported beside it.
+use Rattle.std.specs.Prelude.{ℕ, ◌+◌, ◌==◌, if◌then◌else◌, length, slice_index, List, [], ◌∷◌, drop, take, position, Option, Some, None, codes}
+use Rattle.std.specs.Char.{to_ascii_uppercase}
+use Rattle.std.specs.Str.{bytes_eq}
+use Rattle.fixed_decimal.specs.declared.SignDisplay.TheVariants as display
+use Rattle.fixed_decimal.specs.declared.SignedRoundingMode.TheVariants.{Unsigned, Ceil, Floor, HalfCeil, HalfFloor}
+use Rattle.fixed_decimal.specs.declared.UnsignedRoundingMode.TheVariants.{Expand, Trunc, HalfExpand, HalfTrunc, HalfEven}
+use Rattle.icu_dimension_fractions.specs.CurrencyCodes.{is_currency_code}
+use Rattle.icu_dimension_fractions.specs.declared.CurrencyStyle.TheVariants as style
+use Rattle.icu_dimension_fractions.specs.declared.CurrencyUsage.TheVariants as usage
+use Rattle.icu_dimension_fractions.specs.declared.CurrencyWidth.TheVariants as width
+use Rattle.icu_dimension_fractions.specs.declared.CurrencyWidth.TheVariants.{IsoCode}
+use Rattle.locale_numbers_formats.specs.Cutting.{is_separator}
+use Rattle.locale_numbers_formats.specs.Marks.{marked, padded_setting}
+use Rattle.locale_numbers_formats.specs.WordTable.{value_beside}
+use Rattle.locale_numbers_formats.specs.declared.shape.CompactWidth.TheVariants.{Short, Long}
+use Rattle.locale_numbers_formats.specs.declared.shape.Notation.TheVariants as notation
+use Rattle.locale_numbers_formats.specs.declared.shape.Notation.TheVariants.{Compact}
+use Rattle.locale_numbers_formats.specs.declared.skeleton_error.WordFault.TheVariants as fault
+use Rattle.locale_numbers_formats.specs.declared.stems.Precision.TheVariants as precision
+use Rattle.locale_numbers_formats.specs.declared.stems.Precision.TheVariants.{Unlimited, Fraction, WholeCurrency}
+use Rattle.locale_numbers_formats.specs.declared.stems.Setting.{Setting}
+use Rattle.locale_numbers_formats.specs.declared.stems.Setting.TheVariants.{OfNotation, OfUnit, OfPrecision, OfMode, OfGrouping, OfWidth, OfSign, Refused}
+use Rattle.locale_numbers_formats.specs.declared.stems.SkeletonGrouping.TheVariants as grouping
+use Rattle.locale_numbers_formats.specs.declared.stems.SkeletonUnit.TheVariants as beside
+use Rattle.locale_numbers_formats.specs.declared.stems.SkeletonUnit.TheVariants.{Percent, Currency}
+
+-- the words, and their short forms, but for those with digits or a part after a slash
+abbrev pub stems : List (List ℕ × Setting)
+stems =
+    (codes "compact-short", OfNotation (Compact Short))
+    ∷ (codes "K", OfNotation (Compact Short))
+    ∷ (codes "compact-long", OfNotation (Compact Long))
+    ∷ (codes "KK", OfNotation (Compact Long))
+    ∷ (codes "notation-simple", OfNotation notation.Standard)
+    ∷ (codes "percent", OfUnit Percent)
+    ∷ (codes "%", OfUnit Percent)
+    ∷ (codes "base-unit", OfUnit beside.None)
+    ∷ (codes "precision-integer", OfPrecision (Fraction 0 0))
+    ∷ (codes ".", OfPrecision (Fraction 0 0))
+    ∷ (codes "precision-unlimited", OfPrecision Unlimited)
+    ∷ (codes ".+", OfPrecision Unlimited)
+    ∷ (codes ".*", OfPrecision Unlimited)
+    ∷ (codes "precision-currency-standard", OfPrecision (precision.Currency usage.Standard))
+    ∷ (codes "precision-currency-standard/w", OfPrecision (WholeCurrency usage.Standard))
+    ∷ (codes "precision-currency-cash", OfPrecision (precision.Currency usage.Cash))
+    ∷ (codes "precision-currency-cash/w", OfPrecision (WholeCurrency usage.Cash))
+    ∷ (codes "rounding-mode-ceiling", OfMode Ceil)
+    ∷ (codes "rounding-mode-floor", OfMode Floor)
+    ∷ (codes "rounding-mode-down", OfMode (Unsigned Trunc))
+    ∷ (codes "rounding-mode-up", OfMode (Unsigned Expand))
+    ∷ (codes "rounding-mode-half-even", OfMode (Unsigned HalfEven))
+    ∷ (codes "rounding-mode-half-down", OfMode (Unsigned HalfTrunc))
+    ∷ (codes "rounding-mode-half-up", OfMode (Unsigned HalfExpand))
+    ∷ (codes "rounding-mode-half-ceiling", OfMode HalfCeil)
+    ∷ (codes "rounding-mode-half-floor", OfMode HalfFloor)
+    ∷ (codes "group-off", OfGrouping grouping.Off)
+    ∷ (codes ",_", OfGrouping grouping.Off)
+    ∷ (codes "group-min2", OfGrouping grouping.Min2)
+    ∷ (codes ",?", OfGrouping grouping.Min2)
+    ∷ (codes "group-auto", OfGrouping grouping.Auto)
+    ∷ (codes "unit-width-iso-code", OfWidth IsoCode)
+    ∷ (codes "unit-width-short", OfWidth width.Short)
+    ∷ (codes "sign-auto", OfSign (record { display = display.Auto; style = style.Standard }))
+    ∷ (codes "sign-always", OfSign (record { display = display.Always; style = style.Standard }))
+    ∷ (codes "+!", OfSign (record { display = display.Always; style = style.Standard }))
+    ∷ (codes "sign-never", OfSign (record { display = display.Never; style = style.Standard }))
+    ∷ (codes "+_", OfSign (record { display = display.Never; style = style.Standard }))
+    ∷ (codes "sign-except-zero", OfSign (record { display = display.ExceptZero; style = style.Standard }))
+    ∷ (codes "+?", OfSign (record { display = display.ExceptZero; style = style.Standard }))
+    ∷ (codes "sign-negative", OfSign (record { display = display.Negative; style = style.Standard }))
+    ∷ (codes "+-", OfSign (record { display = display.Negative; style = style.Standard }))
+    ∷ (codes "sign-accounting", OfSign (record { display = display.Auto; style = style.Accounting }))
+    ∷ (codes "()", OfSign (record { display = display.Auto; style = style.Accounting }))
+    ∷ (codes "sign-accounting-always", OfSign (record { display = display.Always; style = style.Accounting }))
+    ∷ (codes "()!", OfSign (record { display = display.Always; style = style.Accounting }))
+    ∷ (codes "sign-accounting-except-zero", OfSign (record { display = display.ExceptZero; style = style.Accounting }))
+    ∷ (codes "()?", OfSign (record { display = display.ExceptZero; style = style.Accounting }))
+    ∷ (codes "sign-accounting-negative", OfSign (record { display = display.Negative; style = style.Accounting }))
+    ∷ (codes "()-", OfSign (record { display = display.Negative; style = style.Accounting }))
+    ∷ (codes "permille", Refused fault.Later)
+    ∷ (codes "scientific", Refused fault.Later)
+    ∷ (codes "E0", Refused fault.Later)
+    ∷ (codes "engineering", Refused fault.Later)
+    ∷ (codes "EE0", Refused fault.Later)
+    ∷ (codes "unit-width-narrow", Refused fault.Later)
+    ∷ (codes "unit-width-full-name", Refused fault.Later)
+    ∷ (codes "group-on-aligned", Refused fault.Later)
+    ∷ (codes ",!", Refused fault.Later)
+    ∷ (codes "%x100", Refused fault.Later)
+    ∷ (codes "latin", Refused fault.System)
+    ∷ (codes "decimal-always", Refused fault.Unsupported)
+    ∷ (codes "decimal-auto", Refused fault.Unsupported)
+    ∷ (codes "integer-width-trunc", Refused fault.Unsupported)
+    ∷ (codes "unit-width-hidden", Refused fault.Unsupported)
+    ∷ (codes "unit-width-formal", Refused fault.Unsupported)
+    ∷ (codes "unit-width-variant", Refused fault.Unsupported)
+    ∷ (codes "group-thousands", Refused fault.Unsupported)
+    ∷ (codes "rounding-mode-half-odd", Refused fault.Unsupported)
+    ∷ (codes "rounding-mode-unnecessary", Refused fault.Unsupported)
+    ∷ []
+
+-- what is told of words with a part after a slash, by what is before it
+abbrev pub fronts : List (List ℕ × Setting)
+fronts =
+    (codes "numbering-system", Refused fault.System)
+    ∷ (codes "scale", Refused fault.Later)
+    ∷ (codes "precision-increment", Refused fault.Later)
+    ∷ (codes "unit", Refused fault.Later)
+    ∷ (codes "measure-unit", Refused fault.Later)
+    ∷ (codes "scientific", Refused fault.Later)
+    ∷ (codes "engineering", Refused fault.Later)
+    ∷ (codes "per-measure-unit", Refused fault.Unsupported)
+    ∷ (codes "usage", Refused fault.Unsupported)
+    ∷ []
+
+abbrev pub or_unknown : Option Setting → Setting
+or_unknown None = Refused fault.Unknown
+or_unknown (Some setting) = setting
+
+-- the currency that a code in capitals names
+abbrev pub capital_code : List ℕ → Setting
+capital_code code = if is_currency_code code then OfUnit (Currency code) else Refused fault.Code
+
+-- three letters of any case
+abbrev pub coded : List ℕ → Setting
+coded code =
+    if length code == 3
+    then capital_code (to_ascii_uppercase (slice_index code 0) ∷ to_ascii_uppercase (slice_index code 1) ∷ to_ascii_uppercase (slice_index code 2) ∷ [])
+    else Refused fault.Code
+
+-- what is before the first slash, and what is after it
+abbrev pub optioned : List ℕ → List ℕ → Setting
+optioned front option =
+    if bytes_eq front (codes "currency") then coded option
+    else if bytes_eq front (codes "integer-width") then padded_setting option
+    else or_unknown (value_beside fronts front)
+
+abbrev pub slash : ℕ
+slash = 47
+
+abbrev pub slashed_at : Option ℕ → List ℕ → Setting
+slashed_at None word = Refused fault.Unknown
+slashed_at (Some end) word = optioned (take end word) (drop (end + 1) word)
+
+abbrev pub slashed : List ℕ → Setting
+slashed word = slashed_at (position (is_separator slash) word) word
+
+abbrev pub or_slashed : Option Setting → List ℕ → Setting
+or_slashed None word = slashed word
+or_slashed (Some setting) word = setting
+
+abbrev pub or_marked : Option Setting → List ℕ → Setting
+or_marked None word = or_slashed (marked word) word
+or_marked (Some setting) word = setting
+
+-- what a word sets: one of the list, one of digits, or one with a slash
+abbrev pub setting_named : List ℕ → Setting
+setting_named word = or_marked (value_beside stems word) word

@@ -1,0 +1,317 @@
+//! The normal text of a skeleton: its words in ICU's order.
+
+ghost use Rattle.std.specs.Prelude.{◌≡◌, ◌++◌, ◌||◌, codes, false, is_err, is_some, length, map, option_map, OnOk, OnErr};
+ghost use Rattle.writeable.specs.AnnotatedText.{bytes};
+ghost use Rattle.writeable.specs.Taking.{HasBegun};
+ghost use Rattle.locale_numbers_formats.specs.NormalText.{digits_word, fraction_word, gap, grouping_word, joined, marks, mode_word, normal_words, notation_word, precision_word, sign_word, unit_word, width_word, word_after, word_events, word_of};
+
+use crate::shape::{CompactWidth, Notation};
+use crate::skeleton::Skeleton;
+use crate::stems::{Precision, SkeletonGrouping, SkeletonSign, SkeletonUnit};
+use fixed_decimal::{SignDisplay, SignedRoundingMode, UnsignedRoundingMode};
+use icu_dimension_fractions::{CurrencyStyle, CurrencyUsage, CurrencyWidth};
+use std::fmt;
+use writeable::{Error, Sink, Writeable, display};
+
+// A word: a front, zeros, hashes, and what is behind these.
+#[derive(Clone, Copy)]
+struct NormalWord<'a> {
+    front: &'a str,
+    zeros: u8,
+    hashes: u8,
+    behind: &'a str,
+}
+
+// A word without digits.
+fn fixed(word: &'static str) -> NormalWord<'static>
+    ensures { word_of result ≡ word.now }
+{
+    NormalWord {
+        front: word,
+        zeros: 0,
+        hashes: 0,
+        behind: "",
+    }
+}
+
+// A point with zeros and hashes, and what is behind these.
+fn pointed(zeros: u8, hashes: u8, behind: &'static str) -> NormalWord<'static>
+    ensures { word_of result ≡ codes "." ++ (marks zeros (codes "0") ++ (marks hashes (codes "#") ++ behind.now)) }
+{
+    NormalWord {
+        front: ".",
+        zeros,
+        hashes,
+        behind,
+    }
+}
+
+// The word of a notation.
+fn notation_word(notation: Notation) -> Option<NormalWord<'static>>
+    ensures { option_map word_of result ≡ notation_word notation }
+{
+    match notation {
+        Notation::Standard => None,
+        Notation::Compact(CompactWidth::Short) => Some(fixed("compact-short")),
+        Notation::Compact(CompactWidth::Long) => Some(fixed("compact-long")),
+    }
+}
+
+// The word of what is beside the digits.
+fn unit_word(unit: &SkeletonUnit) -> Option<NormalWord<'_>>
+    ensures { option_map word_of result ≡ unit_word unit.now }
+{
+    match unit {
+        SkeletonUnit::None => None,
+        SkeletonUnit::Percent => Some(fixed("percent")),
+        SkeletonUnit::Currency(code) => Some(NormalWord {
+            front: "currency/",
+            zeros: 0,
+            hashes: 0,
+            behind: code.as_str(),
+        }),
+    }
+}
+
+// The word of fraction digits, so many at least and so many more at most.
+fn fraction_word(least: u8, more: u8) -> NormalWord<'static>
+    ensures { word_of result ≡ fraction_word least more }
+{
+    if least == 0 && more == 0 {
+        fixed("precision-integer")
+    } else {
+        pointed(least, more, "")
+    }
+}
+
+// The word of the digits that are shown.
+fn precision_word(precision: Precision) -> Option<NormalWord<'static>>
+    ensures { option_map word_of result ≡ precision_word precision }
+{
+    match precision {
+        Precision::Usual => None,
+        Precision::Unlimited => Some(fixed("precision-unlimited")),
+        Precision::Fraction(least, more) => Some(fraction_word(least, more)),
+        Precision::AtLeast(least) => Some(pointed(least, 0, "*")),
+        Precision::Whole(least) => Some(pointed(least, 0, "/w")),
+        Precision::Currency(CurrencyUsage::Standard) => Some(fixed("precision-currency-standard")),
+        Precision::Currency(CurrencyUsage::Cash) => Some(fixed("precision-currency-cash")),
+        Precision::WholeCurrency(CurrencyUsage::Standard) => {
+            Some(fixed("precision-currency-standard/w"))
+        }
+        Precision::WholeCurrency(CurrencyUsage::Cash) => Some(fixed("precision-currency-cash/w")),
+    }
+}
+
+// The word of a rounding mode.
+fn mode_word(mode: SignedRoundingMode) -> Option<NormalWord<'static>>
+    ensures { option_map word_of result ≡ mode_word mode }
+{
+    match mode {
+        SignedRoundingMode::Unsigned(UnsignedRoundingMode::HalfEven) => None,
+        SignedRoundingMode::Unsigned(UnsignedRoundingMode::Expand) => {
+            Some(fixed("rounding-mode-up"))
+        }
+        SignedRoundingMode::Unsigned(UnsignedRoundingMode::Trunc) => {
+            Some(fixed("rounding-mode-down"))
+        }
+        SignedRoundingMode::Unsigned(UnsignedRoundingMode::HalfExpand) => {
+            Some(fixed("rounding-mode-half-up"))
+        }
+        SignedRoundingMode::Unsigned(UnsignedRoundingMode::HalfTrunc) => {
+            Some(fixed("rounding-mode-half-down"))
+        }
+        SignedRoundingMode::Ceil => Some(fixed("rounding-mode-ceiling")),
+        SignedRoundingMode::Floor => Some(fixed("rounding-mode-floor")),
+        SignedRoundingMode::HalfCeil => Some(fixed("rounding-mode-half-ceiling")),
+        SignedRoundingMode::HalfFloor => Some(fixed("rounding-mode-half-floor")),
+    }
+}
+
+// The word of a grouping beside a notation.
+fn grouping_word(notation: Notation, grouping: SkeletonGrouping) -> Option<NormalWord<'static>>
+    ensures { option_map word_of result ≡ grouping_word notation grouping }
+{
+    match (notation, grouping) {
+        (Notation::Standard, SkeletonGrouping::Auto) => None,
+        (Notation::Standard, SkeletonGrouping::Off) => Some(fixed("group-off")),
+        (Notation::Standard, SkeletonGrouping::Min2) => Some(fixed("group-min2")),
+        (Notation::Compact(_), SkeletonGrouping::Auto) => Some(fixed("group-auto")),
+        (Notation::Compact(_), SkeletonGrouping::Off) => Some(fixed("group-off")),
+        (Notation::Compact(_), SkeletonGrouping::Min2) => None,
+    }
+}
+
+// The word of so many integer digits.
+fn digits_word(digits: u8) -> Option<NormalWord<'static>>
+    ensures { option_map word_of result ≡ digits_word digits }
+{
+    if digits == 0 {
+        None
+    } else {
+        Some(NormalWord {
+            front: "integer-width/*",
+            zeros: digits,
+            hashes: 0,
+            behind: "",
+        })
+    }
+}
+
+// The word of the width of a currency.
+fn width_word(width: CurrencyWidth) -> Option<NormalWord<'static>>
+    ensures { option_map word_of result ≡ width_word width }
+{
+    match width {
+        CurrencyWidth::Short => None,
+        CurrencyWidth::IsoCode => Some(fixed("unit-width-iso-code")),
+    }
+}
+
+// The word of a sign.
+fn sign_word(sign: SkeletonSign) -> Option<NormalWord<'static>>
+    ensures { option_map word_of result ≡ sign_word sign }
+{
+    match (sign.style, sign.display) {
+        (CurrencyStyle::Standard, SignDisplay::Auto) => None,
+        (CurrencyStyle::Standard, SignDisplay::Never) => Some(fixed("sign-never")),
+        (CurrencyStyle::Standard, SignDisplay::Always) => Some(fixed("sign-always")),
+        (CurrencyStyle::Standard, SignDisplay::ExceptZero) => Some(fixed("sign-except-zero")),
+        (CurrencyStyle::Standard, SignDisplay::Negative) => Some(fixed("sign-negative")),
+        (CurrencyStyle::Accounting, SignDisplay::Auto) => Some(fixed("sign-accounting")),
+        (CurrencyStyle::Accounting, SignDisplay::Never) => Some(fixed("sign-never")),
+        (CurrencyStyle::Accounting, SignDisplay::Always) => Some(fixed("sign-accounting-always")),
+        (CurrencyStyle::Accounting, SignDisplay::ExceptZero) => {
+            Some(fixed("sign-accounting-except-zero"))
+        }
+        (CurrencyStyle::Accounting, SignDisplay::Negative) => {
+            Some(fixed("sign-accounting-negative"))
+        }
+    }
+}
+
+// Writes a mark so many times.
+fn write_marks<S: Sink>(count: u8, mark: &str, sink: &mut S) -> Result<(), Error>
+    requires { S.refused sink.old ≡ false }
+    ensures ok { OnOk result (S.takes sink.old (bytes (marks count mark.now)) sink.new) }
+    ensures refused { S.refused sink.new ≡ is_err result }
+    ensures begun { OnErr result (HasBegun S.takes S.lacks_room sink.old (bytes (marks count mark.now)) sink.new) }
+{
+    let mut left = count;
+    while left > 0 {
+        sink.write_str(mark)?;
+        left -= 1;
+    }
+    Ok(())
+}
+
+// Writes a space, where something is before it.
+#[tactic(auto, using(crate::proofs::NormalLemmas::no_gap))]
+fn write_gap<S: Sink>(spaced: bool, sink: &mut S) -> Result<(), Error>
+    requires { S.refused sink.old ≡ false }
+    ensures ok { OnOk result (S.takes sink.old (bytes (gap spaced)) sink.new) }
+    ensures refused { S.refused sink.new ≡ is_err result }
+    ensures begun { OnErr result (HasBegun S.takes S.lacks_room sink.old (bytes (gap spaced)) sink.new) }
+{
+    if spaced { sink.write_str(" ") } else { Ok(()) }
+}
+
+// Writes a word, after others or as the first.
+fn write_word<S: Sink>(spaced: bool, word: NormalWord<'_>, sink: &mut S) -> Result<(), Error>
+    requires { S.refused sink.old ≡ false }
+    ensures ok { OnOk result (S.takes sink.old (word_events spaced word.entry) sink.new) }
+    ensures refused { S.refused sink.new ≡ is_err result }
+    ensures begun { OnErr result (HasBegun S.takes S.lacks_room sink.old (word_events spaced word.entry) sink.new) }
+{
+    write_gap(spaced, sink)?;
+    sink.write_str(word.front)?;
+    write_marks(word.zeros, "0", sink)?;
+    write_marks(word.hashes, "#", sink)?;
+    sink.write_str(word.behind)
+}
+
+// Writes a word, where there is one.
+#[tactic(auto, using(crate::proofs::NormalLemmas::word_events_are))]
+fn write_optional<S: Sink>(
+    spaced: bool,
+    word: &Option<NormalWord<'_>>,
+    sink: &mut S,
+) -> Result<(), Error>
+    requires { S.refused sink.old ≡ false }
+    ensures ok { OnOk result
+        (S.takes sink.old (bytes (word_after spaced (option_map word_of word.now))) sink.new) }
+    ensures refused { S.refused sink.new ≡ is_err result }
+    ensures begun { OnErr result
+        (HasBegun S.takes S.lacks_room sink.old (bytes (word_after spaced (option_map word_of word.now))) sink.new) }
+{
+    match word {
+        Some(word) => write_word(spaced, *word, sink),
+        None => Ok(()),
+    }
+}
+
+// Whether something is before the next word.
+fn is_spaced(spaced: bool, word: &Option<NormalWord<'_>>) -> bool
+    ensures { result ≡ (spaced || is_some word.now) }
+{
+    spaced || word.is_some()
+}
+
+// Writes words with a space between each two.
+fn write_words<S: Sink>(words: &[Option<NormalWord<'_>>], sink: &mut S) -> Result<(), Error>
+    requires { S.refused sink.old ≡ false }
+    ensures ok { OnOk result (S.takes sink.old (bytes (joined false (map (option_map word_of) words.now))) sink.new) }
+    ensures refused { S.refused sink.new ≡ is_err result }
+    ensures begun { OnErr result
+        (HasBegun S.takes S.lacks_room sink.old (bytes (joined false (map (option_map word_of) words.now))) sink.new) }
+{
+    let mut spaced = false;
+    for word in words {
+        write_optional(spaced, word, sink)?;
+        spaced = is_spaced(spaced, word);
+    }
+    Ok(())
+}
+
+impl Skeleton {
+    // Its words, in ICU's order; what is usual has none.
+    fn normal_words(&self) -> [Option<NormalWord<'_>>; 8]
+        ensures { map (option_map word_of) result ≡ normal_words self.now }
+    {
+        [
+            notation_word(self.notation),
+            unit_word(&self.unit),
+            precision_word(self.precision),
+            mode_word(self.mode),
+            grouping_word(self.notation, self.grouping),
+            digits_word(self.integer_digits),
+            width_word(self.width),
+            sign_word(self.sign),
+        ]
+    }
+}
+
+/// The normal text: the words in ICU's order, each in its long form, with a space between each two. What is usual has no
+/// word: `compact-short currency/EUR` of `currency/EUR  K sign-auto`.
+impl Writeable for Skeleton {
+    ghost use Rattle.writeable.specs.AnnotatedText.{bytes};
+    ghost use Rattle.locale_numbers_formats.specs.NormalText.{skeleton_text};
+
+    ghost events = { λ s. bytes (skeleton_text s) };
+
+    fn write_to<S: Sink>(&self, sink: &mut S) -> Result<(), Error> {
+        write_words(&self.normal_words(), sink)
+    }
+}
+
+impl fmt::Display for Skeleton {
+    ghost use Rattle.std.specs.Prelude.{Some};
+    ghost use Rattle.locale_numbers_formats.specs.NormalText.{skeleton_text};
+
+    ghost output = { λ s. Some (skeleton_text s) };
+
+    #[tactic(auto, using(writeable::proofs::AnnotatedTextLemmas::text_of_bytes))]
+    fn fmt<W: fmt::Write>(&self, f: &mut fmt::Formatter<W>) -> fmt::Result {
+        display(self, f)
+    }
+}

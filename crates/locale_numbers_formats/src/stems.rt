@@ -1,0 +1,426 @@
+//! The words of skeletons, and what each sets.
+
+ghost use Rattle.std.specs.Prelude.{◌≡◌};
+ghost use Rattle.locale_numbers_formats.specs.Stems.{capital_code, coded, fronts, optioned, or_unknown, setting_named, slashed};
+ghost use Rattle.locale_numbers_formats.specs.WordTable.{value_beside};
+
+use crate::cutting::first_separator;
+use crate::marks::{marked, padded_setting};
+use crate::shape::{CompactWidth, Notation};
+use crate::skeleton_error::WordFault;
+use crate::word_table::value_beside;
+use fixed_decimal::{SignDisplay, SignedRoundingMode, UnsignedRoundingMode};
+use icu_dimension_fractions::{CurrencyCode, CurrencyStyle, CurrencyUsage, CurrencyWidth};
+
+/// What a skeleton writes beside the digits.
+#[derive(Clone, Copy, Debug, PartialEq, Eq)]
+pub enum SkeletonUnit {
+    /// Nothing.
+    None,
+    /// The percent sign: `percent`.
+    Percent,
+    /// A currency: `currency/EUR`.
+    Currency(CurrencyCode),
+}
+
+/// Which digits a skeleton shows.
+#[derive(Clone, Copy, Debug, PartialEq, Eq)]
+pub enum Precision {
+    /// What it is without a word.
+    Usual,
+    /// All: `precision-unlimited`.
+    Unlimited,
+    /// So many after the point at least, and so many more at most: `.00##`, and `precision-integer` of none.
+    Fraction(u8, u8),
+    /// So many after the point at least: `.00*`.
+    AtLeast(u8),
+    /// So many after the point, and none of a whole number: `.00/w`.
+    Whole(u8),
+    /// Those of the currency: `precision-currency-standard`, `precision-currency-cash`.
+    Currency(CurrencyUsage),
+    /// Those of the currency, and none of a whole number: `precision-currency-standard/w`.
+    WholeCurrency(CurrencyUsage),
+}
+
+/// Where a skeleton has separators.
+#[derive(Clone, Copy, Debug, PartialEq, Eq)]
+pub enum SkeletonGrouping {
+    /// Where the locale places them: `group-auto`.
+    Auto,
+    /// Nowhere: `group-off`.
+    Off,
+    /// As `Auto`, with two digits before the last one at least: `group-min2`.
+    Min2,
+}
+
+/// Which sign a skeleton writes.
+#[derive(Clone, Copy, Debug, PartialEq, Eq)]
+pub struct SkeletonSign {
+    /// Which one: `sign-always`.
+    pub display: SignDisplay,
+    /// As in accounting: `sign-accounting`.
+    pub style: CurrencyStyle,
+}
+
+/// What a word sets.
+#[derive(Clone, Copy, Debug, PartialEq, Eq)]
+pub enum Setting {
+    /// How the digits are written.
+    OfNotation(Notation),
+    /// What is beside them.
+    OfUnit(SkeletonUnit),
+    /// Which are shown.
+    OfPrecision(Precision),
+    /// How the number is rounded.
+    OfMode(SignedRoundingMode),
+    /// Where separators are.
+    OfGrouping(SkeletonGrouping),
+    /// How many integer digits are shown at least.
+    OfWhole(u8),
+    /// By what a currency is written.
+    OfWidth(CurrencyWidth),
+    /// Which sign is written.
+    OfSign(SkeletonSign),
+    /// Nothing: its fault is told.
+    Refused(WordFault),
+}
+
+// The words, their short forms beside them, but for those with digits or a part after a slash.
+const STEMS: [(&[u8], Setting); 70] = [
+    (
+        b"compact-short",
+        Setting::OfNotation(Notation::Compact(CompactWidth::Short)),
+    ),
+    (
+        b"K",
+        Setting::OfNotation(Notation::Compact(CompactWidth::Short)),
+    ),
+    (
+        b"compact-long",
+        Setting::OfNotation(Notation::Compact(CompactWidth::Long)),
+    ),
+    (
+        b"KK",
+        Setting::OfNotation(Notation::Compact(CompactWidth::Long)),
+    ),
+    (b"notation-simple", Setting::OfNotation(Notation::Standard)),
+    (b"percent", Setting::OfUnit(SkeletonUnit::Percent)),
+    (b"%", Setting::OfUnit(SkeletonUnit::Percent)),
+    (b"base-unit", Setting::OfUnit(SkeletonUnit::None)),
+    (
+        b"precision-integer",
+        Setting::OfPrecision(Precision::Fraction(0, 0)),
+    ),
+    (b".", Setting::OfPrecision(Precision::Fraction(0, 0))),
+    (
+        b"precision-unlimited",
+        Setting::OfPrecision(Precision::Unlimited),
+    ),
+    (b".+", Setting::OfPrecision(Precision::Unlimited)),
+    (b".*", Setting::OfPrecision(Precision::Unlimited)),
+    (
+        b"precision-currency-standard",
+        Setting::OfPrecision(Precision::Currency(CurrencyUsage::Standard)),
+    ),
+    (
+        b"precision-currency-standard/w",
+        Setting::OfPrecision(Precision::WholeCurrency(CurrencyUsage::Standard)),
+    ),
+    (
+        b"precision-currency-cash",
+        Setting::OfPrecision(Precision::Currency(CurrencyUsage::Cash)),
+    ),
+    (
+        b"precision-currency-cash/w",
+        Setting::OfPrecision(Precision::WholeCurrency(CurrencyUsage::Cash)),
+    ),
+    (
+        b"rounding-mode-ceiling",
+        Setting::OfMode(SignedRoundingMode::Ceil),
+    ),
+    (
+        b"rounding-mode-floor",
+        Setting::OfMode(SignedRoundingMode::Floor),
+    ),
+    (
+        b"rounding-mode-down",
+        Setting::OfMode(SignedRoundingMode::Unsigned(UnsignedRoundingMode::Trunc)),
+    ),
+    (
+        b"rounding-mode-up",
+        Setting::OfMode(SignedRoundingMode::Unsigned(UnsignedRoundingMode::Expand)),
+    ),
+    (
+        b"rounding-mode-half-even",
+        Setting::OfMode(SignedRoundingMode::Unsigned(UnsignedRoundingMode::HalfEven)),
+    ),
+    (
+        b"rounding-mode-half-down",
+        Setting::OfMode(SignedRoundingMode::Unsigned(UnsignedRoundingMode::HalfTrunc)),
+    ),
+    (
+        b"rounding-mode-half-up",
+        Setting::OfMode(SignedRoundingMode::Unsigned(UnsignedRoundingMode::HalfExpand)),
+    ),
+    (
+        b"rounding-mode-half-ceiling",
+        Setting::OfMode(SignedRoundingMode::HalfCeil),
+    ),
+    (
+        b"rounding-mode-half-floor",
+        Setting::OfMode(SignedRoundingMode::HalfFloor),
+    ),
+    (b"group-off", Setting::OfGrouping(SkeletonGrouping::Off)),
+    (b",_", Setting::OfGrouping(SkeletonGrouping::Off)),
+    (b"group-min2", Setting::OfGrouping(SkeletonGrouping::Min2)),
+    (b",?", Setting::OfGrouping(SkeletonGrouping::Min2)),
+    (b"group-auto", Setting::OfGrouping(SkeletonGrouping::Auto)),
+    (
+        b"unit-width-iso-code",
+        Setting::OfWidth(CurrencyWidth::IsoCode),
+    ),
+    (b"unit-width-short", Setting::OfWidth(CurrencyWidth::Short)),
+    (
+        b"sign-auto",
+        Setting::OfSign(SkeletonSign {
+            display: SignDisplay::Auto,
+            style: CurrencyStyle::Standard,
+        }),
+    ),
+    (
+        b"sign-always",
+        Setting::OfSign(SkeletonSign {
+            display: SignDisplay::Always,
+            style: CurrencyStyle::Standard,
+        }),
+    ),
+    (
+        b"+!",
+        Setting::OfSign(SkeletonSign {
+            display: SignDisplay::Always,
+            style: CurrencyStyle::Standard,
+        }),
+    ),
+    (
+        b"sign-never",
+        Setting::OfSign(SkeletonSign {
+            display: SignDisplay::Never,
+            style: CurrencyStyle::Standard,
+        }),
+    ),
+    (
+        b"+_",
+        Setting::OfSign(SkeletonSign {
+            display: SignDisplay::Never,
+            style: CurrencyStyle::Standard,
+        }),
+    ),
+    (
+        b"sign-except-zero",
+        Setting::OfSign(SkeletonSign {
+            display: SignDisplay::ExceptZero,
+            style: CurrencyStyle::Standard,
+        }),
+    ),
+    (
+        b"+?",
+        Setting::OfSign(SkeletonSign {
+            display: SignDisplay::ExceptZero,
+            style: CurrencyStyle::Standard,
+        }),
+    ),
+    (
+        b"sign-negative",
+        Setting::OfSign(SkeletonSign {
+            display: SignDisplay::Negative,
+            style: CurrencyStyle::Standard,
+        }),
+    ),
+    (
+        b"+-",
+        Setting::OfSign(SkeletonSign {
+            display: SignDisplay::Negative,
+            style: CurrencyStyle::Standard,
+        }),
+    ),
+    (
+        b"sign-accounting",
+        Setting::OfSign(SkeletonSign {
+            display: SignDisplay::Auto,
+            style: CurrencyStyle::Accounting,
+        }),
+    ),
+    (
+        b"()",
+        Setting::OfSign(SkeletonSign {
+            display: SignDisplay::Auto,
+            style: CurrencyStyle::Accounting,
+        }),
+    ),
+    (
+        b"sign-accounting-always",
+        Setting::OfSign(SkeletonSign {
+            display: SignDisplay::Always,
+            style: CurrencyStyle::Accounting,
+        }),
+    ),
+    (
+        b"()!",
+        Setting::OfSign(SkeletonSign {
+            display: SignDisplay::Always,
+            style: CurrencyStyle::Accounting,
+        }),
+    ),
+    (
+        b"sign-accounting-except-zero",
+        Setting::OfSign(SkeletonSign {
+            display: SignDisplay::ExceptZero,
+            style: CurrencyStyle::Accounting,
+        }),
+    ),
+    (
+        b"()?",
+        Setting::OfSign(SkeletonSign {
+            display: SignDisplay::ExceptZero,
+            style: CurrencyStyle::Accounting,
+        }),
+    ),
+    (
+        b"sign-accounting-negative",
+        Setting::OfSign(SkeletonSign {
+            display: SignDisplay::Negative,
+            style: CurrencyStyle::Accounting,
+        }),
+    ),
+    (
+        b"()-",
+        Setting::OfSign(SkeletonSign {
+            display: SignDisplay::Negative,
+            style: CurrencyStyle::Accounting,
+        }),
+    ),
+    (b"permille", Setting::Refused(WordFault::Later)),
+    (b"scientific", Setting::Refused(WordFault::Later)),
+    (b"E0", Setting::Refused(WordFault::Later)),
+    (b"engineering", Setting::Refused(WordFault::Later)),
+    (b"EE0", Setting::Refused(WordFault::Later)),
+    (b"unit-width-narrow", Setting::Refused(WordFault::Later)),
+    (b"unit-width-full-name", Setting::Refused(WordFault::Later)),
+    (b"group-on-aligned", Setting::Refused(WordFault::Later)),
+    (b",!", Setting::Refused(WordFault::Later)),
+    (b"%x100", Setting::Refused(WordFault::Later)),
+    (b"latin", Setting::Refused(WordFault::System)),
+    (b"decimal-always", Setting::Refused(WordFault::Unsupported)),
+    (b"decimal-auto", Setting::Refused(WordFault::Unsupported)),
+    (
+        b"integer-width-trunc",
+        Setting::Refused(WordFault::Unsupported),
+    ),
+    (
+        b"unit-width-hidden",
+        Setting::Refused(WordFault::Unsupported),
+    ),
+    (
+        b"unit-width-formal",
+        Setting::Refused(WordFault::Unsupported),
+    ),
+    (
+        b"unit-width-variant",
+        Setting::Refused(WordFault::Unsupported),
+    ),
+    (b"group-thousands", Setting::Refused(WordFault::Unsupported)),
+    (
+        b"rounding-mode-half-odd",
+        Setting::Refused(WordFault::Unsupported),
+    ),
+    (
+        b"rounding-mode-unnecessary",
+        Setting::Refused(WordFault::Unsupported),
+    ),
+];
+
+// What is told of words with a part after a slash, by what is before it.
+const FRONTS: [(&[u8], Setting); 9] = [
+    (b"numbering-system", Setting::Refused(WordFault::System)),
+    (b"scale", Setting::Refused(WordFault::Later)),
+    (b"precision-increment", Setting::Refused(WordFault::Later)),
+    (b"unit", Setting::Refused(WordFault::Later)),
+    (b"measure-unit", Setting::Refused(WordFault::Later)),
+    (b"scientific", Setting::Refused(WordFault::Later)),
+    (b"engineering", Setting::Refused(WordFault::Later)),
+    (
+        b"per-measure-unit",
+        Setting::Refused(WordFault::Unsupported),
+    ),
+    (b"usage", Setting::Refused(WordFault::Unsupported)),
+];
+
+// The currency that a code in capitals names.
+fn capital_code(code: &[u8]) -> Setting
+    ensures { result ≡ capital_code code.now }
+{
+    match CurrencyCode::try_from_utf8(code) {
+        Ok(code) => Setting::OfUnit(SkeletonUnit::Currency(code)),
+        Err(_) => Setting::Refused(WordFault::Code),
+    }
+}
+
+// The currency that a code names, whatever the case of its letters.
+fn coded(code: &[u8]) -> Setting
+    ensures { result ≡ coded code.now }
+{
+    if code.len() != 3 {
+        return Setting::Refused(WordFault::Code);
+    }
+    capital_code(&[
+        code[0].to_ascii_uppercase(),
+        code[1].to_ascii_uppercase(),
+        code[2].to_ascii_uppercase(),
+    ])
+}
+
+// What is told of a word with a part after a slash, by what is before it.
+fn front_setting(front: &[u8]) -> Setting
+    ensures { result ≡ or_unknown (value_beside fronts front.now) }
+{
+    match value_beside(&FRONTS, front) {
+        Some(setting) => setting,
+        None => Setting::Refused(WordFault::Unknown),
+    }
+}
+
+// What a word sets, by what is before its slash and after it.
+fn optioned(front: &[u8], option: &[u8]) -> Setting
+    ensures { result ≡ optioned front.now option.now }
+{
+    if front == b"currency".as_slice() {
+        coded(option)
+    } else if front == b"integer-width".as_slice() {
+        padded_setting(option)
+    } else {
+        front_setting(front)
+    }
+}
+
+// What a word with a slash sets.
+fn slashed(word: &[u8]) -> Setting
+    ensures { result ≡ slashed word.now }
+{
+    match first_separator(word, b'/') {
+        None => Setting::Refused(WordFault::Unknown),
+        Some(end) => optioned(&word[..end], &word[end + 1..]),
+    }
+}
+
+// What a word sets: one of the list, one of digits, or one with a slash.
+pub(crate) fn setting_named(word: &[u8]) -> Setting
+    ensures { result ≡ setting_named word.now }
+{
+    match value_beside(&STEMS, word) {
+        Some(setting) => setting,
+        None => match marked(word) {
+            Some(setting) => setting,
+            None => slashed(word),
+        },
+    }
+}

@@ -1,0 +1,80 @@
+-- What a format writes is the text that its reader reads, and is read back.
+use Rattle.std.proofs.Common.{◌≡◌, ◌↔◌, ℕ, true, List, Option, None, Some, refl, sym, ap, subst, ◌∙◌}
+use Rattle.std.specs.Prelude.{IfOk, IsErrOf, Result, Ok, Err}
+use Rattle.fixed_decimal.specs.Number.{Number}
+use Rattle.fixed_decimal.specs.SignedValue.{SignedValue}
+use Rattle.fixed_decimal.specs.TextLaws.{IsDecimal}
+use Rattle.fixed_decimal.specs.declared.Sign.{Sign}
+use Rattle.fixed_decimal.specs.declared.Sign.TheVariants.{None as NoSign, Negative, Positive}
+use Rattle.icu_decimal.specs.PlainReading.{IsAnswered, PlainReading, decimal, not_written, unreadable}
+use Rattle.icu_decimal.specs.PlainText.{PlainNumber, Tables, unsigned_text}
+use Rattle.icu_decimal.specs.declared.error.ReadError.{ReadError}
+use Rattle.icu_decimal.specs.declared.error.ReadError.TheVariants.{Unreadable, NotWritten, Memory}
+use Rattle.icu_dimension.specs.UnitPatterns.{AffixPair}
+use Rattle.icu_dimension.specs.UnitReading.{AreReaderTexts, HasNoDecimal, IsUnitText, ReaderTexts, is_unit_readable_by, pair_for, text_by}
+use Rattle.icu_dimension.specs.UnitReadingLaws.{WrittenUnitReadsBack}
+use Rattle.icu_dimension.specs.UnitText.{text_between}
+use Rattle.writeable.specs.AnnotatedText.{bytes}
+use Rattle.locale_numbers_answers.specs.JoinedUnit.{JoinedNumber, joined_events}
+use Rattle.locale_numbers_answers.specs.Laws.{HasOneUnitReading}
+use Rattle.icu_dimension_lenient.specs.UnitReadings.{unit_reading}
+use Rattle.locale_numbers_answers.proofs.JoinedUnitLemmas.{joined_is_partless, joined_is_read}
+use Rattle.icu_dimension_lenient.proofs.UnitReadingsLemmas.{unit_written_again}
+use Rattle.locale_numbers_formatter.specs.FormatReading.{format_reading, pairs_reader, reader_of, reading_by_reader}
+use Rattle.locale_numbers_formatter.specs.FormatText.{FormatTables, compact_tables, digit_tables, format_text, pair_in, plain_tables, unit_tables}
+use Rattle.locale_numbers_formatter.specs.ReadingLaws.{FormatReadIsWrittenAgain, FormatReadsBack}
+
+-- the pair of a sign
+pair_is : (f : FormatTables) (sign : Sign) → pair_for (pairs_reader f).pairs sign ≡ pair_in f sign
+pair_is f NoSign = refl
+pair_is f Negative = refl
+pair_is f Positive = refl
+
+between_is : (f : FormatTables) (v : SignedValue Number) → text_by (pairs_reader f) v ≡ text_between (pair_in f v.sign) (unsigned_text (digit_tables f) v.absolute)
+between_is f v = ap (λ pair. text_between pair (unsigned_text (digit_tables f) v.absolute)) (pair_is f v.sign)
+
+-- what a format writes that has a reader
+pub text_is_read : (f : FormatTables) (r : ReaderTexts) (v : SignedValue Number) → reader_of f ≡ Some r → text_by r v ≡ format_text f v
+text_is_read (plain_tables t) r v is =
+    let same : r ≡ pairs_reader (plain_tables t) = cc in
+    ap (λ k. text_by k v) same ∙ between_is (plain_tables t) v
+text_is_read (compact_tables t) r v is = absurd (cc)
+text_is_read (unit_tables u) r v is =
+    let same : r ≡ pairs_reader (unit_tables u) = cc in
+    ap (λ k. text_by k v) same ∙ between_is (unit_tables u) v
+
+read_by : (f : FormatTables) (r : ReaderTexts) (text : List ℕ) → reader_of f ≡ Some r → format_reading f text ≡ unit_reading r text
+read_by f r text is = ap (λ k. reading_by_reader k text) is
+
+pub reads_back : HasOneUnitReading → WrittenUnitReadsBack → FormatReadsBack
+reads_back one back f r v is texts readable decimal_is =
+    let text = format_text f v in
+    let same : text_by r v ≡ text = text_is_read f r v is in
+    read_by f r text is
+    ∙ ap (unit_reading r) (sym same)
+    ∙ back r v (unit_reading r (text_by r v)) texts readable decimal_is ((one r (text_by r v) (unit_reading r (text_by r v)) texts).1 refl)
+
+pub written_again : FormatReadIsWrittenAgain
+written_again (plain_tables t) text v is = sym (text_is_read (plain_tables t) _ v refl) ∙ unit_written_again (pairs_reader (plain_tables t)) text v is
+written_again (compact_tables t) text v is = absurd (cc)
+written_again (unit_tables u) text v is = sym (text_is_read (unit_tables u) _ v refl) ∙ unit_written_again (pairs_reader (unit_tables u)) text v is
+
+-- what a readable reader of texts with a unit answers
+pub unit_answered : HasOneUnitReading → (r : ReaderTexts) (text : List ℕ) (result : Result (SignedValue Number) ReadError) → AreReaderTexts r → is_unit_readable_by r ≡ true
+    → (IsErrOf result Unreadable → ⊥) → (IsErrOf result NotWritten → HasNoDecimal r text) → IfOk result (λ v. IsUnitText r text v) → IsAnswered result (unit_reading r text)
+unit_answered one r text (Ok v) texts readable never missing is = sym ((one r text (decimal v) texts).0 (readable, is))
+unit_answered one r text (Err Unreadable) texts readable never missing is = absurd (never refl)
+unit_answered one r text (Err NotWritten) texts readable never missing is = sym ((one r text not_written texts).0 (readable, missing refl))
+unit_answered one r text (Err Memory) texts readable never missing is = tt
+
+-- what is written between the affixes of a reader, text by text, is the text that it reads
+pub joined_text_is : (r : ReaderTexts) (v : SignedValue Number) (tables : Tables) (number : PlainNumber) (pair : AffixPair) → tables ≡ r.tables
+    → number ≡ record { number = v.absolute; tables = tables } → pair ≡ pair_for r.pairs v.sign
+    → joined_events (record { number = number; affixes = pair }) ≡ bytes (text_by r v)
+joined_text_is r v tables number pair same is between =
+    let whole : PlainNumber = record { number = v.absolute; tables = r.tables } in
+    let joined : JoinedNumber = record { number = whole; affixes = pair_for r.pairs v.sign } in
+    ap (λ n. joined_events (record { number = n; affixes = pair })) (is ∙ ap (λ t. record { number = v.absolute; tables = t }) same)
+    ∙ ap (λ p. joined_events (record { number = whole; affixes = p })) between
+    ∙ sym (joined_is_partless joined)
+    ∙ ap bytes (joined_is_read r v)

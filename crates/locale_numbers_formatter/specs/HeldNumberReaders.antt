@@ -1,0 +1,30 @@
+-- What a reader of numbers holds, and that it was asked whether texts can be read.
+-- Defined in docs/reading.md, "Reading", and docs/units.md, "Reading".
+-- Cited by the view of `NumberReader` and by its private steps.
+use Rattle.std.specs.Prelude.{◌≡◌, Bool, Option, None, Some}
+use Rattle.icu_decimal.specs.BorrowedTables.{borrowed_tables}
+use Rattle.icu_decimal.specs.HeldTables.{tables_of}
+use Rattle.icu_decimal.specs.PlainText.{Tables}
+use Rattle.icu_decimal.specs.Readable.{is_readable_by}
+use Rattle.icu_decimal.specs.ReadingLaws.{AreTables}
+use Rattle.icu_dimension.specs.UnitReading.{AreReaderTexts, ReaderTexts, is_unit_readable_by}
+use Rattle.locale_numbers_formatter.specs.FormatReading.{pairs_reader}
+use Rattle.locale_numbers_formatter.specs.FormatText.{plain_tables}
+use Rattle.locale_numbers_formatter.specs.declared.number_reader.ReaderKind.{ReaderKind}
+use Rattle.locale_numbers_formatter.specs.declared.number_reader.ReaderKind.TheVariants as kind
+
+abbrev pub texts_held : ReaderKind → Option ReaderTexts
+texts_held (kind.Plain formatter) = Some (pairs_reader (plain_tables (tables_of formatter)))
+texts_held (kind.Unit decimals reader) = Some reader
+texts_held kind.Nothing = None
+
+-- a reader of texts with a unit was asked, and these are its tables
+pub record KnowsUnit (t : Tables) (r : ReaderTexts) (is_readable : Bool) : Type 0 where
+  pub tables : t ≡ r.tables
+  pub texts : AreReaderTexts r
+  pub asked : is_readable ≡ is_unit_readable_by r
+
+abbrev pub IsAsked : ReaderKind → Bool → Type 0
+IsAsked (kind.Plain formatter) is_readable = AreTables (tables_of formatter) × (is_readable ≡ is_readable_by (tables_of formatter))
+IsAsked (kind.Unit decimals reader) is_readable = KnowsUnit (borrowed_tables decimals) reader is_readable
+IsAsked kind.Nothing is_readable = Unit {0}

@@ -1,0 +1,71 @@
+//! Laws of the text by layers: it is the text of each format as it is defined in its own crate. No call is made: each clause
+//! is the law.
+
+ghost use Rattle.locale_numbers_formatter.specs.ReadingLaws.{FormatReadIsWrittenAgain, FormatReadsBack, PlainReadsByPairs, ReadersReadFormats};
+ghost use Rattle.locale_numbers_formatter.specs.Laws.{CompactIsLayered, CompactPartsAreLayered, CompactValueIsShown, ExactFormatIsText, ExactIsLayered, ExactPartsAreLayered, FormatIsText, PlainIsLayered, PlainPartsAreLayered, UnitIsLayered, UnitPartsAreLayered};
+
+use icu_decimal::laws::compact::{exact_texts_are_of_events, sign_round_unsigned};
+use icu_decimal::laws::reading::plain_reading_is_the_reading;
+use icu_decimal::laws::text::text_law;
+use icu_dimension::laws::units::{both_trips, text_law as unit_text_law};
+use locale_numbers_answers::laws::unit_texts_have_one_reading;
+
+/// A law: the text of a plain number is its digits between the affixes of its sign: in English `1,234.5` after `-`.
+pub fn plain_is_layered()
+    ensures text { PlainIsLayered }
+    ensures parts { PlainPartsAreLayered }
+{}
+
+/// A law: the text of a compact number is the digits shown in their pattern, between the affixes of the sign: in English
+/// `1.2` before `M`, after `-`. The value shown is that of the layers, and an exact form has the same layers.
+pub fn compact_is_layered()
+    ensures text { CompactIsLayered }
+    ensures parts { CompactPartsAreLayered }
+    ensures value { CompactValueIsShown }
+    ensures exact { ExactIsLayered }
+    ensures exact_parts { ExactPartsAreLayered }
+{
+    text_law();
+}
+
+/// A law: the text of a number with a unit is its digits between the affixes of its sign, with the unit: in English
+/// `1,234.5` after `-€`, and in Swiss German 5 after `CHF-`.
+pub fn unit_is_layered()
+    ensures text { UnitIsLayered }
+    ensures parts { UnitPartsAreLayered }
+{}
+
+/// A law: what a number of any format writes with its parts is the text of its definition, and so is an exact form.
+pub fn format_is_text()
+    ensures number { FormatIsText }
+    ensures exact { ExactFormatIsText }
+{
+    plain_is_layered();
+    compact_is_layered();
+    unit_is_layered();
+    text_law();
+    sign_round_unsigned();
+    exact_texts_are_of_events();
+    unit_text_law();
+}
+
+/// A law: a plain text is read as the number between the affixes of its sign: in English `-1,234.5` as `1,234.5` after
+/// `-`.
+pub fn plain_reads_by_pairs()
+    ensures { PlainReadsByPairs }
+{
+    plain_reading_is_the_reading();
+    unit_texts_have_one_reading();
+}
+
+/// A law: what a readable format writes of a number is read as that number, with its sign and the digits shown, and what
+/// is read as a number is what the format writes of it. In English -1234.50 is written `-€1,234.50`, and this is read as
+/// -1234.50.
+pub fn written_reads_back()
+    ensures written { ReadersReadFormats }
+    ensures back { FormatReadsBack }
+    ensures again { FormatReadIsWrittenAgain }
+{
+    both_trips();
+    unit_texts_have_one_reading();
+}

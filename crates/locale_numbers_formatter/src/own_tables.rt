@@ -1,0 +1,286 @@
+//! What numbers of a format are written with, in memory of their own.
+
+ghost use Rattle.std.specs.Prelude.{◌≡◌, IfOk, IsOk};
+ghost use Rattle.icu_decimal.specs.HeldCompact.{compact_tables_of};
+ghost use Rattle.icu_decimal.specs.HeldTables.{tables_of};
+ghost use Rattle.icu_dimension.specs.HeldFormatters.{code_of, currency_settings_of, settings_of_percent};
+ghost use Rattle.icu_dimension.specs.HeldUnits.{settings_of};
+ghost use Rattle.locale_numbers_formatter.specs.FormatText.{compact_tables, plain_tables, unit_tables};
+ghost use Rattle.locale_numbers_formatter.specs.HeldFormats.{currency_format, percent_format};
+ghost use Rattle.locale_numbers_formatter.specs.Regrouped.{HasNoTexts, compact_regrouped, plain_regrouped, regrouped, unit_regrouped};
+
+use crate::number_formatter::{FormatterKind, NumberFormatter};
+use icu_decimal::options::GroupingStrategy;
+use icu_decimal::plurals::PluralRules;
+use icu_decimal::provider::CompactPatterns;
+use icu_decimal::{CompactDecimalFormatter, DecimalFormatter, OwnedDecimalTables};
+use icu_dimension::provider::CurrencySymbol;
+use icu_dimension::{
+    CurrencyCode, CurrencyFormatter, FractionInfo, LetterEnds, PercentFormatter, UnitKind,
+    UnitPattern, UnitTables,
+};
+use std::alloc::{AllocError, Global};
+use std::marker::Model;
+
+// What plain numbers are written with, plural rules, and a table of patterns.
+#[derive(Drop)]
+pub(crate) struct OwnCompactTables {
+    plain: OwnedDecimalTables,
+    rules: PluralRules,
+    patterns: CompactPatterns,
+}
+
+impl Model for OwnCompactTables {
+    ghost use Rattle.icu_decimal.specs.CompactTables.{CompactTables};
+
+    ghost Value = { CompactTables };
+
+    ghost view = { λ t. record { plain = t.plain; rules = t.rules; patterns = t.patterns } };
+}
+
+// What plain numbers are written with, a pattern, and a unit. Which ends of its text are letters was looked at when the
+// pattern was chosen, and is not kept.
+#[derive(Drop)]
+pub(crate) struct OwnUnitTables {
+    decimals: OwnedDecimalTables,
+    pattern: UnitPattern,
+    kind: UnitKind,
+    symbol: CurrencySymbol,
+}
+
+impl Model for OwnUnitTables {
+    ghost use Rattle.icu_dimension.specs.UnitText.{UnitSettings};
+
+    ghost Value = { UnitSettings };
+
+    ghost view = { λ t. record {
+      tables = t.decimals;
+      pattern = t.pattern;
+      unit = record { kind = t.kind; text = t.symbol.text };
+    } };
+}
+
+// Of which kind they are.
+#[derive(Drop)]
+pub(crate) enum OwnTables {
+    // Of plain numbers.
+    Plain(OwnedDecimalTables),
+    // Of compact numbers.
+    Compact(OwnCompactTables),
+    // Of percents.
+    Percent(OwnUnitTables),
+    // Of amounts, with the code of their currency and its digits.
+    Currency(OwnUnitTables, CurrencyCode, FractionInfo),
+}
+
+impl OwnCompactTables {
+    // A copy of what a formatter borrows, with this strategy.
+    fn of(
+        alloc: Global,
+        formatter: &CompactDecimalFormatter<'_>,
+        strategy: GroupingStrategy,
+    ) -> Result<OwnCompactTables, AllocError>
+        ensures { IfOk result (λ own. own ≡ compact_regrouped strategy (compact_tables_of formatter.now)) }
+    {
+        let plain = OwnedDecimalTables::try_from_tables(formatter.plain().tables(), strategy)?;
+        let rules = formatter.rules().try_clone(alloc)?;
+        let patterns = formatter.patterns().try_clone()?;
+        Ok(OwnCompactTables {
+            plain,
+            rules,
+            patterns,
+        })
+    }
+
+    // The formatter that writes with them.
+    fn formatter(&self) -> CompactDecimalFormatter<'_>
+        ensures { compact_tables_of result ≡ self.now }
+    {
+        let plain = DecimalFormatter::from(self.plain.tables());
+        CompactDecimalFormatter::from_tables(plain, &self.rules, &self.patterns)
+    }
+}
+
+// The text of a unit, as that of a symbol.
+fn symbol_of(alloc: Global, text: &str) -> Result<CurrencySymbol, AllocError>
+    ensures { IfOk result (λ symbol. symbol.text ≡ text.now) }
+{
+    let text = String::from_str(alloc, text)?;
+    Ok(CurrencySymbol {
+        text,
+        ends: LetterEnds {
+            first: false,
+            last: false,
+        },
+    })
+}
+
+impl OwnUnitTables {
+    // A copy of these tables, with this strategy.
+    fn of(
+        alloc: Global,
+        tables: &UnitTables<'_>,
+        strategy: GroupingStrategy,
+    ) -> Result<OwnUnitTables, AllocError>
+        ensures { IfOk result (λ own. own ≡ unit_regrouped strategy (settings_of tables.now)) }
+    {
+        let decimals = OwnedDecimalTables::try_from_tables(tables.decimals(), strategy)?;
+        let pattern = tables.pattern().try_clone(alloc)?;
+        let unit = tables.unit();
+        let symbol = symbol_of(alloc, unit.text)?;
+        Ok(OwnUnitTables {
+            decimals,
+            pattern,
+            kind: unit.kind,
+            symbol,
+        })
+    }
+
+    // The formatter of percents that writes with them.
+    fn percents(&self) -> PercentFormatter<'_>
+        requires { self.now.unit.kind ≡ UnitKind.Percent }
+        ensures { settings_of_percent result ≡ self.now }
+    {
+        let sign = self.symbol.text.as_str();
+        PercentFormatter::from_parts(self.decimals.tables(), &self.pattern, sign)
+    }
+
+    // The formatter of amounts that writes with them.
+    fn amounts(&self, code: CurrencyCode, fractions: FractionInfo) -> CurrencyFormatter<'_>
+        requires { self.now.unit.kind ≡ UnitKind.Currency }
+        ensures code { code_of result ≡ code }
+        ensures value { currency_settings_of result ≡ record { unit = self.now; fractions = fractions } }
+    {
+        let symbol = Some(&self.symbol);
+        let decimals = self.decimals.tables();
+        CurrencyFormatter::from_parts(decimals, &self.pattern, symbol, code, fractions)
+    }
+}
+
+/// What numbers of a format are written with, in memory of their own, which lend a formatter: of that of the percents of
+/// English, with `Never`, one that writes 1234 as `1234%`.
+///
+/// A clause sees what is written with.
+#[derive(Drop)]
+pub struct OwnNumberTables {
+    tables: OwnTables,
+}
+
+impl Model for OwnNumberTables {
+    ghost use Rattle.locale_numbers_formatter.specs.FormatText.{FormatTables};
+
+    ghost Value = { FormatTables };
+
+    ghost use Rattle.locale_numbers_formatter.specs.HeldTables.{IsOfKind, format_owned};
+
+    ghost view = { λ t. format_owned t.tables };
+
+    ghost invariant = { λ t. IsOfKind t.tables };
+}
+
+impl OwnNumberTables {
+    // Those of plain numbers.
+    fn of_plain(
+        formatter: &DecimalFormatter<'_>,
+        strategy: GroupingStrategy,
+    ) -> Result<OwnNumberTables, AllocError>
+        ensures succeeds { HasNoTexts (plain_tables (tables_of formatter.now)) → IsOk result }
+        ensures value { IfOk result
+            (λ own. own ≡ plain_tables (plain_regrouped strategy (tables_of formatter.now))) }
+    {
+        let tables = OwnedDecimalTables::try_from_tables(formatter.tables(), strategy)?;
+        Ok(OwnNumberTables {
+            tables: OwnTables::Plain(tables),
+        })
+    }
+
+    // Those of compact numbers.
+    fn of_compact(
+        alloc: Global,
+        formatter: &CompactDecimalFormatter<'_>,
+        strategy: GroupingStrategy,
+    ) -> Result<OwnNumberTables, AllocError>
+        ensures { IfOk result
+            (λ own. own ≡ compact_tables (compact_regrouped strategy (compact_tables_of formatter.now))) }
+    {
+        let tables = OwnCompactTables::of(alloc, formatter, strategy)?;
+        Ok(OwnNumberTables {
+            tables: OwnTables::Compact(tables),
+        })
+    }
+
+    // Those of percents.
+    fn of_percent(
+        alloc: Global,
+        formatter: &PercentFormatter<'_>,
+        strategy: GroupingStrategy,
+    ) -> Result<OwnNumberTables, AllocError>
+        ensures { IfOk result (λ own. own
+            ≡ unit_tables (percent_format (unit_regrouped strategy (settings_of_percent formatter.now)))) }
+    {
+        let tables = OwnUnitTables::of(alloc, &formatter.tables(), strategy)?;
+        Ok(OwnNumberTables {
+            tables: OwnTables::Percent(tables),
+        })
+    }
+
+    // Those of amounts.
+    fn of_currency(
+        alloc: Global,
+        formatter: &CurrencyFormatter<'_>,
+        strategy: GroupingStrategy,
+    ) -> Result<OwnNumberTables, AllocError>
+        ensures { IfOk result (λ own. own
+            ≡ regrouped strategy
+            (unit_tables (currency_format (code_of formatter.now) (currency_settings_of formatter.now)))) }
+    {
+        let tables = OwnUnitTables::of(alloc, &formatter.tables(), strategy)?;
+        Ok(OwnNumberTables {
+            tables: OwnTables::Currency(tables, formatter.code(), formatter.fractions()),
+        })
+    }
+
+    /// A copy of what the formatter writes with, with this strategy: of that of the percents of English, with `Never`, one
+    /// that writes 1234 as `1234%`.
+    ///
+    /// It allocates, but of plain numbers where the six texts of the symbols are empty. `AllocError`: out of memory.
+    pub fn try_of(
+        alloc: Global,
+        formatter: &NumberFormatter<'_>,
+        strategy: GroupingStrategy,
+    ) -> Result<OwnNumberTables, AllocError>
+        ensures succeeds { HasNoTexts formatter.now → IsOk result }
+        ensures value { IfOk result (λ own. own ≡ regrouped strategy formatter.now) }
+    {
+        match &formatter.kind {
+            FormatterKind::Plain(formatter) => OwnNumberTables::of_plain(formatter, strategy),
+            FormatterKind::Compact(formatter) => {
+                OwnNumberTables::of_compact(alloc, formatter, strategy)
+            }
+            FormatterKind::Percent(formatter) => {
+                OwnNumberTables::of_percent(alloc, formatter, strategy)
+            }
+            FormatterKind::Currency(formatter) => {
+                OwnNumberTables::of_currency(alloc, formatter, strategy)
+            }
+        }
+    }
+
+    /// The formatter that writes with them: of a copy of that of the percents of English what writes -12.5 as `-12.5%`. It
+    /// does not allocate.
+    pub fn lent(&self) -> NumberFormatter<'_>
+        ensures { result ≡ self.now }
+    {
+        let kind = match &self.tables {
+            OwnTables::Plain(tables) => {
+                FormatterKind::Plain(DecimalFormatter::from(tables.tables()))
+            }
+            OwnTables::Compact(tables) => FormatterKind::Compact(tables.formatter()),
+            OwnTables::Percent(tables) => FormatterKind::Percent(tables.percents()),
+            OwnTables::Currency(tables, code, fractions) => {
+                FormatterKind::Currency(tables.amounts(*code, *fractions))
+            }
+        };
+        NumberFormatter { kind }
+    }
+}

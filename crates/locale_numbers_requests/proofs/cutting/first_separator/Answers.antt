@@ -1,5 +1,0 @@
-use Rattle.locale_numbers_requests.proofs.CuttingLemmas.{first_found}
-use Rattle.locale_numbers_requests.proofs.cutting.first_separator.Goals as goal
-
-pub returns : goal.returns
-returns c = first_found _ _ _ c.memchr.ensures

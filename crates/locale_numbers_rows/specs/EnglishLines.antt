@@ -1,0 +1,25 @@
+-- What a line with the tag `en` asks a book for, where it asks for a number with a unit.
+-- Defined in docs/requests.md, "Units" and "Answer line".
+-- Cited by `english_book`.
+use Rattle.std.specs.Prelude.{◌≡◌, ℕ, List, Some, None, Ok, codes}
+use Rattle.icu_locale_core.specs.TagPreferences.{Preferences}
+use Rattle.locale_numbers.specs.Book.{BookTables}
+use Rattle.locale_numbers.specs.FoundUnit.{found_unit}
+use Rattle.locale_numbers.specs.Request.{Asked, request_of}
+use Rattle.locale_numbers.specs.UnitAnswer.{UnitFound}
+use Rattle.locale_numbers.specs.UnitLaws.{FindsUnit}
+use Rattle.locale_numbers.specs.declared.Form.TheVariants as form
+use Rattle.locale_numbers.specs.declared.UnitAsked.{UnitAsked}
+
+-- what `en` prefers
+abbrev pub english : Preferences
+english = record {
+  locale = record { language = codes "en"; script = None; region = None; variant = None; subdivision = None; region_override = None };
+  numbering_system = None;
+}
+
+-- each line with the tag `en` and a unit, of which the book has the tables, is one that the laws of units are about
+abbrev pub FindsEnglishUnits : BookTables → Type 0
+FindsEnglishUnits book = (line : List ℕ) (asked : Asked) (unit : UnitAsked) (tables : UnitFound)
+    → request_of line ≡ Some asked → asked.tag ≡ codes "en" → asked.form ≡ form.Unit unit
+    → found_unit unit book english asked.grouping ≡ Ok tables → FindsUnit book asked unit tables

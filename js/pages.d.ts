@@ -1,0 +1,9 @@
+/** What a page's module may be made without: compact numbers, percents and amounts, and what reads texts. */
+export type PagePart = "compact" | "units" | "read";
+export const PARTS: readonly PagePart[];
+
+/**
+ * The WebAssembly module of a page, for `load` of `legumeyet/page`: that of `page.wasm` with the tables of the locales of these tags inside, and
+ * those below them, as `smallerBook` has them. What it is made without is no call of it, and throws an Error.
+ */
+export function pageModule(module: Uint8Array, json: string, tags: readonly string[], options?: { without?: readonly PagePart[] }): Uint8Array;

@@ -1,0 +1,84 @@
+// The module of a page has the tables of its locales inside: with it each formatter writes and reads as the package's do.
+import assert from "node:assert/strict";
+import { execFileSync, spawnSync } from "node:child_process";
+import { mkdtempSync, readFileSync, rmSync, writeFileSync } from "node:fs";
+import { createRequire } from "node:module";
+import { tmpdir } from "node:os";
+import { join } from "node:path";
+import { after, test } from "node:test";
+import { fileURLToPath, pathToFileURL } from "node:url";
+import { brotliCompressSync } from "node:zlib";
+import { pageModule } from "legumeyet/pages";
+import * as page from "legumeyet/page";
+
+const root = pathToFileURL(createRequire(import.meta.url).resolve("legumeyet/legumeyet.wasm"));
+const at = (name) => fileURLToPath(new URL(name, root));
+const world = readFileSync(at("world.json"), "utf8");
+const made = (...tags) => pageModule(readFileSync(at("page.wasm")), world, tags);
+const without = (...parts) => pageModule(readFileSync(at("page.wasm")), world, ["de"], { without: parts });
+const folder = mkdtempSync(join(tmpdir(), "legumeyet "));
+after(() => rmSync(folder, { recursive: true }));
+
+function saved(name, bytes) {
+  writeFileSync(join(folder, name), bytes);
+  return join(folder, name);
+}
+
+const linesOf = (...words) => execFileSync(process.execPath, [fileURLToPath(new URL("texts-of-page.js", import.meta.url)), ...words], { encoding: "utf8", maxBuffer: 1e9 }).trim().split("\n");
+
+test("each locale of a page is written and read as by the package", () => {
+  for (const [tags, below] of [[["en", "de"], ["en-GB", "de-AT", "de-CH"]], [["es", "pt-PT", "pl"], ["es-MX"]], [["ar-EG", "hi", "fa"], ["ar-EG-u-nu-latn", "hi-u-nu-latn"]]]) {
+    const module = saved(`${tags[0]}.wasm`, made(...tags));
+    const asked = [...tags, ...below].join();
+    const lines = linesOf(asked, module);
+    assert.ok(lines.length > 100);
+    for (const [number, line] of linesOf(asked).entries()) assert.equal(lines[number], line);
+  }
+});
+
+test("a page's module is the same each time", () => {
+  assert.deepEqual(made("en", "de"), made("en", "de"));
+  const written = spawnSync(process.execPath, [at("make-page.js"), "en", "de"]);
+  assert.deepEqual([written.status, new Uint8Array(written.stdout)], [0, new Uint8Array(made("en", "de"))]);
+  for (const [words, status] of [[[], 2], [["-x"], 2], [["zz"], 1], [["--without", "x", "de"], 1]]) assert.equal(spawnSync(process.execPath, [at("make-page.js"), ...words]).status, status);
+});
+
+test("a page's module may be made without what the page does not use", () => {
+  const module = saved("without.wasm", without("compact", "units", "read"));
+  const code = `
+    import { readFileSync } from "node:fs";
+    import { CompactDecimalFormatter, CurrencyFormatter, DecimalFormatter, PercentFormatter, load } from "legumeyet/page";
+    await load(readFileSync(${JSON.stringify(module)}));
+    const german = new DecimalFormatter("de");
+    const refused = [() => new CompactDecimalFormatter("de"), () => new PercentFormatter("de"), () => new CurrencyFormatter("de", { currency: "EUR" }), () => german.read("1"), () => german.readLenient("1")];
+    console.log(refused.map((call) => { try { return call(); } catch ({ message }) { return /without js_/.test(message); } }).join(), german.format("1234.5"), german.formatToParts("1").length, german.formatAll([1, 2]).join());
+  `;
+  const folder = fileURLToPath(new URL(".", import.meta.url));
+  assert.equal(execFileSync(process.execPath, ["--input-type=module", "--eval", code], { encoding: "utf8", cwd: folder }), "true,true,true,true,true 1.234,5 1 1,2\n");
+  const sizes = [without("compact", "units", "read"), without("read"), without()].map((it) => brotliCompressSync(it).length);
+  assert.ok(sizes[0] < sizes[1] && sizes[1] < sizes[2], String(sizes));
+  assert.throws(() => without("parts"), RangeError);
+});
+
+test("what is no module of a page is refused", async () => {
+  await assert.rejects(page.load(new Uint8Array(5)), page.LoadError);
+  await assert.rejects(import("legumeyet/pages").then((it) => it.pageModule(readFileSync(at("legumeyet.wasm")), world, ["en"])), /not page.wasm/);
+  assert.throws(() => made("zz"), RangeError);
+});
+
+test("a page's module is loaded, and nothing is lost", async () => {
+  assert.throws(() => new page.DecimalFormatter("en"), /load/);
+  await page.load(made("en", "es"));
+  const formatters = ["en", "es"].map((it) => new page.DecimalFormatter(it, { useGrouping: "always" }));
+  const texts = () => formatters.map((it) => it.format("1234.5"));
+  assert.deepEqual(texts(), ["1,234.5", "1.234,5"]);
+  assert.throws(() => new page.DecimalFormatter("de"), page.LegumeyetError);
+  const before = page.memorySize();
+  const deeper = () => {
+    texts();
+    deeper();
+  };
+  for (let times = 0; times < 20; times += 1) assert.throws(deeper, RangeError);
+  assert.deepEqual(texts(), ["1,234.5", "1.234,5"]);
+  assert.ok(page.memorySize() < 2 * before);
+});

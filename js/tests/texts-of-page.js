@@ -1,0 +1,38 @@
+// Prints what formatters of some locales write and read: by the package, or by the module of a page that is in a file.
+// usage: node texts-of-page.js TAGS [MODULE]
+import { readFileSync } from "node:fs";
+
+const [tags, module] = process.argv.slice(2);
+const library = await import(module === undefined ? "legumeyet" : "legumeyet/page");
+if (module !== undefined) await library.load(readFileSync(module));
+const { CompactDecimalFormatter, CurrencyFormatter, DecimalFormatter, PercentFormatter } = library;
+
+const NUMBERS = ["0", "-0", "1", "7.50", "-1234.5", "2500", "1650", "999999.995", "-123456789012345678901234567890.5", 1e21, 0.1, 12345n, "x", "1e40000", NaN];
+const TYPED = ["1234.5", "1.234,5", "1,234.50", "-5", "−5", " 7 ", "5.", ".5", "१२३", "٤٥٦", "1x", "", "\ud800", "5 €", "€5", "EUR 5", "12%", "12 %"];
+const PLAIN = [{}, { useGrouping: "always" }, { useGrouping: false }, { useGrouping: "min2" }, { signDisplay: "exceptZero" }, { maximumFractionDigits: 2, roundingMode: "floor" }, { minimumIntegerDigits: 5, minimumFractionDigits: 1 }];
+const COMPACT = [{}, { compactDisplay: "long" }, { useGrouping: "always" }, { roundingMode: "ceil" }, { position: 3 }];
+const AMOUNTS = ["EUR", "JPY", "CHF", "QQQ", "eur"].flatMap((currency) => [{ currency }, { currency, currencySign: "accounting", currencyDisplay: "code" }, { currency, currencyDigits: "cash", useGrouping: "always" }]);
+const KINDS = [[DecimalFormatter, PLAIN], [PercentFormatter, PLAIN], [CompactDecimalFormatter, COMPACT], [CurrencyFormatter, AMOUNTS]];
+
+function said(call) {
+  try {
+    return call();
+  } catch (error) {
+    return `${error.constructor.name} ${error.message}`;
+  }
+}
+
+function textsOf(it) {
+  const of = (name, all) => (name in it ? all.map((one) => said(() => it[name](one))) : []);
+  const texts = of("format", NUMBERS);
+  const all = said(() => it.formatAll(NUMBERS.slice(0, 10)));
+  const columns = [new Float64Array([1.5, -1e21, 0]), new BigInt64Array([5n, -12345n]), ["1", "x"]].map((column) => said(() => it.formatAll(column)));
+  return { options: it.resolvedOptions(), texts, all, columns, parts: of("formatToParts", NUMBERS), back: of("read", texts), typed: of("readLenient", [...texts, ...TYPED]), shown: of("shown", NUMBERS), exact: of("formatExact", of("shown", NUMBERS)) };
+}
+
+for (const tag of tags.split(",")) {
+  for (const [Type, choices] of KINDS) {
+    for (const options of choices) console.log(JSON.stringify([tag, Type.name, options, said(() => textsOf(new Type(tag, options)))]));
+  }
+  console.log(JSON.stringify([DecimalFormatter.supportedLocalesOf(["en", "de", tag, "zz"].filter((it) => it === tag || it === "zz"))]));
+}
