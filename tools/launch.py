@@ -5,8 +5,8 @@ usage: tools/launch.py SEEN WORD..
 
 SEEN is what the script saw of the sources and the program that the words are for; tools/help.txt says what the words are.
 """
-# First of all, and by the module that takes no time: an interrupt ends this process without a traceback. The script had it wait
-# until here, where it could.
+# First of all, and by the module that takes no time: a signal ends this process at once, without a traceback. The script had an
+# interrupt wait until here, where it could.
 import _signal
 
 if _signal.getsignal(_signal.SIGINT) == _signal.default_int_handler:
@@ -20,17 +20,6 @@ import sys
 # Python is started with no path but its own, whatever the environment says.
 sys.path.append(os.path.dirname(os.path.realpath(__file__)))
 
-
-def interrupted(number, _frame):
-    """Ends by a signal as other commands end, with no traceback."""
-    sys.exit(128 + number)
-
-
-for ending in (signal.SIGTERM, signal.SIGINT, signal.SIGHUP):
-    if signal.getsignal(ending) != signal.SIG_IGN:
-        signal.signal(ending, interrupted)
-
-# (after the signals, since the imports take a moment)
 try:
     from launching import answering, building, cldr_book, sources, words
 except (EOFError, ValueError):
@@ -42,6 +31,17 @@ except (EOFError, ValueError):
 from launching import answering, building, cldr_book, sources
 from launching.common import COMMAND, FAILED, LINES, OUTPUT, Fault, fault_of, fill_closed_ends, say, write_all
 from launching.words import read_words
+
+
+def interrupted(number, _frame):
+    """Ends by a signal as other commands end, with no traceback."""
+    sys.exit(128 + number)
+
+
+# (only now: what is raised amid an import may be lost there, and the call would go on)
+for ending in (signal.SIGTERM, signal.SIGINT, signal.SIGHUP):
+    if signal.getsignal(ending) != signal.SIG_IGN:
+        signal.signal(ending, interrupted)
 
 
 def print_built(name):

@@ -26,13 +26,17 @@ class Guard:
 
     def __init__(self, rooms):
         self.rooms = rooms
+        # a signal waits until it ends all of this: what is raised amid a fork may be lost there
+        masked = signal.pthread_sigmask(signal.SIG_BLOCK, SIGNALS)
         ends, self.held = os.pipe()
         how = {"stdin": ends, "stdout": subprocess.DEVNULL, "stderr": subprocess.DEVNULL}
         self.process = subprocess.Popen(["sh", "-c", SCRIPT, "guard", rooms], preexec_fn=os.setpgrp, **how)
         os.close(ends)
         # what is ignored stays so, as under nohup
-        heard = [it for it in SIGNALS if signal.getsignal(it) != signal.SIG_IGN]
-        self.before = {number: signal.signal(number, self.interrupted) for number in heard}
+        self.before = {it: signal.getsignal(it) for it in SIGNALS if signal.getsignal(it) != signal.SIG_IGN}
+        for number in self.before:
+            signal.signal(number, self.interrupted)
+        signal.pthread_sigmask(signal.SIG_SETMASK, masked)
 
     def __enter__(self):
         return self
