@@ -1,6 +1,4 @@
 -- What a reader must believe: the answers to request lines.
-pub mod CompactAnswer
-pub mod FoundUnit
 pub mod WithoutUnits
 pub mod Answer
 -- Keys of formatters, and how many are made.
@@ -10,13 +8,13 @@ pub mod Words
 pub mod Fault
 pub mod Program
 -- What private steps follow.
-pub mod UnitHeld
-pub mod LineFormatters
+pub mod KeptFormatters
 pub mod Front
 pub mod LineMemory
 pub mod LineState
 pub mod KeptAnswers
 -- Statements of laws.
+pub mod AskedFormats
 pub mod SameKeys
 pub mod Laws
 pub mod Printed

@@ -11,7 +11,7 @@ use Rattle.icu_locale_core.specs.TagPreferences.{Subdivision, LocalePreferencesM
 use Rattle.icu_locale_core.specs.SamePreferences.{same_subdivision, same_locale, same_preferences}
 use Rattle.icu_decimal.specs.declared.options.GroupingStrategy.{GroupingStrategy}
 use Rattle.locale_numbers.specs.declared.formatter_key.FormatterKey.{FormatterKey}
-use Rattle.locale_numbers.specs.declared.formatter_key.Kind.{Kind}
+use Rattle.locale_numbers_formats.specs.declared.NumberShape.{NumberShape}
 
 texts : (s t : Option Text) → option_eq same_text s t ≡ true → s ≡ t
 texts None None h = refl
@@ -67,22 +67,14 @@ preferences_are a b h =
     let system : a.numbering_system ≡ b.numbering_system = texts a.numbering_system b.numbering_system p.1 in
     λ i. record { locale = locale i; numbering_system = system i }
 
-codes_are : (eq : Text → Text → Bool) → ((a b : Text) → eq a b ≡ true → a ≡ b) → (s t : Option Text) → option_eq eq s t ≡ true → s ≡ t
-codes_are eq is None None h = refl
-codes_are eq is None (Some t) h = cc
-codes_are eq is (Some s) None h = cc
-codes_are eq is (Some s) (Some t) h = ap Some (is s t h)
-
-module _ (kinds : Kind → Kind → Bool) (codes : Text → Text → Bool) (groupings : GroupingStrategy → GroupingStrategy → Bool) (kind_is : (a b : Kind) → kinds a b ≡ true → a ≡ b) (code_is : (a b : Text) → codes a b ≡ true → a ≡ b) (grouping_is : (a b : GroupingStrategy) → groupings a b ≡ true → a ≡ b) where
-  -- keys whose preferences, kinds, codes and groupings are `==` are one
+module _ (shapes : NumberShape → NumberShape → Bool) (leniencies : Bool → Bool → Bool) (shape_is : (a b : NumberShape) → shapes a b ≡ true → a ≡ b) (leniency_is : (a b : Bool) → leniencies a b ≡ true → a ≡ b) where
+  -- keys whose preferences, shapes and leniencies are `==` are one
   pub keys_are : (one other : FormatterKey)
-      → same_preferences one.preferences other.preferences && (kinds one.kind other.kind && (option_eq codes one.code other.code && groupings one.grouping other.grouping)) ≡ true → one ≡ other
+      → same_preferences one.preferences other.preferences && (shapes one.shape other.shape && leniencies one.is_lenient other.is_lenient) ≡ true → one ≡ other
   keys_are one other h =
-      let p = and_parts (same_preferences one.preferences other.preferences) (kinds one.kind other.kind && (option_eq codes one.code other.code && groupings one.grouping other.grouping)) h in
-      let q = and_parts (kinds one.kind other.kind) (option_eq codes one.code other.code && groupings one.grouping other.grouping) p.1 in
-      let r = and_parts (option_eq codes one.code other.code) (groupings one.grouping other.grouping) q.1 in
+      let p = and_parts (same_preferences one.preferences other.preferences) (shapes one.shape other.shape && leniencies one.is_lenient other.is_lenient) h in
+      let q = and_parts (shapes one.shape other.shape) (leniencies one.is_lenient other.is_lenient) p.1 in
       let preferences : one.preferences ≡ other.preferences = preferences_are one.preferences other.preferences p.0 in
-      let kind : one.kind ≡ other.kind = kind_is one.kind other.kind q.0 in
-      let code : one.code ≡ other.code = codes_are codes code_is one.code other.code r.0 in
-      let grouping : one.grouping ≡ other.grouping = grouping_is one.grouping other.grouping r.1 in
-      λ i. record { preferences = preferences i; kind = kind i; code = code i; grouping = grouping i }
+      let shape : one.shape ≡ other.shape = shape_is one.shape other.shape q.0 in
+      let leniency : one.is_lenient ≡ other.is_lenient = leniency_is one.is_lenient other.is_lenient q.1 in
+      λ i. record { preferences = preferences i; shape = shape i; is_lenient = leniency i }

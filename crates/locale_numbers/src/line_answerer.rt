@@ -15,7 +15,7 @@ use crate::answering::answer_after_front;
 use crate::cached_formatters::CachedFormatters;
 use crate::formatter_key::FormatterKey;
 use crate::front::{Front, FrontReader, cut_text};
-use crate::tables::Tables;
+use locale_numbers_book::Tables;
 use fixed_decimal::Decimal;
 use locale_numbers_cache::ReadKeys;
 use locale_numbers_lines::Answerer;

@@ -1,6 +1,6 @@
 //! Tables of numbers alone, as those of a book that has no units.
 
-use crate::tables::Tables;
+use locale_numbers_book::Tables;
 use icu_decimal::plurals::PluralRules;
 use icu_decimal::provider::{
     CompactPatterns, DataError, DataIdentifier, DataProvider, DecimalCompactLongV1,
