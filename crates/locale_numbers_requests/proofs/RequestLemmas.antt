@@ -6,7 +6,6 @@ use Rattle.std.specs.List.{count_by}
 use Rattle.std.proofs.lemmas.List.Splits.{length-slice_split}
 use Rattle.locale_numbers_requests.specs.Request.{fields, tab}
 use Rattle.locale_numbers_formats.specs.Cutting.{is_separator, cut_at}
-use Rattle.locale_numbers_requests.specs.RoundingField.{comma}
 
 -- six fields and what follows a tab are more than six
 pub more_than_six : (line rest tag form grouping sign rounding text : List ℕ) → fields line ≡ tag ∷ form ∷ grouping ∷ sign ∷ rounding ∷ text ∷ fields rest → length (fields line) ≡ 6 → ⊥
@@ -16,10 +15,10 @@ more_than_six line rest tag form grouping sign rounding text seven six =
     omega arith
 
 -- three pieces and what follows a separator are more than three
-pub more_than_three : (text rest first second third : List ℕ) → cut_at comma text ≡ first ∷ second ∷ third ∷ cut_at comma rest → length (cut_at comma text) ≡ 3 → ⊥
-more_than_three text rest first second third four three =
-    let most : length (cut_at comma text) ≡ 3 + length (cut_at comma rest) = ap length four ∙ omega arith in
-    let some : length (cut_at comma rest) ≡ count_by (is_separator comma) rest + 1 = length-slice_split (is_separator comma) rest in
+pub more_than_three : (separator : ℕ) (text rest first second third : List ℕ) → cut_at separator text ≡ first ∷ second ∷ third ∷ cut_at separator rest → length (cut_at separator text) ≡ 3 → ⊥
+more_than_three separator text rest first second third four three =
+    let most : length (cut_at separator text) ≡ 3 + length (cut_at separator rest) = ap length four ∙ omega arith in
+    let some : length (cut_at separator rest) ≡ count_by (is_separator separator) rest + 1 = length-slice_split (is_separator separator) rest in
     omega arith
 
 -- a test that fails where it would show a fact that does not hold

@@ -1,7 +1,7 @@
--- Which texts are a rounding, and what they round.
+-- Which texts are a rounding, and what they make of the digits of a number.
 -- Defined in docs/requests.md, "Rounding and sign".
 -- Cited by `answer` and `run`, through Request.antt.
--- Each of the three words of a rounding is a type with cases, and the cases are imported beside it.
+-- Each of the words of a rounding is a type with cases, and the cases are imported beside it.
 use Rattle.std.specs.Prelude.{◌==◌, ◌&&◌, not, nat_le, ℕ, ℤ, pos, neg_ℤ, Bool, true, false, if◌then◌else◌, List, [], ◌∷◌, Option, Some, None, codes}
 use Rattle.std.specs.List.{list_all}
 use Rattle.std.specs.Str.{bytes_eq}
@@ -11,10 +11,12 @@ use Rattle.fixed_decimal.specs.declared.SignedRoundingMode.TheVariants.{Unsigned
 use Rattle.fixed_decimal.specs.declared.UnsignedRoundingMode.TheVariants.{Expand, Trunc, HalfExpand, HalfTrunc, HalfEven}
 use Rattle.fixed_decimal.specs.declared.RoundingIncrement.{RoundingIncrement}
 use Rattle.fixed_decimal.specs.declared.RoundingIncrement.TheVariants.{MultiplesOf1, MultiplesOf2, MultiplesOf5, MultiplesOf25}
-use Rattle.locale_numbers_requests.specs.Digits.{is_digit}
 use Rattle.locale_numbers_formats.specs.Cutting.{cut_at}
-use Rattle.locale_numbers_requests.specs.declared.rounding_field.RoundingAsked.{RoundingAsked}
-use Rattle.locale_numbers_requests.specs.declared.rounding_field.RoundingAsked.TheVariants.{Unrounded, Cash, At}
+use Rattle.locale_numbers_formats.specs.declared.Rounding.{Rounding}
+use Rattle.locale_numbers_formats.specs.declared.Rounding.TheVariants.{Usual, Cash, AsGiven, At}
+use Rattle.locale_numbers_formats.specs.declared.TrailingZeros.TheVariants.{Keep}
+use Rattle.locale_numbers_requests.specs.Digits.{is_digit}
+use Rattle.locale_numbers_requests.specs.declared.rounding_field.DigitsAsked.{DigitsAsked}
 
 -- the code of a comma
 abbrev pub comma : ℕ
@@ -69,31 +71,37 @@ increment_named word =
     else if bytes_eq word (codes "25") then Some MultiplesOf25
     else None
 
+-- a rounding with all zeros that it shows
+abbrev pub all_of : Rounding → DigitsAsked
+all_of rounding = record { rounding = rounding; zeros = Keep; fraction_digits = pos 0 }
+
 -- a rounding, where its position, its mode and its increment are known
-abbrev pub rounding_by : Option ℤ → Option SignedRoundingMode → Option RoundingIncrement → Option RoundingAsked
-rounding_by (Some position) (Some mode) (Some increment) = Some (At position mode increment)
+abbrev pub rounding_by : Option ℤ → Option SignedRoundingMode → Option RoundingIncrement → Option DigitsAsked
+rounding_by (Some position) (Some mode) (Some increment) = Some (all_of (At position mode increment))
 rounding_by _ _ _ = None
 
 -- what three words between commas round
-abbrev pub rounding_in : List (List ℕ) → Option RoundingAsked
+abbrev pub rounding_in : List (List ℕ) → Option DigitsAsked
 rounding_in (position ∷ mode ∷ increment ∷ []) = rounding_by (position_named position) (mode_named mode) (increment_named increment)
 rounding_in _ = None
 
 -- what a field rounds: what the form rounds by itself, an amount to the digits of cash, or what its three words say
-abbrev pub rounding_named : List ℕ → Option RoundingAsked
+abbrev pub rounding_named : List ℕ → Option DigitsAsked
 rounding_named word =
-    if bytes_eq word (codes "-") then Some Unrounded
-    else if bytes_eq word (codes "cash") then Some Cash
+    if bytes_eq word (codes "-") then Some (all_of Usual)
+    else if bytes_eq word (codes "cash") then Some (all_of Cash)
     else rounding_in (cut_at comma word)
 
 -- nothing is said of a rounding
-abbrev pub keeps_digits : RoundingAsked → Bool
-keeps_digits Unrounded = true
+abbrev pub keeps_digits : Rounding → Bool
+keeps_digits Usual = true
 keeps_digits Cash = false
+keeps_digits AsGiven = false
 keeps_digits (At position mode increment) = false
 
 -- the digits of cash are asked for
-abbrev pub is_cash : RoundingAsked → Bool
-is_cash Unrounded = false
+abbrev pub is_cash : Rounding → Bool
+is_cash Usual = false
 is_cash Cash = true
+is_cash AsGiven = false
 is_cash (At position mode increment) = false

@@ -1,24 +1,25 @@
 //! The rounding that a request asks for: a position, a mode and an increment, or none.
 
-ghost use Rattle.std.specs.Prelude.{◌≡◌, ◌≤◌, ◌∷◌, [], ◌↔◌, length, IsSome, IfSome};
-ghost use Rattle.locale_numbers_requests.specs.RoundingField.{comma, is_cash, keeps_digits, is_size, size_named, position_named, mode_named, increment_named, rounding_in, rounding_named};
+ghost use Rattle.std.specs.Prelude.{◌≡◌, ◌≤◌};
 ghost use Rattle.locale_numbers_formats.specs.Cutting.{cut_at};
+ghost use Rattle.locale_numbers_requests.specs.RoundingField.{all_of, comma, is_cash, keeps_digits, is_size, size_named, position_named, mode_named, increment_named, rounding_in, rounding_named};
 
 use crate::digits::{are_digits, capped_number};
+use crate::pieces::three_pieces;
 use fixed_decimal::{RoundingIncrement, SignedRoundingMode, UnsignedRoundingMode};
-use locale_numbers_formats::{cut_field, value_beside};
+use locale_numbers_formats::{Rounding, TrailingZeros, value_beside};
 
 const COMMA: u8 = b',';
 
-/// What is rounded.
+// Which digits are shown.
 #[derive(Clone, Copy)]
-pub enum RoundingAsked {
-    /// What the form rounds by itself: an amount of money to the digits of its currency, and else nothing.
-    Unrounded,
-    /// An amount of money, to the digits that its currency has in cash.
-    Cash,
-    /// The number, at a position, by a mode, to multiples of an increment.
-    At(i16, SignedRoundingMode, RoundingIncrement),
+pub(crate) struct DigitsAsked {
+    // What the number is rounded to.
+    pub(crate) rounding: Rounding,
+    // What becomes of the zeros at the end of its fraction.
+    pub(crate) zeros: TrailingZeros,
+    // How many fraction digits are shown at least.
+    pub(crate) fraction_digits: i16,
 }
 
 // Whether a word is digits, of which the first is not zero.
@@ -109,47 +110,52 @@ fn increment_named(word: &[u8]) -> Option<RoundingIncrement>
     value_beside(&INCREMENTS, word)
 }
 
-// The three words between the commas of a field, where they are three.
-fn three_words(field: &[u8]) -> Option<(&[u8], &[u8], &[u8])>
-    ensures three { IsSome result ↔ (length (cut_at comma field.now) ≡ 3) }
-    ensures words { IfSome result (λ three. cut_at comma field.now ≡ three.0.now ∷ three.1.now ∷ three.2.now ∷ []) }
-{
-    let (position, rest) = cut_field(field, COMMA);
-    let (mode, rest) = cut_field(rest?, COMMA);
-    match cut_field(rest?, COMMA) {
-        (increment, None) => Some((position, mode, increment)),
-        (_, Some(_)) => None,
-    }
-}
-
 // Whether nothing is said of a rounding.
-pub(crate) fn keeps_digits(rounding: RoundingAsked) -> bool
+pub(crate) fn keeps_digits(rounding: Rounding) -> bool
     ensures { result ≡ keeps_digits rounding }
 {
-    matches!(rounding, RoundingAsked::Unrounded)
+    matches!(rounding, Rounding::Usual)
 }
 
 // Whether the digits of cash are asked for.
-pub(crate) fn is_cash(rounding: RoundingAsked) -> bool
+pub(crate) fn is_cash(rounding: Rounding) -> bool
     ensures { result ≡ is_cash rounding }
 {
-    matches!(rounding, RoundingAsked::Cash)
+    matches!(rounding, Rounding::Cash)
+}
+
+// A rounding with all zeros that it shows.
+fn all_of(rounding: Rounding) -> DigitsAsked
+    ensures { result ≡ all_of rounding }
+{
+    DigitsAsked {
+        rounding,
+        zeros: TrailingZeros::Keep,
+        fraction_digits: 0,
+    }
+}
+
+// What three words between commas round.
+fn rounding_in(field: &[u8]) -> Option<DigitsAsked>
+    ensures { result ≡ rounding_in (cut_at comma field.now) }
+{
+    let (position, mode, increment) = three_pieces(field, COMMA)?;
+    let position = position_named(position)?;
+    let mode = mode_named(mode)?;
+    let increment = increment_named(increment)?;
+    Some(all_of(Rounding::At(position, mode, increment)))
 }
 
 // What a field rounds, where it is known: `-`, `cash`, or a position, a mode and an increment between commas, as
 // `-2,half-even,5`.
-pub(crate) fn rounding_named(field: &[u8]) -> Option<RoundingAsked>
+pub(crate) fn rounding_named(field: &[u8]) -> Option<DigitsAsked>
     ensures { result ≡ rounding_named field.now }
 {
     if field == b"-".as_slice() {
-        return Some(RoundingAsked::Unrounded);
+        Some(all_of(Rounding::Usual))
+    } else if field == b"cash".as_slice() {
+        Some(all_of(Rounding::Cash))
+    } else {
+        rounding_in(field)
     }
-    if field == b"cash".as_slice() {
-        return Some(RoundingAsked::Cash);
-    }
-    let (position, mode, increment) = three_words(field)?;
-    let position = position_named(position)?;
-    let mode = mode_named(mode)?;
-    let increment = increment_named(increment)?;
-    Some(RoundingAsked::At(position, mode, increment))
 }
