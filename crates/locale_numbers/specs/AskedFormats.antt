@@ -1,7 +1,7 @@
 -- Requests that laws speak of: with a task and a shape of their own, and the tag of another request.
 -- Defined in docs/requests.md, "Request line".
 -- Cited by the statements of laws.
-use Rattle.std.specs.Prelude.{◌≡◌, ℕ, pos, List}
+use Rattle.std.specs.Prelude.{ℕ, pos, List}
 use Rattle.icu_decimal.specs.declared.options.GroupingStrategy.{GroupingStrategy}
 use Rattle.locale_numbers_formats.specs.declared.CompactWidth.{CompactWidth}
 use Rattle.locale_numbers_formats.specs.declared.LeadingZeros.TheVariants as leading
@@ -12,6 +12,7 @@ use Rattle.locale_numbers_formats.specs.declared.NumberUnit.{NumberUnit}
 use Rattle.locale_numbers_formats.specs.declared.NumberUnit.TheVariants as unit
 use Rattle.locale_numbers_formats.specs.declared.Rounding.{Rounding}
 use Rattle.locale_numbers_formats.specs.declared.SignAsked.{SignAsked}
+use Rattle.locale_numbers_formats.specs.declared.SignAsked.TheVariants.{Keep}
 use Rattle.locale_numbers_formats.specs.declared.TrailingZeros.TheVariants as trailing
 use Rattle.locale_numbers_requests.specs.Request.{Asked}
 use Rattle.locale_numbers_requests.specs.declared.Task.{Task}
@@ -38,9 +39,9 @@ options_of rounding sign = record {
   sign = sign;
 }
 
--- options that are no more than these, as those of each line whose form is no skeleton
-abbrev pub ShowsAll : NumberOptions → Type 0
-ShowsAll options = options ≡ options_of options.rounding options.sign
+-- the same options, with the sign that was given
+abbrev pub keeping : NumberOptions → NumberOptions
+keeping options = record options { sign = Keep }
 
 -- a request with the tag of another
 abbrev pub request_like : Asked → Task → NumberShape → NumberOptions → List ℕ → Asked

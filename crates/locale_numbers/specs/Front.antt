@@ -4,16 +4,14 @@
 -- A front is a line without its text, so both what a line asks and what it is answered are imported.
 use Rattle.std.specs.Prelude.{◌≡◌, ◌⊎◌, ◌&&◌, ℕ, ℤ, nat_le, Bool, List, [], Option, Some, None, true, false, option_map, IfSome, if◌then◌else◌, Result, Ok, Err}
 use Rattle.std.specs.Str.{is_utf8}
-use Rattle.fixed_decimal.specs.CompactText.{ReadsLongCompact}
 use Rattle.fixed_decimal.specs.Number.{Number, place}
 use Rattle.fixed_decimal.specs.SignedValue.{SignedValue}
 use Rattle.icu_decimal.specs.declared.error.DataError.{DataError}
+use Rattle.locale_numbers_answers.specs.AnswerMemory.{AnswerAllocates}
 use Rattle.locale_numbers_answers.specs.Answers.{answer_by}
 pub use Rattle.locale_numbers_answers.specs.AnswerLine.{if_text}
-use Rattle.locale_numbers_answers.specs.NumberReading.{Reading, ReadsMore, beyond, nothing, number, reading_of}
 use Rattle.locale_numbers_book.specs.Book.{BookTables}
 use Rattle.locale_numbers_book.specs.Wanted.{wanted_of}
-use Rattle.locale_numbers_formats.specs.Changed.{MayGrowBy}
 use Rattle.locale_numbers_formats.specs.declared.LeadingZeros.{LeadingZeros}
 use Rattle.locale_numbers_formats.specs.declared.LeadingZeros.TheVariants as leading
 use Rattle.locale_numbers_formats.specs.declared.Notation.{Notation}
@@ -25,9 +23,7 @@ use Rattle.locale_numbers_formats.specs.declared.Rounding.{Rounding}
 use Rattle.locale_numbers_formats.specs.declared.Rounding.TheVariants.{Usual, Cash, AsGiven, At}
 use Rattle.locale_numbers_formats.specs.declared.TrailingZeros.{TrailingZeros}
 use Rattle.locale_numbers_formats.specs.declared.TrailingZeros.TheVariants as trailing
-use Rattle.locale_numbers_formatter.specs.FormatReading.{ReaderAllocates, reader_of}
-use Rattle.locale_numbers_formatter.specs.FormatText.{FormatTables, HasNoUnit, fractions_in}
-use Rattle.locale_numbers_formatter.specs.FormatTyped.{TypedAllocates, typed_of}
+use Rattle.locale_numbers_formatter.specs.FormatText.{FormatTables, compact_tables, plain_tables, unit_tables}
 use Rattle.locale_numbers_requests.specs.Request.{Asked, keeps_sign, request_of, with_text}
 use Rattle.locale_numbers_requests.specs.declared.Refusal.TheVariants as refusal
 use Rattle.locale_numbers_requests.specs.declared.Task.{Task}
@@ -143,40 +139,27 @@ key_after front text = key_if_text text (key_front front text)
 
 -- ---- memory
 
--- the rounding of the number that a text says may want memory, where the tables are found: only one to multiples of 25 may
-abbrev pub MayGrowFound : Result FormatTables DataError → Rounding → Reading → Type 0
-MayGrowFound (Ok format) rounding (number value) = MayGrowBy rounding (fractions_in format) value
-MayGrowFound _ rounding reading = ⊥
+-- what is found has a unit
+abbrev pub FindsUnits : Result FormatTables DataError → Type 0
+FindsUnits (Err error) = ⊥
+FindsUnits (Ok (plain_tables t)) = ⊥
+FindsUnits (Ok (compact_tables t)) = ⊥
+FindsUnits (Ok (unit_tables u)) = Unit {0}
 
--- to write a number: a text that says one of more than sixteen digits, and of more than the one that is there, or one whose number a
--- rounding may lengthen
-abbrev pub MayTakeToWrite : Result FormatTables DataError → Rounding → List ℕ → SignedValue Number → Type 0
-MayTakeToWrite found rounding text value = ReadsMore text value ⊎ MayGrowFound found rounding (reading_of text)
-
--- to be read back: a text with more than sixteen digits of the tables, and any with a unit, since what it is read with may be put
--- together for it
-abbrev pub MayTakeToRead : Result FormatTables DataError → List ℕ → Type 0
-MayTakeToRead (Ok format) text = ReaderAllocates (reader_of format) text ⊎ ¬ (HasNoUnit format)
-MayTakeToRead (Err error) text = ⊥
-
--- to be read leniently: this too, and one that is folded
-abbrev pub MayTakeToReadTyped : Result FormatTables DataError → Result FormatTables DataError → List ℕ → Type 0
-MayTakeToReadTyped (Ok format) latin text = TypedAllocates (typed_of format (where_found latin)) text ⊎ ¬ (HasNoUnit format)
-MayTakeToReadTyped (Err error) latin text = ⊥
-
--- a text that may want memory, beside its answer and its formatter, by the task; in an exact form one that says a number of more than sixteen
--- digits
-abbrev pub MayTakeIn : Task → BookTables → FormatterKey → Rounding → List ℕ → SignedValue Number → Type 0
-MayTakeIn Write book key rounding text value = MayTakeToWrite (found_for key.shape book key.preferences) rounding text value
-MayTakeIn WriteExact book key rounding text value = ReadsLongCompact text
-MayTakeIn Read book key rounding text value = (is_utf8 text ≡ true) × MayTakeToRead (found_for key.shape book key.preferences) text
-MayTakeIn ReadLenient book key rounding text value =
-    (is_utf8 text ≡ true) × MayTakeToReadTyped (found_for key.shape book key.preferences) (found_for key.shape book (in_latin key.preferences)) text
+-- a text that may want memory, beside its answer and its formatter, by the task: one for which the answer may; and of a unit any that is
+-- read, since what it is read with may be put together for it
+abbrev pub MayTakeIn : Task → Rounding → Result FormatTables DataError → Result FormatTables DataError → List ℕ → SignedValue Number → Type 0
+MayTakeIn Write rounding found latin text value = AnswerAllocates Write rounding found latin text value
+MayTakeIn WriteExact rounding found latin text value = AnswerAllocates WriteExact rounding found latin text value
+MayTakeIn Read rounding found latin text value = (is_utf8 text ≡ true) × (AnswerAllocates Read rounding found latin text value ⊎ FindsUnits found)
+MayTakeIn ReadLenient rounding found latin text value =
+    (is_utf8 text ≡ true) × (AnswerAllocates ReadLenient rounding found latin text value ⊎ FindsUnits found)
 
 -- the same after a front, by its key: where its tag is not one, no text wants memory
 abbrev pub MayTakeKeyed : BookTables → Front → Option FormatterKey → List ℕ → SignedValue Number → Type 0
 MayTakeKeyed book front None text value = ⊥
-MayTakeKeyed book front (Some key) text value = MayTakeIn front.task book key front.options.rounding text value
+MayTakeKeyed book front (Some key) text value =
+    MayTakeIn front.task front.options.rounding (found_for key.shape book key.preferences) (found_for key.shape book (in_latin key.preferences)) text value
 
 -- nor after a front that asks nothing
 abbrev pub MayTakeAfter : BookTables → Option Front → List ℕ → SignedValue Number → Type 0

@@ -22,16 +22,16 @@ use Rattle.icu_locale_core.specs.Meaning.{TagMeaning, MeansTag}
 use Rattle.icu_locale_core.specs.NormalText.{normal_text}
 use Rattle.icu_locale_core.specs.TagPreferences.{Preferences, least_of, keyword_piece, keyword_subdivision, numbering_key, subdivision_key}
 use Rattle.locale_numbers_book.specs.Book.{BookTables, IsBook}
-pub use Rattle.locale_numbers_answers.specs.Laws.{IsReading, HasOneReading, IsCompactReading, HasOneCompactReading, HasOneRounding, IsAtMagnitude, RequestsAreAtMagnitude}
+pub use Rattle.locale_numbers_answers.specs.Laws.{IsReading, HasOneReading, IsCompactReading, HasOneCompactReading, HasOneRounding, FitDecimals, IsAtMagnitude, RequestsAreAtMagnitude, TrimsNothing}
 use Rattle.locale_numbers_book.specs.Wanted.{wanted_of}
-use Rattle.locale_numbers_formats.specs.declared.Rounding.{Rounding}
+use Rattle.locale_numbers_formats.specs.declared.NumberOptions.{NumberOptions}
 use Rattle.locale_numbers_formats.specs.declared.Rounding.TheVariants.{Usual}
 use Rattle.locale_numbers_formats.specs.declared.SignAsked.TheVariants.{Keep}
 use Rattle.locale_numbers_formatter.specs.FormatText.{FormatTables, plain_tables}
 use Rattle.locale_numbers_requests.specs.Request.{tab, Asked, request_in}
 use Rattle.locale_numbers_requests.specs.declared.Task.TheVariants.{Write, Read, ReadLenient}
 use Rattle.locale_numbers.specs.Answer.{written, found_for, answer_asked, answer_of}
-use Rattle.locale_numbers.specs.AskedFormats.{ShowsAll, grouping_in, options_of, plain_shape, request_like}
+use Rattle.locale_numbers.specs.AskedFormats.{grouping_in, keeping, options_of, plain_shape, request_like}
 use Rattle.locale_numbers.specs.declared.formatter_key.FormatterKey.{FormatterKey}
 
 -- ---- lines
@@ -98,9 +98,9 @@ reading_request asked text = request_like asked Read (plain_shape (grouping_in a
 abbrev pub lenient_request : Asked → List ℕ → Asked
 lenient_request asked text = request_like asked ReadLenient (plain_shape (grouping_in asked)) (options_of Usual Keep) text
 
--- the request that rounds and writes a number with its own sign
-abbrev pub plain_request : Asked → Rounding → List ℕ → Asked
-plain_request asked rounding digits = request_like asked Write (plain_shape (grouping_in asked)) (options_of rounding Keep) digits
+-- the request that writes a number by these options
+abbrev pub plain_request : Asked → NumberOptions → List ℕ → Asked
+plain_request asked options digits = request_like asked Write (plain_shape (grouping_in asked)) options digits
 
 -- a request finds tables in a book, and these are ten digits and symbols that are texts, as those of every formatter are
 pub record FindsTables (book : BookTables) (asked : Asked) (tables : Tables) : Type 0 where
@@ -123,7 +123,7 @@ abbrev pub ReadIsWrittenAgain : Type 0
 ReadIsWrittenAgain = (book : BookTables) (asked : Asked) (tables : Tables) (text digits : List ℕ)
     → FindsTables book asked tables
     → answer_asked book (Some (reading_request asked text)) ≡ written digits
-    → answer_asked book (Some (plain_request asked Usual digits)) ≡ written text
+    → answer_asked book (Some (plain_request asked (options_of Usual Keep) digits)) ≡ written text
 
 -- a text that is read is read leniently, with the same answer
 abbrev pub ReadIsReadLeniently : Type 0
@@ -154,10 +154,10 @@ WrittenReadsBack = (book : BookTables) (asked : Asked) (tables : Tables) (value 
 abbrev pub RoundedIsWrittenAgain : Type 0
 RoundedIsWrittenAgain = (book : BookTables) (asked : Asked) (tables : Tables) (text digits : List ℕ)
     → asked.task ≡ Write → asked.format.shape ≡ plain_shape (grouping_in asked)
-    → ShowsAll asked.format.options → IsAtMagnitude asked.format.options.rounding → FindsTables book asked tables → is_readable_by tables ≡ true
+    → TrimsNothing asked.format.options → FitDecimals asked.format.options → FindsTables book asked tables → is_readable_by tables ≡ true
     → answer_asked book (Some asked) ≡ written text
     → answer_asked book (Some (reading_request asked text)) ≡ written digits
-    → answer_asked book (Some (plain_request asked asked.format.options.rounding digits)) ≡ written text
+    → answer_asked book (Some (plain_request asked (keeping asked.format.options) digits)) ≡ written text
 
 -- ---- keys
 

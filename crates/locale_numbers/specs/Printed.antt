@@ -25,8 +25,8 @@ use Rattle.locale_numbers_formatter.specs.FormatText.{compact_tables}
 use Rattle.locale_numbers_requests.specs.Request.{Asked, tab}
 use Rattle.locale_numbers_requests.specs.declared.Task.TheVariants.{Write, WriteExact}
 use Rattle.locale_numbers.specs.Answer.{answer_asked, found_for, written}
-use Rattle.locale_numbers.specs.AskedFormats.{ShowsAll, compact_shape, grouping_in, options_of, request_like}
-use Rattle.locale_numbers.specs.Laws.{HasNoTab, IsAtMagnitude}
+use Rattle.locale_numbers.specs.AskedFormats.{compact_shape, grouping_in, options_of, request_like}
+use Rattle.locale_numbers.specs.Laws.{FitDecimals, HasNoTab}
 
 -- the answer to a request is a text, and after its last tab the value printed
 pub record Prints (book : BookTables) (asked : Asked) (text printed : List ℕ) : Type 0 where
@@ -37,8 +37,7 @@ pub record Prints (book : BookTables) (asked : Asked) (text printed : List ℕ) 
 pub record FindsCompact (book : BookTables) (asked : Asked) (width : CompactWidth) (tables : CompactTables) (read : SignedValue Number) : Type 0 where
   pub task : asked.task ≡ Write
   pub shape : asked.format.shape ≡ compact_shape width (grouping_in asked)
-  pub options : ShowsAll asked.format.options
-  pub at : IsAtMagnitude asked.format.options.rounding
+  pub fits : FitDecimals asked.format.options
   pub preferences : Preferences
   pub tag : wanted_of asked.tag ≡ Some preferences
   pub found : found_for (compact_shape width (grouping_in asked)) book preferences ≡ Ok (compact_tables tables)

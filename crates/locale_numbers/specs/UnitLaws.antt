@@ -13,7 +13,7 @@ use Rattle.icu_decimal.specs.declared.options.GroupingStrategy.{GroupingStrategy
 use Rattle.icu_dimension.specs.UnitReading.{AreReaderTexts, is_unit_readable_by, reader_texts}
 use Rattle.icu_dimension.specs.UnitText.{unit_decimal_text}
 use Rattle.icu_locale_core.specs.TagPreferences.{Preferences}
-use Rattle.locale_numbers_answers.specs.Laws.{IsAtMagnitude}
+use Rattle.locale_numbers_answers.specs.Laws.{FitDecimals, TrimsNothing}
 use Rattle.locale_numbers_answers.specs.NumberReading.{number, reading_of}
 use Rattle.locale_numbers_book.specs.Book.{BookTables, IsBook}
 use Rattle.locale_numbers_book.specs.Wanted.{wanted_of}
@@ -28,7 +28,7 @@ use Rattle.locale_numbers_requests.specs.Laws.{HasCode}
 use Rattle.locale_numbers_requests.specs.Request.{Asked, takes}
 use Rattle.locale_numbers_requests.specs.declared.Task.TheVariants.{Write, Read}
 use Rattle.locale_numbers.specs.Answer.{answer_asked, found_for, written}
-use Rattle.locale_numbers.specs.AskedFormats.{ShowsAll, grouping_in, options_of, request_like, shape_with}
+use Rattle.locale_numbers.specs.AskedFormats.{grouping_in, options_of, request_like, shape_with}
 
 -- the request that writes a number with a unit and with its own sign, with the tag and the grouping of another
 abbrev pub unit_request : Asked → NumberUnit → Rounding → List ℕ → Asked
@@ -81,7 +81,7 @@ ReadUnitIsWrittenAgain = (book : BookTables) (asked : Asked) (unit : NumberUnit)
 -- with its sign
 abbrev pub WrittenUnitReadsBack : Type 0
 WrittenUnitReadsBack = (book : BookTables) (asked : Asked) (unit : NumberUnit) (found : UnitFormat) (value : SignedValue Number) (text : List ℕ)
-    → asked.task ≡ Write → asked.format.shape ≡ shape_with unit (grouping_in asked) → ShowsAll asked.format.options
+    → asked.task ≡ Write → asked.format.shape ≡ shape_with unit (grouping_in asked) → TrimsNothing asked.format.options → FitDecimals asked.format.options
     → TakesRounding unit asked.format.options.rounding → FindsUnit book asked unit found
     → is_unit_readable_by (reader_texts found.settings) ≡ true → reading_of asked.text ≡ number value
     → answer_asked book (Some asked) ≡ written text
@@ -91,8 +91,8 @@ WrittenUnitReadsBack = (book : BookTables) (asked : Asked) (unit : NumberUnit) (
 -- where texts can be read, what a line writes of a percent reads back under no rounding as that number, whatever the rounding of the line
 abbrev pub WrittenPercentReadsBack : Type 0
 WrittenPercentReadsBack = (book : BookTables) (asked : Asked) (found : UnitFormat) (value : SignedValue Number) (text : List ℕ)
-    → asked.task ≡ Write → asked.format.shape ≡ shape_with unit.Percent (grouping_in asked) → ShowsAll asked.format.options
-    → IsAtMagnitude asked.format.options.rounding → FindsUnit book asked unit.Percent found
+    → asked.task ≡ Write → asked.format.shape ≡ shape_with unit.Percent (grouping_in asked) → TrimsNothing asked.format.options → FitDecimals asked.format.options
+    → FindsUnit book asked unit.Percent found
     → is_unit_readable_by (reader_texts found.settings) ≡ true → reading_of asked.text ≡ number value
     → answer_asked book (Some asked) ≡ written text
     → answer_asked book (Some (unit_reading_request asked unit.Percent Usual text))

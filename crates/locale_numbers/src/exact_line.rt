@@ -4,8 +4,9 @@ ghost use Rattle.std.specs.Prelude.{◌≡◌, ◌∷◌, ◌++◌, List, Option
 ghost use Rattle.fixed_decimal.specs.CompactText.{ReadsLongCompact};
 ghost use Rattle.locale_numbers_lines.specs.Growth.{Grows};
 ghost use Rattle.locale_numbers_answers.specs.AnswerSink.{HasRoom};
-ghost use Rattle.locale_numbers_answers.specs.Answers.{exact_found};
-ghost use Rattle.locale_numbers_answers.specs.CompactReading.{compact_number, compact_reading_of};
+ghost use Rattle.locale_numbers_answers.specs.Answers.{exact_found, exact_with};
+ghost use Rattle.locale_numbers_answers.specs.CompactReading.{compact_reading_of};
+ghost use Rattle.locale_numbers_answers.specs.NumberAnswer.{signed_form};
 ghost use Rattle.locale_numbers_book.specs.FoundFormats.{found_for};
 ghost use Rattle.locale_numbers.specs.FormatterKeys.{key_exact};
 ghost use Rattle.locale_numbers.specs.declared.formatter_key.FormatterKey.{FormatterKey};
@@ -31,14 +32,14 @@ fn write_exact_by_key<'a, F: Formatters<'a>>(
     requires ready { F.is_ready formatters.old }
     requires right { F.is_right_for formatters.old key.now }
     ensures text { OnOk result (string_bytes out.new ≡ string_bytes out.old
-        ++ exact_found (found_for key.now.shape (F.book formatters.old) key.now.preferences) sign
-        (compact_number value.entry)) }
+        ++ exact_with (found_for key.now.shape (F.book formatters.old) key.now.preferences)
+        (signed_form sign value.entry)) }
     ensures err { OnErr result (Grows (string_bytes out.old) (string_bytes out.new)) }
 
     // Where there is room for the answer, and handing out the formatter of the key takes none, it does not allocate.
     ensures room { HasRoom out.old
-        (exact_found (found_for key.now.shape (F.book formatters.old) key.now.preferences) sign
-        (compact_number value.entry))
+        (exact_with (found_for key.now.shape (F.book formatters.old) key.now.preferences)
+        (signed_form sign value.entry))
         → ¬ (F.may_take_memory formatters.old key.now) → IsOk result }
     ensures counted { OnOk result ((more : List (Option FormatterKey)) →
         F.counted_over formatters.old (Some key.now ∷ more) ≡ F.counted_over formatters.new more) }

@@ -10,7 +10,9 @@ use icu_decimal::options::GroupingStrategy;
 use icu_decimal_direct::TextTables;
 use locale_numbers_book::{Tables, find_formatter, find_latin};
 use locale_numbers_cache::{Hashed, Maker};
-use locale_numbers_formatter::{LenientNumberReader, NumberFormatter, NumberReader};
+use locale_numbers_formatter::{
+    FormatterKind, LenientNumberReader, NumberFormatter, NumberReader,
+};
 use std::alloc::Global;
 
 // A formatter that is kept, and what its texts are put and read with. It borrows its tables.
@@ -36,8 +38,12 @@ fn kept_texts<'a>(
     requires { HasGrouping formatter.now grouping }
     ensures { KnowsTexts formatter.now result }
 {
-    let plain = formatter.plain()?;
-    TextTables::of(plain.symbols(), plain.digits(), grouping)
+    match formatter.kind() {
+        FormatterKind::Plain(plain) => {
+            TextTables::of(plain.symbols(), plain.digits(), grouping)
+        }
+        FormatterKind::Compact(_) | FormatterKind::Percent(_) | FormatterKind::Currency(_) => None,
+    }
 }
 
 // What reads what a formatter writes, put together now; where memory is refused, for each text.

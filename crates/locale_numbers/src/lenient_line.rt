@@ -3,12 +3,13 @@
 ghost use Rattle.std.specs.Prelude.{◌≡◌, ◌⊎◌, true, ◌∷◌, ◌++◌, List, Option, Some, IsOk, IsSome, OnOk, OnErr, string_bytes};
 ghost use Rattle.locale_numbers_lines.specs.Growth.{Grows};
 ghost use Rattle.locale_numbers_answers.specs.AnswerSink.{HasRoom};
+ghost use Rattle.locale_numbers_answers.specs.AnswerMemory.{TypedFoundAllocates};
 ghost use Rattle.locale_numbers_answers.specs.Answers.{typed_found};
 ghost use Rattle.locale_numbers_answers.specs.ReadAnswer.{read_answer};
 ghost use Rattle.locale_numbers_book.specs.FoundFormats.{found_for, in_latin};
 ghost use Rattle.locale_numbers_formatter.specs.FormatText.{HasNoUnit};
 ghost use Rattle.locale_numbers_formatter.specs.FormatTyped.{TypedAllocates, format_typed_reading, typed_of};
-ghost use Rattle.locale_numbers.specs.Front.{MayTakeToReadTyped};
+ghost use Rattle.locale_numbers.specs.Front.{FindsUnits};
 ghost use Rattle.locale_numbers.specs.KeptFormatters.{KnowsTyped};
 ghost use Rattle.locale_numbers.specs.declared.formatter_key.FormatterKey.{FormatterKey};
 
@@ -77,8 +78,9 @@ pub(crate) fn answer_lenient<'a, F: Formatters<'a>>(
         (typed_found (found_for key.now.shape (F.book formatters.old) key.now.preferences)
         (found_for key.now.shape (F.book formatters.old) (in_latin key.now.preferences)) text.now)
         → ¬ (F.may_take_memory formatters.old key.now)
-        → ¬ (MayTakeToReadTyped (found_for key.now.shape (F.book formatters.old) key.now.preferences)
+        → ¬ (TypedFoundAllocates (found_for key.now.shape (F.book formatters.old) key.now.preferences)
         (found_for key.now.shape (F.book formatters.old) (in_latin key.now.preferences)) text.now)
+        → ¬ (FindsUnits (found_for key.now.shape (F.book formatters.old) key.now.preferences))
         → IsOk result }
     ensures counted { OnOk result ((more : List (Option FormatterKey)) →
         F.counted_over formatters.old (Some key.now ∷ more) ≡ F.counted_over formatters.new more) }

@@ -4,15 +4,16 @@ ghost use Rattle.std.specs.Prelude.{◌≡◌, true, ◌∷◌, ◌++◌, List, 
 ghost use Rattle.icu_decimal_direct.specs.TextDigits.{number_spelled};
 ghost use Rattle.locale_numbers_lines.specs.Growth.{Grows};
 ghost use Rattle.locale_numbers_answers.specs.AnswerSink.{HasRoom};
+ghost use Rattle.locale_numbers_answers.specs.AnswerMemory.{MayGrowFound, ReadsMore};
 ghost use Rattle.locale_numbers_answers.specs.Answers.{written_found, written_to};
 ghost use Rattle.locale_numbers_answers.specs.NumberAnswer.{number_answer};
-ghost use Rattle.locale_numbers_answers.specs.NumberReading.{ReadsMore, number, reading_of};
+ghost use Rattle.locale_numbers_answers.specs.NumberReading.{number, reading_of};
 ghost use Rattle.locale_numbers_book.specs.FoundFormats.{found_for};
 ghost use Rattle.locale_numbers_formats.specs.Changed.{MayGrowBy, changed};
 ghost use Rattle.locale_numbers_formatter.specs.FormatText.{fractions_in};
 ghost use Rattle.locale_numbers.specs.FormatterKeys.{key_text};
 ghost use Rattle.locale_numbers.specs.KeptFormatters.{KnowsReader, KnowsTexts};
-ghost use Rattle.locale_numbers.specs.Front.{MayGrowFound, MayTakeToWrite, if_text, is_as_it_is, key_if_text};
+ghost use Rattle.locale_numbers.specs.Front.{if_text, is_as_it_is, key_if_text};
 ghost use Rattle.locale_numbers.specs.declared.formatter_key.FormatterKey.{FormatterKey};
 
 use crate::formatter_key::FormatterKey;
@@ -186,8 +187,9 @@ pub(crate) fn answer_number<'a, F: Formatters<'a>>(
         (written_to (found_for key.now.shape (F.book formatters.old) key.now.preferences) options
         (reading_of text.now)))
         → ¬ (F.may_take_memory formatters.old key.now)
-        → ¬ (MayTakeToWrite (found_for key.now.shape (F.book formatters.old) key.now.preferences) options.rounding text.now
-        value.old)
+        → ¬ (ReadsMore text.now value.old)
+        → ¬ (MayGrowFound (found_for key.now.shape (F.book formatters.old) key.now.preferences) options.rounding
+        (reading_of text.now))
         → IsOk result }
     ensures counted { OnOk result ((more : List (Option FormatterKey)) →
         F.counted_over formatters.old (key_if_text text.now (key_text key.now (reading_of text.now)) ∷ more)

@@ -3,11 +3,12 @@
 ghost use Rattle.std.specs.Prelude.{◌≡◌, ◌⊎◌, ◌∷◌, ◌++◌, List, Ok, Option, Some, IsOk, IsSome, OnOk, OnErr, string_bytes};
 ghost use Rattle.locale_numbers_lines.specs.Growth.{Grows};
 ghost use Rattle.locale_numbers_answers.specs.AnswerSink.{HasRoom};
+ghost use Rattle.locale_numbers_answers.specs.AnswerMemory.{ReadAllocates};
 ghost use Rattle.locale_numbers_answers.specs.Answers.{read_found};
 ghost use Rattle.locale_numbers_book.specs.FoundFormats.{found_for};
 ghost use Rattle.locale_numbers_formatter.specs.FormatReading.{ReaderAllocates, reader_of};
 ghost use Rattle.locale_numbers_formatter.specs.FormatText.{HasNoUnit};
-ghost use Rattle.locale_numbers.specs.Front.{MayTakeToRead};
+ghost use Rattle.locale_numbers.specs.Front.{FindsUnits};
 ghost use Rattle.locale_numbers.specs.KeptFormatters.{KnowsReader};
 ghost use Rattle.locale_numbers.specs.declared.formatter_key.FormatterKey.{FormatterKey};
 
@@ -72,7 +73,8 @@ pub(crate) fn answer_read<'a, F: Formatters<'a>>(
     ensures room { HasRoom out.old
         (read_found (found_for key.now.shape (F.book formatters.old) key.now.preferences) rounding text.now)
         → ¬ (F.may_take_memory formatters.old key.now)
-        → ¬ (MayTakeToRead (found_for key.now.shape (F.book formatters.old) key.now.preferences) text.now)
+        → ¬ (ReadAllocates (found_for key.now.shape (F.book formatters.old) key.now.preferences) text.now)
+        → ¬ (FindsUnits (found_for key.now.shape (F.book formatters.old) key.now.preferences))
         → IsOk result }
     ensures counted { OnOk result ((more : List (Option FormatterKey)) →
         F.counted_over formatters.old (Some key.now ∷ more) ≡ F.counted_over formatters.new more) }
