@@ -1,16 +1,19 @@
 -- Known values of the definitions: lines taken apart, the words of their fields.
-use Rattle.std.proofs.Common.{◌≡◌, [], ◌∷◌, ◌++◌, codes, pos, negsuc, Some, None, refl}
+use Rattle.std.proofs.Common.{◌≡◌, [], ◌∷◌, ◌++◌, codes, pos, negsuc, Some, None, refl, ℕ, List, Option, ◌-◌, ◌*◌, ◌^◌}
+use Rattle.fixed_decimal.specs.Number.{Number}
 use Rattle.fixed_decimal.specs.declared.SignedRoundingMode.TheVariants.{Unsigned}
-use Rattle.fixed_decimal.specs.declared.UnsignedRoundingMode.TheVariants.{HalfEven, HalfTrunc}
-use Rattle.fixed_decimal.specs.declared.RoundingIncrement.TheVariants.{MultiplesOf1, MultiplesOf25}
+use Rattle.fixed_decimal.specs.declared.UnsignedRoundingMode.TheVariants.{HalfEven, HalfExpand, HalfTrunc, Trunc}
+use Rattle.fixed_decimal.specs.declared.RoundingIncrement.TheVariants.{MultiplesOf1, MultiplesOf5, MultiplesOf25}
 use Rattle.icu_decimal_symbols.specs.declared.options.GroupingStrategy.{GroupingStrategy}
 use Rattle.icu_decimal_symbols.specs.declared.options.GroupingStrategy.TheVariants.{Auto, Min2}
 use Rattle.icu_dimension_fractions.specs.declared.CurrencyStyle.TheVariants as style
 use Rattle.icu_dimension_fractions.specs.declared.CurrencyWidth.TheVariants.{Short, IsoCode}
+use Rattle.locale_numbers_formats.specs.Changed.{shown}
 use Rattle.locale_numbers_formats.specs.declared.CompactWidth.TheVariants as compact
 use Rattle.locale_numbers_formats.specs.declared.LeadingZeros.TheVariants as leading
 use Rattle.locale_numbers_formats.specs.declared.Notation.TheVariants.{Standard, Compact}
 use Rattle.locale_numbers_formats.specs.declared.NumberFormat.{NumberFormat}
+use Rattle.locale_numbers_formats.specs.declared.NumberOptions.{NumberOptions}
 use Rattle.locale_numbers_formats.specs.declared.NumberUnit.{NumberUnit}
 use Rattle.locale_numbers_formats.specs.declared.NumberUnit.TheVariants as unit
 use Rattle.locale_numbers_formats.specs.declared.NumberUnit.TheVariants.{Percent, Currency}
@@ -22,9 +25,10 @@ use Rattle.locale_numbers_formats.specs.declared.TrailingZeros.TheVariants as tr
 use Rattle.fixed_decimal.specs.declared.SignDisplay.TheVariants as display
 use Rattle.locale_numbers_requests.specs.FormField.{form_named}
 use Rattle.locale_numbers_requests.specs.OldRequests.{old_form_named, old_rounding_named}
-use Rattle.locale_numbers_requests.specs.Request.{tab, fields, request_in, grouping_named, sign_named}
+use Rattle.locale_numbers_requests.specs.Request.{tab, fields, format_by, request_in, grouping_named, sign_named}
 use Rattle.locale_numbers_requests.specs.RoundingField.{all_of, position_named, rounding_named}
 use Rattle.locale_numbers_requests.specs.declared.form_field.FormAsked.TheVariants.{OfWord, OfSkeleton}
+use Rattle.locale_numbers_requests.specs.declared.rounding_field.DigitsAsked.{DigitsAsked}
 use Rattle.locale_numbers_requests.specs.declared.form_field.Task.TheVariants.{Write, WriteExact, Read, ReadLenient}
 
 -- the format of a line that chooses no digits and keeps the sign of the text
@@ -33,6 +37,18 @@ by_words unit grouping rounding = record {
   shape = record { notation = Standard; unit = unit; grouping = grouping };
   options = record { rounding = rounding; leading_zeros = leading.Keep; zeros = trailing.Keep; integer_digits = pos 0; fraction_digits = pos 0; sign = Keep };
 }
+
+-- those of a word of the rounding field
+abbrev digits_of : Option DigitsAsked → NumberOptions
+digits_of None = (by_words unit.None Auto Usual).options
+digits_of (Some digits) = (format_by Standard unit.None Auto Keep digits).options
+
+abbrev options : List ℕ → NumberOptions
+options word = digits_of (rounding_named word)
+
+-- a count of the least unit shown, with so many digits after the point, and one before it
+abbrev number : ℕ → ℕ → Number
+number count fraction = record { count = count * 10 ^ (32768 - fraction); low = 32768 - fraction; high = 32768 }
 
 -- ---- request lines
 
@@ -268,6 +284,77 @@ third_increment = refl
 
 one_comma : rounding_named (codes "0,trunc") ≡ None
 one_comma = refl
+
+-- ---- digits of a fraction
+
+-- two at most, and none that is not needed
+two_at_most : rounding_named (codes "f0-2,half-even,1") ≡ Some (record { rounding = At (negsuc 1) (Unsigned HalfEven) MultiplesOf1; zeros = trailing.Trim; fraction_digits = pos 0 })
+two_at_most = refl
+
+one_to_three : rounding_named (codes "f1-3,half-expand,1") ≡ Some (record { rounding = At (negsuc 2) (Unsigned HalfExpand) MultiplesOf1; zeros = trailing.Trim; fraction_digits = pos 1 })
+one_to_three = refl
+
+-- to hundredths, 1.5 is `1.50`, and 2 is `2`
+none_of_a_whole_number : rounding_named (codes "f2-2,half-expand,5,whole") ≡ Some (record { rounding = At (negsuc 1) (Unsigned HalfExpand) MultiplesOf5; zeros = trailing.TrimWhole; fraction_digits = pos 0 })
+none_of_a_whole_number = refl
+
+no_fraction : rounding_named (codes "f0-0,trunc,1") ≡ Some (record { rounding = At (pos 0) (Unsigned Trunc) MultiplesOf1; zeros = trailing.Trim; fraction_digits = pos 0 })
+no_fraction = refl
+
+most_digits : rounding_named (codes "f0-32767,trunc,1") ≡ Some (record { rounding = At (negsuc 32766) (Unsigned Trunc) MultiplesOf1; zeros = trailing.Trim; fraction_digits = pos 0 })
+most_digits = refl
+
+too_many_digits : rounding_named (codes "f0-32768,trunc,1") ≡ None
+too_many_digits = refl
+
+fewer_at_most : rounding_named (codes "f3-2,trunc,1") ≡ None
+fewer_at_most = refl
+
+zero_before_a_count : rounding_named (codes "f00-2,trunc,1") ≡ None
+zero_before_a_count = refl
+
+one_count : rounding_named (codes "f2,trunc,1") ≡ None
+one_count = refl
+
+three_counts : rounding_named (codes "f1-2-3,trunc,1") ≡ None
+three_counts = refl
+
+no_count : rounding_named (codes "f-2,trunc,1") ≡ None
+no_count = refl
+
+whole_of_a_range : rounding_named (codes "f0-2,trunc,1,whole") ≡ None
+whole_of_a_range = refl
+
+whole_of_a_position : rounding_named (codes "-2,trunc,1,whole") ≡ None
+whole_of_a_position = refl
+
+other_fourth_word : rounding_named (codes "f2-2,trunc,1,wholly") ≡ None
+other_fourth_word = refl
+
+five_words : rounding_named (codes "f2-2,trunc,1,whole,whole") ≡ None
+five_words = refl
+
+-- numbers are shown with these digits, once they are rounded: `1.5` of 1.50, `2` of 2.00, `2.0` of 2.000, `1.25` of 1.250
+one_is_needed : shown (options (codes "f0-2,half-even,1")) (number 150 2) ≡ number 15 1
+one_is_needed = refl
+
+none_is_needed : shown (options (codes "f0-2,half-even,1")) (number 200 2) ≡ number 2 0
+none_is_needed = refl
+
+one_at_least : shown (options (codes "f1-3,half-expand,1")) (number 2000 3) ≡ number 20 1
+one_at_least = refl
+
+two_are_needed : shown (options (codes "f1-3,half-expand,1")) (number 1250 3) ≡ number 125 2
+two_are_needed = refl
+
+both_stay : shown (options (codes "f2-2,half-expand,5,whole")) (number 150 2) ≡ number 150 2
+both_stay = refl
+
+both_go : shown (options (codes "f2-2,half-expand,5,whole")) (number 200 2) ≡ number 2 0
+both_go = refl
+
+both_are_shown : shown (options (codes "f2-2,half-expand,5")) (number 200 2) ≡ number 200 2
+both_are_shown = refl
 
 -- ---- before there were newer forms, and cash
 

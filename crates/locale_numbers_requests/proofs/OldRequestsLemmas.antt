@@ -1,8 +1,12 @@
 -- Each line asks what it asked before forms and the rounding `cash` were added: `specs/OldRequests.antt`.
-use Rattle.std.proofs.Common.{◌≡◌, ℕ, Bool, true, false, List, [], ◌∷◌, Option, None, Some, Result, Ok, Err, refl, if◌then◌else◌, drop, length, take, ◌-◌}
+use Rattle.std.proofs.Common.{◌≡◌, ℕ, ℤ, pos, neg_ℤ, Bool, true, false, List, [], ◌∷◌, Option, None, Some, Result, Ok, Err, refl, if◌then◌else◌, drop, length, take, ◌-◌}
+use Rattle.std.proofs.lemmas.Bool.{eqb-true}
 use Rattle.std.proofs.lemmas.Slice.Eq.{bytes_eq-Decides}
-use Rattle.std.specs.Prelude.{◌||◌, codes}
+use Rattle.std.specs.Prelude.{◌||◌, ◌==◌, codes, int_le}
 use Rattle.std.specs.Str.{bytes_eq, is_utf8}
+use Rattle.fixed_decimal.specs.NumberText.{minus}
+use Rattle.fixed_decimal.specs.declared.RoundingIncrement.{RoundingIncrement}
+use Rattle.fixed_decimal.specs.declared.SignedRoundingMode.{SignedRoundingMode}
 use Rattle.icu_decimal_symbols.specs.declared.options.GroupingStrategy.{GroupingStrategy}
 use Rattle.icu_dimension_fractions.specs.CurrencyCodes.{is_currency_code}
 use Rattle.locale_numbers_formats.specs.Cutting.{cut_at}
@@ -18,16 +22,19 @@ use Rattle.locale_numbers_formats.specs.declared.SignAsked.{SignAsked}
 use Rattle.locale_numbers_formats.specs.declared.SignAsked.TheVariants.{Keep, Show}
 use Rattle.locale_numbers_formats.specs.declared.Skeleton.{Skeleton}
 use Rattle.locale_numbers_formats.specs.declared.SkeletonError.{SkeletonError}
+use Rattle.locale_numbers_formats.specs.declared.TrailingZeros.TheVariants as trailing
 use Rattle.locale_numbers_requests.specs.FormField.{amount_by, amount_form, amount_word, coded_form, colon, first_of, form_for, form_named, listed_form, skeleton_by, skeleton_in, skeleton_task}
-use Rattle.locale_numbers_requests.specs.OldRequests.{OldRequestsStay, StaysRequest, same, none, added, is_added, is_added_task, old_form_named, old_request_by, old_request_in, old_rounding_named, old_takes, trims}
+use Rattle.locale_numbers_requests.specs.OldRequests.{OldRequestsStay, StaysRequest, same, none, added, is_added, is_added_task, old_form_named, old_request_by, old_request_in, old_rounding_by, old_rounding_in, old_rounding_named, old_takes, trims}
 use Rattle.locale_numbers_requests.specs.Request.{Asked, asked_by, fields, format_by, grouping_named, request_by, request_in, says_nothing, sign_named, takes}
-use Rattle.locale_numbers_requests.specs.RoundingField.{all_of, comma, increment_named, is_cash, mode_named, position_named, rounding_by, rounding_in, rounding_named}
+use Rattle.locale_numbers_requests.specs.RoundingField.{all_of, comma, count_named, counts_by, counts_in, digits_at, digits_by, digits_in, increment_named, is_cash, last_named, letter_f, mode_named, places_named, position_by, position_named, rounding_named, whole_by}
 use Rattle.locale_numbers_requests.specs.declared.form_field.AmountWord.{AmountWord}
 use Rattle.locale_numbers_requests.specs.declared.form_field.FormAsked.{FormAsked}
 use Rattle.locale_numbers_requests.specs.declared.form_field.FormAsked.TheVariants.{OfWord, OfSkeleton}
 use Rattle.locale_numbers_requests.specs.declared.form_field.Task.{Task}
 use Rattle.locale_numbers_requests.specs.declared.form_field.Task.TheVariants.{Write, WriteExact, Read, ReadLenient}
 use Rattle.locale_numbers_requests.specs.declared.rounding_field.DigitsAsked.{DigitsAsked}
+use Rattle.locale_numbers_requests.specs.declared.rounding_field.Places.{Places}
+use Rattle.locale_numbers_requests.specs.declared.rounding_field.Places.TheVariants.{Position, Fraction}
 
 -- ---- words of forms
 
@@ -142,32 +149,90 @@ data StaysRounding (now before : Option DigitsAsked) : Type 0 where
   same_rounding : (rounding : Rounding) → is_cash rounding ≡ false → now ≡ Some (all_of rounding) → before ≡ Some (all_of rounding) → StaysRounding now before
   no_rounding : now ≡ None → before ≡ None → StaysRounding now before
   added_cash : now ≡ Some (all_of Cash) → before ≡ None → StaysRounding now before
+  added_digits : (digits : DigitsAsked) → trims leading.Keep digits.zeros ≡ true → now ≡ Some digits → before ≡ None → StaysRounding now before
 
--- three words are never cash
-three_words : (words : List (List ℕ)) → StaysRounding (rounding_in words) (rounding_in words)
-three_words [] = no_rounding refl refl
-three_words (a ∷ []) = no_rounding refl refl
-three_words (a ∷ b ∷ []) = no_rounding refl refl
-three_words (a ∷ b ∷ c ∷ []) = by (position_named a) (mode_named b) (increment_named c)
+-- a word of places is the same position, none, or counts that were none
+data StaysPlaces (now : Option Places) (before : Option ℤ) : Type 0 where
+  same_position : (position : ℤ) → now ≡ Some (Position position) → before ≡ Some position → StaysPlaces now before
+  no_places : now ≡ None → before ≡ None → StaysPlaces now before
+  added_counts : (least last : ℤ) → now ≡ Some (Fraction least last) → before ≡ None → StaysPlaces now before
+
+of_counts : (least last : Option ℤ) → StaysPlaces (counts_by least last) None
+of_counts None last = no_places refl refl
+of_counts (Some least) None = no_places refl refl
+of_counts (Some least) (Some last) = by (int_le least (neg_ℤ last))
   where
-    by : (p : _) (m : _) (i : _) → StaysRounding (rounding_by p m i) (rounding_by p m i)
-    by None m i = no_rounding refl refl
-    by (Some p) None i = no_rounding refl refl
-    by (Some p) (Some m) None = no_rounding refl refl
-    by (Some p) (Some m) (Some i) = same_rounding (At p m i) refl refl refl
-three_words (a ∷ b ∷ c ∷ d ∷ more) = no_rounding refl refl
+    by : (b : Bool) → StaysPlaces (if b then Some (Fraction least last) else None) None
+    by true = added_counts least last refl refl
+    by false = no_places refl refl
 
-cash_is_one_word : (word : List ℕ) → bytes_eq word (codes "cash") ≡ true → rounding_in (cut_at comma word) ≡ None
+of_two : (words : List (List ℕ)) → StaysPlaces (counts_in words) None
+of_two [] = no_places refl refl
+of_two (a ∷ []) = no_places refl refl
+of_two (a ∷ b ∷ []) = of_counts (count_named a) (last_named b)
+of_two (a ∷ b ∷ c ∷ more) = no_places refl refl
+
+of_position : (position : Option ℤ) → StaysPlaces (position_by position) position
+of_position None = no_places refl refl
+of_position (Some position) = same_position position refl refl
+
+-- no position begins with the letter
+letter_is_none : (c : ℕ) (cs : List ℕ) → c ≡ letter_f → position_named (c ∷ cs) ≡ None
+letter_is_none c cs is = rw is refl
+
+places_stay : (word : List ℕ) → StaysPlaces (places_named word) (position_named word)
+places_stay [] = no_places refl refl
+places_stay (c ∷ cs) = by (c == letter_f) refl
+  where
+    by : (b : Bool) → (c == letter_f) ≡ b → StaysPlaces (if b then counts_in (cut_at minus cs) else position_by (position_named (c ∷ cs))) (position_named (c ∷ cs))
+    by true is = rw (letter_is_none c cs (eqb-true c letter_f is)) (of_two (cut_at minus cs))
+    by false is = of_position (position_named (c ∷ cs))
+
+-- three words say what they said, and are never cash
+of_places : (now : Option Places) (before : Option ℤ) (m : Option SignedRoundingMode) (i : Option RoundingIncrement) → StaysPlaces now before → StaysRounding (digits_by now m i) (old_rounding_by before m i)
+of_places now before None i (same_position p e d) = rw (e, d) (no_rounding refl refl)
+of_places now before (Some m) None (same_position p e d) = rw (e, d) (no_rounding refl refl)
+of_places now before (Some m) (Some i) (same_position p e d) = rw (e, d) (same_rounding (At p m i) refl refl refl)
+of_places now before m i (no_places e d) = rw (e, d) (no_rounding refl refl)
+of_places now before None i (added_counts least last e d) = rw (e, d) (no_rounding refl refl)
+of_places now before (Some m) None (added_counts least last e d) = rw (e, d) (no_rounding refl refl)
+of_places now before (Some m) (Some i) (added_counts least last e d) = rw (e, d) (added_digits (digits_at (Fraction least last) m i) refl refl refl)
+
+-- four words said nothing
+of_whole : (places : Option Places) (m : Option SignedRoundingMode) (i : Option RoundingIncrement) → StaysRounding (whole_by places m i) None
+of_whole None m i = no_rounding refl refl
+of_whole (Some places) None i = no_rounding refl refl
+of_whole (Some places) (Some m) None = no_rounding refl refl
+of_whole (Some (Position p)) (Some m) (Some i) = no_rounding refl refl
+of_whole (Some (Fraction least last)) (Some m) (Some i) = by (int_le (neg_ℤ last) least)
+  where
+    by : (b : Bool) → StaysRounding (if b then Some (record { rounding = At last m i; zeros = trailing.TrimWhole; fraction_digits = pos 0 }) else None) None
+    by true = added_digits (record { rounding = At last m i; zeros = trailing.TrimWhole; fraction_digits = pos 0 }) refl refl refl
+    by false = no_rounding refl refl
+
+words_stay : (words : List (List ℕ)) → StaysRounding (digits_in words) (old_rounding_in words)
+words_stay [] = no_rounding refl refl
+words_stay (a ∷ []) = no_rounding refl refl
+words_stay (a ∷ b ∷ []) = no_rounding refl refl
+words_stay (a ∷ b ∷ c ∷ []) = of_places (places_named a) (position_named a) (mode_named b) (increment_named c) (places_stay a)
+words_stay (a ∷ b ∷ c ∷ d ∷ []) = by (bytes_eq d (codes "whole"))
+  where
+    by : (is : Bool) → StaysRounding (if is then whole_by (places_named a) (mode_named b) (increment_named c) else None) None
+    by true = of_whole (places_named a) (mode_named b) (increment_named c)
+    by false = no_rounding refl refl
+words_stay (a ∷ b ∷ c ∷ d ∷ e ∷ more) = no_rounding refl refl
+
+cash_is_one_word : (word : List ℕ) → bytes_eq word (codes "cash") ≡ true → old_rounding_in (cut_at comma word) ≡ None
 cash_is_one_word word is = let w : word ≡ codes "cash" = (bytes_eq-Decides word (codes "cash")).0 is in rw w refl
 
 rounding_stays : (word : List ℕ) → StaysRounding (rounding_named word) (old_rounding_named word)
 rounding_stays word = by (bytes_eq word (codes "-")) (bytes_eq word (codes "cash")) refl
   where
     by : (dash cash : Bool) → bytes_eq word (codes "cash") ≡ cash
-        → StaysRounding (if dash then Some (all_of Usual) else if cash then Some (all_of Cash) else rounding_in (cut_at comma word)) (if dash then Some (all_of Usual) else rounding_in (cut_at comma word))
+        → StaysRounding (if dash then Some (all_of Usual) else if cash then Some (all_of Cash) else digits_in (cut_at comma word)) (if dash then Some (all_of Usual) else old_rounding_in (cut_at comma word))
     by true cash is = same_rounding Usual refl refl refl
     by false true is = added_cash refl (cash_is_one_word word is)
-    by false false is = three_words (cut_at comma word)
+    by false false is = words_stay (cut_at comma word)
 
 -- ---- requests
 
@@ -227,6 +292,8 @@ module _ (tag : List ℕ) (text : List ℕ) where
   with_old (OfWord task notation unit) (Some g) (Some s) now before old (no_rounding e d) = rw (e, d) (none refl refl)
   with_old (OfWord task notation unit) (Some g) (Some s) now before old (added_cash e d) =
       rw (e, d) (not_taken (takes task unit s Cash) task (format_by notation unit g s (all_of Cash)) (takes_no_cash task unit s old))
+  with_old (OfWord task notation unit) (Some g) (Some s) now before old (added_digits digits new e d) =
+      rw (e, d) (newly_taken (takes task unit s digits.rounding) task (format_by notation unit g s digits) (rw new refl))
   with_old (OfSkeleton task format) g s now before old stays = absurd old
 
   either_true : (a b : Bool) → b ≡ true → (a || b) ≡ true

@@ -3,8 +3,10 @@
 -- Defined in docs/requests.md, "Request line".
 -- Cited by the law of `laws.rt`, and by that of old lines of `locale_numbers`.
 -- A form, a sign and a rounding are types with cases, and the cases of each are imported beside it.
-use Rattle.std.specs.Prelude.{◌≡◌, ℕ, Bool, true, false, ◌&&◌, ◌||◌, if◌then◌else◌, List, [], ◌∷◌, Option, Some, None, codes}
+use Rattle.std.specs.Prelude.{◌≡◌, ℕ, ℤ, Bool, true, false, ◌&&◌, ◌||◌, if◌then◌else◌, List, [], ◌∷◌, Option, Some, None, codes}
 use Rattle.std.specs.Str.{bytes_eq, is_utf8}
+use Rattle.fixed_decimal.specs.declared.RoundingIncrement.{RoundingIncrement}
+use Rattle.fixed_decimal.specs.declared.SignedRoundingMode.{SignedRoundingMode}
 use Rattle.icu_decimal_symbols.specs.declared.options.GroupingStrategy.{GroupingStrategy}
 use Rattle.locale_numbers_formats.specs.Cutting.{cut_at}
 use Rattle.locale_numbers_formats.specs.declared.CompactWidth.TheVariants.{Short, Long}
@@ -15,12 +17,12 @@ use Rattle.locale_numbers_formats.specs.declared.NumberFormat.{NumberFormat}
 use Rattle.locale_numbers_formats.specs.declared.NumberUnit.{NumberUnit}
 use Rattle.locale_numbers_formats.specs.declared.NumberUnit.TheVariants as unit
 use Rattle.locale_numbers_formats.specs.declared.Rounding.{Rounding}
-use Rattle.locale_numbers_formats.specs.declared.Rounding.TheVariants.{Usual}
+use Rattle.locale_numbers_formats.specs.declared.Rounding.TheVariants.{Usual, At}
 use Rattle.locale_numbers_formats.specs.declared.SignAsked.{SignAsked}
 use Rattle.locale_numbers_formats.specs.declared.TrailingZeros.{TrailingZeros}
 use Rattle.locale_numbers_formats.specs.declared.TrailingZeros.TheVariants as trailing
 use Rattle.locale_numbers_requests.specs.Request.{Asked, asked_by, fields, format_by, grouping_named, keeps_sign, request_of, sign_named}
-use Rattle.locale_numbers_requests.specs.RoundingField.{all_of, comma, keeps_digits, rounding_in}
+use Rattle.locale_numbers_requests.specs.RoundingField.{all_of, comma, increment_named, keeps_digits, mode_named, position_named}
 use Rattle.locale_numbers_requests.specs.declared.form_field.FormAsked.{FormAsked}
 use Rattle.locale_numbers_requests.specs.declared.form_field.FormAsked.TheVariants.{OfWord, OfSkeleton}
 use Rattle.locale_numbers_requests.specs.declared.form_field.Task.{Task}
@@ -38,9 +40,18 @@ old_form_named word =
     else if bytes_eq word (codes "read") then Some (OfWord Read Standard unit.None)
     else None
 
--- no rounding, or a position, a mode and an increment
+-- a position, a mode and an increment
+abbrev pub old_rounding_by : Option ℤ → Option SignedRoundingMode → Option RoundingIncrement → Option DigitsAsked
+old_rounding_by (Some position) (Some mode) (Some increment) = Some (all_of (At position mode increment))
+old_rounding_by _ _ _ = None
+
+abbrev pub old_rounding_in : List (List ℕ) → Option DigitsAsked
+old_rounding_in (position ∷ mode ∷ increment ∷ []) = old_rounding_by (position_named position) (mode_named mode) (increment_named increment)
+old_rounding_in _ = None
+
+-- no rounding, or such a one
 abbrev pub old_rounding_named : List ℕ → Option DigitsAsked
-old_rounding_named word = if bytes_eq word (codes "-") then Some (all_of Usual) else rounding_in (cut_at comma word)
+old_rounding_named word = if bytes_eq word (codes "-") then Some (all_of Usual) else old_rounding_in (cut_at comma word)
 
 -- whether one of the six takes a sign and a rounding
 abbrev pub old_takes : Task → SignAsked → Rounding → Bool

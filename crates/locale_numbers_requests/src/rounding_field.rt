@@ -1,11 +1,12 @@
-//! The rounding that a request asks for: a position, a mode and an increment, or none.
+//! The rounding that a request asks for, and the digits that it chooses.
 
 ghost use Rattle.std.specs.Prelude.{◌≡◌, ◌≤◌};
+ghost use Rattle.fixed_decimal.specs.NumberText.{minus};
 ghost use Rattle.locale_numbers_formats.specs.Cutting.{cut_at};
-ghost use Rattle.locale_numbers_requests.specs.RoundingField.{all_of, comma, is_cash, keeps_digits, is_size, size_named, position_named, mode_named, increment_named, rounding_in, rounding_named};
+ghost use Rattle.locale_numbers_requests.specs.RoundingField.{all_of, comma, count_named, counts_by, counts_in, digits_at, digits_by, digits_in, increment_named, is_cash, is_size, keeps_digits, last_named, mode_named, places_named, position_named, rounding_named, size_named, whole_at, whole_by};
 
 use crate::digits::{are_digits, capped_number};
-use crate::pieces::three_pieces;
+use crate::pieces::{four_pieces, three_pieces, two_pieces};
 use fixed_decimal::{RoundingIncrement, SignedRoundingMode, UnsignedRoundingMode};
 use locale_numbers_formats::{Rounding, TrailingZeros, value_beside};
 
@@ -57,6 +58,73 @@ fn position_named(word: &[u8]) -> Option<i16>
     } else {
         let size = size_named(32767, word)?;
         Some(size as i16)
+    }
+}
+
+// The places of the digits that are shown.
+#[derive(Clone, Copy)]
+enum Places {
+    // Down to a position.
+    Position(i16),
+    // At least so many digits of a fraction, and the position of the last one that may be shown.
+    Fraction(i16, i16),
+}
+
+// The number from 0 to 32767 that a word writes with no zero in front.
+fn count_named(word: &[u8]) -> Option<i16>
+    ensures { result ≡ count_named word.now }
+{
+    if word == b"0".as_slice() {
+        Some(0)
+    } else {
+        let size = size_named(32767, word)?;
+        Some(size as i16)
+    }
+}
+
+// The position of the last of so many digits of a fraction.
+fn last_named(word: &[u8]) -> Option<i16>
+    ensures { result ≡ last_named word.now }
+{
+    if word == b"0".as_slice() {
+        Some(0)
+    } else {
+        let size = size_named(32767, word)?;
+        Some((-(size as i32)) as i16)
+    }
+}
+
+// At least so many digits of a fraction, and the position of the last one, where these are not fewer.
+fn counts_by(least: Option<i16>, last: Option<i16>) -> Option<Places>
+    ensures { result ≡ counts_by least last }
+{
+    let least = least?;
+    let last = last?;
+    if least as i32 <= -(last as i32) {
+        Some(Places::Fraction(least, last))
+    } else {
+        None
+    }
+}
+
+// The two counts of digits of a fraction that a text writes with a minus between.
+fn counts_in(text: &[u8]) -> Option<Places>
+    ensures { result ≡ counts_in (cut_at minus text.now) }
+{
+    let (least, most) = two_pieces(text, b'-')?;
+    counts_by(count_named(least), last_named(most))
+}
+
+// The places that a word names: a position, or two counts of digits of a fraction.
+fn places_named(word: &[u8]) -> Option<Places>
+    ensures { result ≡ places_named word.now }
+{
+    let (first, rest) = word.split_first()?;
+    if *first == b'f' {
+        counts_in(rest)
+    } else {
+        let position = position_named(word)?;
+        Some(Places::Position(position))
     }
 }
 
@@ -135,19 +203,73 @@ fn all_of(rounding: Rounding) -> DigitsAsked
     }
 }
 
-// What three words between commas round.
-fn rounding_in(field: &[u8]) -> Option<DigitsAsked>
-    ensures { result ≡ rounding_in (cut_at comma field.now) }
+// The digits that are shown: all zeros down to a position, or no zeros behind the least digits of a fraction.
+fn digits_at(places: Places, mode: SignedRoundingMode, increment: RoundingIncrement) -> DigitsAsked
+    ensures { result ≡ digits_at places mode increment }
 {
-    let (position, mode, increment) = three_pieces(field, COMMA)?;
-    let position = position_named(position)?;
-    let mode = mode_named(mode)?;
-    let increment = increment_named(increment)?;
-    Some(all_of(Rounding::At(position, mode, increment)))
+    match places {
+        Places::Position(position) => all_of(Rounding::At(position, mode, increment)),
+        Places::Fraction(least, last) => DigitsAsked {
+            rounding: Rounding::At(last, mode, increment),
+            zeros: TrailingZeros::Trim,
+            fraction_digits: least,
+        },
+    }
 }
 
-// What a field rounds, where it is known: `-`, `cash`, or a position, a mode and an increment between commas, as
-// `-2,half-even,5`.
+// So many digits of a fraction, or none of a whole number.
+fn whole_at(
+    places: Places,
+    mode: SignedRoundingMode,
+    increment: RoundingIncrement,
+) -> Option<DigitsAsked>
+    ensures { result ≡ whole_at places mode increment }
+{
+    match places {
+        Places::Fraction(least, last) if -(last as i32) <= least as i32 => Some(DigitsAsked {
+            rounding: Rounding::At(last, mode, increment),
+            zeros: TrailingZeros::TrimWhole,
+            fraction_digits: 0,
+        }),
+        Places::Fraction(_, _) | Places::Position(_) => None,
+    }
+}
+
+// What the words of a place, a mode and an increment ask for.
+fn digits_by(places: &[u8], mode: &[u8], increment: &[u8]) -> Option<DigitsAsked>
+    ensures { result ≡ digits_by (places_named places.now) (mode_named mode.now) (increment_named increment.now) }
+{
+    let places = places_named(places)?;
+    let mode = mode_named(mode)?;
+    let increment = increment_named(increment)?;
+    Some(digits_at(places, mode, increment))
+}
+
+// What they ask for where a whole number has no fraction.
+fn whole_by(places: &[u8], mode: &[u8], increment: &[u8]) -> Option<DigitsAsked>
+    ensures { result ≡ whole_by (places_named places.now) (mode_named mode.now) (increment_named increment.now) }
+{
+    let places = places_named(places)?;
+    let mode = mode_named(mode)?;
+    let increment = increment_named(increment)?;
+    whole_at(places, mode, increment)
+}
+
+// What three words between commas ask for, or four of which the last is `whole`.
+fn digits_in(field: &[u8]) -> Option<DigitsAsked>
+    ensures { result ≡ digits_in (cut_at comma field.now) }
+{
+    if let Some((places, mode, increment)) = three_pieces(field, COMMA) {
+        return digits_by(places, mode, increment);
+    }
+    let (places, mode, increment, whole) = four_pieces(field, COMMA)?;
+    if whole != b"whole".as_slice() {
+        return None;
+    }
+    whole_by(places, mode, increment)
+}
+
+// What a field asks for, where it is known: `-`, `cash`, or words between commas, as `-2,half-even,5`.
 pub(crate) fn rounding_named(field: &[u8]) -> Option<DigitsAsked>
     ensures { result ≡ rounding_named field.now }
 {
@@ -156,6 +278,6 @@ pub(crate) fn rounding_named(field: &[u8]) -> Option<DigitsAsked>
     } else if field == b"cash".as_slice() {
         Some(all_of(Rounding::Cash))
     } else {
-        rounding_in(field)
+        digits_in(field)
     }
 }
