@@ -1,5 +1,5 @@
 -- Rows of docs/books.md, "Formatters of a tag": what is around digits in the format that a shape finds in the sample book with units.
-use Rattle.std.proofs.Common.{◌≡◌, ℕ, List, [], ◌∷◌, ◌++◌, Option, None, Some, codes, Result, Ok, Err, refl}
+use Rattle.std.proofs.Common.{◌≡◌, ℕ, List, ◌++◌, Option, None, Some, codes, Result, Ok, Err, refl}
 use Rattle.fixed_decimal.specs.declared.Sign.{Sign}
 use Rattle.fixed_decimal.specs.declared.Sign.TheVariants.{None as NoSign, Negative}
 use Rattle.icu_decimal.specs.declared.error.DataError.{DataError}
