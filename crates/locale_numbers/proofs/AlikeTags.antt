@@ -20,6 +20,7 @@ use Rattle.icu_locale_core.proofs.NormalTags.{read_again}
 use Rattle.icu_decimal.specs.declared.options.GroupingStrategy.{GroupingStrategy}
 use Rattle.locale_numbers_book.specs.Book.{BookTables}
 use Rattle.locale_numbers_book.specs.Wanted.{wanted_of}
+use Rattle.locale_numbers_book.proofs.AlikeLemmas.{shape_alike}
 use Rattle.locale_numbers_book.proofs.WantedLemmas.{asks_of}
 use Rattle.locale_numbers_answers.specs.Answers.{answer_by}
 use Rattle.locale_numbers_formats.specs.declared.NumberFormat.{NumberFormat}
@@ -29,11 +30,8 @@ use Rattle.locale_numbers_requests.specs.Cutting.{is_separator}
 use Rattle.locale_numbers_requests.specs.FormField.{form_named}
 use Rattle.locale_numbers_requests.specs.Request.{Asked, asked_by, tab, fields, format_asked, grouping_named, sign_named, request_by, request_in, request_of}
 use Rattle.locale_numbers_requests.specs.RoundingField.{rounding_named}
-use Rattle.locale_numbers_requests.specs.declared.form_field.FormAsked.{FormAsked}
-use Rattle.locale_numbers_requests.specs.declared.form_field.Task.{Task}
-use Rattle.locale_numbers_requests.specs.declared.rounding_field.DigitsAsked.{DigitsAsked}
+use Rattle.locale_numbers_requests.specs.declared.Task.{Task}
 use Rattle.locale_numbers.specs.Answer.{answer_tagged, answer_asked, found_for, in_latin}
-use Rattle.locale_numbers.proofs.FoundFormatLemmas.{format_alike}
 use Rattle.locale_numbers.specs.Laws.{AreAlike, AlikeTagsAreAnsweredAlike, NormalTextIsAnsweredAlike}
 
 -- ---- the bytes of a tag
@@ -113,7 +111,7 @@ module _ (book : BookTables) (text other : List ℕ) (alike : AreAnsweredAlike b
   taken_alike digits (Some found) = alike found.0 found.1 digits
   taken_alike digits None = refl
 
-  known_alike : (digits : List ℕ) (form : Option FormAsked) (grouping : Option GroupingStrategy) (sign : Option SignAsked) (shown : Option DigitsAsked)
+  known_alike : (digits : List ℕ) (form : Option _) (grouping : Option GroupingStrategy) (sign : Option SignAsked) (shown : Option _)
       → answer_asked book (request_by text form grouping sign shown digits) ≡ answer_asked book (request_by other form grouping sign shown digits)
   known_alike digits (Some form) (Some grouping) (Some sign) (Some shown) = taken_alike digits (format_asked form grouping sign shown)
   known_alike digits (Some form) (Some grouping) (Some sign) None = refl
@@ -144,10 +142,10 @@ locales_same m n a =
 
 -- so their preferences find the same
 found_same : (book : BookTables) (m n : TagMeaning) → AreAlike m n → (shape : NumberShape) → found_for shape book (preferences_of m) ≡ found_for shape book (preferences_of n)
-found_same book m n a shape = format_alike book (preferences_of m) (preferences_of n) (locales_same m n a) a.numbering_system shape
+found_same book m n a shape = shape_alike book (preferences_of m) (preferences_of n) (locales_same m n a) a.numbering_system shape
 
 latin_same : (book : BookTables) (m n : TagMeaning) → AreAlike m n → (shape : NumberShape) → found_for shape book (in_latin (preferences_of m)) ≡ found_for shape book (in_latin (preferences_of n))
-latin_same book m n a shape = format_alike book (in_latin (preferences_of m)) (in_latin (preferences_of n)) (locales_same m n a) refl shape
+latin_same book m n a shape = shape_alike book (in_latin (preferences_of m)) (in_latin (preferences_of n)) (locales_same m n a) refl shape
 
 asks_alike : (book : BookTables) (text other : List ℕ) (m n : TagMeaning) → AreAlike m n → AreAnsweredAlike book text other (Some (preferences_of m)) (Some (preferences_of n))
 asks_alike book text other m n a task format digits =

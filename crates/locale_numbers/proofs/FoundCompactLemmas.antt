@@ -1,4 +1,4 @@
--- Which compact tables preferences find: those of two preferences that ask for the same, and the patterns in them.
+-- The patterns in what preferences find for compact numbers.
 use Rattle.std.proofs.Common.{◌≡◌, ℕ, List, Some, None, Result, Ok, Err, ap, ap₂, ◌∙◌}
 use Rattle.icu_locale_core.specs.TagPreferences.{DataLocaleMeaning, Preferences, language_priority}
 use Rattle.icu_decimal.specs.declared.error.DataError.{DataError}
@@ -19,20 +19,6 @@ use Rattle.locale_numbers_book.specs.TagFormatters.{found_beside, patterns_under
 use Rattle.locale_numbers_formats.specs.declared.CompactWidth.{CompactWidth}
 use Rattle.locale_numbers_formatter.specs.FormatText.{FormatTables, compact_tables}
 use Rattle.locale_numbers.specs.AskedFormats.{compact_shape}
-use Rattle.locale_numbers.proofs.FoundLemmas.{found_alike}
-
-module _ (chain : DataLocaleMeaning → List DataLocaleMeaning) (symbols : Identifier → Result Symbols DataError) (digits : Identifier → Result (List ℕ) DataError) (rules : Identifier → Result Rules DataError) (patterns : Identifier → Result CompactTable DataError) where
-  -- only the form with the language first and the system count
-  pub compact_alike : (strategy : GroupingStrategy) (p q : Preferences) → language_priority p.locale ≡ language_priority q.locale → p.numbering_system ≡ q.numbering_system
-      → found_compact_tables chain symbols digits rules patterns p (Some strategy) ≡ found_compact_tables chain symbols digits rules patterns q (Some strategy)
-  compact_alike strategy p q locales systems =
-      let asked : symbols_identifiers chain p ≡ symbols_identifiers chain q =
-      ap₂ (λ locale system. identifiers_along system (chain locale)) locales systems in
-      ap (λ plain. with_plain plain (first_found rules (rules_identifiers chain p)) (first_found patterns (patterns_identifiers chain p))) (found_alike chain symbols digits strategy p q locales systems)
-      ∙ ap (λ locale. with_plain (found_tables chain symbols digits q (Some strategy)) (first_found rules (identifiers_along None (chain locale))) (first_found patterns (patterns_identifiers chain p))) locales
-      ∙ ap (λ ids. with_plain (found_tables chain symbols digits q (Some strategy)) (first_found rules (rules_identifiers chain q)) (first_found patterns ids)) asked
-
--- ---- the patterns in what is found
 
 patterns_in : (plain : Result Tables DataError) (rules : Result Rules DataError) (patterns : Result CompactTable DataError) (tables : CompactTables) → with_plain plain rules patterns ≡ Ok tables → patterns ≡ Ok tables.patterns
 patterns_in (Ok plain) (Ok rules) (Ok patterns) tables is =

@@ -20,9 +20,7 @@ use Rattle.locale_numbers_formats.specs.declared.SignAsked.{SignAsked}
 use Rattle.locale_numbers_requests.specs.Cutting.{IsLastCut, IsNot, is_separator}
 use Rattle.locale_numbers_requests.specs.Request.{Asked, asked_by, fields, format_asked, request_by, request_in, request_of, tab, with_text}
 use Rattle.locale_numbers_requests.specs.declared.Refusal.TheVariants as refusal
-use Rattle.locale_numbers_requests.specs.declared.form_field.FormAsked.{FormAsked}
-use Rattle.locale_numbers_requests.specs.declared.form_field.Task.{Task}
-use Rattle.locale_numbers_requests.specs.declared.rounding_field.DigitsAsked.{DigitsAsked}
+use Rattle.locale_numbers_requests.specs.declared.Task.{Task}
 use Rattle.locale_numbers.specs.Answer.{answer_asked, answer_of, answer_tagged, refused}
 use Rattle.locale_numbers.specs.FormatterKeys.{key_asked, key_of, key_tagged, key_with}
 use Rattle.locale_numbers.specs.Front.{FitsKey, HasKeyThat, answer_after, answer_front, answer_keyed, asked_text, front_asked, front_of, is_as_it_is, key_after, key_front, key_keyed}
@@ -69,7 +67,7 @@ asks_by : (tag : List ℕ) (found : Option (Task × NumberFormat)) (text : List 
 asks_by tag None text = refl
 asks_by tag (Some found) text = refl
 
-asks : (tag : List ℕ) (form : Option FormAsked) (grouping : Option GroupingStrategy) (sign : Option SignAsked) (digits : Option DigitsAsked) (text : List ℕ)
+asks : (tag : List ℕ) (form : Option _) (grouping : Option GroupingStrategy) (sign : Option SignAsked) (digits : Option _) (text : List ℕ)
     → request_by tag form grouping sign digits text ≡ with_text text (request_by tag form grouping sign digits [])
 asks tag None grouping sign digits text = refl
 asks tag (Some form) None sign digits text = refl
@@ -215,10 +213,12 @@ with_no_text None = refl
 with_no_text (Some asked) = refl
 
 -- what is made of the parts of a front that was read
-pub front_read : (bytes : List ℕ) (asked : Asked) (wanted : Option Preferences) (key : Option FormatterKey) → with_text [] (request_of bytes) ≡ Some asked
-    → wanted ≡ wanted_of asked.tag → key ≡ keyed_with asked wanted → Some (fronted asked key) ≡ front_of bytes
-front_read bytes asked wanted key read prefers made =
-    ap (λ k. Some (fronted asked k)) (made ∙ ap (keyed_with asked) prefers)
+pub front_read : (bytes : List ℕ) (asked : Asked) (wanted : Option Preferences) (key : Option FormatterKey) (given : Bool) → with_text [] (request_of bytes) ≡ Some asked
+    → wanted ≡ wanted_of asked.tag → key ≡ keyed_with asked wanted → given ≡ is_as_it_is asked.format
+    → Some (record { task = asked.task; options = asked.format.options; is_as_it_is = given; key = key }) ≡ front_of bytes
+front_read bytes asked wanted key given read prefers made plain =
+    ap (λ b. Some (record { task = asked.task; options = asked.format.options; is_as_it_is = b; key = key })) plain
+    ∙ ap (λ k. Some (fronted asked k)) (made ∙ ap (keyed_with asked) prefers)
     ∙ sym (ap front_asked read)
     ∙ with_no_text (request_of bytes)
 

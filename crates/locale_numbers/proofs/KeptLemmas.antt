@@ -11,6 +11,7 @@ use Rattle.icu_decimal.specs.Folding.{plain_digits}
 use Rattle.icu_decimal.specs.declared.error.DataError.{DataError}
 use Rattle.locale_numbers_answers.specs.Answers.{exact_with, read_found, typed_found, where_found, written_found}
 use Rattle.locale_numbers_answers.specs.NumberAnswer.{number_answer}
+use Rattle.locale_numbers_answers.specs.NumberReading.{number, reading_of}
 use Rattle.locale_numbers_answers.specs.ReadAnswer.{read_answer}
 use Rattle.locale_numbers_book.specs.Book.{BookTables}
 use Rattle.locale_numbers_cache.specs.Cached.{Cached, IsFirst}
@@ -22,10 +23,10 @@ use Rattle.locale_numbers_formatter.specs.FormatTyped.{format_typed_reading, rea
 use Rattle.locale_numbers_requests.specs.declared.Refusal.TheVariants as refusal
 use Rattle.locale_numbers.specs.Answer.{found_for, in_latin, refused}
 use Rattle.locale_numbers.specs.FormatterKeys.{finds}
-use Rattle.locale_numbers.specs.Front.{FindsUnits}
-use Rattle.locale_numbers.specs.KeptFormatters.{IsMadeFor}
+use Rattle.locale_numbers.specs.Front.{FindsUnits, is_as_it_is}
+use Rattle.locale_numbers.specs.KeptFormatters.{IsMadeFor, Kept}
 use Rattle.locale_numbers.specs.declared.formatter_key.FormatterKey.{FormatterKey}
-use Rattle.locale_numbers.specs.declared.kept_formatter.KeptFormatter.{KeptFormatter}
+use Rattle.locale_numbers.proofs.TextDigitsLemmas.{leaves_so}
 
 -- the key of the first entry is the first key
 pub first_key : {K F : Type 0} (cache : Cached K F) (key : K) (kept : F) → slice_get cache.entries 0 ≡ Some (key, kept) → IsFirst key cache
@@ -67,7 +68,7 @@ found_is : (latin : Result FormatTables DataError) → result_ok latin ≡ where
 found_is (Ok format) = refl
 found_is (Err error) = refl
 
-module _ (book : BookTables) (key : FormatterKey) (kept : KeptFormatter) (made : IsMadeFor book key kept) where
+module _ (book : BookTables) (key : FormatterKey) (kept : Kept) (made : IsMadeFor book key kept) where
   pub written_by : (options : NumberOptions) (value : SignedValue Number)
       → written_found (found_for key.shape book key.preferences) options value ≡ number_answer kept.formatter (changed options (fractions_in kept.formatter) value)
   written_by options value = ap (λ found. written_found found options value) made.found
@@ -84,6 +85,17 @@ module _ (book : BookTables) (key : FormatterKey) (kept : KeptFormatter) (made :
   typed_answer lenient text =
       ap (λ found. typed_found found (found_for key.shape book (in_latin key.preferences)) text) made.found
       ∙ ap (λ typed. read_answer (reading_by_typed typed text)) (sym (typed_by lenient))
+
+-- one of the book as it is afterwards is one of the book before
+pub made_before : (after before : BookTables) (key : FormatterKey) (kept : Kept) → after ≡ before → IsMadeFor after key kept → IsMadeFor before key kept
+made_before after before key kept same made = subst (λ b. IsMadeFor b key kept) same made
+
+-- of a plain number as it is given
+pub digits_by : (book : BookTables) (key : FormatterKey) (kept : Kept) → IsMadeFor book key kept → (options : NumberOptions) → is_as_it_is (record { shape = key.shape; options = options }) ≡ true
+    → (text : List ℕ) (value : SignedValue Number) → reading_of text ≡ number value → written_found (found_for key.shape book key.preferences) options value ≡ number_answer kept.formatter value
+digits_by book key kept made options plain text value reads =
+    written_by book key kept made options value
+    ∙ leaves_so (record { shape = key.shape; options = options }) plain book key.preferences kept.formatter made.found value text reads
 
 -- a format without a unit, where what is found has none
 pub no_unit : (found : Result FormatTables DataError) (format : FormatTables) → found ≡ Ok format → ¬ (FindsUnits found) → HasNoUnit format

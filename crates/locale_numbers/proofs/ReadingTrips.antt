@@ -1,5 +1,5 @@
 -- What is read back is written again, and what was written reads back: `specs/Laws.antt`.
-use Rattle.std.proofs.Common.{◌≡◌, ℕ, Bool, true, false, codes, List, drop, get_or, Option, Some, None, Result, Ok, Err, refl, sym, ap, ap₂, ◌∙◌, subst, arith}
+use Rattle.std.proofs.Common.{◌≡◌, ◌==◌, ℕ, Bool, true, false, codes, List, drop, get_or, Option, Some, None, Result, Ok, Err, refl, sym, ap, ap₂, ◌∙◌, subst, arith}
 use Rattle.std.specs.Prelude.{if◌then◌else◌, option_map, pos}
 use Rattle.std.specs.Str.{bytes_eq}
 use Rattle.fixed_decimal.specs.CompactText.{CompactValue}
@@ -10,6 +10,7 @@ use Rattle.fixed_decimal.specs.TextLaws.{IsDecimal}
 use Rattle.fixed_decimal.proofs.SignedReadOnceLemmas.{signed_printed}
 use Rattle.icu_decimal.specs.declared.error.DataError.{DataError}
 use Rattle.icu_decimal.specs.declared.options.GroupingStrategy.{GroupingStrategy}
+use Rattle.icu_decimal.specs.declared.provider.CompactEntry.{CompactEntry}
 use Rattle.icu_decimal.specs.declared.options.GroupingStrategy.TheVariants.{Auto, Always}
 use Rattle.icu_decimal.specs.Choice.{first_found}
 use Rattle.icu_decimal.specs.CompactTables.{CompactTables}
@@ -23,6 +24,7 @@ use Rattle.icu_decimal.specs.PlainReading.{IsPlainText, PlainReading, decimal, n
 use Rattle.icu_decimal.specs.PlainText.{Tables, decimal_text}
 use Rattle.icu_decimal.specs.ReadingLaws.{AreTables, HasOneReading as HasOnePlainReading, ReadIsWrittenAgain as TextIsWrittenAgain, TextsHaveOneDecimal, WrittenReadsBack as TextReadsBack}
 use Rattle.icu_decimal.specs.Rules.{Rules}
+use Rattle.icu_decimal.specs.ShownChoice.{exact_entry}
 use Rattle.icu_decimal.specs.Symbols.{Symbols}
 use Rattle.icu_dimension.specs.FoundUnits.{amount_settings, percent_settings, then_found, unit_locales, with_own}
 use Rattle.icu_dimension.specs.ProvidedUnits.{AmountTexts, PercentTexts, SymbolText}
@@ -34,7 +36,7 @@ use Rattle.icu_dimension.specs.declared.UnitKind.TheVariants as kind
 use Rattle.icu_locale_core.specs.TagPreferences.{Preferences}
 use Rattle.locale_numbers_answers.specs.Answers.{answer_by, exact_found, exact_with, read_found, typed_found, where_found, written_found, written_to}
 use Rattle.locale_numbers_answers.specs.CompactReading.{CompactReading, compact_beyond, compact_nothing, compact_number, compact_reading_of}
-use Rattle.locale_numbers_answers.specs.NumberAnswer.{exact_answer, number_answer, signed_form}
+use Rattle.locale_numbers_answers.specs.NumberAnswer.{exact_answer, exact_written, is_form_in_range, number_answer, signed_form}
 use Rattle.locale_numbers_answers.specs.NumberReading.{Reading, beyond, nothing, number, reading_of}
 use Rattle.locale_numbers_answers.specs.ReadAnswer.{own_reading, read_answer}
 use Rattle.locale_numbers_answers.proofs.NumberBounds.{changed_again, changed_is_decimal, reading_is_decimal}
@@ -56,8 +58,9 @@ use Rattle.locale_numbers_formats.specs.declared.Rounding.{Rounding}
 use Rattle.locale_numbers_formats.specs.declared.Rounding.TheVariants.{Usual}
 use Rattle.locale_numbers_formats.specs.declared.SignAsked.{SignAsked}
 use Rattle.locale_numbers_formats.specs.declared.SignAsked.TheVariants.{Keep}
+use Rattle.locale_numbers_formatter.specs.ExactForms.{under_entry}
 use Rattle.locale_numbers_formatter.specs.FormatReading.{format_reading}
-use Rattle.locale_numbers_formatter.specs.FormatText.{FormatTables, UnitFormat, compact_tables, fractions_in, plain_tables, unit_tables}
+use Rattle.locale_numbers_formatter.specs.FormatText.{FormatTables, UnitFormat, compact_tables, fractions_in, plain_tables, shown_as_it_is, text_of_shown, unit_tables}
 use Rattle.locale_numbers_formatter.specs.FormatTyped.{format_typed_reading, plain_in, typed_unit, unit_in, units_in_turn, where_native}
 use Rattle.locale_numbers_formatter.specs.HeldFormats.{currency_format, percent_format}
 use Rattle.locale_numbers_formatter.specs.ReadingLaws.{PlainReadsByPairs}
@@ -175,6 +178,11 @@ format_twins (Compact width) unit.None book p =
 format_twins (Compact width) unit.Percent book p = none_found DataError.IdentifierNotFound
 format_twins (Compact width) (unit.Currency currency) book p = none_found DataError.IdentifierNotFound
 
+-- numbers with a unit, by a grouping
+abbrev unit_under : Symbols → List ℕ → PatternTexts → UnitName → List ℕ → Option FractionInfo → GroupingStrategy → UnitFormat
+unit_under symbols digits pattern name code fractions strategy =
+    record { settings = record { tables = record { symbols = symbols; digits = digits; strategy = strategy }; pattern = pattern; unit = name }; code = code; fractions = fractions }
+
 -- they answer alike
 twins_write : (one two : Result FormatTables DataError) → AreFormatTwins one two → (options : NumberOptions) (reading : Reading) → written_to one options reading ≡ written_to two options reading
 twins_write one two twins options nothing = refl
@@ -184,12 +192,37 @@ twins_write one two (shown_found symbols digits rules patterns) options (number 
 twins_write one two (unit_found symbols digits pattern name code fractions) options (number value) = refl
 twins_write one two (none_found error) options (number value) = refl
 
+-- a form under an entry of compact tables, by a grouping
+abbrev compact_under : Symbols → List ℕ → Rules → CompactTable → GroupingStrategy → CompactTables
+compact_under symbols digits rules patterns strategy =
+    record { plain = record { symbols = symbols; digits = digits; strategy = strategy }; rules = rules; patterns = patterns }
+
+entry_twins : (symbols : Symbols) (digits : List ℕ) (rules : Rules) (patterns : CompactTable) (form : CompactValue) (entry : Option (Option CompactEntry))
+    → option_map text_of_shown (option_map (under_entry (compact_under symbols digits rules patterns Auto) form) entry)
+    ≡ option_map text_of_shown (option_map (under_entry (compact_under symbols digits rules patterns Always) form) entry)
+entry_twins symbols digits rules patterns form None = refl
+entry_twins symbols digits rules patterns form (Some entry) = refl
+
 twins_exact : (one two : Result FormatTables DataError) → AreFormatTwins one two → (sign : SignAsked) (reading : CompactReading) → exact_found one sign reading ≡ exact_found two sign reading
 twins_exact one two twins sign compact_nothing = refl
 twins_exact one two twins sign compact_beyond = refl
-twins_exact one two (plain_found symbols digits) sign (compact_number form) = refl
-twins_exact one two (shown_found symbols digits rules patterns) sign (compact_number form) = refl
-twins_exact one two (unit_found symbols digits pattern name code fractions) sign (compact_number form) = refl
+twins_exact one two (plain_found symbols digits) sign (compact_number form) = at (form.exponent == 0)
+  where
+    at : (b : Bool) → exact_written (option_map text_of_shown (if b then Some (shown_as_it_is (plain_tables (record { symbols = symbols; digits = digits; strategy = Auto })) (signed_form sign form).significand) else None))
+        ≡ exact_written (option_map text_of_shown (if b then Some (shown_as_it_is (plain_tables (record { symbols = symbols; digits = digits; strategy = Always })) (signed_form sign form).significand) else None))
+    at true = refl
+    at false = refl
+twins_exact one two (shown_found symbols digits rules patterns) sign (compact_number form) =
+    let of : GroupingStrategy → CompactTables = compact_under symbols digits rules patterns in
+    let signed = signed_form sign form in
+    ap (λ text. if is_form_in_range (compact_tables (of Auto)) signed then exact_written text else refused refusal.Range)
+    (entry_twins symbols digits rules patterns signed (exact_entry 32768 patterns.entries signed.significand.absolute.count signed.exponent))
+twins_exact one two (unit_found symbols digits pattern name code fractions) sign (compact_number form) = at (form.exponent == 0)
+  where
+    at : (b : Bool) → exact_written (option_map text_of_shown (if b then Some (shown_as_it_is (unit_tables (unit_under symbols digits pattern name code fractions Auto)) (signed_form sign form).significand) else None))
+        ≡ exact_written (option_map text_of_shown (if b then Some (shown_as_it_is (unit_tables (unit_under symbols digits pattern name code fractions Always)) (signed_form sign form).significand) else None))
+    at true = refl
+    at false = refl
 twins_exact one two (none_found error) sign (compact_number form) = refl
 
 twins_read : (one two : Result FormatTables DataError) → AreFormatTwins one two → (rounding : Rounding) (text : List ℕ) → read_found one rounding text ≡ read_found two rounding text
@@ -206,11 +239,6 @@ plain_in_turn latin latin_two (plain_found s d) symbols digits text false = refl
 plain_in_turn latin latin_two (shown_found s d r p) symbols digits text false = refl
 plain_in_turn latin latin_two (unit_found s d p n c f) symbols digits text false = refl
 plain_in_turn latin latin_two (none_found error) symbols digits text false = refl
-
--- numbers with a unit, by a grouping
-abbrev unit_under : Symbols → List ℕ → PatternTexts → UnitName → List ℕ → Option FractionInfo → GroupingStrategy → UnitFormat
-unit_under symbols digits pattern name code fractions strategy =
-    record { settings = record { tables = record { symbols = symbols; digits = digits; strategy = strategy }; pattern = pattern; unit = name }; code = code; fractions = fractions }
 
 unit_in_turn : (latin latin_two : Result FormatTables DataError) → AreFormatTwins latin latin_two → (symbols : Symbols) (digits : List ℕ) (pattern : PatternTexts) (name : UnitName) (code : List ℕ) (fractions : Option FractionInfo) (text : List ℕ) (ascii : Bool)
     → unit_reading_by (typed_unit (unit_under symbols digits pattern name code fractions Auto)) (option_map typed_unit (if ascii then None else unit_in (where_found latin))) text
@@ -236,15 +264,15 @@ twins_typed one two latin latin_two (unit_found symbols digits pattern name code
     (λ some. refl) text)
 twins_typed one two latin latin_two (none_found error) twins text = refl
 
-twins_answer : (task : Task) (one two : NumberFormat) → one.options ≡ two.options → (found found_two latin latin_two : Result FormatTables DataError) → AreFormatTwins found found_two → AreFormatTwins latin latin_two → (text : List ℕ)
-    → answer_by task one found latin text ≡ answer_by task two found_two latin_two text
-twins_answer Write one two same found found_two latin latin_two twins second text =
-    ap (λ options. written_to found options (reading_of text)) same ∙ twins_write found found_two twins two.options (reading_of text)
-twins_answer WriteExact one two same found found_two latin latin_two twins second text =
-    ap (λ (options : NumberOptions). exact_found found options.sign (compact_reading_of text)) same ∙ twins_exact found found_two twins two.options.sign (compact_reading_of text)
-twins_answer Read one two same found found_two latin latin_two twins second text =
-    ap (λ (options : NumberOptions). read_found found options.rounding text) same ∙ twins_read found found_two twins two.options.rounding text
-twins_answer ReadLenient one two same found found_two latin latin_two twins second text = twins_typed found found_two latin latin_two twins second text
+twins_answer : (task : Task) (one two : NumberFormat) → one.options ≡ two.options → (held held_two latin latin_two : Result FormatTables DataError) → AreFormatTwins held held_two → AreFormatTwins latin latin_two → (text : List ℕ)
+    → answer_by task one held latin text ≡ answer_by task two held_two latin_two text
+twins_answer Write one two same held held_two latin latin_two twins second text =
+    ap (λ options. written_to held options (reading_of text)) same ∙ twins_write held held_two twins two.options (reading_of text)
+twins_answer WriteExact one two same held held_two latin latin_two twins second text =
+    ap (λ (options : NumberOptions). exact_found held options.sign (compact_reading_of text)) same ∙ twins_exact held held_two twins two.options.sign (compact_reading_of text)
+twins_answer Read one two same held held_two latin latin_two twins second text =
+    ap (λ (options : NumberOptions). read_found held options.rounding text) same ∙ twins_read held held_two twins two.options.rounding text
+twins_answer ReadLenient one two same held held_two latin latin_two twins second text = twins_typed held held_two latin latin_two twins second text
 
 auto_tagged : (book : BookTables) (asked : Asked) (p : Option Preferences)
     → answer_tagged book p (grouped_by Auto asked) ≡ answer_tagged book p (grouped_by Always asked)
@@ -412,7 +440,7 @@ reads_back pairs back book asked tables value finds readable is =
     ∙ ap read_answer (back tables value finds.are readable is)
 
 pub rounded_again : PlainReadsByPairs → HasOnePlainReading → TextsHaveOneDecimal → RoundedIsWrittenAgain
-rounded_again pairs one texts book asked tables text digits task shape nothing fits finds readable wrote same =
+rounded_again pairs one texts book asked tables text digits task shape plainly fits finds readable wrote same =
     let options = asked.format.options in
     let read = read_of pairs book asked tables finds text digits same in
     let is = read_plainly pairs book asked tables finds one text read.value read.is in
@@ -421,7 +449,7 @@ rounded_again pairs one texts book asked tables text digits task shape nothing f
     let value : SignedValue Number = changed options None first.value in
     let whole : IsDecimal value = changed_is_decimal options None first.value fits was in
     let one_value : read.value ≡ value = texts tables read.value value finds.are readable is.decimal whole (is.written ∙ sym first.shown) in
-    let kept : changed (keeping options) None read.value ≡ value = ap (changed (keeping options) None) one_value ∙ changed_again options None first.value nothing fits was in
+    let kept : changed (keeping options) None read.value ≡ value = ap (changed (keeping options) None) one_value ∙ changed_again options None first.value plainly fits was in
     plain_found_is pairs book asked tables finds (keeping options) digits read.value (sent_again pairs book asked tables finds text digits read is.decimal)
     ∙ ap (λ v. written (decimal_text tables v)) kept
     ∙ ap written first.shown

@@ -97,13 +97,13 @@ pub record LeavesAll (format : NumberFormat) : Type 0 where
 pub leaves_all : (format : NumberFormat) → is_as_it_is format ≡ true → LeavesAll format
 leaves_all format h =
     let o = format.options in
-    let f = and_parts (is_plain format.shape.notation format.shape.unit)
-    (rounds_none o.rounding && keeps_zeros o.leading_zeros o.zeros && adds_none o.integer_digits && adds_none o.fraction_digits && keeps_sign o.sign) h in
-    let r = and_parts (rounds_none o.rounding) (keeps_zeros o.leading_zeros o.zeros && adds_none o.integer_digits && adds_none o.fraction_digits && keeps_sign o.sign) f.1 in
-    let z = and_parts (keeps_zeros o.leading_zeros o.zeros) (adds_none o.integer_digits && adds_none o.fraction_digits && keeps_sign o.sign) r.1 in
-    let i = and_parts (adds_none o.integer_digits) (adds_none o.fraction_digits && keeps_sign o.sign) z.1 in
-    let e = and_parts (adds_none o.fraction_digits) (keeps_sign o.sign) i.1 in
-    record { plain = f.0; rounds = r.0; zeros = z.0; integer_digits = i.0; fraction_digits = e.0; sign = e.1 }
+    let shape : Bool = is_plain format.shape.notation format.shape.unit in
+    let e = and_parts (shape && rounds_none o.rounding && keeps_zeros o.leading_zeros o.zeros && adds_none o.integer_digits && adds_none o.fraction_digits) (keeps_sign o.sign) h in
+    let d = and_parts (shape && rounds_none o.rounding && keeps_zeros o.leading_zeros o.zeros && adds_none o.integer_digits) (adds_none o.fraction_digits) e.0 in
+    let c = and_parts (shape && rounds_none o.rounding && keeps_zeros o.leading_zeros o.zeros) (adds_none o.integer_digits) d.0 in
+    let b = and_parts (shape && rounds_none o.rounding) (keeps_zeros o.leading_zeros o.zeros) c.0 in
+    let a = and_parts shape (rounds_none o.rounding) b.0 in
+    record { plain = a.0; rounds = a.1; zeros = b.1; integer_digits = c.1; fraction_digits = d.1; sign = e.1 }
 
 shown_so : (format : NumberFormat) → LeavesAll format → (value : Number) → IsNumber value → shown format.options value ≡ value
 shown_so format all value is =

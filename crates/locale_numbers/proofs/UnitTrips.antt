@@ -13,13 +13,14 @@ use Rattle.icu_decimal.specs.PlainReading.{PlainReading, decimal, not_written, u
 use Rattle.icu_decimal.specs.PlainText.{unsigned_text}
 use Rattle.icu_decimal.specs.ReadingLaws.{TextsAreUtf8}
 use Rattle.icu_decimal.specs.declared.error.DataError.{DataError}
+use Rattle.icu_dimension.specs.NativeUnitLaws.{HasOneExactReading}
 use Rattle.icu_dimension.specs.UnitReading.{AreReaderTexts, IsUnitText, is_unit_readable_by, pair_for, reader_texts}
 use Rattle.icu_dimension.specs.UnitReadingLaws.{ReadersReadWhatIsWritten}
 use Rattle.icu_dimension.specs.UnitReadings.{unit_reading}
 use Rattle.icu_dimension.specs.UnitText.{UnitSettings, unit_decimal_text}
 use Rattle.icu_locale_core.specs.TagPreferences.{Preferences}
 use Rattle.locale_numbers_answers.specs.Answers.{answer_by, read_found, written_found, written_to}
-use Rattle.locale_numbers_answers.specs.Laws.{FitDecimals, HasOneUnitReading, IsAtMagnitude, TrimsNothing}
+use Rattle.locale_numbers_answers.specs.Laws.{FitDecimals, IsAtMagnitude, TrimsNothing}
 use Rattle.locale_numbers_answers.specs.NumberReading.{number, reading_of}
 use Rattle.locale_numbers_answers.specs.ReadAnswer.{fraction_asked, is_own_rounding, own_reading, read_answer}
 use Rattle.locale_numbers_answers.proofs.NumberBounds.{changed_is_decimal, reading_is_decimal}
@@ -121,12 +122,12 @@ module _ (book : BookTables) (asked : Asked) (of : NumberUnit) (found : UnitForm
   texts_found all = texts_by all book asked of found finds.preferences finds.found finds.texts
 
   -- the text of what was read
-  text_read : FoundUnitsAreTexts → HasOneUnitReading → (text : List ℕ) (value : SignedValue Number) → unit_reading (reader_texts found.settings) text ≡ decimal value → IsUnitText (reader_texts found.settings) text value
+  text_read : FoundUnitsAreTexts → HasOneExactReading → (text : List ℕ) (value : SignedValue Number) → unit_reading (reader_texts found.settings) text ≡ decimal value → IsUnitText (reader_texts found.settings) text value
   text_read all one text value is = ((one (reader_texts found.settings) text (decimal value) (texts_found all)).1 (sym is)).1
 
 -- ---- the laws
 
-pub read_unit_again : FoundUnitsAreTexts → HasOneUnitReading → ReadersReadWhatIsWritten → ReadUnitIsWrittenAgain
+pub read_unit_again : FoundUnitsAreTexts → HasOneExactReading → ReadersReadWhatIsWritten → ReadUnitIsWrittenAgain
 read_unit_again all one readers book asked of found rounding text digits finds takes same =
     let read = read_by found rounding text digits (reading_under found rounding text) refl (sym (read_is book asked of found finds rounding text) ∙ same) in
     let parts = own_parts (fraction_asked found.fractions rounding) (unit_reading (reader_texts found.settings) text) read.value read.is in
@@ -139,7 +140,7 @@ read_unit_again all one readers book asked of found rounding text digits finds t
     ∙ ap written (sym (readers found.settings read.value) ∙ is.written)
 
 -- what a line writes reads back under a rounding that leaves it as it is
-reads_back_under : FoundUnitsAreTexts → HasOneUnitReading → ReadersReadWhatIsWritten → (book : BookTables) (asked : Asked) (of : NumberUnit) (found : UnitFormat) (value : SignedValue Number) (text : List ℕ) (rounding : Rounding)
+reads_back_under : FoundUnitsAreTexts → HasOneExactReading → ReadersReadWhatIsWritten → (book : BookTables) (asked : Asked) (of : NumberUnit) (found : UnitFormat) (value : SignedValue Number) (text : List ℕ) (rounding : Rounding)
     → asked.task ≡ Write → asked.format.shape ≡ shape_with of (grouping_in asked) → FitDecimals asked.format.options → FindsUnit book asked of found
     → is_unit_readable_by (reader_texts found.settings) ≡ true → reading_of asked.text ≡ number value
     → answer_asked book (Some asked) ≡ written text
@@ -155,7 +156,7 @@ reads_back_under all one readers book asked of found value text rounding task sh
     ∙ ap (λ reading. read_answer (own_reading (fraction_asked found.fractions rounding) reading)) read
     ∙ ap (λ b. read_answer (cond b (decimal shown) not_written)) own
 
-pub unit_reads_back : FoundUnitsAreTexts → HasOneUnitReading → ReadersReadWhatIsWritten → WrittenUnitReadsBack
+pub unit_reads_back : FoundUnitsAreTexts → HasOneExactReading → ReadersReadWhatIsWritten → WrittenUnitReadsBack
 unit_reads_back all one readers book asked of found value text task shape nothing fits takes finds readable reads same =
     reads_back_under all one readers book asked of found value text asked.format.options.rounding task shape fits finds readable reads same
     (own_of_changed asked.format.options found.fractions value nothing fits (reading_is_decimal asked.text value reads))
@@ -167,7 +168,7 @@ no_digits (Ok settings) found is =
     ap (λ (f : UnitFormat). f.fractions) (sym one)
 no_digits (Err error) found is = absurd (cc)
 
-pub percent_reads_back : FoundUnitsAreTexts → HasOneUnitReading → ReadersReadWhatIsWritten → WrittenPercentReadsBack
+pub percent_reads_back : FoundUnitsAreTexts → HasOneExactReading → ReadersReadWhatIsWritten → WrittenPercentReadsBack
 percent_reads_back all one readers book asked found value text task shape nothing fits finds readable reads same =
     let none : found.fractions ≡ None = no_digits (percent_found_in book finds.preferences (Some (grouping_in asked))) found finds.found in
     reads_back_under all one readers book asked unit.Percent found value text Usual task shape fits finds readable reads same

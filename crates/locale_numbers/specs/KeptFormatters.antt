@@ -1,7 +1,7 @@
 -- Which formatter is the one of a key, and what it knows to put texts with and to read with.
 -- Defined in docs/requests.md, "What a cache keeps".
 -- Cited by the private steps of `answer` and `run`.
-use Rattle.std.specs.Prelude.{◌≡◌, true, Option, IfSome, Ok}
+use Rattle.std.specs.Prelude.{◌≡◌, Bool, true, Option, IfSome, Ok}
 use Rattle.icu_decimal.specs.declared.options.GroupingStrategy.{GroupingStrategy}
 use Rattle.icu_decimal_direct.specs.TextTables.{text_tables}
 use Rattle.icu_decimal_direct.specs.declared.text_tables.TextTables.{TextTables}
@@ -12,7 +12,13 @@ use Rattle.locale_numbers_formatter.specs.FormatReading.{reader_of}
 use Rattle.locale_numbers_formatter.specs.FormatText.{FormatTables, compact_tables, plain_tables, unit_tables}
 use Rattle.locale_numbers_formatter.specs.FormatTyped.{TypedTables, typed_of}
 use Rattle.locale_numbers.specs.declared.formatter_key.FormatterKey.{FormatterKey}
-use Rattle.locale_numbers.specs.declared.kept_formatter.KeptFormatter.{KeptFormatter}
+
+-- what numbers are written with, and beside it in the digits of ASCII, where typed texts are read; and whether what reads them is kept
+pub record Kept : Type 0 where
+  pub formatter : FormatTables
+  pub latin : Option FormatTables
+  pub keeps_reader : Bool
+  pub keeps_typed : Bool
 
 -- plain numbers have this grouping
 abbrev pub HasGrouping : FormatTables → GroupingStrategy → Type 0
@@ -32,10 +38,7 @@ KnowsReader format reader = IfSome reader (λ known. known ≡ reader_of format)
 abbrev pub KnowsTyped : FormatTables → Option FormatTables → Option TypedTables → Type 0
 KnowsTyped format latin reader = IfSome reader (λ known. known ≡ typed_of format latin)
 
--- the formatter is the one of the key: it has what is found, and knows no more of it than is so
-pub record IsMadeFor (book : BookTables) (key : FormatterKey) (kept : KeptFormatter) : Type 0 where
+-- the formatter is the one of the key: it has what is found
+pub record IsMadeFor (book : BookTables) (key : FormatterKey) (kept : Kept) : Type 0 where
   pub found : found_for key.shape book key.preferences ≡ Ok kept.formatter
-  pub texts : KnowsTexts kept.formatter kept.texts
-  pub reader : KnowsReader kept.formatter kept.reader
   pub latin : key.is_lenient ≡ true → kept.latin ≡ latin_for key.shape book key.preferences kept.formatter
-  pub typed : KnowsTyped kept.formatter kept.latin kept.lenient

@@ -1,10 +1,13 @@
 //! Formatters that are kept from line to line.
 
+ghost use Rattle.std.specs.Prelude.{◌≡◌, Bool, Some, option_map, slice_get, IsSome};
+ghost use Rattle.locale_numbers_cache.specs.Cached.{ChangesNothing, IsFirst};
+
 use crate::formatter_key::FormatterKey;
 use crate::formatters::Formatters;
 use crate::kept_formatter::{FormatterMaker, KeptFormatter};
 use locale_numbers_book::Tables;
-use locale_numbers_cache::{FormatterCache, Hashed};
+use locale_numbers_cache::{CacheKey, FormatterCache, Hashed};
 use std::alloc::AllocError;
 
 // The formatters that were used last, and who makes others.
@@ -16,6 +19,19 @@ pub(crate) struct CachedFormatters<'a, T: Tables> {
     pub formatters: FormatterCache<Hashed<FormatterKey>, KeptFormatter<'a>>,
     /// Whether the one that was found last is that of the front that came last.
     pub is_held: bool,
+}
+
+// What was used last, where there is such a thing.
+fn latest_of<K: CacheKey, F: Drop>(formatters: &FormatterCache<K, F>) -> &F
+    requires { IsSome (slice_get formatters.now.entries 0) }
+    ensures value { Some result.now ≡ option_map (λ entry. entry.1) (slice_get formatters.now.entries 0) }
+    ensures again { (finds : K → Bool) (key : K) → IsFirst key formatters.now
+        → ChangesNothing K.eq finds key formatters.now }
+{
+    match formatters.latest() {
+        Some(kept) => kept,
+        None => unreachable!(),
+    }
 }
 
 impl<'a, T: Tables> Formatters<'a> for CachedFormatters<'a, T> {
@@ -51,10 +67,7 @@ impl<'a, T: Tables> Formatters<'a> for CachedFormatters<'a, T> {
     }
 
     fn found(&self, _key: &Hashed<FormatterKey>) -> &KeptFormatter<'a> {
-        match self.formatters.latest() {
-            Some(kept) => kept,
-            None => unreachable!(),
-        }
+        latest_of(&self.formatters)
     }
 
     ghost counts_none = { λ s more. refl };

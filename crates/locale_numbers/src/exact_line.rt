@@ -33,13 +33,13 @@ fn write_exact_by_key<'a, F: Formatters<'a>>(
     requires right { F.is_right_for formatters.old key.now }
     ensures text { OnOk result (string_bytes out.new ≡ string_bytes out.old
         ++ exact_with (found_for key.now.shape (F.book formatters.old) key.now.preferences)
-        (signed_form sign value.entry)) }
+        (signed_form sign value)) }
     ensures err { OnErr result (Grows (string_bytes out.old) (string_bytes out.new)) }
 
     // Where there is room for the answer, and handing out the formatter of the key takes none, it does not allocate.
     ensures room { HasRoom out.old
         (exact_with (found_for key.now.shape (F.book formatters.old) key.now.preferences)
-        (signed_form sign value.entry))
+        (signed_form sign value))
         → ¬ (F.may_take_memory formatters.old key.now) → IsOk result }
     ensures counted { OnOk result ((more : List (Option FormatterKey)) →
         F.counted_over formatters.old (Some key.now ∷ more) ≡ F.counted_over formatters.new more) }

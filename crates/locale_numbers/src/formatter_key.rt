@@ -4,8 +4,9 @@ ghost use Rattle.std.specs.Prelude.{◌≡◌};
 ghost use Rattle.locale_numbers.specs.FormatterKeys.{reads_leniently};
 
 use icu_decimal::DecimalFormatterPreferences;
+use icu_decimal::options::GroupingStrategy;
 use locale_numbers_cache::CacheKey;
-use locale_numbers_formats::NumberShape;
+use locale_numbers_formats::{Notation, NumberShape};
 use locale_numbers_requests::Task;
 
 // What a formatter is kept under: what a tag prefers, a shape, and whether it reads what people type. Tags that prefer
@@ -26,8 +27,8 @@ impl CacheKey for FormatterKey {
     ghost use Rattle.locale_numbers.specs.SameKeys.{keys_are};
 
     ghost same = { keys_are
-        ⟦<NumberShape as PartialEq>⟧.eq ⟦<bool as PartialEq>⟧.eq
-        (Prim.search (comparing, rules)) (Prim.search (comparing, rules)) };
+        ⟦<Notation as PartialEq>⟧.eq ⟦<GroupingStrategy as PartialEq>⟧.eq ⟦<bool as PartialEq>⟧.eq
+        (Prim.search (comparing, rules)) (Prim.search (comparing, rules)) (Prim.search (comparing, rules)) };
 }
 
 // Whether a task reads what people type.

@@ -121,11 +121,14 @@ pub(crate) fn read_front(alloc: Global, bytes: &[u8]) -> Result<Option<Front>, A
         return Ok(None);
     };
     let preferences = read_preferences(alloc, request.tag)?;
-    let key = hashed_key(preferences, request.task, request.format.shape);
+    let format = request.format;
+    let is_as_it_is = is_as_it_is(&format);
+    let NumberFormat { shape, options } = format;
+    let key = hashed_key(preferences, request.task, shape);
     Ok(Some(Front {
         task: request.task,
-        options: request.format.options,
-        is_as_it_is: is_as_it_is(&request.format),
+        options,
+        is_as_it_is,
         key,
     }))
 }

@@ -14,6 +14,7 @@ use locale_numbers_formatter::{
     FormatterKind, LenientNumberReader, NumberFormatter, NumberReader,
 };
 use std::alloc::Global;
+use std::marker::Model;
 
 // A formatter that is kept, and what its texts are put and read with. It borrows its tables.
 #[derive(Drop)]
@@ -28,6 +29,24 @@ pub(crate) struct KeptFormatter<'a> {
     pub latin: Option<NumberFormatter<'a>>,
     /// What reads what people type; `None` where it is put together for each text.
     pub lenient: Option<LenientNumberReader<'a>>,
+}
+
+impl<'a> Model for KeptFormatter<'a> {
+    ghost use Rattle.std.specs.Prelude.{is_some};
+    ghost use Rattle.locale_numbers.specs.KeptFormatters.{Kept, KnowsReader, KnowsTexts, KnowsTyped};
+
+    ghost Value = { Kept };
+
+    ghost view = { λ k. record {
+      formatter = k.formatter;
+      latin = k.latin;
+      keeps_reader = is_some k.reader;
+      keeps_typed = is_some k.lenient;
+    } };
+
+    ghost invariant = { λ k. KnowsTexts k.formatter k.texts
+        × KnowsReader k.formatter k.reader
+        × KnowsTyped k.formatter k.latin k.lenient };
 }
 
 // What texts are put with directly by a formatter of plain numbers with this grouping.
@@ -107,10 +126,7 @@ fn written_formatter<'a>(
     keeps: bool,
 ) -> KeptFormatter<'a>
     requires { HasGrouping formatter grouping }
-    ensures formatter { result.formatter ≡ formatter.entry }
-    ensures texts { KnowsTexts result.formatter result.texts }
-    ensures reader { KnowsReader result.formatter result.reader }
-    ensures lenient { KnowsTyped result.formatter result.latin result.lenient }
+    ensures { result.formatter ≡ formatter.entry }
 {
     let (texts, reader) = if keeps {
         (kept_texts(&formatter, grouping), kept_reader(alloc, &formatter))

@@ -1,6 +1,6 @@
 //! The task that reads what people type: the number that was typed, as an answer.
 
-ghost use Rattle.std.specs.Prelude.{◌≡◌, ◌⊎◌, true, ◌∷◌, ◌++◌, List, Option, Some, IsOk, IsSome, OnOk, OnErr, string_bytes};
+ghost use Rattle.std.specs.Prelude.{◌≡◌, ◌⊎◌, true, ◌∷◌, ◌++◌, List, Option, Some, IsOk, OnOk, OnErr, string_bytes};
 ghost use Rattle.locale_numbers_lines.specs.Growth.{Grows};
 ghost use Rattle.locale_numbers_answers.specs.AnswerSink.{HasRoom};
 ghost use Rattle.locale_numbers_answers.specs.AnswerMemory.{TypedFoundAllocates};
@@ -10,7 +10,6 @@ ghost use Rattle.locale_numbers_book.specs.FoundFormats.{found_for, in_latin};
 ghost use Rattle.locale_numbers_formatter.specs.FormatText.{HasNoUnit};
 ghost use Rattle.locale_numbers_formatter.specs.FormatTyped.{TypedAllocates, format_typed_reading, typed_of};
 ghost use Rattle.locale_numbers.specs.Front.{FindsUnits};
-ghost use Rattle.locale_numbers.specs.KeptFormatters.{KnowsTyped};
 ghost use Rattle.locale_numbers.specs.declared.formatter_key.FormatterKey.{FormatterKey};
 
 use crate::formatter_key::FormatterKey;
@@ -29,7 +28,6 @@ fn read_typed_by_formatter(
     text: &str,
     out: &mut String,
 ) -> Result<(), AllocError>
-    requires { KnowsTyped kept.now.formatter kept.now.latin kept.now.lenient }
     ensures text { OnOk result (string_bytes out.new ≡ string_bytes out.old
         ++ read_answer (format_typed_reading kept.now.formatter kept.now.latin text.now)) }
     ensures err { OnErr result (Grows (string_bytes out.old) (string_bytes out.new)) }
@@ -38,7 +36,7 @@ fn read_typed_by_formatter(
     // memory, and what is put together of a unit.
     ensures room { HasRoom out.old
         (read_answer (format_typed_reading kept.now.formatter kept.now.latin text.now))
-        → HasNoUnit kept.now.formatter ⊎ IsSome kept.now.lenient
+        → HasNoUnit kept.now.formatter ⊎ (kept.now.keeps_typed ≡ true)
         → ¬ (TypedAllocates (typed_of kept.now.formatter kept.now.latin) text.now) → IsOk result }
 {
     if let Some(reader) = &kept.lenient {

@@ -12,7 +12,6 @@ ghost use Rattle.locale_numbers_book.specs.FoundFormats.{found_for};
 ghost use Rattle.locale_numbers_formats.specs.Changed.{MayGrowBy, changed};
 ghost use Rattle.locale_numbers_formatter.specs.FormatText.{fractions_in};
 ghost use Rattle.locale_numbers.specs.FormatterKeys.{key_text};
-ghost use Rattle.locale_numbers.specs.KeptFormatters.{KnowsReader, KnowsTexts};
 ghost use Rattle.locale_numbers.specs.Front.{if_text, is_as_it_is, key_if_text};
 ghost use Rattle.locale_numbers.specs.declared.formatter_key.FormatterKey.{FormatterKey};
 
@@ -36,7 +35,6 @@ fn write_by_formatter(
     value: &mut Decimal,
     out: &mut String,
 ) -> Result<(), AllocError>
-    requires { KnowsReader kept.now.formatter kept.now.reader }
     ensures text { OnOk result (string_bytes out.new ≡ string_bytes out.old
         ++ number_answer kept.now.formatter (changed options (fractions_in kept.now.formatter) value.old)) }
     ensures err { OnErr result (Grows (string_bytes out.old) (string_bytes out.new)) }
@@ -92,9 +90,7 @@ fn write_digits_by_formatter(
     digits: &TextDigits<'_>,
     out: &mut String,
 ) -> Result<(), AllocError>
-    requires reads { reading_of text.now ≡ number (number_spelled digits.now) }
-    requires texts { KnowsTexts kept.now.formatter kept.now.texts }
-    requires reader { KnowsReader kept.now.formatter kept.now.reader }
+    requires { reading_of text.now ≡ number (number_spelled digits.now) }
     ensures text { OnOk result (string_bytes out.new
         ≡ string_bytes out.old ++ number_answer kept.now.formatter (number_spelled digits.now)) }
     ensures err { OnErr result (Grows (string_bytes out.old) (string_bytes out.new)) }

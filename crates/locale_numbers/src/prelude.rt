@@ -17,6 +17,6 @@ pub use icu_dimension::{
 };
 pub use icu_locale_core::Locale;
 pub use locale_numbers_book::{Book, BookError, FormatterError, SAMPLE_BOOK, SAMPLE_UNITS_BOOK};
-pub use locale_numbers_requests::PatternLength;
+pub use locale_numbers_formats::CompactWidth;
 pub use locale_numbers_world::{WORLD_LOCALES, world_tags, world_text};
 pub use writeable::{Affixed, Part, PartsSink, Sink, TextSink, Writeable};

@@ -1,6 +1,6 @@
 //! The task that reads back: the number that a text was written from, as an answer.
 
-ghost use Rattle.std.specs.Prelude.{◌≡◌, ◌⊎◌, ◌∷◌, ◌++◌, List, Ok, Option, Some, IsOk, IsSome, OnOk, OnErr, string_bytes};
+ghost use Rattle.std.specs.Prelude.{◌≡◌, ◌⊎◌, true, ◌∷◌, ◌++◌, List, Ok, Option, Some, IsOk, OnOk, OnErr, string_bytes};
 ghost use Rattle.locale_numbers_lines.specs.Growth.{Grows};
 ghost use Rattle.locale_numbers_answers.specs.AnswerSink.{HasRoom};
 ghost use Rattle.locale_numbers_answers.specs.AnswerMemory.{ReadAllocates};
@@ -9,7 +9,6 @@ ghost use Rattle.locale_numbers_book.specs.FoundFormats.{found_for};
 ghost use Rattle.locale_numbers_formatter.specs.FormatReading.{ReaderAllocates, reader_of};
 ghost use Rattle.locale_numbers_formatter.specs.FormatText.{HasNoUnit};
 ghost use Rattle.locale_numbers.specs.Front.{FindsUnits};
-ghost use Rattle.locale_numbers.specs.KeptFormatters.{KnowsReader};
 ghost use Rattle.locale_numbers.specs.declared.formatter_key.FormatterKey.{FormatterKey};
 
 use crate::formatter_key::FormatterKey;
@@ -30,7 +29,6 @@ fn read_by_formatter(
     text: &str,
     out: &mut String,
 ) -> Result<(), AllocError>
-    requires { KnowsReader kept.now.formatter kept.now.reader }
     ensures text { OnOk result (string_bytes out.new
         ≡ string_bytes out.old ++ read_found (Ok kept.now.formatter) rounding text.now) }
     ensures err { OnErr result (Grows (string_bytes out.old) (string_bytes out.new)) }
@@ -38,7 +36,7 @@ fn read_by_formatter(
     // Where there is room for the answer, only a text of more than sixteen digits may be out of memory, and the affixes
     // of a unit that are put together.
     ensures room { HasRoom out.old (read_found (Ok kept.now.formatter) rounding text.now)
-        → HasNoUnit kept.now.formatter ⊎ IsSome kept.now.reader
+        → HasNoUnit kept.now.formatter ⊎ (kept.now.keeps_reader ≡ true)
         → ¬ (ReaderAllocates (reader_of kept.now.formatter) text.now) → IsOk result }
 {
     let fractions = kept.formatter.fractions();
