@@ -56,6 +56,7 @@ pub fn world_locales() -> impl Iterator<Item = &'static str> {
     (0..).map_while(|at| {
         // SAFETY: it takes any number, and the text that it returns is never given back.
         let tag = unsafe { sys::legumeyet_world_locale(at).as_ref() }?;
+        // SAFETY: the text ends with a NUL.
         unsafe { CStr::from_ptr(tag) }.to_str().ok()
     })
 }
