@@ -1098,6 +1098,11 @@ class Calls(unittest.TestCase):
         for words in ("import gc; gc.set_threshold(1); import legumeyet", dropped):
             subprocess.run([sys.executable, "-c", words], check=True, timeout=60)
 
+    def test_examples(self):
+        """What the package has is shown by an example, which load_tests finds."""
+        names = [it for it in legumeyet.__all__ if it != "Decimal"]
+        self.assertEqual([it for it in names if ">>> " not in (getattr(legumeyet, it).__doc__ or "")], [])
+
     def test_lets_go(self):
         for _ in range(200):
             DecimalFormatter(Book(JSON), "en").format(1)
