@@ -20,7 +20,8 @@ import sys
 sys.path.append(os.path.dirname(os.path.realpath(__file__)))
 
 try:
-    from launching import answering, building, cldr_book, sources, words
+    for name in ("answering", "building", "cldr_book", "sources", "words"):
+        __import__(f"launching.{name}")
 except (EOFError, ValueError):
     # what Python keeps of a module was cut short on a full disk, which it does not see: it goes, and is not read again in this call
     import shutil
