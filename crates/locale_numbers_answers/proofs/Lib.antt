@@ -1,16 +1,11 @@
 pub mod AmountLemmas
 pub mod AnswerLineLemmas
-pub mod ChangeLawsLemmas
 pub mod CompactAnswerLemmas
 pub mod CompactReadingLemmas
 pub mod ExponentLemmas
 pub mod KnownCompactAnswers
 mod KnownValues
-pub mod JoinedUnitLemmas
 pub mod LawsLemmas
-pub mod LenientLemmas
-pub mod LenientUnitLemmas
-mod MagnitudeLemmas
 pub mod NumberBounds
 pub mod NumberReadingLemmas
 pub mod PartsLemmas

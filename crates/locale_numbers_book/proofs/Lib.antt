@@ -11,6 +11,9 @@ pub mod KnownBooks
 pub mod KnownPairs
 pub mod WantedLemmas
 pub mod UnitLemmas
+pub mod ProviderLemmas
+pub mod AlikeLemmas
+pub mod KnownFormats
 pub mod SampleLemmas
 pub mod SampleUnitsLemmas
 pub mod TextTables

@@ -10,6 +10,7 @@ pub mod Refusal
 pub mod Tables
 pub mod Wanted
 pub mod TagFormatters
+pub mod FoundFormats
 -- What private steps follow.
 pub mod Arrays
 pub mod BookAllocation
