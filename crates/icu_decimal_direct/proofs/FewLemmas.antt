@@ -17,6 +17,13 @@ front_ends [] (c ∷ cs) (suc n) h other k within stops = let small = k.0 in let
 front_ends (c ∷ cs) rest zero h other k within stops = let small = h.0 in let large = stops (omega arith) in absurd (omega (arith, small, large))
 front_ends (c ∷ cs) rest (suc n) h other k within stops = ap suc (front_ends cs rest n h.1 other k.1 (omega (arith, within)) (λ less. stops (omega (arith, less))))
 
+-- and go no further
+front_within : (integer rest : List ℕ) (n : ℕ) → (0 < length rest → 10 ≤ digit_value (slice_index rest 0)) → AreDigits (take n (integer ++ rest)) → n ≤ length (integer ++ rest) → n ≤ length integer
+front_within integer rest zero other k within = omega arith
+front_within [] [] (suc n) other k within = absurd (omega (arith, within))
+front_within [] (c ∷ cs) (suc n) other k within = let small = k.0 in let large = other (omega arith) in absurd (omega (arith, small, large))
+front_within (c ∷ cs) rest (suc n) other k within = let less = front_within cs rest n other k.1 (omega (arith, within)) in omega (arith, less)
+
 point_is_none : (fraction : List ℕ) → 0 < length (after_point fraction) → 10 ≤ digit_value (slice_index (after_point fraction) 0)
 point_is_none [] some = absurd (omega (arith, some))
 point_is_none (c ∷ cs) some = omega arith
@@ -29,6 +36,13 @@ some_point : (fraction : List ℕ) → 0 < length fraction → 0 < length (after
 some_point [] some = absurd (omega (arith, some))
 some_point (c ∷ cs) some = omega arith
 
+-- no more than sixteen are before the point
+pub few_above : (text integer fraction : List ℕ) (above : ℕ) → text ≡ integer ++ after_point fraction → AreFewDigits integer fraction → AreDigits (take above text) → above ≤ length text → above ≤ 16
+few_above text integer fraction above is h digits within =
+    let few = h.few in
+    let less = front_within integer (after_point fraction) above (point_is_none fraction) (subst (λ t. AreDigits (take above t)) is digits) (subst (λ t. above ≤ length t) is within) in
+    omega (arith, few, less)
+
 module _ (text integer fraction : List ℕ) (above : ℕ) (is : text ≡ integer ++ after_point fraction) (h : AreFewDigits integer fraction)
     (digits : AreDigits (take above text)) (within : above ≤ length text) (stops : above < length text → 10 ≤ digit_value (slice_index text above)) where
   -- so many are before the point
@@ -39,9 +53,6 @@ module _ (text integer fraction : List ℕ) (above : ℕ) (is : text ≡ integer
 
   pub some_above : above ≡ 0 → ⊥
   some_above none = let some = h.some in omega (arith, some, above_is, none)
-
-  pub few_above : above ≤ 16
-  few_above = let few = h.few in omega (arith, few, above_is)
 
   whole_length : length text ≡ length integer + length (after_point fraction)
   whole_length = ap length is ∙ length-append integer (after_point fraction)

@@ -90,13 +90,30 @@ fn digits_ahead_few(text: &[u8]) -> usize
     digits_from(text, 4)
 }
 
-// How many digits a text begins with, by eights where it has as many bytes.
+// Sixteen digits that a text begins with, or seventeen where another follows.
+#[inline(always)]
+#[tactic(auto, using(std::proofs::lemmas::Int::Digits::digits_more))]
+fn digits_past(text: &[u8]) -> usize
+    requires known { AreDigits (take 16 text.now) }
+    requires long { 16 ≤ length text.now }
+    ensures within { result ≤ length text.now }
+    ensures digits { AreDigits (take result text.now) }
+    ensures stops { result ≤ 16 → result < length text.now → 10 ≤ digit_value (slice_index text.now result) }
+{
+    if text.len() > 16 && text[16].is_ascii_digit() {
+        17
+    } else {
+        16
+    }
+}
+
+// How many digits a text begins with, by eights where it has as many bytes; seventeen where there are more.
 #[inline(always)]
 #[tactic(auto, using(crate::proofs::LaneLemmas::digits_both_eights))]
 fn digits_ahead(text: &[u8]) -> usize
     ensures within { result ≤ length text.now }
     ensures digits { AreDigits (take result text.now) }
-    ensures stops { result < length text.now → 10 ≤ digit_value (slice_index text.now result) }
+    ensures stops { result ≤ 16 → result < length text.now → 10 ≤ digit_value (slice_index text.now result) }
 {
     if text.len() < 8 {
         return digits_ahead_few(text);
@@ -112,7 +129,7 @@ fn digits_ahead(text: &[u8]) -> usize
     if more < 8 {
         return 8 + more;
     }
-    digits_from(text, 16)
+    digits_past(text)
 }
 
 // The digits of a text without a sign, with this sign. `None`: it is another text, or has more digits.
