@@ -12,6 +12,7 @@ pub mod KnownPairs
 pub mod WantedLemmas
 pub mod UnitLemmas
 pub mod ProviderLemmas
+pub mod AlikeLemmas
 pub mod SampleLemmas
 pub mod SampleUnitsLemmas
 pub mod TextTables
