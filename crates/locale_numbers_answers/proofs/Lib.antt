@@ -6,10 +6,10 @@ pub mod CompactReadingLemmas
 pub mod ExponentLemmas
 pub mod KnownCompactAnswers
 mod KnownValues
-pub mod JoinedUnitLemmas
+pub use Rattle.locale_numbers_formatter.proofs.JoinedUnitLemmas
 pub mod LawsLemmas
-pub mod LenientLemmas
-pub mod LenientUnitLemmas
+pub use Rattle.locale_numbers_formatter.proofs.LenientLemmas
+pub use Rattle.locale_numbers_formatter.proofs.LenientUnitLemmas
 mod MagnitudeLemmas
 pub mod NumberBounds
 pub mod NumberReadingLemmas

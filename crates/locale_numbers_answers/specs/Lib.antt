@@ -15,10 +15,10 @@ pub use Rattle.locale_numbers_formats.specs.AmountRounding
 -- What private steps follow.
 pub mod AnswerSink
 pub mod AnswerSinkLaws
-pub mod JoinedUnit
-pub mod TypedHeld
+pub use Rattle.locale_numbers_formatter.specs.JoinedUnit
+pub use Rattle.locale_numbers_formatter.specs.TypedHeld
 pub mod KnownTexts
 -- Statements of laws.
 pub mod ChangeLaws
 pub mod Laws
-pub mod OwnUnitLaws
+pub use Rattle.locale_numbers_formatter.specs.OwnUnitLaws

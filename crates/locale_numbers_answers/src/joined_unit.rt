@@ -12,12 +12,12 @@ ghost use Rattle.locale_numbers_answers.specs.AnswerSink.{HasRoom};
 ghost use Rattle.locale_numbers_answers.specs.JoinedUnit.{joined_events};
 
 use crate::answer_line::write_ok;
-use crate::known_reader::KnownReader;
 use fixed_decimal::Decimal;
 use icu_decimal::FormattedUnsignedDecimal;
 use icu_dimension_affixes::UnitTables;
 use icu_dimension_affixes::laws::texts_have_one_decimal;
 use icu_dimension_affixes::steps::SignAffixes;
+use locale_numbers_formatter::KnownReader;
 use std::alloc::AllocError;
 use std::marker::Model;
 use writeable::{Error, LengthHint, Sink, Writeable};
@@ -68,12 +68,12 @@ impl<'l> Writeable for JoinedUnit<'l> {
         write_joined(self.affixes, &self.number, sink)
     }
 
-    #[tactic(auto, using(crate::proofs::JoinedUnitLemmas::joined_is_partless))]
+    #[tactic(auto, using(locale_numbers_formatter::proofs::JoinedUnitLemmas::joined_is_partless))]
     fn write_text<S: Sink>(&self, sink: &mut S) -> Result<(), Error> {
         write_joined(self.affixes, &self.number, sink)
     }
 
-    #[tactic(auto, using(crate::proofs::JoinedUnitLemmas::number_is_shorter))]
+    #[tactic(auto, using(locale_numbers_formatter::proofs::JoinedUnitLemmas::number_is_shorter))]
     fn writeable_length_hint(&self) -> LengthHint
         ensures { IsWithinHint result (length (text_of (joined_events self.now))) }
     {

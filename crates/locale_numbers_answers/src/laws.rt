@@ -2,7 +2,6 @@
 
 ghost use Rattle.locale_numbers_answers.specs.ChangeLaws.{LinesChangeAsFormats};
 ghost use Rattle.locale_numbers_answers.specs.Laws.{HasOneReading, HasOneCompactReading, HasOneAmount, HasOneRounding, HasOneUnitReading, RequestsAreAtMagnitude};
-ghost use Rattle.locale_numbers_answers.specs.OwnUnitLaws.{OtherUnitsInTurnStay, OwnUnitTextIsFirsts, UnitInTurnIsAscii, UnitInTurnIsNativeSo};
 
 /// Each text spells one number, or one beyond the limits, or none: what the relations of `fixed_decimal` say of a text
 /// is what the answer to a line goes by. `-12.30` spells -12.30, `1e32768` one beyond the limits, and `5.` none.
@@ -20,20 +19,6 @@ pub fn compact_texts_have_one_reading()
 /// `icu_dimension` says of a text. In English with `€` `-€1,234.50` is -1234.50, and `$1.00` is not one.
 pub fn unit_texts_have_one_reading()
     ensures { HasOneUnitReading }
-{}
-
-/// What the first of two readers' formatter writes of a number with its unit, under any grouping, and reads as that number,
-/// the second one does not change: in `oc-ES-u-nu-fullwide` 9376 dinars are typed `９,３７６ IQD` under any grouping.
-pub fn own_unit_texts_are_of_the_first()
-    ensures { OwnUnitTextIsFirsts }
-{}
-
-/// Native digits add to what two readers read of numbers with a unit: what is read without them stays, and so does every
-/// text that has none; any other one is read as it is in ASCII. In `hi` and `INR` `₹१२३` is 123, and `₹1२3` is not one.
-pub fn native_units_are_read_in_turn()
-    ensures same { UnitInTurnIsNativeSo }
-    ensures others { OtherUnitsInTurnStay }
-    ensures ascii { UnitInTurnIsAscii }
 {}
 
 /// Each rounding of a number has one end: what the relation of `fixed_decimal` names is what the answer to a line goes

@@ -7,9 +7,9 @@ ghost use Rattle.locale_numbers_answers.specs.LenientAnswer.{MayAllocateInTurn, 
 ghost use Rattle.locale_numbers_answers.specs.ReadAnswer.{read_answer};
 
 use crate::answer_line::write_refusal;
-use crate::lenient_reader::LenientReader;
 use crate::read_answer::write_number_read;
 use icu_decimal::error::ReadError;
+use locale_numbers_formatter::LenientReader;
 use locale_numbers_requests::Refusal;
 use std::alloc::{AllocError, Global};
 

@@ -8,8 +8,8 @@ ghost use Rattle.locale_numbers_answers.specs.ReadAnswer.{read_answer};
 
 use crate::answer_line::write_refusal;
 use crate::read_answer::write_number_read;
-use crate::unit_readers_in_turn::UnitReadersInTurn;
 use icu_decimal::error::ReadError;
+use locale_numbers_formatter::UnitReadersInTurn;
 use locale_numbers_requests::Refusal;
 use std::alloc::{AllocError, Global};
 

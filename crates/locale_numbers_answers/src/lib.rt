@@ -21,31 +21,26 @@ mod changing;
 mod compact_answer;
 mod exact_answer;
 mod joined_unit;
-mod known_lenient_reader;
-mod known_reader;
 pub mod laws;
 mod lenient_answer;
-mod lenient_reader;
 mod lenient_unit_answer;
 mod number_answer;
 mod read_answer;
 mod unit_answer;
 mod unit_parts;
 mod unit_read_answer;
-mod unit_readers_in_turn;
 
 pub use answer_line::{write_refusal, write_refusal_or_shape};
 pub use changing::{change, choose_sign};
 pub use compact_answer::write_compact_answer;
 pub use exact_answer::{read_compact, write_exact_answer};
-pub use known_lenient_reader::KnownLenientReader;
-pub use known_reader::KnownReader;
 pub use lenient_answer::write_lenient_answer;
-pub use lenient_reader::{LenientReader, has_ascii_digits};
 pub use lenient_unit_answer::write_lenient_unit_answer;
+pub use locale_numbers_formatter::{
+    KnownLenientReader, KnownReader, LenientReader, UnitReadersInTurn, has_ascii_digits,
+};
 pub use number_answer::{read_number, write_digits_answer, write_plain_answer};
 pub use read_answer::write_read_answer;
 pub use unit_answer::{write_unit_answer, write_with_unit};
 pub use unit_parts::UnitParts;
 pub use unit_read_answer::write_unit_read_answer;
-pub use unit_readers_in_turn::UnitReadersInTurn;

@@ -3,9 +3,9 @@
 ghost use Rattle.std.specs.Prelude.{◌≡◌};
 ghost use Rattle.locale_numbers_answers.specs.UnitAnswer.{fraction_asked};
 
-use crate::known_reader::KnownReader;
 use icu_dimension_affixes::UnitTables;
 use icu_dimension_fractions::{Fraction, FractionInfo};
+use locale_numbers_formatter::KnownReader;
 use locale_numbers_requests::RoundingAsked;
 
 /// What the numbers of a unit are written with: the tables, the pattern and the unit, and for amounts of money the

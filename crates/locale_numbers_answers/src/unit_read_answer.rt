@@ -11,12 +11,12 @@ ghost use Rattle.icu_dimension_lenient.specs.UnitReadings.{unit_reading};
 
 use crate::amount_rounding::is_rounded;
 use crate::answer_line::write_refusal;
-use crate::known_reader::KnownReader;
 use crate::read_answer::write_number_read;
 use crate::unit_parts::fraction_asked;
 use fixed_decimal::Decimal;
 use icu_decimal::error::ReadError;
 use icu_dimension_fractions::{Fraction, FractionInfo};
+use locale_numbers_formatter::KnownReader;
 use locale_numbers_requests::{Refusal, RoundingAsked};
 use std::alloc::{AllocError, Global};
 

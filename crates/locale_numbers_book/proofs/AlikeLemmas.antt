@@ -1,5 +1,5 @@
 -- What preferences find: two that ask for the same find the same, in every shape.
-use Rattle.std.proofs.Common.{◌≡◌, ℕ, List, Some, None, Option, Result, Ok, Err, refl, sym, ap, ap₂, ◌∙◌}
+use Rattle.std.proofs.Common.{◌≡◌, List, Some, None, Option, Result, Ok, Err, refl, sym, ap, ap₂, ◌∙◌}
 use Rattle.icu_decimal.specs.Choice.{first_found}
 use Rattle.icu_decimal.specs.FoundCompactTables.{patterns_identifiers, rules_identifiers, with_plain}
 use Rattle.icu_decimal.specs.FoundTables.{with_digits, with_symbols}

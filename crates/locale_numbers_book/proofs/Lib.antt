@@ -13,6 +13,7 @@ pub mod WantedLemmas
 pub mod UnitLemmas
 pub mod ProviderLemmas
 pub mod AlikeLemmas
+pub mod KnownFormats
 pub mod SampleLemmas
 pub mod SampleUnitsLemmas
 pub mod TextTables

@@ -1,9 +1,10 @@
 -- What a book has for the shape of a format: what numbers of the format are written with, for preferences and for a tag, and beside it
 -- what they are written with in the digits of ASCII.
 -- Defined in docs/books.md, "Formatters of a tag", and docs/formatters.md, "One formatter".
--- Cited by `find_formatter`, `Book::number_formatter`, `Book::typed_formatters`, and by the answer to a line.
+-- Cited by `find_formatter`, `find_latin`, `Book::number_formatter`, `Book::number_formatter_with_latin`, and by the answer to a line.
 -- A shape has types with cases, and what is found for each case is named by types of its own.
 use Rattle.std.specs.Prelude.{Option, Some, Result, Ok, Err, codes}
+use Rattle.std.specs.Result.{result_ok}
 use Rattle.icu_decimal.specs.declared.error.DataError.{DataError}
 use Rattle.icu_decimal.specs.declared.options.GroupingStrategy.{GroupingStrategy}
 use Rattle.icu_dimension.specs.declared.CurrencyFormatterOptions.{CurrencyFormatterOptions}
@@ -20,7 +21,8 @@ use Rattle.locale_numbers_formats.specs.declared.Notation.TheVariants.{Standard,
 use Rattle.locale_numbers_formats.specs.declared.NumberShape.{NumberShape}
 use Rattle.locale_numbers_formats.specs.declared.NumberUnit.{NumberUnit}
 use Rattle.locale_numbers_formats.specs.declared.NumberUnit.TheVariants as unit
-use Rattle.locale_numbers_formatter.specs.FormatText.{FormatTables, compact_tables, plain_tables, unit_tables}
+use Rattle.locale_numbers_formatter.specs.FormatText.{FormatTables, compact_tables, digit_tables, plain_tables, unit_tables}
+use Rattle.locale_numbers_formatter.specs.FormatTyped.{where_native}
 use Rattle.locale_numbers_formatter.specs.HeldFormats.{currency_format, percent_format}
 
 -- ---- for preferences
@@ -65,8 +67,23 @@ found_for shape book preferences = notation_found shape.notation shape.unit book
 abbrev pub in_latin : Preferences → Preferences
 in_latin preferences = record { locale = preferences.locale; numbering_system = Some (codes "latn") }
 
+-- what numbers of a shape are written with in it, where the digits of what is found are others than those of ASCII
+abbrev pub latin_for : NumberShape → BookTables → Preferences → FormatTables → Option FormatTables
+latin_for shape book preferences f = where_native (digit_tables f).digits (result_ok (found_for shape book (in_latin preferences)))
+
+-- both
+abbrev pub beside_latin : NumberShape → BookTables → Preferences → FormatTables → FormatTables × Option FormatTables
+beside_latin shape book preferences f = (f, latin_for shape book preferences f)
+
+abbrev pub both_found : NumberShape → BookTables → Preferences → Result (FormatTables × Option FormatTables) DataError
+both_found shape book preferences = mapped (beside_latin shape book preferences) (found_for shape book preferences)
+
 -- ---- for a tag
 
 -- what numbers of a shape are written with for what the tag prefers
 abbrev pub format_for : BookTables → Text → NumberShape → Result FormatTables FormatterError
 format_for book tag shape = found_by (found_for shape book) (wanted_of tag)
+
+-- and in the digits of ASCII
+abbrev pub formats_for : BookTables → Text → NumberShape → Result (FormatTables × Option FormatTables) FormatterError
+formats_for book tag shape = found_by (both_found shape book) (wanted_of tag)

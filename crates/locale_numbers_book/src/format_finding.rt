@@ -1,11 +1,11 @@
 //! The formatters that tables have for the shape of a format.
 
-ghost use Rattle.std.specs.Prelude.{◌≡◌, Some, IfOk};
+ghost use Rattle.std.specs.Prelude.{◌≡◌, Some, IfOk, codes};
 ghost use Rattle.std.specs.Result.{result_map_both};
 ghost use Rattle.icu_decimal.specs.HeldCompact.{compact_tables_of};
 ghost use Rattle.icu_decimal.specs.HeldTables.{tables_of};
 ghost use Rattle.icu_dimension.specs.HeldFormatters.{code_of, currency_settings_of, settings_of_percent};
-ghost use Rattle.locale_numbers_book.specs.FoundFormats.{amount_options, compact_found, found_for, standard_found};
+ghost use Rattle.locale_numbers_book.specs.FoundFormats.{amount_options, both_found, compact_found, found_for, in_latin, latin_for, standard_found};
 ghost use Rattle.locale_numbers_book.specs.TagFormatters.{currency_found_in, found_beside, found_plain, patterns_under, percent_found_in};
 
 use crate::tables::Tables;
@@ -17,6 +17,8 @@ use icu_decimal::{CompactDecimalFormatter, DecimalFormatter, DecimalFormatterPre
 use icu_dimension::{
     CurrencyFormatter, CurrencyFormatterOptions, PercentFormatter, PercentFormatterOptions,
 };
+use icu_locale_core::preferences::extensions::unicode::keywords::NumberingSystem;
+use icu_locale_core::subtags::Subtag;
 use locale_numbers_formats::{CompactWidth, CurrencyUnit, Notation, NumberShape, NumberUnit};
 use locale_numbers_formatter::NumberFormatter;
 
@@ -167,5 +169,67 @@ pub fn find_formatter<'a, T: Tables>(
         Notation::Compact(width) => {
             find_short_or_long(tables, preferences, width, shape.unit, shape.grouping)
         }
+    }
+}
+
+// The numbering system of the digits of ASCII.
+fn latin() -> NumberingSystem
+    ensures { result ≡ codes "latn" }
+{
+    match Subtag::try_from_str("latn") {
+        Ok(subtag) => match NumberingSystem::try_from(subtag) {
+            Ok(system) => system,
+            Err(_) => unreachable!(),
+        },
+        Err(_) => unreachable!(),
+    }
+}
+
+// The same preferences, with that system.
+fn in_latin(preferences: DecimalFormatterPreferences) -> DecimalFormatterPreferences
+    ensures { result ≡ in_latin preferences }
+{
+    DecimalFormatterPreferences {
+        locale_preferences: preferences.locale_preferences,
+        numbering_system: Some(latin()),
+    }
+}
+
+/// Beside the formatter of a shape for preferences, that for the same preferences with the numbering system `latn`: beside
+/// that of `ar-EG`, whose digits are `٠` to `٩`, that of `ar-EG-u-nu-latn`.
+///
+/// `None`: the digits of the first are those of ASCII, or one of the tables is not there. What people type of numbers is read
+/// by both. It borrows its tables, and does not allocate.
+pub fn find_latin<'a, T: Tables>(
+    tables: &'a T,
+    preferences: DecimalFormatterPreferences,
+    shape: &NumberShape,
+    formatter: &NumberFormatter<'_>,
+) -> Option<NumberFormatter<'a>>
+    ensures { result ≡ latin_for shape.now (T.book tables.now) preferences formatter.now }
+{
+    if formatter.has_ascii_digits() {
+        return None;
+    }
+    match find_formatter(tables, in_latin(preferences), shape) {
+        Ok(formatter) => Some(formatter),
+        Err(_) => None,
+    }
+}
+
+// The formatter of a shape, and that of the system `latn` beside it.
+pub(crate) fn find_both<'a, T: Tables>(
+    tables: &'a T,
+    preferences: DecimalFormatterPreferences,
+    shape: &NumberShape,
+) -> Result<(NumberFormatter<'a>, Option<NumberFormatter<'a>>), DataError>
+    ensures { result ≡ both_found shape.now (T.book tables.now) preferences }
+{
+    match find_formatter(tables, preferences, shape) {
+        Ok(formatter) => {
+            let latin = find_latin(tables, preferences, shape, &formatter);
+            Ok((formatter, latin))
+        }
+        Err(error) => Err(error),
     }
 }

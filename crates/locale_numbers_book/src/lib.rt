@@ -22,7 +22,7 @@ mod unit_formatters;
 mod unit_providers;
 
 pub use book::{Book, book_from};
-pub use format_finding::find_formatter;
+pub use format_finding::{find_formatter, find_latin};
 pub use formatter_error::FormatterError;
 pub use locale_numbers_tables::BookError;
 pub use sample_book::{SAMPLE_BOOK, SAMPLE_UNITS_BOOK};

@@ -5,11 +5,11 @@ ghost use Rattle.std.specs.Result.{IsErrOf};
 ghost use Rattle.icu_locale_core.specs.Pieces.{pieces};
 ghost use Rattle.icu_locale_core.specs.SingleVariant.{SingleMeaning, MeansSingle};
 ghost use Rattle.icu_locale_core.specs.TagAllocation.{tag_may_grow};
-ghost use Rattle.locale_numbers_book.specs.FoundFormats.{format_for};
+ghost use Rattle.locale_numbers_book.specs.FoundFormats.{format_for, formats_for};
 ghost use Rattle.locale_numbers_book.specs.declared.formatter_error.FormatterError.{FormatterError};
 
 use crate::book::Book;
-use crate::format_finding::find_formatter;
+use crate::format_finding::{find_both, find_formatter};
 use crate::formatter_error::FormatterError;
 use crate::tag_formatters::preferences_of_tag;
 use locale_numbers_formats::NumberShape;
@@ -43,6 +43,31 @@ impl Book {
         let preferences = preferences_of_tag(alloc, tag)?;
         match find_formatter(self, preferences, shape) {
             Ok(formatter) => Ok(formatter),
+            Err(_) => Err(FormatterError::Table),
+        }
+    }
+
+    /// The formatter of a shape for a tag, as [`Book::number_formatter`], and beside it that of the digits of ASCII: for
+    /// `ar-EG` that of `ar-EG-u-nu-latn`.
+    ///
+    /// The second is `None` where the digits of the first are those of ASCII, or the book lacks one of its tables. What
+    /// people type of numbers is read by both. Errors as there.
+    pub fn number_formatter_with_latin(
+        &self,
+        alloc: Global,
+        tag: &str,
+        shape: &NumberShape,
+    ) -> Result<(NumberFormatter<'_>, Option<NumberFormatter<'_>>), FormatterError>
+        ensures value { IfOk result (λ both. formats_for self.now tag.now shape.now ≡ Ok both) }
+        ensures fault { IfErr result
+            (λ fault. (fault ≡ FormatterError.Memory) ⊎ (formats_for self.now tag.now shape.now ≡ Err fault)) }
+        ensures room { tag_may_grow (pieces tag.now) ≡ false → ¬ (IsErrOf result FormatterError.Memory) }
+        ensures single { (m : SingleMeaning) → MeansSingle (pieces tag.now) m
+            → ¬ (IsErrOf result FormatterError.Memory) }
+    {
+        let preferences = preferences_of_tag(alloc, tag)?;
+        match find_both(self, preferences, shape) {
+            Ok(both) => Ok(both),
             Err(_) => Err(FormatterError::Table),
         }
     }

@@ -1,6 +1,9 @@
 pub mod ExactFormLemmas
 mod KnownValues
+pub mod JoinedUnitLemmas
 pub mod LayerLemmas
+pub mod LenientLemmas
+pub mod LenientUnitLemmas
 pub mod PairLemmas
 pub mod ReadBackLemmas
 pub mod TypedLemmas

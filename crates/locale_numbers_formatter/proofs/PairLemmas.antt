@@ -13,7 +13,7 @@ use Rattle.icu_decimal.specs.Readable.{all_differ, are_clear, do_separators_diff
 use Rattle.icu_decimal.specs.ReadingLaws.{AreTables, HasOneReading}
 use Rattle.icu_dimension.specs.UnitReading.{AreReaderTexts, IsUnitReading, ReaderTexts, are_clear_pairs, do_differ, do_pairs_differ, is_clear, is_unit_readable_by, pair_for, text_by}
 use Rattle.icu_decimal_reading.proofs.PlainLemmas.{prefix_clear, prefix_utf8, suffix_clear, suffix_utf8, tests_of}
-use Rattle.locale_numbers_answers.specs.Laws.{HasOneUnitReading}
+use Rattle.icu_dimension_lenient.specs.NativeUnitLaws.{HasOneExactReading}
 use Rattle.locale_numbers_formatter.specs.FormatReading.{pairs_reader}
 use Rattle.locale_numbers_formatter.specs.FormatText.{plain_tables, symbol_pair}
 use Rattle.locale_numbers_formatter.specs.ReadingLaws.{PlainReadsByPairs}
@@ -82,6 +82,6 @@ reading_is t text not_written is =
 reading_is t text (decimal v) is =
     (readable_is t is.0, record { decimal = is.1.decimal; written = text_is t v.sign v.absolute ∙ is.1.written })
 
-pub by_pairs : HasOneReading → HasOneUnitReading → PlainReadsByPairs
+pub by_pairs : HasOneReading → HasOneExactReading → PlainReadsByPairs
 by_pairs one one_unit t text are =
     sym ((one_unit (plain_reader t) text (plain_reading t text) (are_texts t are)).0 (reading_is t text (plain_reading t text) ((one t text (plain_reading t text) are).1 refl)))

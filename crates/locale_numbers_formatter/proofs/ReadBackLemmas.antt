@@ -15,10 +15,10 @@ use Rattle.icu_dimension.specs.UnitReading.{AreReaderTexts, HasNoDecimal, IsUnit
 use Rattle.icu_dimension.specs.UnitReadingLaws.{WrittenUnitReadsBack}
 use Rattle.icu_dimension.specs.UnitText.{text_between}
 use Rattle.writeable.specs.AnnotatedText.{bytes}
-use Rattle.locale_numbers_answers.specs.JoinedUnit.{JoinedNumber, joined_events}
-use Rattle.locale_numbers_answers.specs.Laws.{HasOneUnitReading}
+use Rattle.locale_numbers_formatter.specs.JoinedUnit.{JoinedNumber, joined_events}
+use Rattle.icu_dimension_lenient.specs.NativeUnitLaws.{HasOneExactReading}
 use Rattle.icu_dimension_lenient.specs.UnitReadings.{unit_reading}
-use Rattle.locale_numbers_answers.proofs.JoinedUnitLemmas.{joined_is_partless, joined_is_read}
+use Rattle.locale_numbers_formatter.proofs.JoinedUnitLemmas.{joined_is_partless, joined_is_read}
 use Rattle.icu_dimension_lenient.proofs.UnitReadingsLemmas.{unit_written_again}
 use Rattle.locale_numbers_formatter.specs.FormatReading.{format_reading, pairs_reader, reader_of, reading_by_reader}
 use Rattle.locale_numbers_formatter.specs.FormatText.{FormatTables, compact_tables, digit_tables, format_text, pair_in, plain_tables, unit_tables}
@@ -46,7 +46,7 @@ text_is_read (unit_tables u) r v is =
 read_by : (f : FormatTables) (r : ReaderTexts) (text : List ℕ) → reader_of f ≡ Some r → format_reading f text ≡ unit_reading r text
 read_by f r text is = ap (λ k. reading_by_reader k text) is
 
-pub reads_back : HasOneUnitReading → WrittenUnitReadsBack → FormatReadsBack
+pub reads_back : HasOneExactReading → WrittenUnitReadsBack → FormatReadsBack
 reads_back one back f r v is texts readable decimal_is =
     let text = format_text f v in
     let same : text_by r v ≡ text = text_is_read f r v is in
@@ -60,7 +60,7 @@ written_again (compact_tables t) text v is = absurd (cc)
 written_again (unit_tables u) text v is = sym (text_is_read (unit_tables u) _ v refl) ∙ unit_written_again (pairs_reader (unit_tables u)) text v is
 
 -- what a readable reader of texts with a unit answers
-pub unit_answered : HasOneUnitReading → (r : ReaderTexts) (text : List ℕ) (result : Result (SignedValue Number) ReadError) → AreReaderTexts r → is_unit_readable_by r ≡ true
+pub unit_answered : HasOneExactReading → (r : ReaderTexts) (text : List ℕ) (result : Result (SignedValue Number) ReadError) → AreReaderTexts r → is_unit_readable_by r ≡ true
     → (IsErrOf result Unreadable → ⊥) → (IsErrOf result NotWritten → HasNoDecimal r text) → IfOk result (λ v. IsUnitText r text v) → IsAnswered result (unit_reading r text)
 unit_answered one r text (Ok v) texts readable never missing is = sym ((one r text (decimal v) texts).0 (readable, is))
 unit_answered one r text (Err Unreadable) texts readable never missing is = absurd (never refl)

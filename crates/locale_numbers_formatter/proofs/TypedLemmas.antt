@@ -3,8 +3,8 @@ use Rattle.std.proofs.Common.{◌≡◌, ℕ, Bool, List, true, false, cond, Non
 use Rattle.icu_dimension.specs.LenientUnits.{LenientTexts, is_leniently_unit_readable_by, lenient_texts}
 use Rattle.icu_dimension.specs.UnitReading.{ReaderTexts, reader_texts}
 use Rattle.icu_dimension.specs.UnitText.{UnitSettings}
-use Rattle.locale_numbers_answers.specs.LenientUnitAnswer.{TypedTexts, typed_texts}
-use Rattle.locale_numbers_answers.specs.TypedHeld.{leniently}
+use Rattle.locale_numbers_formatter.specs.TypedUnits.{TypedTexts, typed_texts}
+use Rattle.locale_numbers_formatter.specs.TypedHeld.{leniently}
 
 -- the texts, with what is folded where this is so
 abbrev with_folded : UnitSettings → List ℕ → Bool → TypedTexts

@@ -6,8 +6,8 @@ use Rattle.std.specs.Str.{bytes_eq}
 use Rattle.icu_decimal.specs.Folding.{plain_digits}
 use Rattle.icu_decimal.specs.PlainReading.{PlainReading, unreadable}
 use Rattle.icu_decimal.specs.PlainText.{Tables}
-use Rattle.locale_numbers_answers.specs.LenientAnswer.{MayAllocateInTurn, TablesInTurn, reading_in_turn}
-use Rattle.locale_numbers_answers.specs.LenientUnitAnswer.{MayAllocateTypedInTurn, TypedInTurn, TypedTexts, typed_texts, unit_reading_in_turn}
+use Rattle.locale_numbers_formatter.specs.TypedPlain.{MayAllocateInTurn, TablesInTurn, reading_in_turn}
+use Rattle.locale_numbers_formatter.specs.TypedUnits.{MayAllocateTypedInTurn, TypedInTurn, TypedTexts, typed_texts, unit_reading_in_turn}
 use Rattle.locale_numbers_formatter.specs.FormatText.{FormatTables, UnitFormat, compact_tables, plain_tables, unit_tables}
 
 -- ---- what texts are read with

@@ -4,6 +4,8 @@ pub mod FormatText
 pub mod ExactForms
 pub mod FormatParts
 pub mod FormatReading
+pub mod TypedPlain
+pub mod TypedUnits
 pub mod FormatTyped
 pub mod Regrouped
 pub mod ExactErrors
@@ -12,7 +14,10 @@ pub mod HeldFormats
 pub mod HeldLenientReaders
 pub mod HeldNumberReaders
 pub mod HeldTables
+pub mod TypedHeld
+pub mod JoinedUnit
 pub mod FormattedNumbers
 -- Statements of laws.
 pub mod Laws
 pub mod ReadingLaws
+pub mod OwnUnitLaws

@@ -2,13 +2,14 @@
 //! is the law.
 
 ghost use Rattle.locale_numbers_formatter.specs.ReadingLaws.{FormatReadIsWrittenAgain, FormatReadsBack, PlainReadsByPairs, ReadersReadFormats};
+ghost use Rattle.locale_numbers_formatter.specs.OwnUnitLaws.{OtherUnitsInTurnStay, OwnUnitTextIsFirsts, UnitInTurnIsAscii, UnitInTurnIsNativeSo};
 ghost use Rattle.locale_numbers_formatter.specs.Laws.{CompactIsLayered, CompactPartsAreLayered, CompactValueIsShown, ExactFormatIsText, ExactIsLayered, ExactPartsAreLayered, FormatIsText, PlainIsLayered, PlainPartsAreLayered, UnitIsLayered, UnitPartsAreLayered};
 
 use icu_decimal::laws::compact::{exact_texts_are_of_events, sign_round_unsigned};
 use icu_decimal::laws::reading::plain_reading_is_the_reading;
 use icu_decimal::laws::text::text_law;
 use icu_dimension::laws::units::{both_trips, text_law as unit_text_law};
-use locale_numbers_answers::laws::unit_texts_have_one_reading;
+use icu_dimension_lenient::laws::functions_answer_readings;
 
 /// A law: the text of a plain number is its digits between the affixes of its sign: in English `1,234.5` after `-`.
 pub fn plain_is_layered()
@@ -55,7 +56,7 @@ pub fn plain_reads_by_pairs()
     ensures { PlainReadsByPairs }
 {
     plain_reading_is_the_reading();
-    unit_texts_have_one_reading();
+    functions_answer_readings();
 }
 
 /// A law: what a readable format writes of a number is read as that number, with its sign and the digits shown, and what
@@ -67,5 +68,19 @@ pub fn written_reads_back()
     ensures again { FormatReadIsWrittenAgain }
 {
     both_trips();
-    unit_texts_have_one_reading();
+    functions_answer_readings();
 }
+
+/// A law: what the first of two readers' formatter writes of a number with its unit, under any grouping, and reads as that
+/// number, the second one does not change: in `oc-ES-u-nu-fullwide` 9376 dinars are typed `９,３７６ IQD` under any grouping.
+pub fn own_unit_texts_are_of_the_first()
+    ensures { OwnUnitTextIsFirsts }
+{}
+
+/// A law: native digits add to what two readers read of numbers with a unit: what is read without them stays, and so does
+/// every text that has none; any other one is read as it is in ASCII. In `hi` and `INR` `₹१२३` is 123, and `₹1२3` is not one.
+pub fn native_units_are_read_in_turn()
+    ensures same { UnitInTurnIsNativeSo }
+    ensures others { OtherUnitsInTurnStay }
+    ensures ascii { UnitInTurnIsAscii }
+{}

@@ -9,14 +9,15 @@ ghost use Rattle.locale_numbers_formatter.specs.FormatText.{plain_tables, unit_t
 ghost use Rattle.locale_numbers_formatter.specs.FormatTyped.{TypedAllocates, nothing_typed, plain_in, reading_by_typed, typed_of, typed_unit, unit_in, where_native};
 ghost use Rattle.locale_numbers_formatter.specs.HeldFormats.{currency_format, percent_format};
 
+use crate::known_lenient_reader::KnownLenientReader;
+use crate::known_reader::KnownReader;
+use crate::lenient_reader::{LenientReader, has_ascii_digits};
 use crate::number_formatter::{FormatterKind, NumberFormatter};
+use crate::unit_readers_in_turn::UnitReadersInTurn;
 use fixed_decimal::Decimal;
 use icu_decimal::error::ReadError;
 use icu_decimal::{DecimalFormatter, DecimalTables};
 use icu_dimension::{CurrencyFormatter, PercentFormatter};
-use locale_numbers_answers::{
-    KnownLenientReader, KnownReader, LenientReader, UnitReadersInTurn, has_ascii_digits,
-};
 use std::alloc::{AllocError, Global};
 use std::marker::Model;
 

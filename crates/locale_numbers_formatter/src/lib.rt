@@ -14,15 +14,23 @@
 
 mod error;
 mod formatted_number;
+mod known_lenient_reader;
+mod known_reader;
 pub mod laws;
 mod lenient_number_reader;
+mod lenient_reader;
 mod number_formatter;
 mod number_reader;
 mod own_tables;
+mod unit_readers_in_turn;
 
 pub use error::ExactError;
 pub use formatted_number::FormattedNumber;
+pub use known_lenient_reader::KnownLenientReader;
+pub use known_reader::KnownReader;
 pub use lenient_number_reader::LenientNumberReader;
-pub use number_formatter::NumberFormatter;
+pub use lenient_reader::{LenientReader, has_ascii_digits};
+pub use number_formatter::{FormatterKind, NumberFormatter};
 pub use number_reader::NumberReader;
 pub use own_tables::OwnNumberTables;
+pub use unit_readers_in_turn::UnitReadersInTurn;

@@ -1,23 +1,26 @@
 //! A formatter of numbers in any format.
 
 ghost use Rattle.std.specs.Prelude.{◌≡◌, ◌≢◌, ◌↔◌, Some, None, IfErr, IfOk, IsErrOf, IsOk, IsTrue, OnErr, option_map};
+ghost use Rattle.std.specs.Str.{bytes_eq};
 ghost use Rattle.fixed_decimal.specs.Range.{IsLong};
 ghost use Rattle.writeable.specs.AnnotatedText.{text_of};
+ghost use Rattle.icu_decimal.specs.Folding.{plain_digits};
 ghost use Rattle.icu_decimal.specs.HeldCompact.{compact_tables_of};
 ghost use Rattle.icu_decimal.specs.HeldTables.{tables_of};
 ghost use Rattle.icu_dimension.specs.HeldFormatters.{code_of, currency_settings_of, settings_of_percent};
 ghost use Rattle.locale_numbers_formatter.specs.ExactForms.{IsFormInRange, exact_shown};
 ghost use Rattle.locale_numbers_formatter.specs.FormatParts.{exact_format_events, format_events};
 ghost use Rattle.locale_numbers_formatter.specs.FormatReading.{reader_of};
-ghost use Rattle.locale_numbers_formatter.specs.FormatText.{CanFormat, FormatAllocates, HasNoUnit, ShowAllocates, compact_tables, format_text, format_value, fractions_in, plain_tables, unit_tables};
+ghost use Rattle.locale_numbers_formatter.specs.FormatText.{CanFormat, FormatAllocates, HasNoUnit, ShowAllocates, compact_tables, digit_tables, format_text, format_value, fractions_in, plain_tables, unit_tables};
 ghost use Rattle.locale_numbers_formatter.specs.FormatTyped.{typed_of};
 ghost use Rattle.locale_numbers_formatter.specs.FormattedNumbers.{formatted_events};
-ghost use Rattle.locale_numbers_formatter.specs.HeldFormats.{currency_format, percent_format};
+ghost use Rattle.locale_numbers_formatter.specs.HeldFormats.{currency_format, format_of, percent_format};
 
 use crate::error::ExactError;
 use crate::formatted_number::FormattedNumber;
 use crate::laws::{compact_is_layered, format_is_text, plain_is_layered, unit_is_layered};
 use crate::lenient_number_reader::LenientNumberReader;
+use crate::lenient_reader::has_ascii_digits;
 use crate::number_reader::NumberReader;
 use fixed_decimal::{CompactDecimal, Decimal};
 use icu_decimal::{CompactDecimalFormatter, DecimalFormatter};
@@ -25,16 +28,16 @@ use icu_dimension::{CurrencyFormatter, FractionInfo, PercentFormatter};
 use std::alloc::{AllocError, Global};
 use std::marker::Model;
 
-// Which formatter it is.
+/// Which formatter a number is written with: that of plain numbers writes 1234.5 as `1,234.5` in English.
 #[derive(Clone, Copy, Debug)]
-pub(crate) enum FormatterKind<'a> {
-    // Of plain numbers.
+pub enum FormatterKind<'a> {
+    /// Of plain numbers: `1,234.5`.
     Plain(DecimalFormatter<'a>),
-    // Of compact numbers.
+    /// Of compact numbers: `1.2K`.
     Compact(CompactDecimalFormatter<'a>),
-    // Of percents.
+    /// Of percents: `12.5%`.
     Percent(PercentFormatter<'a>),
-    // Of amounts in one currency.
+    /// Of amounts in one currency: `€1.50`.
     Currency(CurrencyFormatter<'a>),
 }
 
@@ -255,6 +258,26 @@ impl<'a> NumberFormatter<'a> {
         );
         NumberFormatter {
             kind: FormatterKind::Currency(amounts),
+        }
+    }
+
+    /// The formatter of the format that it is made of: that of percents of `en` is the one of percents. It does not
+    /// allocate.
+    pub fn kind(&self) -> &FormatterKind<'a>
+        ensures { format_of result.now ≡ self.now }
+    {
+        &self.kind
+    }
+
+    /// Whether its digits are those of ASCII: of `en` they are, of `ar-EG` they are not. It does not allocate.
+    pub fn has_ascii_digits(&self) -> bool
+        ensures { result ≡ bytes_eq (digit_tables self.now).digits plain_digits }
+    {
+        match &self.kind {
+            FormatterKind::Plain(formatter) => has_ascii_digits(formatter.tables()),
+            FormatterKind::Compact(formatter) => has_ascii_digits(formatter.plain().tables()),
+            FormatterKind::Percent(formatter) => has_ascii_digits(formatter.decimals()),
+            FormatterKind::Currency(formatter) => has_ascii_digits(formatter.decimals()),
         }
     }
 

@@ -10,7 +10,7 @@ ghost use Rattle.icu_decimal.specs.Readable.{is_readable_by};
 ghost use Rattle.icu_decimal.specs.ReadingLaws.{AreTables};
 ghost use Rattle.icu_dimension.specs.HeldReaders.{pair_of};
 ghost use Rattle.icu_dimension.specs.UnitReading.{AreReaderTexts, HasManyBetween, is_unit_readable_by, text_by};
-ghost use Rattle.locale_numbers_answers.specs.JoinedUnit.{joined_events};
+ghost use Rattle.locale_numbers_formatter.specs.JoinedUnit.{joined_events};
 ghost use Rattle.icu_dimension_lenient.specs.UnitReadings.{unit_reading};
 ghost use Rattle.locale_numbers_formatter.specs.FormatReading.{ReaderAllocates, pairs_reader, reader_of, reading_by_reader, text_by_reader};
 ghost use Rattle.locale_numbers_formatter.specs.FormatText.{plain_tables};
@@ -24,7 +24,7 @@ use icu_decimal::{
 };
 use icu_dimension::UnitReader;
 use icu_dimension_affixes::steps::SignAffixes;
-use locale_numbers_answers::laws::unit_texts_have_one_reading;
+use icu_dimension_lenient::laws::functions_answer_readings;
 use std::alloc::Global;
 use std::marker::Model;
 use writeable::{Error, Sink, Writeable};
@@ -98,7 +98,7 @@ fn read_unit(
     ensures memory { IsErrOf result ReadError.Memory → HasManyBetween reader.now text.now }
     ensures reading { IsAnswered result (unit_reading reader.now text.now) }
 {
-    unit_texts_have_one_reading();
+    functions_answer_readings();
     if can_read {
         reader.read_readable(alloc, text)
     } else {

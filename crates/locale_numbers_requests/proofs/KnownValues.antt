@@ -1,18 +1,54 @@
 -- Known values of the definitions: lines taken apart, the words of their fields.
-use Rattle.std.proofs.Common.{◌≡◌, [], ◌∷◌, ◌++◌, codes, pos, negsuc, Some, None, refl}
+use Rattle.std.proofs.Common.{◌≡◌, [], ◌∷◌, ◌++◌, codes, pos, negsuc, Some, None, refl, ℕ, List, Option, ◌-◌, ◌*◌, ◌^◌}
+use Rattle.fixed_decimal.specs.Number.{Number}
 use Rattle.fixed_decimal.specs.declared.SignedRoundingMode.TheVariants.{Unsigned}
-use Rattle.fixed_decimal.specs.declared.UnsignedRoundingMode.TheVariants.{HalfTrunc}
-use Rattle.fixed_decimal.specs.declared.RoundingIncrement.TheVariants.{MultiplesOf25}
+use Rattle.fixed_decimal.specs.declared.UnsignedRoundingMode.TheVariants.{HalfEven, HalfExpand, HalfTrunc, Trunc}
+use Rattle.fixed_decimal.specs.declared.RoundingIncrement.TheVariants.{MultiplesOf1, MultiplesOf5, MultiplesOf25}
+use Rattle.icu_decimal_symbols.specs.declared.options.GroupingStrategy.{GroupingStrategy}
 use Rattle.icu_decimal_symbols.specs.declared.options.GroupingStrategy.TheVariants.{Auto, Min2}
+use Rattle.icu_dimension_fractions.specs.declared.CurrencyStyle.TheVariants as style
+use Rattle.icu_dimension_fractions.specs.declared.CurrencyWidth.TheVariants.{Short, IsoCode}
+use Rattle.locale_numbers_formats.specs.Changed.{shown}
+use Rattle.locale_numbers_formats.specs.declared.CompactWidth.TheVariants as compact
+use Rattle.locale_numbers_formats.specs.declared.LeadingZeros.TheVariants as leading
+use Rattle.locale_numbers_formats.specs.declared.Notation.TheVariants.{Standard, Compact}
+use Rattle.locale_numbers_formats.specs.declared.NumberFormat.{NumberFormat}
+use Rattle.locale_numbers_formats.specs.declared.NumberOptions.{NumberOptions}
+use Rattle.locale_numbers_formats.specs.declared.NumberUnit.{NumberUnit}
+use Rattle.locale_numbers_formats.specs.declared.NumberUnit.TheVariants as unit
+use Rattle.locale_numbers_formats.specs.declared.NumberUnit.TheVariants.{Percent, Currency}
+use Rattle.locale_numbers_formats.specs.declared.Rounding.{Rounding}
+use Rattle.locale_numbers_formats.specs.declared.Rounding.TheVariants.{Usual, Cash, AsGiven, At}
+use Rattle.locale_numbers_formats.specs.declared.SignAsked.TheVariants.{Keep, Show}
+use Rattle.locale_numbers_formats.specs.declared.TrailingZeros.{TrailingZeros}
+use Rattle.locale_numbers_formats.specs.declared.TrailingZeros.TheVariants as trailing
+use Rattle.fixed_decimal.specs.declared.SignDisplay.TheVariants as display
 use Rattle.locale_numbers_requests.specs.FormField.{form_named}
 use Rattle.locale_numbers_requests.specs.OldRequests.{old_form_named, old_rounding_named}
-use Rattle.locale_numbers_requests.specs.Request.{tab, fields, request_in, grouping_named, sign_named}
-use Rattle.locale_numbers_requests.specs.RoundingField.{position_named, rounding_named}
-use Rattle.locale_numbers_requests.specs.declared.form_field.Form.TheVariants.{Plain, Read, ReadLenient, Unit, ReadUnit, ReadLenientUnit}
-use Rattle.locale_numbers_requests.specs.declared.form_field.AmountStyle.TheVariants.{Standard, Accounting, Code}
-use Rattle.locale_numbers_requests.specs.declared.form_field.UnitAsked.TheVariants.{Percent, Currency}
-use Rattle.locale_numbers_formats.specs.declared.SignAsked.TheVariants.{Keep}
-use Rattle.locale_numbers_requests.specs.declared.rounding_field.RoundingAsked.TheVariants.{Unrounded, Cash, At}
+use Rattle.locale_numbers_requests.specs.Request.{tab, fields, format_by, request_in, grouping_named, sign_named}
+use Rattle.locale_numbers_requests.specs.RoundingField.{all_of, position_named, rounding_named}
+use Rattle.locale_numbers_requests.specs.declared.form_field.FormAsked.TheVariants.{OfWord, OfSkeleton}
+use Rattle.locale_numbers_requests.specs.declared.rounding_field.DigitsAsked.{DigitsAsked}
+use Rattle.locale_numbers_requests.specs.declared.form_field.Task.TheVariants.{Write, WriteExact, Read, ReadLenient}
+
+-- the format of a line that chooses no digits and keeps the sign of the text
+abbrev by_words : NumberUnit → GroupingStrategy → Rounding → NumberFormat
+by_words unit grouping rounding = record {
+  shape = record { notation = Standard; unit = unit; grouping = grouping };
+  options = record { rounding = rounding; leading_zeros = leading.Keep; zeros = trailing.Keep; integer_digits = pos 0; fraction_digits = pos 0; sign = Keep };
+}
+
+-- those of a word of the rounding field
+abbrev digits_of : Option DigitsAsked → NumberOptions
+digits_of None = (by_words unit.None Auto Usual).options
+digits_of (Some digits) = (format_by Standard unit.None Auto Keep digits).options
+
+abbrev options : List ℕ → NumberOptions
+options word = digits_of (rounding_named word)
+
+-- a count of the least unit shown, with so many digits after the point, and one before it
+abbrev number : ℕ → ℕ → Number
+number count fraction = record { count = count * 10 ^ (32768 - fraction); low = 32768 - fraction; high = 32768 }
 
 -- ---- request lines
 
@@ -21,17 +57,17 @@ empty_field : fields (codes "a" ++ tab ∷ tab ∷ codes "b") ≡ codes "a" ∷ 
 empty_field = refl
 
 plain_line : request_in (codes "en" ∷ codes "plain" ∷ codes "min2" ∷ codes "keep" ∷ codes "-" ∷ codes "1000" ∷ [])
-    ≡ Some (record { tag = codes "en"; form = Plain; grouping = Min2; sign = Keep; rounding = Unrounded; text = codes "1000" })
+    ≡ Some (record { tag = codes "en"; task = Write; format = by_words unit.None Min2 Usual; text = codes "1000" })
 plain_line = refl
 
 -- what is read back has the sign and the digits of the text
 read_line : request_in (codes "en" ∷ codes "read" ∷ codes "min2" ∷ codes "keep" ∷ codes "-" ∷ codes "1,000" ∷ [])
-    ≡ Some (record { tag = codes "en"; form = Read; grouping = Min2; sign = Keep; rounding = Unrounded; text = codes "1,000" })
+    ≡ Some (record { tag = codes "en"; task = Read; format = by_words unit.None Min2 Usual; text = codes "1,000" })
 read_line = refl
 
 -- and so has what is read leniently
 lenient_line : request_in (codes "en" ∷ codes "read-lenient" ∷ codes "auto" ∷ codes "keep" ∷ codes "-" ∷ codes ".5" ∷ [])
-    ≡ Some (record { tag = codes "en"; form = ReadLenient; grouping = Auto; sign = Keep; rounding = Unrounded; text = codes ".5" })
+    ≡ Some (record { tag = codes "en"; task = ReadLenient; format = by_words unit.None Auto Usual; text = codes ".5" })
 lenient_line = refl
 
 lenient_with_a_sign : request_in (codes "en" ∷ codes "read-lenient" ∷ codes "auto" ∷ codes "always" ∷ codes "-" ∷ codes "5" ∷ []) ≡ None
@@ -62,32 +98,32 @@ no_such_sign = refl
 -- ---- units
 
 percent_line : request_in (codes "tr" ∷ codes "percent" ∷ codes "auto" ∷ codes "keep" ∷ codes "-" ∷ codes "-12.5" ∷ [])
-    ≡ Some (record { tag = codes "tr"; form = Unit Percent; grouping = Auto; sign = Keep; rounding = Unrounded; text = codes "-12.5" })
+    ≡ Some (record { tag = codes "tr"; task = Write; format = by_words Percent Auto Usual; text = codes "-12.5" })
 percent_line = refl
 
 amount_line : request_in (codes "en" ∷ codes "currency-EUR" ∷ codes "auto" ∷ codes "keep" ∷ codes "-" ∷ codes "1234.5" ∷ [])
-    ≡ Some (record { tag = codes "en"; form = Unit (Currency Standard (codes "EUR")); grouping = Auto; sign = Keep; rounding = Unrounded; text = codes "1234.5" })
+    ≡ Some (record { tag = codes "en"; task = Write; format = by_words (Currency (record { code = codes "EUR"; style = style.Standard; width = Short })) Auto Usual; text = codes "1234.5" })
 amount_line = refl
 
-accounting_word : form_named (codes "accounting-USD") ≡ Some (Unit (Currency Accounting (codes "USD")))
+accounting_word : form_named (codes "accounting-USD") ≡ Some (OfWord Write Standard (Currency (record { code = codes "USD"; style = style.Accounting; width = Short })))
 accounting_word = refl
 
-code_word : form_named (codes "code-QQQ") ≡ Some (Unit (Currency Code (codes "QQQ")))
+code_word : form_named (codes "code-QQQ") ≡ Some (OfWord Write Standard (Currency (record { code = codes "QQQ"; style = style.Standard; width = IsoCode })))
 code_word = refl
 
-read_amount_word : form_named (codes "read-code-CHF") ≡ Some (ReadUnit (Currency Code (codes "CHF")))
+read_amount_word : form_named (codes "read-code-CHF") ≡ Some (OfWord Read Standard (Currency (record { code = codes "CHF"; style = style.Standard; width = IsoCode })))
 read_amount_word = refl
 
-typed_percent_word : form_named (codes "read-lenient-percent") ≡ Some (ReadLenientUnit Percent)
+typed_percent_word : form_named (codes "read-lenient-percent") ≡ Some (OfWord ReadLenient Standard Percent)
 typed_percent_word = refl
 
-typed_amount_word : form_named (codes "read-lenient-currency-EUR") ≡ Some (ReadLenientUnit (Currency Standard (codes "EUR")))
+typed_amount_word : form_named (codes "read-lenient-currency-EUR") ≡ Some (OfWord ReadLenient Standard (Currency (record { code = codes "EUR"; style = style.Standard; width = Short })))
 typed_amount_word = refl
 
-typed_accounting_word : form_named (codes "read-lenient-accounting-USD") ≡ Some (ReadLenientUnit (Currency Accounting (codes "USD")))
+typed_accounting_word : form_named (codes "read-lenient-accounting-USD") ≡ Some (OfWord ReadLenient Standard (Currency (record { code = codes "USD"; style = style.Accounting; width = Short })))
 typed_accounting_word = refl
 
-typed_code_word : form_named (codes "read-lenient-code-QQQ") ≡ Some (ReadLenientUnit (Currency Code (codes "QQQ")))
+typed_code_word : form_named (codes "read-lenient-code-QQQ") ≡ Some (OfWord ReadLenient Standard (Currency (record { code = codes "QQQ"; style = style.Standard; width = IsoCode })))
 typed_code_word = refl
 
 -- a code is three capitals
@@ -111,15 +147,15 @@ other_word = refl
 
 -- only an amount has digits of cash, written or read
 cash_line : request_in (codes "en" ∷ codes "currency-CHF" ∷ codes "auto" ∷ codes "keep" ∷ codes "cash" ∷ codes "2.345" ∷ [])
-    ≡ Some (record { tag = codes "en"; form = Unit (Currency Standard (codes "CHF")); grouping = Auto; sign = Keep; rounding = Cash; text = codes "2.345" })
+    ≡ Some (record { tag = codes "en"; task = Write; format = by_words (Currency (record { code = codes "CHF"; style = style.Standard; width = Short })) Auto Cash; text = codes "2.345" })
 cash_line = refl
 
 read_cash_line : request_in (codes "en" ∷ codes "read-currency-CHF" ∷ codes "auto" ∷ codes "keep" ∷ codes "cash" ∷ codes "2.35" ∷ [])
-    ≡ Some (record { tag = codes "en"; form = ReadUnit (Currency Standard (codes "CHF")); grouping = Auto; sign = Keep; rounding = Cash; text = codes "2.35" })
+    ≡ Some (record { tag = codes "en"; task = Read; format = by_words (Currency (record { code = codes "CHF"; style = style.Standard; width = Short })) Auto Cash; text = codes "2.35" })
 read_cash_line = refl
 
 typed_cash_line : request_in (codes "en" ∷ codes "read-lenient-currency-CHF" ∷ codes "auto" ∷ codes "keep" ∷ codes "cash" ∷ codes "2.35" ∷ [])
-    ≡ Some (record { tag = codes "en"; form = ReadLenientUnit (Currency Standard (codes "CHF")); grouping = Auto; sign = Keep; rounding = Cash; text = codes "2.35" })
+    ≡ Some (record { tag = codes "en"; task = ReadLenient; format = by_words (Currency (record { code = codes "CHF"; style = style.Standard; width = Short })) Auto Cash; text = codes "2.35" })
 typed_cash_line = refl
 
 typed_percent_in_cash : request_in (codes "en" ∷ codes "read-lenient-percent" ∷ codes "auto" ∷ codes "keep" ∷ codes "cash" ∷ codes "1" ∷ []) ≡ None
@@ -149,10 +185,71 @@ read_amount_with_a_rounding = refl
 read_amount_with_a_sign : request_in (codes "en" ∷ codes "read-currency-EUR" ∷ codes "auto" ∷ codes "auto" ∷ codes "-" ∷ codes "5" ∷ []) ≡ None
 read_amount_with_a_sign = refl
 
+-- ---- skeletons
+
+-- the format of a skeleton that chooses no sign
+abbrev by_skeleton : NumberUnit → Rounding → TrailingZeros → NumberFormat
+by_skeleton unit rounding zeros = record {
+  shape = record { notation = Standard; unit = unit; grouping = Auto };
+  options = record { rounding = rounding; leading_zeros = leading.Trim; zeros = zeros; integer_digits = pos 0; fraction_digits = pos 0; sign = Show display.Auto };
+}
+
+skeleton_word : form_named (codes "::percent") ≡ Some (OfSkeleton Write (by_skeleton Percent (At (negsuc 5) (Unsigned HalfEven) MultiplesOf1) trailing.Trim))
+skeleton_word = refl
+
+amount_skeleton : form_named (codes "::currency/EUR")
+    ≡ Some (OfSkeleton Write (by_skeleton (Currency (record { code = codes "EUR"; style = style.Standard; width = Short })) Usual trailing.Keep))
+amount_skeleton = refl
+
+-- what is read is not rounded, but that an amount may have the digits of its currency
+read_skeleton : form_named (codes "read::percent") ≡ Some (OfSkeleton Read (by_skeleton Percent AsGiven trailing.Trim))
+read_skeleton = refl
+
+typed_skeleton : form_named (codes "read-lenient::currency/EUR")
+    ≡ Some (OfSkeleton ReadLenient (by_skeleton (Currency (record { code = codes "EUR"; style = style.Standard; width = Short })) Usual trailing.Keep))
+typed_skeleton = refl
+
+exact_skeleton : form_named (codes "exact::compact-long group-auto")
+    ≡ Some (OfSkeleton WriteExact (record {
+      shape = record { notation = Compact compact.Long; unit = unit.None; grouping = Auto };
+      options = record { rounding = AsGiven; leading_zeros = leading.Trim; zeros = trailing.Trim; integer_digits = pos 0; fraction_digits = pos 0; sign = Show display.Auto };
+    }))
+exact_skeleton = refl
+
+-- an exponent goes with compact numbers
+exact_percent : form_named (codes "exact::percent") ≡ None
+exact_percent = refl
+
+no_skeleton : form_named (codes "::nothing") ≡ None
+no_skeleton = refl
+
+one_colon : form_named (codes ":percent") ≡ None
+one_colon = refl
+
+three_colons : form_named (codes "read:::percent") ≡ None
+three_colons = refl
+
+other_task : form_named (codes "write::percent") ≡ None
+other_task = refl
+
+-- a skeleton says all
+skeleton_line : request_in (codes "en" ∷ codes "::percent" ∷ codes "auto" ∷ codes "keep" ∷ codes "-" ∷ codes "1" ∷ [])
+    ≡ Some (record { tag = codes "en"; task = Write; format = by_skeleton Percent (At (negsuc 5) (Unsigned HalfEven) MultiplesOf1) trailing.Trim; text = codes "1" })
+skeleton_line = refl
+
+skeleton_with_a_grouping : request_in (codes "en" ∷ codes "::percent" ∷ codes "min2" ∷ codes "keep" ∷ codes "-" ∷ codes "1" ∷ []) ≡ None
+skeleton_with_a_grouping = refl
+
+skeleton_with_a_sign : request_in (codes "en" ∷ codes "::percent" ∷ codes "auto" ∷ codes "auto" ∷ codes "-" ∷ codes "1" ∷ []) ≡ None
+skeleton_with_a_sign = refl
+
+skeleton_in_cash : request_in (codes "en" ∷ codes "::currency/CHF" ∷ codes "auto" ∷ codes "keep" ∷ codes "cash" ∷ codes "1" ∷ []) ≡ None
+skeleton_in_cash = refl
+
 -- ---- roundings
 
 -- -7.235, rounded at the hundredths to a multiple of 25 of them
-quarters : rounding_named (codes "-2,half-trunc,25") ≡ Some (At (negsuc 1) (Unsigned HalfTrunc) MultiplesOf25)
+quarters : rounding_named (codes "-2,half-trunc,25") ≡ Some (all_of (At (negsuc 1) (Unsigned HalfTrunc) MultiplesOf25))
 quarters = refl
 
 least_position : position_named (codes "-32768") ≡ Some (negsuc 32767)
@@ -188,12 +285,83 @@ third_increment = refl
 one_comma : rounding_named (codes "0,trunc") ≡ None
 one_comma = refl
 
+-- ---- digits of a fraction
+
+-- two at most, and none that is not needed
+two_at_most : rounding_named (codes "f0-2,half-even,1") ≡ Some (record { rounding = At (negsuc 1) (Unsigned HalfEven) MultiplesOf1; zeros = trailing.Trim; fraction_digits = pos 0 })
+two_at_most = refl
+
+one_to_three : rounding_named (codes "f1-3,half-expand,1") ≡ Some (record { rounding = At (negsuc 2) (Unsigned HalfExpand) MultiplesOf1; zeros = trailing.Trim; fraction_digits = pos 1 })
+one_to_three = refl
+
+-- to hundredths, 1.5 is `1.50`, and 2 is `2`
+none_of_a_whole_number : rounding_named (codes "f2-2,half-expand,5,whole") ≡ Some (record { rounding = At (negsuc 1) (Unsigned HalfExpand) MultiplesOf5; zeros = trailing.TrimWhole; fraction_digits = pos 0 })
+none_of_a_whole_number = refl
+
+no_fraction : rounding_named (codes "f0-0,trunc,1") ≡ Some (record { rounding = At (pos 0) (Unsigned Trunc) MultiplesOf1; zeros = trailing.Trim; fraction_digits = pos 0 })
+no_fraction = refl
+
+most_digits : rounding_named (codes "f0-32767,trunc,1") ≡ Some (record { rounding = At (negsuc 32766) (Unsigned Trunc) MultiplesOf1; zeros = trailing.Trim; fraction_digits = pos 0 })
+most_digits = refl
+
+too_many_digits : rounding_named (codes "f0-32768,trunc,1") ≡ None
+too_many_digits = refl
+
+fewer_at_most : rounding_named (codes "f3-2,trunc,1") ≡ None
+fewer_at_most = refl
+
+zero_before_a_count : rounding_named (codes "f00-2,trunc,1") ≡ None
+zero_before_a_count = refl
+
+one_count : rounding_named (codes "f2,trunc,1") ≡ None
+one_count = refl
+
+three_counts : rounding_named (codes "f1-2-3,trunc,1") ≡ None
+three_counts = refl
+
+no_count : rounding_named (codes "f-2,trunc,1") ≡ None
+no_count = refl
+
+whole_of_a_range : rounding_named (codes "f0-2,trunc,1,whole") ≡ None
+whole_of_a_range = refl
+
+whole_of_a_position : rounding_named (codes "-2,trunc,1,whole") ≡ None
+whole_of_a_position = refl
+
+other_fourth_word : rounding_named (codes "f2-2,trunc,1,wholly") ≡ None
+other_fourth_word = refl
+
+five_words : rounding_named (codes "f2-2,trunc,1,whole,whole") ≡ None
+five_words = refl
+
+-- numbers are shown with these digits, once they are rounded: `1.5` of 1.50, `2` of 2.00, `2.0` of 2.000, `1.25` of 1.250
+one_is_needed : shown (options (codes "f0-2,half-even,1")) (number 150 2) ≡ number 15 1
+one_is_needed = refl
+
+none_is_needed : shown (options (codes "f0-2,half-even,1")) (number 200 2) ≡ number 2 0
+none_is_needed = refl
+
+one_at_least : shown (options (codes "f1-3,half-expand,1")) (number 2000 3) ≡ number 20 1
+one_at_least = refl
+
+two_are_needed : shown (options (codes "f1-3,half-expand,1")) (number 1250 3) ≡ number 125 2
+two_are_needed = refl
+
+both_stay : shown (options (codes "f2-2,half-expand,5,whole")) (number 150 2) ≡ number 150 2
+both_stay = refl
+
+both_go : shown (options (codes "f2-2,half-expand,5,whole")) (number 200 2) ≡ number 2 0
+both_go = refl
+
+both_are_shown : shown (options (codes "f2-2,half-expand,5")) (number 200 2) ≡ number 200 2
+both_are_shown = refl
+
 -- ---- before there were newer forms, and cash
 
 percent_was_none : old_form_named (codes "percent") ≡ None
 percent_was_none = refl
 
-plain_was_itself : old_form_named (codes "plain") ≡ Some Plain
+plain_was_itself : old_form_named (codes "plain") ≡ Some (OfWord Write Standard unit.None)
 plain_was_itself = refl
 
 cash_was_none : old_rounding_named (codes "cash") ≡ None

@@ -1,25 +1,17 @@
 -- The fields of a line by its first tab.
-use Rattle.std.proofs.Common.{◌≡◌, ◌∷◌, ◌+◌, ◌∙◌, ℕ, List, Bool, true, false, length, sym, ap, refl, arith, Result, Ok, Err, is_ok, MatchResult}
+use Rattle.std.proofs.Common.{◌≡◌, ◌++◌, ◌+◌, ◌∙◌, ℕ, List, Bool, true, false, length, sym, ap, refl, arith, Result, Ok, Err, is_ok, MatchResult}
 use Rattle.std.specs.Str.{IsUtf8, is_utf8}
 use Rattle.std.proofs.lemmas.Str.{IsUtf8-from_is_utf8, is_utf8-from_IsUtf8}
 use Rattle.std.specs.List.{count_by}
+use Rattle.std.proofs.lemmas.List.{length-append}
 use Rattle.std.proofs.lemmas.List.Splits.{length-slice_split}
-use Rattle.locale_numbers_requests.specs.Request.{fields, tab}
 use Rattle.locale_numbers_formats.specs.Cutting.{is_separator, cut_at}
-use Rattle.locale_numbers_requests.specs.RoundingField.{comma}
 
--- six fields and what follows a tab are more than six
-pub more_than_six : (line rest tag form grouping sign rounding text : List ℕ) → fields line ≡ tag ∷ form ∷ grouping ∷ sign ∷ rounding ∷ text ∷ fields rest → length (fields line) ≡ 6 → ⊥
-more_than_six line rest tag form grouping sign rounding text seven six =
-    let most : length (fields line) ≡ 6 + length (fields rest) = ap length seven ∙ omega arith in
-    let some : length (fields rest) ≡ count_by (is_separator tab) rest + 1 = length-slice_split (is_separator tab) rest in
-    omega arith
-
--- three pieces and what follows a separator are more than three
-pub more_than_three : (text rest first second third : List ℕ) → cut_at comma text ≡ first ∷ second ∷ third ∷ cut_at comma rest → length (cut_at comma text) ≡ 3 → ⊥
-more_than_three text rest first second third four three =
-    let most : length (cut_at comma text) ≡ 3 + length (cut_at comma rest) = ap length four ∙ omega arith in
-    let some : length (cut_at comma rest) ≡ count_by (is_separator comma) rest + 1 = length-slice_split (is_separator comma) rest in
+-- so many pieces and what follows a separator are more than so many
+pub more_than : (separator : ℕ) (text rest : List ℕ) (pieces : List (List ℕ)) → cut_at separator text ≡ pieces ++ cut_at separator rest → length (cut_at separator text) ≡ length pieces → ⊥
+more_than separator text rest pieces more same =
+    let most : length (cut_at separator text) ≡ length pieces + length (cut_at separator rest) = ap length more ∙ length-append pieces (cut_at separator rest) in
+    let some : length (cut_at separator rest) ≡ count_by (is_separator separator) rest + 1 = length-slice_split (is_separator separator) rest in
     omega arith
 
 -- a test that fails where it would show a fact that does not hold

@@ -1,49 +1,72 @@
--- What a line asked before the forms `read-lenient`, `percent`, `currency-EUR` and their like, and the rounding `cash`, were added; and that such a
--- line asks the same now.
+-- What a line asked when there were the forms `plain`, `short`, `long`, `exact-short`, `exact-long` and `read` alone, without the rounding `cash`
+-- and without choices of digits; and that such a line asks the same now.
 -- Defined in docs/requests.md, "Request line".
 -- Cited by the law of `laws.rt`, and by that of old lines of `locale_numbers`.
 -- A form, a sign and a rounding are types with cases, and the cases of each are imported beside it.
-use Rattle.std.specs.Prelude.{◌≡◌, ℕ, Bool, true, false, ◌&&◌, if◌then◌else◌, List, [], ◌∷◌, Option, Some, None, codes}
+use Rattle.std.specs.Prelude.{◌≡◌, ℕ, ℤ, Bool, true, false, ◌&&◌, ◌||◌, if◌then◌else◌, List, [], ◌∷◌, Option, Some, None, codes}
 use Rattle.std.specs.Str.{bytes_eq, is_utf8}
+use Rattle.fixed_decimal.specs.declared.RoundingIncrement.{RoundingIncrement}
+use Rattle.fixed_decimal.specs.declared.SignedRoundingMode.{SignedRoundingMode}
 use Rattle.icu_decimal_symbols.specs.declared.options.GroupingStrategy.{GroupingStrategy}
 use Rattle.locale_numbers_formats.specs.Cutting.{cut_at}
-use Rattle.locale_numbers_requests.specs.Request.{Asked, fields, grouping_named, keeps_sign, request_of, sign_named}
-use Rattle.locale_numbers_requests.specs.RoundingField.{comma, keeps_digits, rounding_in}
-use Rattle.locale_numbers_requests.specs.declared.form_field.Form.{Form}
-use Rattle.locale_numbers_requests.specs.declared.form_field.Form.TheVariants.{Plain, Compact, Exact, Read, ReadLenient, Unit, ReadUnit, ReadLenientUnit}
-use Rattle.locale_numbers_requests.specs.declared.form_field.PatternLength.TheVariants.{Short, Long}
-use Rattle.locale_numbers_requests.specs.declared.rounding_field.RoundingAsked.{RoundingAsked}
-use Rattle.locale_numbers_requests.specs.declared.rounding_field.RoundingAsked.TheVariants.{Unrounded}
+use Rattle.locale_numbers_formats.specs.declared.CompactWidth.TheVariants.{Short, Long}
+use Rattle.locale_numbers_formats.specs.declared.LeadingZeros.{LeadingZeros}
+use Rattle.locale_numbers_formats.specs.declared.LeadingZeros.TheVariants as leading
+use Rattle.locale_numbers_formats.specs.declared.Notation.TheVariants.{Standard, Compact}
+use Rattle.locale_numbers_formats.specs.declared.NumberFormat.{NumberFormat}
+use Rattle.locale_numbers_formats.specs.declared.NumberUnit.{NumberUnit}
+use Rattle.locale_numbers_formats.specs.declared.NumberUnit.TheVariants as unit
+use Rattle.locale_numbers_formats.specs.declared.Rounding.{Rounding}
+use Rattle.locale_numbers_formats.specs.declared.Rounding.TheVariants.{Usual, At}
 use Rattle.locale_numbers_formats.specs.declared.SignAsked.{SignAsked}
+use Rattle.locale_numbers_formats.specs.declared.TrailingZeros.{TrailingZeros}
+use Rattle.locale_numbers_formats.specs.declared.TrailingZeros.TheVariants as trailing
+use Rattle.locale_numbers_requests.specs.Request.{Asked, asked_by, fields, format_by, grouping_named, keeps_sign, request_of, sign_named}
+use Rattle.locale_numbers_requests.specs.RoundingField.{all_of, comma, increment_named, keeps_digits, mode_named, position_named}
+use Rattle.locale_numbers_requests.specs.declared.form_field.FormAsked.{FormAsked}
+use Rattle.locale_numbers_requests.specs.declared.form_field.FormAsked.TheVariants.{OfWord, OfSkeleton}
+use Rattle.locale_numbers_requests.specs.declared.form_field.Task.{Task}
+use Rattle.locale_numbers_requests.specs.declared.form_field.Task.TheVariants.{Write, WriteExact, Read, ReadLenient}
+use Rattle.locale_numbers_requests.specs.declared.rounding_field.DigitsAsked.{DigitsAsked}
 
 -- the six forms
-abbrev pub old_form_named : List ℕ → Option Form
+abbrev pub old_form_named : List ℕ → Option FormAsked
 old_form_named word =
-    if bytes_eq word (codes "plain") then Some Plain
-    else if bytes_eq word (codes "short") then Some (Compact Short)
-    else if bytes_eq word (codes "long") then Some (Compact Long)
-    else if bytes_eq word (codes "exact-short") then Some (Exact Short)
-    else if bytes_eq word (codes "exact-long") then Some (Exact Long)
-    else if bytes_eq word (codes "read") then Some Read
+    if bytes_eq word (codes "plain") then Some (OfWord Write Standard unit.None)
+    else if bytes_eq word (codes "short") then Some (OfWord Write (Compact Short) unit.None)
+    else if bytes_eq word (codes "long") then Some (OfWord Write (Compact Long) unit.None)
+    else if bytes_eq word (codes "exact-short") then Some (OfWord WriteExact (Compact Short) unit.None)
+    else if bytes_eq word (codes "exact-long") then Some (OfWord WriteExact (Compact Long) unit.None)
+    else if bytes_eq word (codes "read") then Some (OfWord Read Standard unit.None)
     else None
 
--- no rounding, or a position, a mode and an increment
-abbrev pub old_rounding_named : List ℕ → Option RoundingAsked
-old_rounding_named word = if bytes_eq word (codes "-") then Some Unrounded else rounding_in (cut_at comma word)
+-- a position, a mode and an increment
+abbrev pub old_rounding_by : Option ℤ → Option SignedRoundingMode → Option RoundingIncrement → Option DigitsAsked
+old_rounding_by (Some position) (Some mode) (Some increment) = Some (all_of (At position mode increment))
+old_rounding_by _ _ _ = None
+
+abbrev pub old_rounding_in : List (List ℕ) → Option DigitsAsked
+old_rounding_in (position ∷ mode ∷ increment ∷ []) = old_rounding_by (position_named position) (mode_named mode) (increment_named increment)
+old_rounding_in _ = None
+
+-- no rounding, or such a one
+abbrev pub old_rounding_named : List ℕ → Option DigitsAsked
+old_rounding_named word = if bytes_eq word (codes "-") then Some (all_of Usual) else old_rounding_in (cut_at comma word)
 
 -- whether one of the six takes a sign and a rounding
-abbrev pub old_takes : Form → SignAsked → RoundingAsked → Bool
-old_takes Plain sign rounding = true
-old_takes (Compact length) sign rounding = true
-old_takes (Exact length) sign rounding = keeps_digits rounding
+abbrev pub old_takes : Task → SignAsked → Rounding → Bool
+old_takes Write sign rounding = true
+old_takes WriteExact sign rounding = keeps_digits rounding
 old_takes Read sign rounding = keeps_sign sign && keeps_digits rounding
-old_takes _ sign rounding = false
+old_takes ReadLenient sign rounding = false
 
-abbrev pub old_request_by : List ℕ → Option Form → Option GroupingStrategy → Option SignAsked → Option RoundingAsked → List ℕ → Option Asked
-old_request_by tag (Some form) (Some grouping) (Some sign) (Some rounding) text =
-    if old_takes form sign rounding
-    then Some (record { tag = tag; form = form; grouping = grouping; sign = sign; rounding = rounding; text = text })
-    else None
+abbrev pub old_format_asked : FormAsked → GroupingStrategy → SignAsked → DigitsAsked → Option (Task × NumberFormat)
+old_format_asked (OfWord task notation unit) grouping sign digits =
+    if old_takes task sign digits.rounding then Some (task, format_by notation unit grouping sign digits) else None
+old_format_asked (OfSkeleton task format) grouping sign digits = None
+
+abbrev pub old_request_by : List ℕ → Option FormAsked → Option GroupingStrategy → Option SignAsked → Option DigitsAsked → List ℕ → Option Asked
+old_request_by tag (Some form) (Some grouping) (Some sign) (Some digits) text = asked_by tag (old_format_asked form grouping sign digits) text
 old_request_by tag _ _ _ _ text = None
 
 abbrev pub old_request_in : List (List ℕ) → Option Asked
@@ -55,22 +78,34 @@ old_request_in _ = None
 abbrev pub old_request_of : List ℕ → Option Asked
 old_request_of line = if is_utf8 line then old_request_in (fields line) else None
 
--- a form that was added
-abbrev pub is_added : Form → Bool
-is_added Plain = false
-is_added (Compact length) = false
-is_added (Exact length) = false
-is_added Read = false
-is_added ReadLenient = true
-is_added (Unit unit) = true
-is_added (ReadUnit unit) = true
-is_added (ReadLenientUnit unit) = true
+-- a task of a unit that was added
+abbrev pub is_added_task : Task → NumberUnit → Bool
+is_added_task Write unit.None = false
+is_added_task Write unit.Percent = true
+is_added_task Write (unit.Currency currency) = true
+is_added_task WriteExact unit = false
+is_added_task Read unit.None = false
+is_added_task Read unit.Percent = true
+is_added_task Read (unit.Currency currency) = true
+is_added_task ReadLenient unit = true
 
--- a line asks what it asked; or it is none and was none; or it asks by a form that was added, and was none
+-- zeros are trimmed
+abbrev pub trims : LeadingZeros → TrailingZeros → Bool
+trims leading.Keep trailing.Keep = false
+trims leading.Keep trailing.Trim = true
+trims leading.Keep trailing.TrimWhole = true
+trims leading.TrimRoundedZero zeros = true
+trims leading.Trim zeros = true
+
+-- a task or a choice of digits that was added
+abbrev pub is_added : Asked → Bool
+is_added asked = trims asked.format.options.leading_zeros asked.format.options.zeros || is_added_task asked.task asked.format.shape.unit
+
+-- a line asks what it asked; or it is none and was none; or it asks what was added, and was none
 pub data StaysRequest (now before : Option Asked) : Type 0 where
-  same : (asked : Asked) → is_added asked.form ≡ false → now ≡ Some asked → before ≡ Some asked → StaysRequest now before
+  same : (asked : Asked) → is_added asked ≡ false → now ≡ Some asked → before ≡ Some asked → StaysRequest now before
   none : now ≡ None → before ≡ None → StaysRequest now before
-  added : (asked : Asked) → is_added asked.form ≡ true → now ≡ Some asked → before ≡ None → StaysRequest now before
+  added : (asked : Asked) → is_added asked ≡ true → now ≡ Some asked → before ≡ None → StaysRequest now before
 
 abbrev pub OldRequestsStay : Type 0
 OldRequestsStay = (line : List ℕ) → StaysRequest (request_of line) (old_request_of line)

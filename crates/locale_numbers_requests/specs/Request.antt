@@ -1,21 +1,28 @@
 -- What a line asks for: its six fields, where each is known, or nothing.
 -- Defined in docs/requests.md, "Request line".
 -- Cited by `answer` and `run`, through Answer.antt of `locale_numbers`, and by `read_request`.
--- Three of the six fields are types with cases, and the cases of each are imported beside it.
-use Rattle.std.specs.Prelude.{ℕ, Bool, true, false, not, ◌&&◌, ◌||◌, if◌then◌else◌, List, [], ◌∷◌, Option, Some, None, codes}
+-- Of the six fields some are types with cases, and the cases of each are imported beside it.
+use Rattle.std.specs.Prelude.{ℕ, pos, Bool, true, false, not, ◌&&◌, ◌||◌, if◌then◌else◌, List, [], ◌∷◌, Option, Some, None, codes}
 use Rattle.std.specs.Str.{bytes_eq, is_utf8}
 use Rattle.fixed_decimal.specs.declared.SignDisplay.TheVariants as display
 use Rattle.icu_decimal_symbols.specs.declared.options.GroupingStrategy.{GroupingStrategy}
 use Rattle.icu_decimal_symbols.specs.declared.options.GroupingStrategy.TheVariants.{Auto, Never, Always, Min2}
 use Rattle.locale_numbers_formats.specs.Cutting.{cut_at}
-use Rattle.locale_numbers_requests.specs.FormField.{form_named}
-use Rattle.locale_numbers_requests.specs.RoundingField.{is_cash, keeps_digits, rounding_named}
+use Rattle.locale_numbers_formats.specs.declared.LeadingZeros.TheVariants as leading
+use Rattle.locale_numbers_formats.specs.declared.Notation.{Notation}
+use Rattle.locale_numbers_formats.specs.declared.NumberFormat.{NumberFormat}
+use Rattle.locale_numbers_formats.specs.declared.NumberUnit.{NumberUnit}
+use Rattle.locale_numbers_formats.specs.declared.NumberUnit.TheVariants as unit
+use Rattle.locale_numbers_formats.specs.declared.Rounding.{Rounding}
 use Rattle.locale_numbers_formats.specs.declared.SignAsked.{SignAsked}
 use Rattle.locale_numbers_formats.specs.declared.SignAsked.TheVariants.{Keep, Show}
-use Rattle.locale_numbers_requests.specs.declared.rounding_field.RoundingAsked.{RoundingAsked}
-use Rattle.locale_numbers_requests.specs.declared.form_field.Form.{Form}
-use Rattle.locale_numbers_requests.specs.declared.form_field.Form.TheVariants.{Plain, Compact, Exact, Read, ReadLenient, Unit, ReadUnit, ReadLenientUnit}
-use Rattle.locale_numbers_requests.specs.declared.form_field.UnitAsked.TheVariants.{Percent, Currency}
+use Rattle.locale_numbers_requests.specs.FormField.{form_named}
+use Rattle.locale_numbers_requests.specs.RoundingField.{is_cash, keeps_digits, rounding_named}
+use Rattle.locale_numbers_requests.specs.declared.form_field.FormAsked.{FormAsked}
+use Rattle.locale_numbers_requests.specs.declared.form_field.FormAsked.TheVariants.{OfWord, OfSkeleton}
+use Rattle.locale_numbers_requests.specs.declared.form_field.Task.{Task}
+use Rattle.locale_numbers_requests.specs.declared.form_field.Task.TheVariants.{Write, WriteExact, Read, ReadLenient}
+use Rattle.locale_numbers_requests.specs.declared.rounding_field.DigitsAsked.{DigitsAsked}
 
 -- the code of a tab
 abbrev pub tab : ℕ
@@ -50,36 +57,63 @@ abbrev pub keeps_sign : SignAsked → Bool
 keeps_sign Keep = true
 keeps_sign (Show display) = false
 
--- whether a form takes a sign and a rounding: an exact form shows the digits that are given, so nothing is rounded there; what
--- is read back is the number that was written or typed, so neither is chosen there; only an amount of money has digits of cash
-abbrev pub takes : Form → SignAsked → RoundingAsked → Bool
-takes Plain sign rounding = not (is_cash rounding)
-takes (Compact length) sign rounding = not (is_cash rounding)
-takes (Exact length) sign rounding = keeps_digits rounding
-takes Read sign rounding = keeps_sign sign && keeps_digits rounding
-takes ReadLenient sign rounding = keeps_sign sign && keeps_digits rounding
-takes (Unit Percent) sign rounding = not (is_cash rounding)
-takes (Unit (Currency style code)) sign rounding = true
-takes (ReadUnit Percent) sign rounding = keeps_sign sign && keeps_digits rounding
-takes (ReadUnit (Currency style code)) sign rounding = keeps_sign sign && (keeps_digits rounding || is_cash rounding)
-takes (ReadLenientUnit Percent) sign rounding = keeps_sign sign && keeps_digits rounding
-takes (ReadLenientUnit (Currency style code)) sign rounding = keeps_sign sign && (keeps_digits rounding || is_cash rounding)
+-- the unit is a currency
+abbrev pub is_amount : NumberUnit → Bool
+is_amount unit.None = false
+is_amount unit.Percent = false
+is_amount (unit.Currency currency) = true
 
--- a request as it is asked: a tag, a form, a grouping, a sign, a rounding and the text of a number
+-- whether a task of numbers with a unit takes a sign and a rounding: an exact form shows the digits that are given, so nothing is
+-- rounded there; what is read back is the number that was written or typed, so neither is chosen there; only an amount of money
+-- has digits of cash
+abbrev pub takes : Task → NumberUnit → SignAsked → Rounding → Bool
+takes Write unit sign rounding = is_amount unit || not (is_cash rounding)
+takes WriteExact unit sign rounding = keeps_digits rounding
+takes Read unit sign rounding = keeps_sign sign && (keeps_digits rounding || (is_amount unit && is_cash rounding))
+takes ReadLenient unit sign rounding = keeps_sign sign && (keeps_digits rounding || (is_amount unit && is_cash rounding))
+
+-- a skeleton says all, so the other fields say nothing
+abbrev pub says_nothing : GroupingStrategy → SignAsked → Rounding → Bool
+says_nothing Auto sign rounding = keeps_sign sign && keeps_digits rounding
+says_nothing Never sign rounding = false
+says_nothing Always sign rounding = false
+says_nothing Min2 sign rounding = false
+
+-- the format of a line: the zeros in front stay, and none is added there
+abbrev pub format_by : Notation → NumberUnit → GroupingStrategy → SignAsked → DigitsAsked → NumberFormat
+format_by notation unit grouping sign digits = record {
+  shape = record { notation = notation; unit = unit; grouping = grouping };
+  options = record {
+    rounding = digits.rounding;
+    leading_zeros = leading.Keep;
+    zeros = digits.zeros;
+    integer_digits = pos 0;
+    fraction_digits = digits.fraction_digits;
+    sign = sign;
+  };
+}
+
+-- what is done, and the format, where the form takes the other fields
+abbrev pub format_asked : FormAsked → GroupingStrategy → SignAsked → DigitsAsked → Option (Task × NumberFormat)
+format_asked (OfWord task notation unit) grouping sign digits =
+    if takes task unit sign digits.rounding then Some (task, format_by notation unit grouping sign digits) else None
+format_asked (OfSkeleton task format) grouping sign digits =
+    if says_nothing grouping sign digits.rounding then Some (task, format) else None
+
+-- a request as it is asked: a tag, what is done, the format, and the text of a number
 pub record Asked : Type 0 where
   pub tag : List ℕ
-  pub form : Form
-  pub grouping : GroupingStrategy
-  pub sign : SignAsked
-  pub rounding : RoundingAsked
+  pub task : Task
+  pub format : NumberFormat
   pub text : List ℕ
 
--- what six fields ask, where each is known and the form takes the sign and the rounding
-abbrev pub request_by : List ℕ → Option Form → Option GroupingStrategy → Option SignAsked → Option RoundingAsked → List ℕ → Option Asked
-request_by tag (Some form) (Some grouping) (Some sign) (Some rounding) text =
-    if takes form sign rounding
-    then Some (record { tag = tag; form = form; grouping = grouping; sign = sign; rounding = rounding; text = text })
-    else None
+abbrev pub asked_by : List ℕ → Option (Task × NumberFormat) → List ℕ → Option Asked
+asked_by tag None text = None
+asked_by tag (Some found) text = Some (record { tag = tag; task = found.0; format = found.1; text = text })
+
+-- what six fields ask, where each is known and the form takes the others
+abbrev pub request_by : List ℕ → Option FormAsked → Option GroupingStrategy → Option SignAsked → Option DigitsAsked → List ℕ → Option Asked
+request_by tag (Some form) (Some grouping) (Some sign) (Some digits) text = asked_by tag (format_asked form grouping sign digits) text
 request_by tag _ _ _ _ text = None
 
 -- what the fields of a line ask: nothing, where they are not six
@@ -95,5 +129,4 @@ request_of line = if is_utf8 line then request_in (fields line) else None
 -- a request with another text
 abbrev pub with_text : List ℕ → Option Asked → Option Asked
 with_text text None = None
-with_text text (Some asked) =
-    Some (record { tag = asked.tag; form = asked.form; grouping = asked.grouping; sign = asked.sign; rounding = asked.rounding; text = text })
+with_text text (Some asked) = Some (record { tag = asked.tag; task = asked.task; format = asked.format; text = text })

@@ -1,8 +1,8 @@
--- Which texts are a rounding, and what they round.
+-- Which texts are a rounding or a choice of digits, and what they make of the digits of a number.
 -- Defined in docs/requests.md, "Rounding and sign".
 -- Cited by `answer` and `run`, through Request.antt.
--- Each of the three words of a rounding is a type with cases, and the cases are imported beside it.
-use Rattle.std.specs.Prelude.{◌==◌, ◌&&◌, not, nat_le, ℕ, ℤ, pos, neg_ℤ, Bool, true, false, if◌then◌else◌, List, [], ◌∷◌, Option, Some, None, codes}
+-- Each of the words of a rounding is a type with cases, and the cases are imported beside it.
+use Rattle.std.specs.Prelude.{◌==◌, ◌&&◌, not, int_le, nat_le, ℕ, ℤ, pos, neg_ℤ, Bool, true, false, if◌then◌else◌, List, [], ◌∷◌, Option, Some, None, codes}
 use Rattle.std.specs.List.{list_all}
 use Rattle.std.specs.Str.{bytes_eq}
 use Rattle.fixed_decimal.specs.NumberText.{minus, digit_zero, spelled}
@@ -11,10 +11,14 @@ use Rattle.fixed_decimal.specs.declared.SignedRoundingMode.TheVariants.{Unsigned
 use Rattle.fixed_decimal.specs.declared.UnsignedRoundingMode.TheVariants.{Expand, Trunc, HalfExpand, HalfTrunc, HalfEven}
 use Rattle.fixed_decimal.specs.declared.RoundingIncrement.{RoundingIncrement}
 use Rattle.fixed_decimal.specs.declared.RoundingIncrement.TheVariants.{MultiplesOf1, MultiplesOf2, MultiplesOf5, MultiplesOf25}
-use Rattle.locale_numbers_requests.specs.Digits.{is_digit}
 use Rattle.locale_numbers_formats.specs.Cutting.{cut_at}
-use Rattle.locale_numbers_requests.specs.declared.rounding_field.RoundingAsked.{RoundingAsked}
-use Rattle.locale_numbers_requests.specs.declared.rounding_field.RoundingAsked.TheVariants.{Unrounded, Cash, At}
+use Rattle.locale_numbers_formats.specs.declared.Rounding.{Rounding}
+use Rattle.locale_numbers_formats.specs.declared.Rounding.TheVariants.{Usual, Cash, AsGiven, At}
+use Rattle.locale_numbers_formats.specs.declared.TrailingZeros.TheVariants.{Keep, Trim, TrimWhole}
+use Rattle.locale_numbers_requests.specs.Digits.{is_digit}
+use Rattle.locale_numbers_requests.specs.declared.rounding_field.DigitsAsked.{DigitsAsked}
+use Rattle.locale_numbers_requests.specs.declared.rounding_field.Places.{Places}
+use Rattle.locale_numbers_requests.specs.declared.rounding_field.Places.TheVariants.{Position, Fraction}
 
 -- the code of a comma
 abbrev pub comma : ℕ
@@ -46,6 +50,37 @@ position_named (c ∷ cs) =
     else if c == minus then below_zero (size_named 32768 cs)
     else above_zero (size_named 32767 (c ∷ cs))
 
+-- the code of the letter before counts of digits of a fraction
+abbrev pub letter_f : ℕ
+letter_f = 102
+
+-- the number from 0 to 32767 that a word writes with no zero in front
+abbrev pub count_named : List ℕ → Option ℤ
+count_named word = if bytes_eq word (codes "0") then Some (pos 0) else above_zero (size_named 32767 word)
+
+-- the position of the last of so many digits of a fraction
+abbrev pub last_named : List ℕ → Option ℤ
+last_named word = if bytes_eq word (codes "0") then Some (pos 0) else below_zero (size_named 32767 word)
+
+-- at least so many digits of a fraction, and the position of the last one, where these are not fewer
+abbrev pub counts_by : Option ℤ → Option ℤ → Option Places
+counts_by (Some least) (Some last) = if int_le least (neg_ℤ last) then Some (Fraction least last) else None
+counts_by _ _ = None
+
+-- two counts with a minus between
+abbrev pub counts_in : List (List ℕ) → Option Places
+counts_in (least ∷ most ∷ []) = counts_by (count_named least) (last_named most)
+counts_in _ = None
+
+abbrev pub position_by : Option ℤ → Option Places
+position_by None = None
+position_by (Some position) = Some (Position position)
+
+-- the places that a word names: a position, or two counts of digits of a fraction
+abbrev pub places_named : List ℕ → Option Places
+places_named [] = None
+places_named (c ∷ cs) = if c == letter_f then counts_in (cut_at minus cs) else position_by (position_named (c ∷ cs))
+
 -- the mode that a word names
 abbrev pub mode_named : List ℕ → Option SignedRoundingMode
 mode_named word =
@@ -69,31 +104,53 @@ increment_named word =
     else if bytes_eq word (codes "25") then Some MultiplesOf25
     else None
 
--- a rounding, where its position, its mode and its increment are known
-abbrev pub rounding_by : Option ℤ → Option SignedRoundingMode → Option RoundingIncrement → Option RoundingAsked
-rounding_by (Some position) (Some mode) (Some increment) = Some (At position mode increment)
-rounding_by _ _ _ = None
+-- a rounding with all zeros that it shows
+abbrev pub all_of : Rounding → DigitsAsked
+all_of rounding = record { rounding = rounding; zeros = Keep; fraction_digits = pos 0 }
 
--- what three words between commas round
-abbrev pub rounding_in : List (List ℕ) → Option RoundingAsked
-rounding_in (position ∷ mode ∷ increment ∷ []) = rounding_by (position_named position) (mode_named mode) (increment_named increment)
-rounding_in _ = None
+-- a rounding at a position shows all zeros down to it; one to the most digits of a fraction no zeros behind the least ones
+abbrev pub digits_at : Places → SignedRoundingMode → RoundingIncrement → DigitsAsked
+digits_at (Position position) mode increment = all_of (At position mode increment)
+digits_at (Fraction least last) mode increment = record { rounding = At last mode increment; zeros = Trim; fraction_digits = least }
 
--- what a field rounds: what the form rounds by itself, an amount to the digits of cash, or what its three words say
-abbrev pub rounding_named : List ℕ → Option RoundingAsked
+abbrev pub digits_by : Option Places → Option SignedRoundingMode → Option RoundingIncrement → Option DigitsAsked
+digits_by (Some places) (Some mode) (Some increment) = Some (digits_at places mode increment)
+digits_by _ _ _ = None
+
+-- so many digits of a fraction, or none of a whole number: no more may be shown than are shown at least
+abbrev pub whole_at : Places → SignedRoundingMode → RoundingIncrement → Option DigitsAsked
+whole_at (Position position) mode increment = None
+whole_at (Fraction least last) mode increment =
+    if int_le (neg_ℤ last) least then Some (record { rounding = At last mode increment; zeros = TrimWhole; fraction_digits = pos 0 }) else None
+
+abbrev pub whole_by : Option Places → Option SignedRoundingMode → Option RoundingIncrement → Option DigitsAsked
+whole_by (Some places) (Some mode) (Some increment) = whole_at places mode increment
+whole_by _ _ _ = None
+
+-- what three words between commas ask for, or four of which the last is `whole`
+abbrev pub digits_in : List (List ℕ) → Option DigitsAsked
+digits_in (places ∷ mode ∷ increment ∷ []) = digits_by (places_named places) (mode_named mode) (increment_named increment)
+digits_in (places ∷ mode ∷ increment ∷ whole ∷ []) =
+    if bytes_eq whole (codes "whole") then whole_by (places_named places) (mode_named mode) (increment_named increment) else None
+digits_in _ = None
+
+-- what a field asks for: what the form rounds by itself, an amount to the digits of cash, or what its words say
+abbrev pub rounding_named : List ℕ → Option DigitsAsked
 rounding_named word =
-    if bytes_eq word (codes "-") then Some Unrounded
-    else if bytes_eq word (codes "cash") then Some Cash
-    else rounding_in (cut_at comma word)
+    if bytes_eq word (codes "-") then Some (all_of Usual)
+    else if bytes_eq word (codes "cash") then Some (all_of Cash)
+    else digits_in (cut_at comma word)
 
 -- nothing is said of a rounding
-abbrev pub keeps_digits : RoundingAsked → Bool
-keeps_digits Unrounded = true
+abbrev pub keeps_digits : Rounding → Bool
+keeps_digits Usual = true
 keeps_digits Cash = false
+keeps_digits AsGiven = false
 keeps_digits (At position mode increment) = false
 
 -- the digits of cash are asked for
-abbrev pub is_cash : RoundingAsked → Bool
-is_cash Unrounded = false
+abbrev pub is_cash : Rounding → Bool
+is_cash Usual = false
 is_cash Cash = true
+is_cash AsGiven = false
 is_cash (At position mode increment) = false

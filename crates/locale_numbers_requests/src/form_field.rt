@@ -1,130 +1,192 @@
-//! The form that a request asks for: what is written for a number, or read.
+//! The form that a request asks for: what is done, and with what numbers are written.
 
 ghost use Rattle.std.specs.Prelude.{◌≡◌};
-ghost use Rattle.locale_numbers_requests.specs.FormField.{amount_form, coded_form, form_named};
+ghost use Rattle.locale_numbers_formats.specs.Cutting.{cut_at};
+ghost use Rattle.locale_numbers_formats.specs.Skeletons.{is_compact};
+ghost use Rattle.locale_numbers_requests.specs.FormField.{amount_form, coded_form, colon, form_for, form_named, format_read, listed_form, rounding_read, skeleton_in, skeleton_task};
 
-use icu_dimension_fractions::CurrencyCode;
-use locale_numbers_formats::value_beside;
+use crate::pieces::three_pieces;
+use icu_dimension_fractions::{CurrencyCode, CurrencyStyle, CurrencyWidth};
+use locale_numbers_formats::{
+    CompactWidth, CurrencyUnit, Notation, NumberFormat, NumberOptions, NumberUnit, Rounding,
+    Skeleton, value_beside,
+};
 
-/// Which patterns a compact number is written with.
-#[derive(Clone, Copy, PartialEq, Eq, Hash)]
-pub enum PatternLength {
-    /// The short ones, as of `1.6K`.
-    Short,
-    /// The long ones, as of `1.6 thousand`.
-    Long,
-}
+const COLON: u8 = b':';
 
-/// How an amount of money is written.
-#[derive(Clone, Copy, PartialEq, Eq, Hash)]
-pub enum AmountStyle {
-    /// With the symbol of its currency, as `-€5.00`.
-    Standard,
-    /// With the symbol, as accounts have it: `(€5.00)`.
-    Accounting,
-    /// With the code of its currency, as `-EUR 5.00`.
-    Code,
-}
-
-/// Which unit a number has.
-#[derive(Clone, Copy, PartialEq, Eq, Hash)]
-pub enum UnitAsked {
-    /// A percent sign, as `12.5%`.
-    Percent,
-    /// A currency, with its amounts written so, as `€1.50`.
-    Currency(AmountStyle, CurrencyCode),
-}
-
-/// What is written for a number, or read.
-#[derive(Clone, Copy)]
-pub enum Form {
-    /// Its digits, grouped.
-    Plain,
-    /// What it is shown as in patterns of this length, and the value shown.
-    Compact(PatternLength),
-    /// Its digits and its exponent, as they are, in patterns of this length.
-    Exact(PatternLength),
-    /// The number itself, read back from such a text.
+/// What is done with the text of a line.
+#[derive(Clone, Copy, Debug, PartialEq, Eq)]
+pub enum Task {
+    /// The number that it spells is written: 1234.5 as `1,234.5`.
+    Write,
+    /// The number and the exponent that it spells are written as they are: `1.20c6` as `1.20M`.
+    WriteExact,
+    /// The number is read that is written so, to the byte: 1234.5 of `1,234.5`.
     Read,
-    /// The number itself, read from what people type.
+    /// The number is read that people type so: 1234.5 of `1234.5`.
     ReadLenient,
-    /// Its digits, grouped, with a unit.
-    Unit(UnitAsked),
-    /// The number itself, read back from its text with a unit.
-    ReadUnit(UnitAsked),
-    /// The number itself, read from what people type of numbers with a unit.
-    ReadLenientUnit(UnitAsked),
 }
+
+// What a form asks for.
+#[derive(Clone, Copy)]
+pub(crate) enum FormAsked {
+    // By a word: what is done, how digits are written, and what is beside them. The other fields say the rest.
+    OfWord(Task, Notation, NumberUnit),
+    // By a skeleton: what is done, and how numbers are written.
+    OfSkeleton(Task, NumberFormat),
+}
+
+// Compact numbers, in short patterns and in long ones.
+const SHORT: Notation = Notation::Compact(CompactWidth::Short);
+
+const LONG: Notation = Notation::Compact(CompactWidth::Long);
 
 // The words of forms, but for those with the code of a currency.
-const FORMS: [(&[u8], Form); 10] = [
-    (b"plain", Form::Plain),
-    (b"short", Form::Compact(PatternLength::Short)),
-    (b"long", Form::Compact(PatternLength::Long)),
-    (b"exact-short", Form::Exact(PatternLength::Short)),
-    (b"exact-long", Form::Exact(PatternLength::Long)),
-    (b"read", Form::Read),
-    (b"read-lenient", Form::ReadLenient),
-    (b"percent", Form::Unit(UnitAsked::Percent)),
-    (b"read-percent", Form::ReadUnit(UnitAsked::Percent)),
+const FORMS: [(&[u8], FormAsked); 10] = [
+    (
+        b"plain",
+        FormAsked::OfWord(Task::Write, Notation::Standard, NumberUnit::None),
+    ),
+    (
+        b"short",
+        FormAsked::OfWord(Task::Write, SHORT, NumberUnit::None),
+    ),
+    (
+        b"long",
+        FormAsked::OfWord(Task::Write, LONG, NumberUnit::None),
+    ),
+    (
+        b"exact-short",
+        FormAsked::OfWord(Task::WriteExact, SHORT, NumberUnit::None),
+    ),
+    (
+        b"exact-long",
+        FormAsked::OfWord(Task::WriteExact, LONG, NumberUnit::None),
+    ),
+    (
+        b"read",
+        FormAsked::OfWord(Task::Read, Notation::Standard, NumberUnit::None),
+    ),
+    (
+        b"read-lenient",
+        FormAsked::OfWord(Task::ReadLenient, Notation::Standard, NumberUnit::None),
+    ),
+    (
+        b"percent",
+        FormAsked::OfWord(Task::Write, Notation::Standard, NumberUnit::Percent),
+    ),
+    (
+        b"read-percent",
+        FormAsked::OfWord(Task::Read, Notation::Standard, NumberUnit::Percent),
+    ),
     (
         b"read-lenient-percent",
-        Form::ReadLenientUnit(UnitAsked::Percent),
+        FormAsked::OfWord(Task::ReadLenient, Notation::Standard, NumberUnit::Percent),
     ),
 ];
 
 // What the front of a word says of an amount, before the code.
 #[derive(Clone, Copy)]
-enum AmountWord {
-    /// It is written so.
-    Written(AmountStyle),
-    /// It is read back, written so.
-    ReadBack(AmountStyle),
-    /// It is read from what people type, as one that is written so.
-    ReadTyped(AmountStyle),
+struct AmountWord {
+    task: Task,
+    style: CurrencyStyle,
+    width: CurrencyWidth,
 }
 
 // The fronts of words before the code of a currency.
 const AMOUNTS: [(&[u8], AmountWord); 9] = [
-    (b"currency-", AmountWord::Written(AmountStyle::Standard)),
-    (b"accounting-", AmountWord::Written(AmountStyle::Accounting)),
-    (b"code-", AmountWord::Written(AmountStyle::Code)),
+    (
+        b"currency-",
+        AmountWord {
+            task: Task::Write,
+            style: CurrencyStyle::Standard,
+            width: CurrencyWidth::Short,
+        },
+    ),
+    (
+        b"accounting-",
+        AmountWord {
+            task: Task::Write,
+            style: CurrencyStyle::Accounting,
+            width: CurrencyWidth::Short,
+        },
+    ),
+    (
+        b"code-",
+        AmountWord {
+            task: Task::Write,
+            style: CurrencyStyle::Standard,
+            width: CurrencyWidth::IsoCode,
+        },
+    ),
     (
         b"read-currency-",
-        AmountWord::ReadBack(AmountStyle::Standard),
+        AmountWord {
+            task: Task::Read,
+            style: CurrencyStyle::Standard,
+            width: CurrencyWidth::Short,
+        },
     ),
     (
         b"read-accounting-",
-        AmountWord::ReadBack(AmountStyle::Accounting),
+        AmountWord {
+            task: Task::Read,
+            style: CurrencyStyle::Accounting,
+            width: CurrencyWidth::Short,
+        },
     ),
-    (b"read-code-", AmountWord::ReadBack(AmountStyle::Code)),
+    (
+        b"read-code-",
+        AmountWord {
+            task: Task::Read,
+            style: CurrencyStyle::Standard,
+            width: CurrencyWidth::IsoCode,
+        },
+    ),
     (
         b"read-lenient-currency-",
-        AmountWord::ReadTyped(AmountStyle::Standard),
+        AmountWord {
+            task: Task::ReadLenient,
+            style: CurrencyStyle::Standard,
+            width: CurrencyWidth::Short,
+        },
     ),
     (
         b"read-lenient-accounting-",
-        AmountWord::ReadTyped(AmountStyle::Accounting),
+        AmountWord {
+            task: Task::ReadLenient,
+            style: CurrencyStyle::Accounting,
+            width: CurrencyWidth::Short,
+        },
     ),
     (
         b"read-lenient-code-",
-        AmountWord::ReadTyped(AmountStyle::Code),
+        AmountWord {
+            task: Task::ReadLenient,
+            style: CurrencyStyle::Standard,
+            width: CurrencyWidth::IsoCode,
+        },
     ),
 ];
 
 // The form of an amount of this currency.
-fn amount_form(word: AmountWord, code: CurrencyCode) -> Form
+fn amount_form(word: AmountWord, code: CurrencyCode) -> FormAsked
     ensures { result ≡ amount_form word code }
 {
-    match word {
-        AmountWord::Written(style) => Form::Unit(UnitAsked::Currency(style, code)),
-        AmountWord::ReadBack(style) => Form::ReadUnit(UnitAsked::Currency(style, code)),
-        AmountWord::ReadTyped(style) => Form::ReadLenientUnit(UnitAsked::Currency(style, code)),
-    }
+    let currency = CurrencyUnit {
+        code,
+        style: word.style,
+        width: word.width,
+    };
+    FormAsked::OfWord(
+        word.task,
+        Notation::Standard,
+        NumberUnit::Currency(currency),
+    )
 }
 
 // The form that a word with the code of a currency at its end names.
-fn coded_form(word: &[u8]) -> Option<Form>
+fn coded_form(word: &[u8]) -> Option<FormAsked>
     ensures { result ≡ coded_form word.now }
 {
     let (front, last) = word.split_at(word.len().saturating_sub(3));
@@ -135,12 +197,96 @@ fn coded_form(word: &[u8]) -> Option<Form>
     }
 }
 
+// What is done, by what is before the two colons of a skeleton.
+const SKELETON_TASKS: [(&[u8], Task); 4] = [
+    (b"", Task::Write),
+    (b"exact", Task::WriteExact),
+    (b"read", Task::Read),
+    (b"read-lenient", Task::ReadLenient),
+];
+
+// The task that stands before the two colons of a skeleton.
+fn skeleton_task(front: &[u8]) -> Option<Task>
+    ensures { result ≡ skeleton_task front.now }
+{
+    value_beside(&SKELETON_TASKS, front)
+}
+
+// What is asked of the digits of an amount that is read.
+fn rounding_read(rounding: Rounding) -> Rounding
+    ensures { result ≡ rounding_read rounding }
+{
+    match rounding {
+        Rounding::Usual | Rounding::Cash => rounding,
+        Rounding::AsGiven | Rounding::At(_, _, _) => Rounding::AsGiven,
+    }
+}
+
+// The format by which numbers are read that are written by another one.
+fn format_read(format: NumberFormat) -> NumberFormat
+    ensures { result ≡ format_read format }
+{
+    NumberFormat {
+        shape: format.shape,
+        options: NumberOptions {
+            rounding: rounding_read(format.options.rounding),
+            ..format.options
+        },
+    }
+}
+
+// Whether numbers are written with a compact pattern.
+fn is_compact(notation: Notation) -> bool
+    ensures { result ≡ is_compact notation }
+{
+    matches!(notation, Notation::Compact(_))
+}
+
+// The form of a task and the format of a skeleton, where they go together.
+fn form_for(task: Task, format: NumberFormat) -> Option<FormAsked>
+    ensures { result ≡ form_for task format }
+{
+    match task {
+        Task::Write => Some(FormAsked::OfSkeleton(task, format)),
+        Task::WriteExact if is_compact(format.shape.notation) => {
+            Some(FormAsked::OfSkeleton(task, format))
+        }
+        Task::WriteExact => None,
+        Task::Read | Task::ReadLenient => Some(FormAsked::OfSkeleton(task, format_read(format))),
+    }
+}
+
+// The form that a word with a skeleton at its end names.
+fn skeleton_form(word: &[u8]) -> Option<FormAsked>
+    ensures { result ≡ skeleton_in (cut_at colon word.now) }
+{
+    let (front, middle, text) = three_pieces(word, COLON)?;
+    if middle != b"".as_slice() {
+        return None;
+    }
+    let task = skeleton_task(front)?;
+    match Skeleton::try_from_utf8(text) {
+        Ok(skeleton) => form_for(task, skeleton.format()),
+        Err(_) => None,
+    }
+}
+
+// The form of a word of the list.
+fn listed_form(word: &[u8]) -> Option<FormAsked>
+    ensures { result ≡ listed_form word.now }
+{
+    value_beside(&FORMS, word)
+}
+
 // The form that a field names.
-pub(crate) fn form_named(word: &[u8]) -> Option<Form>
+pub(crate) fn form_named(word: &[u8]) -> Option<FormAsked>
     ensures { result ≡ form_named word.now }
 {
-    match value_beside(&FORMS, word) {
+    match listed_form(word) {
         Some(form) => Some(form),
-        None => coded_form(word),
+        None => match coded_form(word) {
+            Some(form) => Some(form),
+            None => skeleton_form(word),
+        },
     }
 }

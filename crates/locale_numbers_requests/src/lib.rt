@@ -7,7 +7,7 @@
 //! use locale_numbers_requests::{Refusal, cut_last, read_request};
 //!
 //! let (front, text) = cut_last(b"en\tplain\tmin2\tkeep\t-\t1000", b'\t');   // the first five fields with the tab behind them, and `1000`
-//! let request = read_request(front);                                       // Some: the tag `en`, plain, Min2, the sign of the text, no rounding
+//! let request = read_request(front);                                       // Some: the tag `en`, `Task::Write`, and the format of plain numbers, with Min2
 //! let word = Refusal::Shape.word();                                        // "shape"
 //! ```
 
@@ -16,14 +16,14 @@
 mod digits;
 mod form_field;
 pub mod laws;
+mod pieces;
 mod refusal;
 mod request;
 mod rounding_field;
 mod sign_field;
 
 pub use digits::{are_digits, capped_number};
-pub use form_field::{AmountStyle, Form, PatternLength, UnitAsked};
+pub use form_field::Task;
 pub use locale_numbers_formats::{SignAsked, cut_field, cut_last};
 pub use refusal::Refusal;
 pub use request::{Request, as_text, is_text, read_request};
-pub use rounding_field::RoundingAsked;

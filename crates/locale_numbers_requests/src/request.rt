@@ -2,13 +2,16 @@
 
 ghost use Rattle.std.specs.Prelude.{◌≡◌, true, false, ◌∷◌, [], ◌↔◌, length, IsSome, IfSome, MatchOption, Some, None};
 ghost use Rattle.std.specs.Str.{is_utf8};
-ghost use Rattle.locale_numbers_requests.specs.Request.{fields, grouping_named, request_of, takes, with_text};
+ghost use Rattle.locale_numbers_requests.specs.Request.{fields, format_asked, format_by, grouping_named, is_amount, request_of, says_nothing, takes, with_text};
 
-use crate::form_field::{Form, UnitAsked, form_named};
-use crate::rounding_field::{RoundingAsked, is_cash, keeps_digits, rounding_named};
+use crate::form_field::{FormAsked, Task, form_named};
+use crate::rounding_field::{DigitsAsked, is_cash, keeps_digits, rounding_named};
 use crate::sign_field::{keeps_sign, sign_named};
 use icu_decimal_symbols::options::GroupingStrategy;
-use locale_numbers_formats::{SignAsked, cut_field, value_beside};
+use locale_numbers_formats::{
+    LeadingZeros, Notation, NumberFormat, NumberOptions, NumberShape, NumberUnit, Rounding,
+    SignAsked, cut_field, value_beside,
+};
 
 const TAB: u8 = b'\t';
 
@@ -17,14 +20,10 @@ const TAB: u8 = b'\t';
 pub struct Request<'a> {
     /// The locale's tag.
     pub tag: &'a [u8],
-    /// What is written.
-    pub form: Form,
-    /// Where separators are.
-    pub grouping: GroupingStrategy,
-    /// Which sign is written.
-    pub sign: SignAsked,
-    /// What is rounded.
-    pub rounding: RoundingAsked,
+    /// What is done with the text.
+    pub task: Task,
+    /// How numbers are written.
+    pub format: NumberFormat,
 }
 
 // The words of groupings.
@@ -42,21 +41,81 @@ fn grouping_named(word: &[u8]) -> Option<GroupingStrategy>
     value_beside(&GROUPINGS, word)
 }
 
-// Whether a form takes a sign and a rounding.
-fn takes(form: &Form, sign: SignAsked, rounding: RoundingAsked) -> bool
-    ensures { result ≡ takes form.now sign rounding }
+// Whether the unit is a currency.
+fn is_amount(unit: NumberUnit) -> bool
+    ensures { result ≡ is_amount unit }
+{
+    matches!(unit, NumberUnit::Currency(_))
+}
+
+// Whether a task of numbers with a unit takes a sign and a rounding.
+fn takes(task: Task, unit: NumberUnit, sign: SignAsked, rounding: Rounding) -> bool
+    ensures { result ≡ takes task unit sign rounding }
+{
+    match task {
+        Task::Write => is_amount(unit) || !is_cash(rounding),
+        Task::WriteExact => keeps_digits(rounding),
+        Task::Read | Task::ReadLenient => {
+            keeps_sign(sign) && (keeps_digits(rounding) || (is_amount(unit) && is_cash(rounding)))
+        }
+    }
+}
+
+// Whether the fields beside a skeleton say nothing.
+fn says_nothing(grouping: GroupingStrategy, sign: SignAsked, rounding: Rounding) -> bool
+    ensures { result ≡ says_nothing grouping sign rounding }
+{
+    matches!(grouping, GroupingStrategy::Auto) && keeps_sign(sign) && keeps_digits(rounding)
+}
+
+// The format that a word of a form and the fields beside it ask for.
+fn format_by(
+    notation: Notation,
+    unit: NumberUnit,
+    grouping: GroupingStrategy,
+    sign: SignAsked,
+    digits: &DigitsAsked,
+) -> NumberFormat
+    ensures { result ≡ format_by notation unit grouping sign digits.now }
+{
+    NumberFormat {
+        shape: NumberShape {
+            notation,
+            unit,
+            grouping,
+        },
+        options: NumberOptions {
+            rounding: digits.rounding,
+            leading_zeros: LeadingZeros::Keep,
+            zeros: digits.zeros,
+            integer_digits: 0,
+            fraction_digits: digits.fraction_digits,
+            sign,
+        },
+    }
+}
+
+// What is done, and the format, where the form takes the fields beside it.
+fn format_asked(
+    form: &FormAsked,
+    grouping: GroupingStrategy,
+    sign: SignAsked,
+    digits: &DigitsAsked,
+) -> Option<(Task, NumberFormat)>
+    ensures { result ≡ format_asked form.now grouping sign digits.now }
 {
     match form {
-        Form::Plain | Form::Compact(_) | Form::Unit(UnitAsked::Percent) => !is_cash(rounding),
-        Form::Unit(UnitAsked::Currency(_, _)) => true,
-        Form::Exact(_) => keeps_digits(rounding),
-        Form::Read
-        | Form::ReadLenient
-        | Form::ReadUnit(UnitAsked::Percent)
-        | Form::ReadLenientUnit(UnitAsked::Percent) => keeps_sign(sign) && keeps_digits(rounding),
-        Form::ReadUnit(UnitAsked::Currency(_, _))
-        | Form::ReadLenientUnit(UnitAsked::Currency(_, _)) => {
-            keeps_sign(sign) && (keeps_digits(rounding) || is_cash(rounding))
+        FormAsked::OfWord(task, notation, unit) => {
+            if !takes(*task, *unit, sign, digits.rounding) {
+                return None;
+            }
+            Some((*task, format_by(*notation, *unit, grouping, sign, digits)))
+        }
+        FormAsked::OfSkeleton(task, format) => {
+            if !says_nothing(grouping, sign, digits.rounding) {
+                return None;
+            }
+            Some((*task, *format))
         }
     }
 }
@@ -109,10 +168,8 @@ pub fn read_request(line: &[u8]) -> Option<Request<'_>>
     ensures { MatchOption result (request_of line.now ≡ None) (λ asked. with_text [] (request_of line.now)
         ≡ Some (record {
           tag = asked.tag.now;
-          form = asked.form;
-          grouping = asked.grouping;
-          sign = asked.sign;
-          rounding = asked.rounding;
+          task = asked.task;
+          format = asked.format;
           text = [];
         })) }
 {
@@ -123,16 +180,12 @@ pub fn read_request(line: &[u8]) -> Option<Request<'_>>
     let form = form_named(six.form)?;
     let grouping = grouping_named(six.grouping)?;
     let sign = sign_named(six.sign)?;
-    let rounding = rounding_named(six.rounding)?;
-    if !takes(&form, sign, rounding) {
-        return None;
-    }
+    let digits = rounding_named(six.rounding)?;
+    let (task, format) = format_asked(&form, grouping, sign, &digits)?;
     Some(Request {
         tag: six.tag,
-        form,
-        grouping,
-        sign,
-        rounding,
+        task,
+        format,
     })
 }
 

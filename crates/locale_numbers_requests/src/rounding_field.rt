@@ -1,24 +1,26 @@
-//! The rounding that a request asks for: a position, a mode and an increment, or none.
+//! The rounding that a request asks for, and the digits that it chooses.
 
-ghost use Rattle.std.specs.Prelude.{◌≡◌, ◌≤◌, ◌∷◌, [], ◌↔◌, length, IsSome, IfSome};
-ghost use Rattle.locale_numbers_requests.specs.RoundingField.{comma, is_cash, keeps_digits, is_size, size_named, position_named, mode_named, increment_named, rounding_in, rounding_named};
+ghost use Rattle.std.specs.Prelude.{◌≡◌, ◌≤◌};
+ghost use Rattle.fixed_decimal.specs.NumberText.{minus};
 ghost use Rattle.locale_numbers_formats.specs.Cutting.{cut_at};
+ghost use Rattle.locale_numbers_requests.specs.RoundingField.{all_of, comma, count_named, counts_by, counts_in, digits_at, digits_by, digits_in, increment_named, is_cash, is_size, keeps_digits, last_named, mode_named, places_named, position_named, rounding_named, size_named, whole_at, whole_by};
 
 use crate::digits::{are_digits, capped_number};
+use crate::pieces::{four_pieces, three_pieces, two_pieces};
 use fixed_decimal::{RoundingIncrement, SignedRoundingMode, UnsignedRoundingMode};
-use locale_numbers_formats::{cut_field, value_beside};
+use locale_numbers_formats::{Rounding, TrailingZeros, value_beside};
 
 const COMMA: u8 = b',';
 
-/// What is rounded.
+// Which digits are shown.
 #[derive(Clone, Copy)]
-pub enum RoundingAsked {
-    /// What the form rounds by itself: an amount of money to the digits of its currency, and else nothing.
-    Unrounded,
-    /// An amount of money, to the digits that its currency has in cash.
-    Cash,
-    /// The number, at a position, by a mode, to multiples of an increment.
-    At(i16, SignedRoundingMode, RoundingIncrement),
+pub(crate) struct DigitsAsked {
+    // What the number is rounded to.
+    pub(crate) rounding: Rounding,
+    // What becomes of the zeros at the end of its fraction.
+    pub(crate) zeros: TrailingZeros,
+    // How many fraction digits are shown at least.
+    pub(crate) fraction_digits: i16,
 }
 
 // Whether a word is digits, of which the first is not zero.
@@ -56,6 +58,73 @@ fn position_named(word: &[u8]) -> Option<i16>
     } else {
         let size = size_named(32767, word)?;
         Some(size as i16)
+    }
+}
+
+// The places of the digits that are shown.
+#[derive(Clone, Copy)]
+enum Places {
+    // Down to a position.
+    Position(i16),
+    // At least so many digits of a fraction, and the position of the last one that may be shown.
+    Fraction(i16, i16),
+}
+
+// The number from 0 to 32767 that a word writes with no zero in front.
+fn count_named(word: &[u8]) -> Option<i16>
+    ensures { result ≡ count_named word.now }
+{
+    if word == b"0".as_slice() {
+        Some(0)
+    } else {
+        let size = size_named(32767, word)?;
+        Some(size as i16)
+    }
+}
+
+// The position of the last of so many digits of a fraction.
+fn last_named(word: &[u8]) -> Option<i16>
+    ensures { result ≡ last_named word.now }
+{
+    if word == b"0".as_slice() {
+        Some(0)
+    } else {
+        let size = size_named(32767, word)?;
+        Some((-(size as i32)) as i16)
+    }
+}
+
+// At least so many digits of a fraction, and the position of the last one, where these are not fewer.
+fn counts_by(least: Option<i16>, last: Option<i16>) -> Option<Places>
+    ensures { result ≡ counts_by least last }
+{
+    let least = least?;
+    let last = last?;
+    if least as i32 <= -(last as i32) {
+        Some(Places::Fraction(least, last))
+    } else {
+        None
+    }
+}
+
+// The two counts of digits of a fraction that a text writes with a minus between.
+fn counts_in(text: &[u8]) -> Option<Places>
+    ensures { result ≡ counts_in (cut_at minus text.now) }
+{
+    let (least, most) = two_pieces(text, b'-')?;
+    counts_by(count_named(least), last_named(most))
+}
+
+// The places that a word names: a position, or two counts of digits of a fraction.
+fn places_named(word: &[u8]) -> Option<Places>
+    ensures { result ≡ places_named word.now }
+{
+    let (first, rest) = word.split_first()?;
+    if *first == b'f' {
+        counts_in(rest)
+    } else {
+        let position = position_named(word)?;
+        Some(Places::Position(position))
     }
 }
 
@@ -109,47 +178,106 @@ fn increment_named(word: &[u8]) -> Option<RoundingIncrement>
     value_beside(&INCREMENTS, word)
 }
 
-// The three words between the commas of a field, where they are three.
-fn three_words(field: &[u8]) -> Option<(&[u8], &[u8], &[u8])>
-    ensures three { IsSome result ↔ (length (cut_at comma field.now) ≡ 3) }
-    ensures words { IfSome result (λ three. cut_at comma field.now ≡ three.0.now ∷ three.1.now ∷ three.2.now ∷ []) }
-{
-    let (position, rest) = cut_field(field, COMMA);
-    let (mode, rest) = cut_field(rest?, COMMA);
-    match cut_field(rest?, COMMA) {
-        (increment, None) => Some((position, mode, increment)),
-        (_, Some(_)) => None,
-    }
-}
-
 // Whether nothing is said of a rounding.
-pub(crate) fn keeps_digits(rounding: RoundingAsked) -> bool
+pub(crate) fn keeps_digits(rounding: Rounding) -> bool
     ensures { result ≡ keeps_digits rounding }
 {
-    matches!(rounding, RoundingAsked::Unrounded)
+    matches!(rounding, Rounding::Usual)
 }
 
 // Whether the digits of cash are asked for.
-pub(crate) fn is_cash(rounding: RoundingAsked) -> bool
+pub(crate) fn is_cash(rounding: Rounding) -> bool
     ensures { result ≡ is_cash rounding }
 {
-    matches!(rounding, RoundingAsked::Cash)
+    matches!(rounding, Rounding::Cash)
 }
 
-// What a field rounds, where it is known: `-`, `cash`, or a position, a mode and an increment between commas, as
-// `-2,half-even,5`.
-pub(crate) fn rounding_named(field: &[u8]) -> Option<RoundingAsked>
+// A rounding with all zeros that it shows.
+fn all_of(rounding: Rounding) -> DigitsAsked
+    ensures { result ≡ all_of rounding }
+{
+    DigitsAsked {
+        rounding,
+        zeros: TrailingZeros::Keep,
+        fraction_digits: 0,
+    }
+}
+
+// The digits that are shown: all zeros down to a position, or no zeros behind the least digits of a fraction.
+fn digits_at(places: Places, mode: SignedRoundingMode, increment: RoundingIncrement) -> DigitsAsked
+    ensures { result ≡ digits_at places mode increment }
+{
+    match places {
+        Places::Position(position) => all_of(Rounding::At(position, mode, increment)),
+        Places::Fraction(least, last) => DigitsAsked {
+            rounding: Rounding::At(last, mode, increment),
+            zeros: TrailingZeros::Trim,
+            fraction_digits: least,
+        },
+    }
+}
+
+// So many digits of a fraction, or none of a whole number.
+fn whole_at(
+    places: Places,
+    mode: SignedRoundingMode,
+    increment: RoundingIncrement,
+) -> Option<DigitsAsked>
+    ensures { result ≡ whole_at places mode increment }
+{
+    match places {
+        Places::Fraction(least, last) if -(last as i32) <= least as i32 => Some(DigitsAsked {
+            rounding: Rounding::At(last, mode, increment),
+            zeros: TrailingZeros::TrimWhole,
+            fraction_digits: 0,
+        }),
+        Places::Fraction(_, _) | Places::Position(_) => None,
+    }
+}
+
+// What the words of a place, a mode and an increment ask for.
+fn digits_by(places: &[u8], mode: &[u8], increment: &[u8]) -> Option<DigitsAsked>
+    ensures { result ≡ digits_by (places_named places.now) (mode_named mode.now) (increment_named increment.now) }
+{
+    let places = places_named(places)?;
+    let mode = mode_named(mode)?;
+    let increment = increment_named(increment)?;
+    Some(digits_at(places, mode, increment))
+}
+
+// What they ask for where a whole number has no fraction.
+fn whole_by(places: &[u8], mode: &[u8], increment: &[u8]) -> Option<DigitsAsked>
+    ensures { result ≡ whole_by (places_named places.now) (mode_named mode.now) (increment_named increment.now) }
+{
+    let places = places_named(places)?;
+    let mode = mode_named(mode)?;
+    let increment = increment_named(increment)?;
+    whole_at(places, mode, increment)
+}
+
+// What three words between commas ask for, or four of which the last is `whole`.
+fn digits_in(field: &[u8]) -> Option<DigitsAsked>
+    ensures { result ≡ digits_in (cut_at comma field.now) }
+{
+    if let Some((places, mode, increment)) = three_pieces(field, COMMA) {
+        return digits_by(places, mode, increment);
+    }
+    let (places, mode, increment, whole) = four_pieces(field, COMMA)?;
+    if whole != b"whole".as_slice() {
+        return None;
+    }
+    whole_by(places, mode, increment)
+}
+
+// What a field asks for, where it is known: `-`, `cash`, or words between commas, as `-2,half-even,5`.
+pub(crate) fn rounding_named(field: &[u8]) -> Option<DigitsAsked>
     ensures { result ≡ rounding_named field.now }
 {
     if field == b"-".as_slice() {
-        return Some(RoundingAsked::Unrounded);
+        Some(all_of(Rounding::Usual))
+    } else if field == b"cash".as_slice() {
+        Some(all_of(Rounding::Cash))
+    } else {
+        digits_in(field)
     }
-    if field == b"cash".as_slice() {
-        return Some(RoundingAsked::Cash);
-    }
-    let (position, mode, increment) = three_words(field)?;
-    let position = position_named(position)?;
-    let mode = mode_named(mode)?;
-    let increment = increment_named(increment)?;
-    Some(RoundingAsked::At(position, mode, increment))
 }

@@ -1,6 +1,0 @@
-use Rattle.std.proofs.Common.{Some}
-use Rattle.locale_numbers_answers.proofs.LenientUnitLemmas.{read_exactly}
-use Rattle.locale_numbers_answers.proofs.known_lenient_reader.KnownLenientReader.read_or.Goals as goal
-
-pub returns-in-Ok-clause-reading : goal.returns-in-Ok-clause-reading
-returns-in-Ok-clause-reading c = read_exactly c.args.self.now (Some c.args.other.now) c.args.text.now c.in-Ok.number c.in-Ok.ensures.reading
