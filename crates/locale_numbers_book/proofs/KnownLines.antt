@@ -1,5 +1,5 @@
 -- Known values of the definitions: the text of a book of lines, and the lines that begin with fields.
-use Rattle.std.proofs.Common.{◌≡◌, true, false, [], ◌∷◌, ◌++◌, codes, Some, None, refl}
+use Rattle.std.proofs.Common.{◌≡◌, true, false, [], ◌∷◌, codes, Some, None, refl}
 use Rattle.locale_numbers_book.specs.BookText.{Line, array_text, arrays_text, book_text}
 use Rattle.locale_numbers_book.specs.EntryFields.{asked_fronts, begins, opening, opening_of_two, second_field, third_field, under_fronts}
 

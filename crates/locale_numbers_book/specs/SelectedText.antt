@@ -2,8 +2,8 @@
 -- Defined in docs/books.md, "The small book of a tag".
 -- Cited by `book_text_for`, and by the private functions that pick lines.
 -- A tag's locale and its chain are those by which a book is asked, and the definition of each is imported.
-use Rattle.std.specs.Prelude.{ℕ, ◌+◌, ◌*◌, ◌==◌, Bool, nat_eq, List, [], ◌∷◌, ◌++◌, codes, map, filter, length, reverse, slice_get, Option, None, Some, option_map, option_and_then, option_to_list}
-use Rattle.std.specs.List.{find, filter_map, flat_map, list_any, slice_split, starts_with}
+use Rattle.std.specs.Prelude.{ℕ, ◌+◌, ◌*◌, nat_eq, List, [], ◌∷◌, ◌++◌, codes, map, filter, length, reverse, Option, None, Some, option_map, option_and_then, option_to_list}
+use Rattle.std.specs.List.{find, filter_map, starts_with}
 use Rattle.std.specs.Option.{option_or}
 use Rattle.std.specs.Str.Lines.{lines}
 use Rattle.icu_decimal_chains.specs.Chains.{chain}

@@ -1,4 +1,4 @@
-use Rattle.std.proofs.Common.{ap, ◌+◌, ◌*◌, ◌≡◌}
+use Rattle.std.proofs.Common.{ap, ◌+◌, ◌*◌}
 use Rattle.std.proofs.lemmas.Iterator.Consumers.{count_from_yields_List}
 use Rattle.std.proofs.lemmas.Iterator.Splits.{YieldsList-from_lines}
 use Rattle.locale_numbers_book.proofs.texts.chain.most_steps.Goals as goal
