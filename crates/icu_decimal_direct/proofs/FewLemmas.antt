@@ -1,10 +1,13 @@
 -- A text of few digits is found to be one: its first digits end where its integer does.
-use Rattle.std.proofs.Common.{◌≡◌, ℕ, zero, suc, ◌+◌, ◌-◌, ◌<◌, ◌≤◌, Bool, true, false, List, [], ◌∷◌, ◌++◌, drop, get_or, length, length-append, length-drop, slice_index, take, subst, sym, ap, ◌∙◌, refl, arith, inl, inr}
+use Rattle.std.proofs.Common.{◌≡◌, ℕ, zero, suc, ◌+◌, ◌-◌, ◌<◌, ◌≤◌, List, [], ◌∷◌, ◌++◌, drop, get_or, length, length-append, length-drop, slice_index, take, subst, sym, ap, ◌∙◌, refl, arith, inl, inr}
 use Rattle.std.proofs.lemmas.Bool.{cases_lt}
 use Rattle.std.proofs.lemmas.List.{drop_more, take_all}
 use Rattle.std.specs.Char.{digit_value}
 use Rattle.fixed_decimal.proofs.TextPartsLemmas.{cons_head, cons_tail}
-use Rattle.fixed_decimal.specs.NumberText.{AreDigits, after_point, minus, minus_if, point}
+use Rattle.fixed_decimal.specs.NumberText.{AreDigits, after_point, minus, point}
+use Rattle.fixed_decimal.specs.SignedText.{plus, sign_text}
+use Rattle.fixed_decimal.specs.declared.Sign.{Sign}
+use Rattle.fixed_decimal.specs.declared.Sign.TheVariants.{None as NoSign, Negative, Positive}
 use Rattle.icu_decimal_direct.specs.FewDigits.{AreFewDigits, IsFewText}
 use Rattle.icu_decimal_direct.proofs.ShownLemmas.{back_of, digits_told, each_digit, point_before}
 
@@ -16,6 +19,13 @@ front_ends [] [] (suc n) h other k within stops = absurd (omega (arith, within))
 front_ends [] (c ∷ cs) (suc n) h other k within stops = let small = k.0 in let large = other (omega arith) in absurd (omega (arith, small, large))
 front_ends (c ∷ cs) rest zero h other k within stops = let small = h.0 in let large = stops (omega arith) in absurd (omega (arith, small, large))
 front_ends (c ∷ cs) rest (suc n) h other k within stops = ap suc (front_ends cs rest n h.1 other k.1 (omega (arith, within)) (λ less. stops (omega (arith, less))))
+
+-- and go no further
+front_within : (integer rest : List ℕ) (n : ℕ) → (0 < length rest → 10 ≤ digit_value (slice_index rest 0)) → AreDigits (take n (integer ++ rest)) → n ≤ length (integer ++ rest) → n ≤ length integer
+front_within integer rest zero other k within = omega arith
+front_within [] [] (suc n) other k within = absurd (omega (arith, within))
+front_within [] (c ∷ cs) (suc n) other k within = let small = k.0 in let large = other (omega arith) in absurd (omega (arith, small, large))
+front_within (c ∷ cs) rest (suc n) other k within = let less = front_within cs rest n other k.1 (omega (arith, within)) in omega (arith, less)
 
 point_is_none : (fraction : List ℕ) → 0 < length (after_point fraction) → 10 ≤ digit_value (slice_index (after_point fraction) 0)
 point_is_none [] some = absurd (omega (arith, some))
@@ -29,6 +39,13 @@ some_point : (fraction : List ℕ) → 0 < length fraction → 0 < length (after
 some_point [] some = absurd (omega (arith, some))
 some_point (c ∷ cs) some = omega arith
 
+-- no more than sixteen are before the point
+pub few_above : (text integer fraction : List ℕ) (above : ℕ) → text ≡ integer ++ after_point fraction → AreFewDigits integer fraction → AreDigits (take above text) → above ≤ length text → above ≤ 16
+few_above text integer fraction above is h digits within =
+    let few = h.few in
+    let less = front_within integer (after_point fraction) above (point_is_none fraction) (subst (λ t. AreDigits (take above t)) is digits) (subst (λ t. above ≤ length t) is within) in
+    omega (arith, few, less)
+
 module _ (text integer fraction : List ℕ) (above : ℕ) (is : text ≡ integer ++ after_point fraction) (h : AreFewDigits integer fraction)
     (digits : AreDigits (take above text)) (within : above ≤ length text) (stops : above < length text → 10 ≤ digit_value (slice_index text above)) where
   -- so many are before the point
@@ -39,9 +56,6 @@ module _ (text integer fraction : List ℕ) (above : ℕ) (is : text ≡ integer
 
   pub some_above : above ≡ 0 → ⊥
   some_above none = let some = h.some in omega (arith, some, above_is, none)
-
-  pub few_above : above ≤ 16
-  few_above = let few = h.few in omega (arith, few, above_is)
 
   whole_length : length text ≡ length integer + length (after_point fraction)
   whole_length = ap length is ∙ length-append integer (after_point fraction)
@@ -72,28 +86,17 @@ all_ahead fraction n h stops =
       | inr all ↦ all
     ]
 
--- a minus before them, or none
-minus_rest : (negative : Bool) (rest integer fraction : List ℕ) (first : ℕ) → first ∷ rest ≡ minus_if negative ++ (integer ++ after_point fraction) → AreFewDigits integer fraction → first ≡ 45 → rest ≡ integer ++ after_point fraction
-minus_rest true rest integer fraction first is h sign = cons_tail first minus rest (integer ++ after_point fraction) is
-minus_rest false rest [] fraction first is h sign = let some = h.some in absurd (omega (arith, some))
-minus_rest false rest (c ∷ cs) fraction first is h sign =
-    let same : c ≡ 45 = sym (cons_head first c rest (cs ++ after_point fraction) is) ∙ sign in
-    let small : digit_value 45 < 10 = subst (λ d. digit_value d < 10) same (digits_told (c ∷ cs) h.whole).0 in
-    absurd (omega (arith, small))
+-- a sign before them, or none
+sign_rest : (sign : Sign) (rest integer fraction : List ℕ) (first : ℕ) → first ∷ rest ≡ sign_text sign ++ (integer ++ after_point fraction) → AreFewDigits integer fraction → 10 ≤ digit_value first → rest ≡ integer ++ after_point fraction
+sign_rest Negative rest integer fraction first is h other = cons_tail first minus rest (integer ++ after_point fraction) is
+sign_rest Positive rest integer fraction first is h other = cons_tail first plus rest (integer ++ after_point fraction) is
+sign_rest NoSign rest [] fraction first is h other = let some = h.some in absurd (omega (arith, some))
+sign_rest NoSign rest (c ∷ cs) fraction first is h other =
+    let small : digit_value first < 10 = subst (λ d. digit_value d < 10) (sym (cons_head first c rest (cs ++ after_point fraction) is)) (digits_told (c ∷ cs) h.whole).0 in
+    absurd (omega (arith, small, other))
 
-pub few_rest : (text rest : List ℕ) (first : ℕ) → text ≡ first ∷ rest → first ≡ 45 → (w : IsFewText text) → rest ≡ w.integer ++ after_point w.fraction
-few_rest text rest first is sign w = minus_rest w.negative rest w.integer w.fraction first (sym is ∙ w.whole) w.digits sign
-
-no_minus : (negative : Bool) (text integer fraction : List ℕ) → text ≡ minus_if negative ++ (integer ++ after_point fraction) → ¬ (get_or text 0 0 ≡ 45) → text ≡ integer ++ after_point fraction
-no_minus true text integer fraction is other = absurd (other (ap (λ t. get_or t 0 0) is))
-no_minus false text integer fraction is other = is
-
-pub few_same : (text : List ℕ) → ¬ (get_or text 0 0 ≡ 45) → (w : IsFewText text) → text ≡ w.integer ++ after_point w.fraction
-few_same text other w = no_minus w.negative text w.integer w.fraction w.whole other
-
-pub nothing_first : (text : List ℕ) → length text ≡ 0 → ¬ (get_or text 0 0 ≡ 45)
-nothing_first [] none same = absurd (omega (arith, same))
-nothing_first (c ∷ cs) none same = absurd (omega (arith, none))
+pub few_rest : (text rest : List ℕ) (first : ℕ) → text ≡ first ∷ rest → 10 ≤ digit_value first → (w : IsFewText text) → rest ≡ w.integer ++ after_point w.fraction
+few_rest text rest first is other w = sign_rest w.sign rest w.integer w.fraction first (sym is ∙ w.whole) w.digits other
 
 point_long : (fraction : List ℕ) → length (after_point fraction) ≤ length fraction + 1
 point_long [] = omega arith

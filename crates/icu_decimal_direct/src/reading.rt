@@ -9,6 +9,7 @@ ghost use Rattle.icu_decimal_direct.specs.Lanes.{first_set};
 ghost use Rattle.icu_decimal_direct.specs.TextDigits.{number_spelled};
 
 use crate::text_digits::TextDigits;
+use fixed_decimal::Sign;
 use std::simd::prelude::*;
 
 // How many digits a text may have on each side of its point.
@@ -90,13 +91,30 @@ fn digits_ahead_few(text: &[u8]) -> usize
     digits_from(text, 4)
 }
 
-// How many digits a text begins with, by eights where it has as many bytes.
+// Sixteen digits that a text begins with, or seventeen where another follows.
+#[inline(always)]
+#[tactic(auto, using(std::proofs::lemmas::Int::Digits::digits_more))]
+fn digits_past(text: &[u8]) -> usize
+    requires known { AreDigits (take 16 text.now) }
+    requires long { 16 ≤ length text.now }
+    ensures within { result ≤ length text.now }
+    ensures digits { AreDigits (take result text.now) }
+    ensures stops { result ≤ 16 → result < length text.now → 10 ≤ digit_value (slice_index text.now result) }
+{
+    if text.len() > 16 && text[16].is_ascii_digit() {
+        17
+    } else {
+        16
+    }
+}
+
+// How many digits a text begins with, by eights where it has as many bytes; seventeen where there are more.
 #[inline(always)]
 #[tactic(auto, using(crate::proofs::LaneLemmas::digits_both_eights))]
 fn digits_ahead(text: &[u8]) -> usize
     ensures within { result ≤ length text.now }
     ensures digits { AreDigits (take result text.now) }
-    ensures stops { result < length text.now → 10 ≤ digit_value (slice_index text.now result) }
+    ensures stops { result ≤ 16 → result < length text.now → 10 ≤ digit_value (slice_index text.now result) }
 {
     if text.len() < 8 {
         return digits_ahead_few(text);
@@ -112,13 +130,13 @@ fn digits_ahead(text: &[u8]) -> usize
     if more < 8 {
         return 8 + more;
     }
-    digits_from(text, 16)
+    digits_past(text)
 }
 
 // The digits of a text without a sign, with this sign. `None`: it is another text, or has more digits.
 #[inline(always)]
-fn digits_of(text: &[u8], is_negative: bool) -> Option<TextDigits<'_>>
-    ensures sign { IfSome result (λ digits. digits.is_negative ≡ is_negative) }
+fn digits_of(text: &[u8], sign: Sign) -> Option<TextDigits<'_>>
+    ensures sign { IfSome result (λ digits. digits.sign ≡ sign) }
     ensures reads { IfSome result (λ digits. Reads text.now (plain_number digits.integer.now digits.fraction.now)) }
     ensures some { (integer fraction : List ℕ) → text.now ≡ integer ++ after_point fraction
         → AreFewDigits integer fraction → IsSome result }
@@ -133,7 +151,7 @@ fn digits_of(text: &[u8], is_negative: bool) -> Option<TextDigits<'_>>
     let integer = &text[..above];
     if above == text.len() {
         return Some(TextDigits {
-            is_negative,
+            sign,
             integer,
             fraction: &[],
         });
@@ -146,7 +164,7 @@ fn digits_of(text: &[u8], is_negative: bool) -> Option<TextDigits<'_>>
         return None;
     }
     Some(TextDigits {
-        is_negative,
+        sign,
         integer,
         fraction,
     })
@@ -155,7 +173,7 @@ fn digits_of(text: &[u8], is_negative: bool) -> Option<TextDigits<'_>>
 impl<'t> TextDigits<'t> {
     /// The digits of a text: of `-1234.5` the digits `1234` and `5`, with a minus.
     ///
-    /// `None` exactly where the text is another one, as `+5`, `1e3`, `5.` and `.5` are, or has more digits. It does not
+    /// `None` exactly where the text is another one, as `1e3`, `5.` and `.5` are, or has more digits. It does not
     /// allocate.
     #[inline(always)]
     pub fn of(text: &'t [u8]) -> Option<TextDigits<'t>>
@@ -163,8 +181,9 @@ impl<'t> TextDigits<'t> {
         ensures some { IsFewText text.now → IsSome result }
     {
         match text.split_first() {
-            Some((first, rest)) if *first == b'-' => digits_of(rest, true),
-            _ => digits_of(text, false),
+            Some((first, rest)) if *first == b'-' => digits_of(rest, Sign::Negative),
+            Some((first, rest)) if *first == b'+' => digits_of(rest, Sign::Positive),
+            _ => digits_of(text, Sign::None),
         }
     }
 }

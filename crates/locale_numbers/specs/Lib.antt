@@ -36,6 +36,7 @@ pub use Rattle.locale_numbers_book.specs.Entries as BookEntries
 pub use Rattle.locale_numbers_book.specs.Faults as BookFaults
 pub use Rattle.locale_numbers_book.specs.Fields as BookFields
 pub use Rattle.locale_numbers_book.specs.Form as BookForm
+pub use Rattle.locale_numbers_book.specs.FoundFormats
 pub use Rattle.locale_numbers_book.specs.Json
 pub use Rattle.locale_numbers_book.specs.Keys as BookKeys
 pub use Rattle.locale_numbers_book.specs.Laws as BookLaws
@@ -61,9 +62,9 @@ pub use Rattle.locale_numbers_book.specs.UnitFields
 pub use Rattle.locale_numbers_book.specs.UnitPatterns
 pub use Rattle.locale_numbers_book.specs.Units
 -- Of the inner crates: texts of books, and the small book of a tag as a text.
-pub use Rattle.locale_numbers_world.specs.BookText
-pub use Rattle.locale_numbers_world.specs.EntryFields
-pub use Rattle.locale_numbers_world.specs.SelectedText
+pub use Rattle.locale_numbers_book.specs.BookText
+pub use Rattle.locale_numbers_book.specs.EntryFields
+pub use Rattle.locale_numbers_book.specs.SelectedText
 -- Of the inner crates: what is kept from line to line.
 pub use Rattle.locale_numbers_cache.specs.Cached
 pub use Rattle.locale_numbers_cache.specs.Laws as CacheLaws

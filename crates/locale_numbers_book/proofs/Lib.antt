@@ -11,8 +11,14 @@ pub mod KnownBooks
 pub mod KnownPairs
 pub mod WantedLemmas
 pub mod UnitLemmas
+pub mod ProviderLemmas
+pub mod AlikeLemmas
+pub mod KnownFormats
 pub mod SampleLemmas
 pub mod SampleUnitsLemmas
 pub mod TextTables
 pub mod FoundTexts
 pub mod FoundUnitTexts
+pub mod ChainLemmas
+pub mod KnownLines
+pub mod SmallBookLemmas

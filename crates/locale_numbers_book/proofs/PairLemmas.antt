@@ -6,7 +6,6 @@ use Rattle.serde_json.specs.Data.{Data, null, boolean, number, string, array, ob
 use Rattle.serde_json.specs.Find.{as_array, at}
 use Rattle.serde_json.specs.View.{items_view, view}
 use Rattle.serde_json.specs.declared.value.Value.{Value}
-use Rattle.locale_numbers_tables.specs.declared.BookError.{BookError}
 use Rattle.locale_numbers_tables.specs.declared.BookError.TheVariants.{Shape}
 use Rattle.locale_numbers_tables.specs.Entries.{count_of_items, has_count}
 use Rattle.locale_numbers_book.specs.Arrays.{of_arrays}

@@ -12,7 +12,7 @@ use Rattle.locale_numbers_book.specs.declared.sample_book.TheConstants.{SAMPLE_U
 use Rattle.locale_numbers_book.specs.Book.{IsBook}
 use Rattle.locale_numbers_book.specs.Json.{Reads}
 use Rattle.locale_numbers_book.specs.Laws.{SampleUnitsBookIsKnown}
-use Rattle.locale_numbers_book.specs.SampleUnitsBook.{euro, rlm, sample_units_tables, space, yen}
+use Rattle.locale_numbers_book.specs.SampleUnitsBook.{euro, rlm, sample_units_tables, yen}
 use Rattle.locale_numbers_book.proofs.KnownFaults.{list, size, text}
 
 -- ---- the value

@@ -25,7 +25,7 @@ use Rattle.locale_numbers_book.specs.Tables.{accounts_under, chain_in, currencie
 use Rattle.locale_numbers_book.specs.Wanted.{wanted_of}
 use Rattle.locale_numbers_book.specs.declared.formatter_error.FormatterError.{FormatterError}
 use Rattle.locale_numbers_book.specs.declared.formatter_error.FormatterError.TheVariants.{Tag, Table, Memory, Code}
-use Rattle.locale_numbers_requests.specs.declared.PatternLength.{PatternLength}
+use Rattle.locale_numbers_formats.specs.declared.CompactWidth.{CompactWidth}
 
 -- ---- for preferences
 
@@ -33,10 +33,10 @@ use Rattle.locale_numbers_requests.specs.declared.PatternLength.{PatternLength}
 abbrev pub found_plain : BookTables → Preferences → Option GroupingStrategy → Result Tables DataError
 found_plain book preferences grouping = found_tables (chain_in book) (symbols_under book) (digits_under book) preferences grouping
 
--- the patterns of a length in a book
-abbrev pub patterns_under : PatternLength → BookTables → Identifier → Result CompactTable DataError
-patterns_under PatternLength.Short book = short_under book
-patterns_under PatternLength.Long book = long_under book
+-- the patterns of a width in a book
+abbrev pub patterns_under : CompactWidth → BookTables → Identifier → Result CompactTable DataError
+patterns_under CompactWidth.Short book = short_under book
+patterns_under CompactWidth.Long book = long_under book
 
 -- the tables of compact numbers, with these patterns
 abbrev pub found_beside : (Identifier → Result CompactTable DataError) → BookTables → Preferences → Option GroupingStrategy → Result CompactTables DataError
@@ -94,16 +94,16 @@ plain_grouped book tag grouping = found_by (λ preferences. found_plain book pre
 abbrev pub plain_for : BookTables → Text → Result Tables FormatterError
 plain_for book tag = plain_grouped book tag None
 
--- compact numbers, with the patterns of a length; by default two digits are before the last separator at least
-abbrev pub compact_grouped : PatternLength → BookTables → Text → Option GroupingStrategy → Result CompactTables FormatterError
-compact_grouped length book tag grouping =
-    found_by (λ preferences. found_beside (patterns_under length book) book preferences grouping) (wanted_of tag)
+-- compact numbers, with the patterns of a width; by default two digits are before the last separator at least
+abbrev pub compact_grouped : CompactWidth → BookTables → Text → Option GroupingStrategy → Result CompactTables FormatterError
+compact_grouped width book tag grouping =
+    found_by (λ preferences. found_beside (patterns_under width book) book preferences grouping) (wanted_of tag)
 
 abbrev pub short_for : BookTables → Text → Result CompactTables FormatterError
-short_for book tag = compact_grouped PatternLength.Short book tag (Some GroupingStrategy.Min2)
+short_for book tag = compact_grouped CompactWidth.Short book tag (Some GroupingStrategy.Min2)
 
 abbrev pub long_for : BookTables → Text → Result CompactTables FormatterError
-long_for book tag = compact_grouped PatternLength.Long book tag (Some GroupingStrategy.Min2)
+long_for book tag = compact_grouped CompactWidth.Long book tag (Some GroupingStrategy.Min2)
 
 -- percents
 abbrev pub percent_for : BookTables → Text → PercentFormatterOptions → Result UnitSettings FormatterError

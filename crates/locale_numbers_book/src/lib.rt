@@ -6,19 +6,26 @@
 #![tactic(auto)]
 
 mod book;
+mod format_finding;
 mod formatter_error;
 mod json;
 pub mod laws;
 mod locales;
+mod number_formatter;
 mod providers;
 mod sample_book;
+mod tables;
 mod tag_formatters;
 mod tag_reader;
+mod texts;
 mod unit_formatters;
 mod unit_providers;
 
 pub use book::{Book, book_from};
+pub use format_finding::{find_formatter, find_latin};
 pub use formatter_error::FormatterError;
 pub use locale_numbers_tables::BookError;
 pub use sample_book::{SAMPLE_BOOK, SAMPLE_UNITS_BOOK};
+pub use tables::Tables;
 pub use tag_reader::read_preferences;
+pub use texts::{BookTexts, NumberTexts, UnitTexts, book_text_for, put_book};

@@ -18,7 +18,7 @@ use icu_decimal::options::{CompactDecimalFormatterOptions, DecimalFormatterOptio
 use icu_decimal::preferences::CompactDecimalFormatterPreferences;
 use icu_decimal::provider::DataError;
 use icu_decimal::{CompactDecimalFormatter, DecimalFormatter, DecimalFormatterPreferences};
-use locale_numbers_requests::PatternLength;
+use locale_numbers_formats::CompactWidth;
 use std::alloc::Global;
 
 // What a tag prefers.
@@ -39,21 +39,21 @@ pub(crate) fn preferences_of_tag(
     }
 }
 
-// The formatter of compact numbers for preferences, with the patterns of a length.
+// The formatter of compact numbers for preferences, with the patterns of a width.
 fn compact_in(
     book: &Book,
-    length: PatternLength,
+    width: CompactWidth,
     preferences: CompactDecimalFormatterPreferences,
     options: CompactDecimalFormatterOptions,
 ) -> Result<CompactDecimalFormatter<'_>, DataError>
     ensures { result_map_both compact_tables_of (λ error. error) result
-        ≡ found_beside (patterns_under length book.now) book.now preferences options.grouping_strategy }
+        ≡ found_beside (patterns_under width book.now) book.now preferences options.grouping_strategy }
 {
-    match length {
-        PatternLength::Short => {
+    match width {
+        CompactWidth::Short => {
             CompactDecimalFormatter::try_new_short_unstable(book, preferences, options)
         }
-        PatternLength::Long => {
+        CompactWidth::Long => {
             CompactDecimalFormatter::try_new_long_unstable(book, preferences, options)
         }
     }
@@ -92,30 +92,30 @@ impl Book {
         }
     }
 
-    /// The formatter of compact numbers for a tag, with the patterns of a length and these options: of `SAMPLE_BOOK`
-    /// that of `en` and `PatternLength::Short` writes 1650 as `1.6K`.
+    /// The formatter of compact numbers for a tag, with the patterns of a width and these options: of `SAMPLE_BOOK`
+    /// that of `en` and `CompactWidth::Short` writes 1650 as `1.6K`.
     ///
     /// It borrows its tables from the book. Errors as [`Book::plain_formatter`], `Table` also where the book has no
-    /// plural rules or no patterns of the length for the tag.
+    /// plural rules or no patterns of the width for the tag.
     pub fn compact_formatter(
         &self,
         alloc: Global,
         tag: &str,
-        length: PatternLength,
+        width: CompactWidth,
         options: CompactDecimalFormatterOptions,
     ) -> Result<CompactDecimalFormatter<'_>, FormatterError>
         ensures value { IfOk result
-            (λ formatter. compact_grouped length self.now tag.now options.grouping_strategy
+            (λ formatter. compact_grouped width self.now tag.now options.grouping_strategy
             ≡ Ok (compact_tables_of formatter)) }
         ensures fault { IfErr result
             (λ fault. (fault ≡ FormatterError.Memory)
-            ⊎ (compact_grouped length self.now tag.now options.grouping_strategy ≡ Err fault)) }
+            ⊎ (compact_grouped width self.now tag.now options.grouping_strategy ≡ Err fault)) }
         ensures room { tag_may_grow (pieces tag.now) ≡ false → ¬ (IsErrOf result FormatterError.Memory) }
         ensures single { (m : SingleMeaning) → MeansSingle (pieces tag.now) m
             → ¬ (IsErrOf result FormatterError.Memory) }
     {
         let preferences = preferences_of_tag(alloc, tag)?;
-        match compact_in(self, length, preferences, options) {
+        match compact_in(self, width, preferences, options) {
             Ok(formatter) => Ok(formatter),
             Err(_) => Err(FormatterError::Table),
         }
@@ -157,7 +157,7 @@ impl Book {
             → ¬ (IsErrOf result FormatterError.Memory) }
     {
         let options = CompactDecimalFormatterOptions::default();
-        self.compact_formatter(alloc, tag, PatternLength::Short, options)
+        self.compact_formatter(alloc, tag, CompactWidth::Short, options)
     }
 
     /// The formatter of compact numbers in long form for a tag, with default options: of `SAMPLE_BOOK` that of `en`
@@ -177,6 +177,6 @@ impl Book {
             → ¬ (IsErrOf result FormatterError.Memory) }
     {
         let options = CompactDecimalFormatterOptions::default();
-        self.compact_formatter(alloc, tag, PatternLength::Long, options)
+        self.compact_formatter(alloc, tag, CompactWidth::Long, options)
     }
 }

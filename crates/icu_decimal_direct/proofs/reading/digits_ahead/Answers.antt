@@ -2,8 +2,8 @@ use Rattle.std.proofs.Common.{◌+◌, arith, refl}
 use Rattle.icu_decimal_direct.proofs.LaneLemmas.{digits_both_eights}
 use Rattle.icu_decimal_direct.proofs.reading.digits_ahead.Goals as goal
 
-pub digits_from-requires-2-clause-known : goal.digits_from-requires-2-clause-known
-digits_from-requires-2-clause-known c =
+pub digits_past-requires-clause-known : goal.digits_past-requires-clause-known
+digits_past-requires-clause-known c =
     let first = c.digits_in_eight-first in
     let more = c.digits_in_eight-more in
     let all = c.if-first-lt8.false in

@@ -1,0 +1,89 @@
+-- What a book has for the shape of a format: what numbers of the format are written with, for preferences and for a tag, and beside it
+-- what they are written with in the digits of ASCII.
+-- Defined in docs/books.md, "Formatters of a tag", and docs/formatters.md, "One formatter".
+-- Cited by `find_formatter`, `find_latin`, `Book::number_formatter`, `Book::number_formatter_with_latin`, and by the answer to a line.
+-- A shape has types with cases, and what is found for each case is named by types of its own.
+use Rattle.std.specs.Prelude.{Option, Some, Result, Ok, Err, codes}
+use Rattle.std.specs.Result.{result_ok}
+use Rattle.icu_decimal.specs.declared.error.DataError.{DataError}
+use Rattle.icu_decimal.specs.declared.options.GroupingStrategy.{GroupingStrategy}
+use Rattle.icu_dimension.specs.declared.CurrencyFormatterOptions.{CurrencyFormatterOptions}
+use Rattle.icu_locale_core.specs.Subtags.{Text}
+use Rattle.icu_locale_core.specs.TagPreferences.{Preferences}
+use Rattle.locale_numbers_book.specs.Book.{BookTables}
+use Rattle.locale_numbers_book.specs.TagFormatters.{currency_found_in, found_beside, found_by, found_plain, patterns_under, percent_found_in}
+use Rattle.locale_numbers_book.specs.Wanted.{wanted_of}
+use Rattle.locale_numbers_book.specs.declared.formatter_error.FormatterError.{FormatterError}
+use Rattle.locale_numbers_formats.specs.declared.CompactWidth.{CompactWidth}
+use Rattle.locale_numbers_formats.specs.declared.CurrencyUnit.{CurrencyUnit}
+use Rattle.locale_numbers_formats.specs.declared.Notation.{Notation}
+use Rattle.locale_numbers_formats.specs.declared.Notation.TheVariants.{Standard, Compact}
+use Rattle.locale_numbers_formats.specs.declared.NumberShape.{NumberShape}
+use Rattle.locale_numbers_formats.specs.declared.NumberUnit.{NumberUnit}
+use Rattle.locale_numbers_formats.specs.declared.NumberUnit.TheVariants as unit
+use Rattle.locale_numbers_formatter.specs.FormatText.{FormatTables, compact_tables, digit_tables, plain_tables, unit_tables}
+use Rattle.locale_numbers_formatter.specs.FormatTyped.{where_native}
+use Rattle.locale_numbers_formatter.specs.HeldFormats.{currency_format, percent_format}
+
+-- ---- for preferences
+
+-- what is made of what is found
+abbrev pub mapped : {A B : Type 0} → (A → B) → Result A DataError → Result B DataError
+mapped f (Ok found) = Ok (f found)
+mapped f (Err error) = Err error
+
+-- amounts of a currency, written as its unit says
+abbrev pub amount_options : CurrencyUnit → GroupingStrategy → CurrencyFormatterOptions
+amount_options currency grouping =
+    record { style = currency.style; width = currency.width; grouping_strategy = Some grouping }
+
+-- with all digits: plain numbers, percents and amounts
+abbrev pub standard_found : NumberUnit → BookTables → Preferences → GroupingStrategy → Result FormatTables DataError
+standard_found unit.None book preferences grouping = mapped plain_tables (found_plain book preferences (Some grouping))
+standard_found unit.Percent book preferences grouping =
+    mapped (λ settings. unit_tables (percent_format settings)) (percent_found_in book preferences (Some grouping))
+standard_found (unit.Currency currency) book preferences grouping =
+    mapped (λ settings. unit_tables (currency_format currency.code settings))
+    (currency_found_in book preferences currency.code (amount_options currency grouping))
+
+-- compact numbers; there are no patterns of those with a unit
+abbrev pub compact_found : CompactWidth → NumberUnit → BookTables → Preferences → GroupingStrategy → Result FormatTables DataError
+compact_found width unit.None book preferences grouping =
+    mapped compact_tables (found_beside (patterns_under width book) book preferences (Some grouping))
+compact_found width unit.Percent book preferences grouping = Err DataError.IdentifierNotFound
+compact_found width (unit.Currency currency) book preferences grouping = Err DataError.IdentifierNotFound
+
+abbrev pub notation_found : Notation → NumberUnit → BookTables → Preferences → GroupingStrategy → Result FormatTables DataError
+notation_found Standard unit book preferences grouping = standard_found unit book preferences grouping
+notation_found (Compact width) unit book preferences grouping = compact_found width unit book preferences grouping
+
+-- what numbers of a shape are written with
+abbrev pub found_for : NumberShape → BookTables → Preferences → Result FormatTables DataError
+found_for shape book preferences = notation_found shape.notation shape.unit book preferences shape.grouping
+
+-- ---- in the digits of ASCII
+
+-- the same preferences, with the numbering system `latn`
+abbrev pub in_latin : Preferences → Preferences
+in_latin preferences = record { locale = preferences.locale; numbering_system = Some (codes "latn") }
+
+-- what numbers of a shape are written with in it, where the digits of what is found are others than those of ASCII
+abbrev pub latin_for : NumberShape → BookTables → Preferences → FormatTables → Option FormatTables
+latin_for shape book preferences f = where_native (digit_tables f).digits (result_ok (found_for shape book (in_latin preferences)))
+
+-- both
+abbrev pub beside_latin : NumberShape → BookTables → Preferences → FormatTables → FormatTables × Option FormatTables
+beside_latin shape book preferences f = (f, latin_for shape book preferences f)
+
+abbrev pub both_found : NumberShape → BookTables → Preferences → Result (FormatTables × Option FormatTables) DataError
+both_found shape book preferences = mapped (beside_latin shape book preferences) (found_for shape book preferences)
+
+-- ---- for a tag
+
+-- what numbers of a shape are written with for what the tag prefers
+abbrev pub format_for : BookTables → Text → NumberShape → Result FormatTables FormatterError
+format_for book tag shape = found_by (found_for shape book) (wanted_of tag)
+
+-- and in the digits of ASCII
+abbrev pub formats_for : BookTables → Text → NumberShape → Result (FormatTables × Option FormatTables) FormatterError
+formats_for book tag shape = found_by (both_found shape book) (wanted_of tag)
