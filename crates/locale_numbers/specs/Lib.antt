@@ -60,9 +60,9 @@ pub use Rattle.locale_numbers_book.specs.UnitFields
 pub use Rattle.locale_numbers_book.specs.UnitPatterns
 pub use Rattle.locale_numbers_book.specs.Units
 -- Of the inner crates: texts of books, and the small book of a tag as a text.
-pub use Rattle.locale_numbers_world.specs.BookText
-pub use Rattle.locale_numbers_world.specs.EntryFields
-pub use Rattle.locale_numbers_world.specs.SelectedText
+pub use Rattle.locale_numbers_book.specs.BookText
+pub use Rattle.locale_numbers_book.specs.EntryFields
+pub use Rattle.locale_numbers_book.specs.SelectedText
 -- Of the inner crates: what is kept from line to line.
 pub use Rattle.locale_numbers_cache.specs.Cached
 pub use Rattle.locale_numbers_cache.specs.Laws as CacheLaws

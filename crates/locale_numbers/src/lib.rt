@@ -34,12 +34,14 @@ mod running;
 mod starting;
 mod without_units;
 mod words;
+mod world;
 
 pub use answering::answer;
 pub use answers::Answers;
 pub use fault::ProgramFault;
 pub use locale_numbers_book::{
-    Book, BookError, FormatterError, SAMPLE_BOOK, SAMPLE_UNITS_BOOK, Tables,
+    Book, BookError, BookTexts, FormatterError, NumberTexts, SAMPLE_BOOK, SAMPLE_UNITS_BOOK,
+    Tables, UnitTexts, book_text_for, put_book,
 };
 pub use locale_numbers_lines::{
     ByteReadFault, ByteReader, ByteWriteFault, ByteWriter, Report, RunError, Tracked,
@@ -49,12 +51,10 @@ pub use locale_numbers_formats::{
     Rounding, SignAsked,
 };
 pub use locale_numbers_requests::{Request, Task};
-pub use locale_numbers_world::{
-    BookTexts, NumberTexts, UnitTexts, WORLD_LOCALES, book_text_for, put_book, world_tags,
-    world_text, world_texts,
-};
+pub use locale_numbers_world::{WORLD_LOCALES, world_tags};
 pub use program_run::program;
 pub use running::run;
 pub use starting::start;
 pub use without_units::{NumberTables, WithoutUnits};
 pub use words::{Words, read_words};
+pub use world::{world_text, world_texts};
