@@ -1,13 +1,28 @@
--- Known values: names of locales, as `locale -a` lists them and POSIX has them, with their tags; roundings; forms of amounts; answers.
-use Rattle.std.proofs.Common.{◌≡◌, [], refl}
-use Rattle.std.specs.Prelude.{◌++◌, None, Some, codes}
+-- Known values: names of locales, as `locale -a` lists them and POSIX has them, with their tags; what options ask.
+use Rattle.std.proofs.Common.{◌≡◌, ℕ, List, [], Option, None, Some, Bool, true, false, Result, Ok, Err, pos, negsuc, refl}
+use Rattle.std.specs.Prelude.{codes}
 use Rattle.std.specs.Str.{chars}
-use Rattle.locale_numbers_requests.specs.Request.{fields}
+use Rattle.fixed_decimal.specs.declared.RoundingIncrement.TheVariants.{MultiplesOf1, MultiplesOf5}
+use Rattle.fixed_decimal.specs.declared.SignedRoundingMode.TheVariants.{Unsigned, Floor}
+use Rattle.fixed_decimal.specs.declared.UnsignedRoundingMode.TheVariants.{HalfEven}
+use Rattle.icu_decimal_symbols.specs.declared.options.GroupingStrategy.TheVariants as strategy
+use Rattle.icu_dimension_fractions.specs.declared.CurrencyStyle.TheVariants as style
+use Rattle.icu_dimension_fractions.specs.declared.CurrencyWidth.TheVariants as width
+use Rattle.locale_numbers_formats.specs.declared.Notation.TheVariants.{Standard}
+use Rattle.locale_numbers_formats.specs.declared.NumberUnit.{NumberUnit}
+use Rattle.locale_numbers_formats.specs.declared.NumberUnit.TheVariants as unit
+use Rattle.locale_numbers_formats.specs.declared.Rounding.{Rounding}
+use Rattle.locale_numbers_formats.specs.declared.Rounding.TheVariants.{Usual, Cash, AsGiven, At}
+use Rattle.locale_numbers_formats.specs.declared.SkeletonError.TheVariants as skeleton
+use Rattle.locale_numbers_formats.specs.declared.TrailingZeros.{TrailingZeros}
+use Rattle.locale_numbers_formats.specs.declared.TrailingZeros.TheVariants.{Keep, Trim}
+use Rattle.locale_numbers_requests.specs.declared.Task.{Task}
+use Rattle.locale_numbers_requests.specs.declared.Task.TheVariants.{Write}
+use Rattle.legumeyet_options.specs.Digits.{is_coarse, options_by, round_said}
 use Rattle.legumeyet_options.specs.LocaleName.{tag_of}
-use Rattle.legumeyet_options.specs.Outcomes.{text_said}
-use Rattle.legumeyet_options.specs.Roundings.{whole_rounding}
-use Rattle.legumeyet_options.specs.UnitForms.{style_word}
-use Rattle.legumeyet_options.specs.declared.unit_forms.UnitStyle.TheVariants.{Percent, Accounting}
+use Rattle.legumeyet_options.specs.NumberWords.{NumbersSaid, numbers_asked}
+use Rattle.legumeyet_options.specs.declared.fault.OptionFault.TheVariants as fault
+use Rattle.legumeyet_options.specs.declared.number_words.NumbersAsked.{NumbersAsked}
 
 name_of_german : tag_of (codes "de_DE") ≡ codes "de-DE"
 unfolding chars lib.Utf8.encode
@@ -45,29 +60,85 @@ name_of_posix = refl
 no_name : tag_of [] ≡ codes "en"
 no_name = refl
 
-position_alone : whole_rounding (codes "-2") ≡ codes "-2,half-even,1"
+-- ---- roundings
+
+position_alone : round_said (codes "-2") ≡ Some (At (negsuc 1) (Unsigned HalfEven) MultiplesOf1)
 position_alone = refl
 
-position_and_mode : whole_rounding (codes "-2,floor") ≡ codes "-2,floor,1"
+position_and_mode : round_said (codes "-2,floor") ≡ Some (At (negsuc 1) Floor MultiplesOf1)
 position_and_mode = refl
 
-all_three : whole_rounding (codes "-2,half-even,5") ≡ codes "-2,half-even,5"
+all_three : round_said (codes "-2,half-even,5") ≡ Some (At (negsuc 1) (Unsigned HalfEven) MultiplesOf5)
 all_three = refl
 
-no_rounding : whole_rounding (codes "-") ≡ codes "-"
+four_words : round_said (codes "-2,half-even,5,1") ≡ None
+four_words = refl
+
+-- a position above the ones alone
+hundreds : is_coarse (codes "2") ≡ true
+hundreds = refl
+
+hundreds_by_a_mode : is_coarse (codes "2,half-even") ≡ false
+hundreds_by_a_mode = refl
+
+ones : is_coarse (codes "0") ≡ false
+ones = refl
+
+hundredths : is_coarse (codes "-2") ≡ false
+hundredths = refl
+
+-- ---- options
+
+abbrev nothing : NumbersSaid
+nothing = record {
+  form = None; format = None; currency = None; is_accounting = false; is_by_code = false; is_percent = false; grouping = None; sign = None;
+  is_in_cash = false; round = None; digits = None; max_digits = None; min_digits = None;
+}
+
+abbrev written : NumberUnit → Rounding → TrailingZeros → ℕ → Bool → NumbersAsked
+written unit rounding zeros least coarse = record {
+  task = Write;
+  format = record { shape = record { notation = Standard; unit = unit; grouping = strategy.Auto }; options = options_by rounding zeros (pos least) };
+  is_coarse = coarse;
+}
+
+without_options : numbers_asked nothing ≡ Ok (written unit.None Usual Keep 0 false)
+without_options = refl
+
+amount_by_code : numbers_asked (record nothing { currency = Some (codes "EUR"); is_by_code = true })
+    ≡ Ok (written (unit.Currency (record { code = codes "EUR"; style = style.Standard; width = width.IsoCode })) Usual Keep 0 false)
+amount_by_code = refl
+
+two_digits : numbers_asked (record nothing { digits = Some (codes "2") }) ≡ Ok (written unit.None (At (negsuc 1) (Unsigned HalfEven) MultiplesOf1) Keep 0 false)
+two_digits = refl
+
+two_at_most : numbers_asked (record nothing { max_digits = Some (codes "2") }) ≡ Ok (written unit.None (At (negsuc 1) (Unsigned HalfEven) MultiplesOf1) Trim 0 false)
+two_at_most = refl
+
+one_to_three : numbers_asked (record nothing { max_digits = Some (codes "3"); min_digits = Some (codes "1") })
+    ≡ Ok (written unit.None (At (negsuc 2) (Unsigned HalfEven) MultiplesOf1) Trim 1 false)
+one_to_three = refl
+
+two_at_least : numbers_asked (record nothing { min_digits = Some (codes "2") }) ≡ Ok (written unit.None AsGiven Trim 2 false)
+two_at_least = refl
+
+more_than_most : numbers_asked (record nothing { max_digits = Some (codes "2"); min_digits = Some (codes "3") }) ≡ Err fault.Counts
+more_than_most = refl
+
+coarse : numbers_asked (record nothing { round = Some (codes "2") }) ≡ Ok (written unit.None (At (pos 2) (Unsigned HalfEven) MultiplesOf1) Keep 0 true)
+coarse = refl
+
+small_code : numbers_asked (record nothing { currency = Some (codes "eur") }) ≡ Err fault.Code
+small_code = refl
+
+no_rounding : numbers_asked (record nothing { round = Some (codes "x") }) ≡ Err fault.Round
 no_rounding = refl
 
-said_plain : text_said (fields (codes "ok\t1.234,5")) ≡ Some (codes "1.234,5")
-said_plain = refl
+exact_digits : numbers_asked (record nothing { form = Some (codes "exact-short"); digits = Some (codes "2") }) ≡ Err fault.DigitsOfExact
+exact_digits = refl
 
-said_short : text_said (fields (codes "ok\t12 L\t12c5")) ≡ Some (codes "12 L")
-said_short = refl
+signed_reading : numbers_asked (record nothing { form = Some (codes "read"); sign = Some (codes "always") }) ≡ Err fault.SignOfRead
+signed_reading = refl
 
-said_refused : text_said (fields (codes "err\tnumber")) ≡ None
-said_refused = refl
-
-form_of_percents : style_word Percent ++ [] ≡ codes "percent"
-form_of_percents = refl
-
-form_of_accounts : codes "read-" ++ (style_word Accounting ++ codes "EUR") ≡ codes "read-accounting-EUR"
-form_of_accounts = refl
+no_skeleton : numbers_asked (record nothing { format = Some (codes "percent foo") }) ≡ Err (fault.Format (skeleton.Unknown 8))
+no_skeleton = refl

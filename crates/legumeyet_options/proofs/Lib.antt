@@ -1,3 +1,2 @@
+mod DigitsLemmas
 mod KnownValues
-mod LineLemmas
-mod RoundingLemmas

@@ -1,7 +1,5 @@
-pub mod Fields
+pub mod Digits
 pub mod Invalids
-pub mod Line
 pub mod LocaleName
-pub mod Outcomes
-pub mod Roundings
-pub mod UnitForms
+pub mod NumberForms
+pub mod NumberWords

@@ -1,5 +1,5 @@
--- Known values of the compact forms: requests, texts of compact numbers, and answers under English tables.
-use Rattle.std.proofs.Common.{◌≡◌, ℕ, List, [], ◌∷◌, ◌++◌, codes, ◌*◌, ◌^◌, Some, None, Ok, Err, refl}
+-- Known values of compact formats: texts of compact numbers, and answers under English tables.
+use Rattle.std.proofs.Common.{◌≡◌, ℕ, List, [], ◌∷◌, ◌++◌, codes, ◌*◌, ◌^◌, None, Ok, Err, refl}
 use Rattle.fixed_decimal.specs.Number.{Number}
 use Rattle.fixed_decimal.specs.Rounding.{count_limit}
 use Rattle.fixed_decimal.specs.SignedValue.{SignedValue}
@@ -13,27 +13,12 @@ use Rattle.icu_decimal.specs.Pattern.{around}
 use Rattle.icu_decimal.specs.Symbols.{english_symbols}
 use Rattle.icu_decimal.specs.declared.error.DataError.{DataError}
 use Rattle.icu_decimal.specs.declared.options.GroupingStrategy.TheVariants.{Auto}
-use Rattle.locale_numbers_answers.specs.CompactAnswer.{compact_answer, compact_with, exact_answer, exact_to, exact_with}
+use Rattle.locale_numbers_formatter.specs.FormatText.{compact_tables, plain_tables}
+use Rattle.locale_numbers_formats.specs.declared.SignAsked.TheVariants.{Show}
+use Rattle.locale_numbers_answers.specs.Answers.{exact_found, exact_with}
+use Rattle.locale_numbers_answers.specs.NumberAnswer.{exact_answer, number_answer}
 use Rattle.locale_numbers_answers.specs.CompactReading.{compact_beyond, compact_nothing, compact_number, compact_reading_of}
-use Rattle.locale_numbers_requests.specs.Request.{request_in, tab}
-use Rattle.locale_numbers_requests.specs.declared.Form.TheVariants.{Compact, Exact}
-use Rattle.locale_numbers_requests.specs.declared.PatternLength.TheVariants.{Short, Long}
-use Rattle.locale_numbers_requests.specs.declared.RoundingAsked.TheVariants.{Unrounded}
-use Rattle.locale_numbers_requests.specs.declared.SignAsked.TheVariants.{Keep, Show}
-
--- ---- request lines
-
-short_line : request_in (codes "en" ∷ codes "short" ∷ codes "auto" ∷ codes "keep" ∷ codes "-" ∷ codes "1650" ∷ [])
-    ≡ Some (record { tag = codes "en"; form = Compact Short; grouping = Auto; sign = Keep; rounding = Unrounded; text = codes "1650" })
-short_line = refl
-
-exact_line : request_in (codes "en" ∷ codes "exact-long" ∷ codes "auto" ∷ codes "always" ∷ codes "-" ∷ codes "1c3" ∷ [])
-    ≡ Some (record { tag = codes "en"; form = Exact Long; grouping = Auto; sign = Show display.Always; rounding = Unrounded; text = codes "1c3" })
-exact_line = refl
-
--- an exact form shows the digits that are given
-exact_with_a_rounding : request_in (codes "en" ∷ codes "exact-short" ∷ codes "auto" ∷ codes "keep" ∷ codes "0,trunc,1" ∷ codes "1c3" ∷ []) ≡ None
-exact_with_a_rounding = refl
+use Rattle.locale_numbers_requests.specs.Request.{tab}
 
 -- ---- texts of compact numbers
 
@@ -81,19 +66,24 @@ abbrev pub zero_of : SignedValue Number
 zero_of = record { sign = Negative; absolute = record { count = 0; low = 32768; high = 32768 } }
 
 -- the value has the sign of the text
-zero_shown : compact_answer english zero_of ≡ codes "ok" ++ tab ∷ codes "-0" ++ tab ∷ codes "-0"
+zero_shown : number_answer (compact_tables english) zero_of ≡ codes "ok" ++ tab ∷ codes "-0" ++ tab ∷ codes "-0"
 unfolding count_limit lowest_place lib.Utf8.encode
 zero_shown = refl
 
-zero_millions : exact_to (Ok english) (Show display.Negative) (compact_number (record { significand = zero_of; exponent = 6 })) ≡ codes "ok" ++ tab ∷ codes "0M"
+zero_millions : exact_found (Ok (compact_tables english)) (Show display.Negative) (compact_number (record { significand = zero_of; exponent = 6 })) ≡ codes "ok" ++ tab ∷ codes "0M"
 unfolding lib.Utf8.encode
 zero_millions = refl
 
-zero_of_no_pattern : exact_answer english (record { significand = zero_of; exponent = 5 }) ≡ codes "err" ++ tab ∷ codes "exponent"
+zero_of_no_pattern : exact_answer (compact_tables english) (record { significand = zero_of; exponent = 5 }) ≡ codes "err" ++ tab ∷ codes "exponent"
 zero_of_no_pattern = refl
 
-no_table_shown : compact_with (Err DataError.IdentifierNotFound) zero_of ≡ codes "err" ++ tab ∷ codes "table"
-no_table_shown = refl
+-- a format without patterns has the exponent 0 alone
+zero_of_plain : exact_answer (plain_tables english.plain) (record { significand = zero_of; exponent = 0 }) ≡ codes "ok" ++ tab ∷ codes "-0"
+unfolding lib.Utf8.encode
+zero_of_plain = refl
+
+other_of_plain : exact_answer (plain_tables english.plain) (record { significand = zero_of; exponent = 3 }) ≡ codes "err" ++ tab ∷ codes "exponent"
+other_of_plain = refl
 
 no_table_exact : exact_with (Err DataError.IdentifierNotFound) (record { significand = zero_of; exponent = 6 }) ≡ codes "err" ++ tab ∷ codes "table"
 no_table_exact = refl

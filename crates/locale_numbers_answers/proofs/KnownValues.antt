@@ -1,30 +1,21 @@
--- Known values of the definitions: roundings, texts of numbers, texts read back.
-use Rattle.std.proofs.Common.{◌≡◌, [], ◌∷◌, ◌++◌, codes, ◌*◌, ◌^◌, pos, true, false, Some, None, Ok, Err, refl}
+-- Known values of the definitions: roundings, texts of numbers, texts read back, answers that ask no format.
+use Rattle.std.proofs.Common.{◌≡◌, [], ◌∷◌, ◌++◌, codes, ◌*◌, ◌^◌, false, true, Some, None, Result, Ok, Err, refl}
 use Rattle.icu_decimal.specs.declared.error.DataError.{DataError}
-use Rattle.icu_decimal.specs.declared.options.GroupingStrategy.TheVariants.{Auto}
 use Rattle.icu_decimal.specs.PlainReading.{decimal, not_written, unreadable}
-use Rattle.icu_decimal.specs.PlainText.{Tables}
-use Rattle.icu_decimal.specs.Symbols.{Symbols}
-use Rattle.locale_numbers_requests.specs.declared.SignAsked.TheVariants.{Keep, Show}
-use Rattle.locale_numbers_requests.specs.declared.RoundingAsked.TheVariants.{At}
-use Rattle.fixed_decimal.specs.Rounding.{count_limit}
 use Rattle.fixed_decimal.specs.declared.Sign.TheVariants.{None as NoSign, Negative}
-use Rattle.fixed_decimal.specs.declared.SignDisplay.TheVariants as display
-use Rattle.fixed_decimal.specs.declared.SignedRoundingMode.TheVariants.{Unsigned}
-use Rattle.fixed_decimal.specs.declared.UnsignedRoundingMode.TheVariants.{Expand, Trunc, HalfEven}
-use Rattle.fixed_decimal.specs.declared.RoundingIncrement.TheVariants.{MultiplesOf1, MultiplesOf2}
-use Rattle.locale_numbers_answers.specs.Changing.{changed}
+use Rattle.fixed_decimal.specs.declared.UnsignedRoundingMode.TheVariants.{HalfEven}
+use Rattle.icu_dimension_fractions.specs.declared.FractionIncrement.TheVariants.{MultiplesOf1, MultiplesOf5}
+use Rattle.icu_dimension_fractions.specs.declared.FractionInfo.{FractionInfo}
+use Rattle.locale_numbers_formats.specs.declared.NumberFormat.{NumberFormat}
+use Rattle.locale_numbers_formats.specs.declared.Rounding.TheVariants.{Cash, AsGiven}
+use Rattle.locale_numbers_formatter.specs.FormatText.{FormatTables, compact_tables}
+use Rattle.locale_numbers_answers.proofs.KnownCompactAnswers.{english}
 use Rattle.locale_numbers_formats.specs.Rounded.{multiple_of, highest_of}
-use Rattle.locale_numbers_answers.specs.LenientAnswer.{lenient_with, second_of}
-use Rattle.locale_numbers_answers.specs.ReadAnswer.{read_answer, read_with}
+use Rattle.locale_numbers_answers.specs.Answers.{answer_by}
+use Rattle.locale_numbers_answers.specs.ReadAnswer.{fraction_asked, read_answer}
 use Rattle.locale_numbers_answers.specs.NumberReading.{reading_of, parts_of, nothing, beyond}
-use Rattle.icu_dimension_affixes.specs.UnitPatterns.{PatternTexts}
-use Rattle.icu_dimension_affixes.specs.UnitText.{UnitName}
-use Rattle.locale_numbers_answers.specs.LenientUnitAnswer.{lenient_unit_with, second_unit, typed_code}
-use Rattle.locale_numbers_answers.specs.UnitAnswer.{UnitFound}
 use Rattle.locale_numbers_requests.specs.Request.{tab}
-use Rattle.locale_numbers_requests.specs.declared.AmountStyle.TheVariants.{Standard}
-use Rattle.locale_numbers_requests.specs.declared.UnitAsked.TheVariants.{Percent, Currency}
+use Rattle.locale_numbers_requests.specs.declared.Task.TheVariants as task
 
 -- ---- roundings
 
@@ -42,18 +33,6 @@ padded = refl
 
 one_place_more : highest_of 0 0 10 ≡ 1
 one_place_more = refl
-
--- 9 and 32,767 zeros, to twenty of that place, would be ten to the power 32768
-overflow : changed (At (pos 32767) (Unsigned Expand) MultiplesOf2) Keep (record { sign = NoSign; absolute = record { count = 9 * 10 ^ 65535; low = 32768; high = 65535 } })
-    ≡ record { sign = NoSign; absolute = record { count = 0; low = 32768; high = 65535 } }
-unfolding count_limit
-overflow = refl
-
--- -0.4 at the ones is zero before its sign is chosen
-none_at_zero : changed (At (pos 0) (Unsigned Trunc) MultiplesOf1) (Show display.ExceptZero) (record { sign = Negative; absolute = record { count = 4 * 10 ^ 32767; low = 32767; high = 32768 } })
-    ≡ record { sign = NoSign; absolute = record { count = 0; low = 32768; high = 32768 } }
-unfolding count_limit
-none_at_zero = refl
 
 -- ---- texts of numbers
 
@@ -96,39 +75,35 @@ no_number_read = refl
 not_readable : read_answer unreadable ≡ codes "err" ++ tab ∷ codes "unreadable"
 not_readable = refl
 
-no_table_read : read_with (Err DataError.IdentifierNotFound) (codes "5") ≡ codes "err" ++ tab ∷ codes "table"
-no_table_read = refl
+no_table_read : (format : NumberFormat) (latin : Result FormatTables DataError) → answer_by task.Read format (Err DataError.IdentifierNotFound) latin (codes "5") ≡ codes "err" ++ tab ∷ codes "table"
+no_table_read format latin = refl
 
--- ---- typed texts
+-- compact text tells no number
+compact_read : (format : NumberFormat) (latin : Result FormatTables DataError) → answer_by task.Read format (Ok (compact_tables english)) latin (codes "5") ≡ codes "err" ++ tab ∷ codes "unreadable"
+compact_read format latin = refl
 
--- a form with the digits of ASCII has no second tables
-ascii_alone : (symbols : Symbols) (latin : Tables) → second_of (record { symbols = symbols; digits = codes "0123456789"; strategy = Auto }) (Ok latin) ≡ None
-ascii_alone symbols latin = refl
+compact_typed : (format : NumberFormat) (latin : Result FormatTables DataError) → answer_by task.ReadLenient format (Ok (compact_tables english)) latin (codes "5") ≡ codes "err" ++ tab ∷ codes "unreadable"
+compact_typed format latin = refl
 
--- one with others has those of the system `latn`, where they are found
-arabic_and_latin : (symbols : Symbols) (latin : Tables)
-    → second_of (record { symbols = symbols; digits = 1632 ∷ 1633 ∷ 1634 ∷ 1635 ∷ 1636 ∷ 1637 ∷ 1638 ∷ 1639 ∷ 1640 ∷ 1641 ∷ []; strategy = Auto }) (Ok latin) ≡ Some latin
-arabic_and_latin symbols latin = refl
+-- ---- refused before a format is asked
 
-no_latin : (symbols : Symbols) → second_of (record { symbols = symbols; digits = codes "०१२३४५६७८९"; strategy = Auto }) (Err DataError.IdentifierNotFound) ≡ None
-no_latin symbols = refl
+no_number : (format : NumberFormat) (found latin : Result FormatTables DataError) → answer_by task.Write format found latin (codes "1e") ≡ codes "err" ++ tab ∷ codes "number"
+no_number format found latin = refl
 
-no_table_typed : (latin : Tables) → lenient_with (Err DataError.IdentifierNotFound) (Ok latin) (codes "5") ≡ codes "err" ++ tab ∷ codes "table"
-no_table_typed latin = refl
+no_form : (format : NumberFormat) (found latin : Result FormatTables DataError) → answer_by task.WriteExact format found latin (codes "1c0") ≡ codes "err" ++ tab ∷ codes "number"
+no_form format found latin = refl
 
--- ---- typed texts with a unit
+no_table : (format : NumberFormat) (latin : Result FormatTables DataError) → answer_by task.Write format (Err DataError.IdentifierNotFound) latin (codes "5") ≡ codes "err" ++ tab ∷ codes "table"
+no_table format latin = refl
 
--- beside a number is the code of the currency, or a percent sign
-euro_beside : typed_code (Currency Standard (codes "EUR")) ≡ codes "EUR"
-euro_beside = refl
+-- ---- amounts read back
 
-percent_beside : typed_code Percent ≡ codes "%"
-percent_beside = refl
+-- two digits, and in cash multiples of five of them
+abbrev francs : FractionInfo
+francs = record { standard = record { digits = 2; increment = MultiplesOf1 }; cash = record { digits = 2; increment = MultiplesOf5 } }
 
-no_unit_typed : (latin : UnitFound) → lenient_unit_with (codes "EUR") (Err DataError.IdentifierNotFound) (Ok latin) (codes "5") ≡ codes "err" ++ tab ∷ codes "table"
-no_unit_typed latin = refl
+digits_of_cash : fraction_asked (Some francs) Cash ≡ Some francs.cash
+digits_of_cash = refl
 
--- an amount in the digits of ASCII has no second reader
-ascii_amount : (symbols : Symbols) (pattern : PatternTexts) (unit : UnitName) (latin : UnitFound)
-    → second_unit (record { settings = record { tables = record { symbols = symbols; digits = codes "0123456789"; strategy = Auto }; pattern = pattern; unit = unit }; digits = None }) (Ok latin) ≡ None
-ascii_amount symbols pattern unit latin = refl
+any_digits : fraction_asked (Some francs) AsGiven ≡ None
+any_digits = refl

@@ -1,7 +1,8 @@
--- What a text spells and what a rounding leaves is a number; what was rounded is left by the same rounding as it is.
-use Rattle.std.proofs.Common.{◌≡◌, ℕ, ℤ, ◌+◌, ◌-◌, ◌*◌, ◌%◌, ◌^◌, ◌<◌, ◌≤◌, Bool, true, false, cond, nat_lt, List, length, max, min, refl, sym, ap, ◌∙◌, subst, inl, arith}
-use Rattle.std.proofs.Math.Nat.{mul-lt-mul_of_pos_right, mul_assoc, pow-le-pow_right}
-use Rattle.std.proofs.lemmas.Bool.{ltb-true}
+-- What a text spells and what options leave is a number; what was rounded is left by the same rounding as it is.
+use Rattle.std.proofs.Common.{◌≡◌, ℕ, ℤ, ◌+◌, ◌-◌, ◌*◌, ◌%◌, ◌^◌, ◌==◌, ◌&&◌, ◌<◌, ◌≤◌, Bool, true, false, cond, nat_lt, List, length, max, min, Option, None, Some, refl, sym, ap, ◌∙◌, subst, inl, arith}
+use Rattle.std.specs.Prelude.{neg_ℤ}
+use Rattle.std.proofs.Math.Nat.{lt_of_lt_of_le, mul-lt-mul_of_pos_right, mul_assoc, pow-le-pow_right}
+use Rattle.std.proofs.lemmas.Bool.{eqb-true, ltb-true}
 use Rattle.std.proofs.lemmas.Nat.{pow-add}
 use Rattle.fixed_decimal.specs.Number.{IsNumber, Number, place}
 use Rattle.fixed_decimal.specs.NumberText.{AreEndsIn, IsWithin, Parts, Spells, down_of, mantissa_of, number_at, number_of, up_of}
@@ -18,21 +19,34 @@ use Rattle.fixed_decimal.specs.declared.Sign.{Sign}
 use Rattle.fixed_decimal.proofs.RoundingLemmas.{exact, rounded_multiple}
 use Rattle.fixed_decimal.proofs.SpelledLemmas.{spelled_below}
 use Rattle.fixed_decimal.proofs.TenLemmas.{mod_below_power, tens_positive}
-use Rattle.locale_numbers_answers.specs.Changing.{changed}
-use Rattle.locale_numbers_answers.specs.Laws.{IsAtMagnitude}
+use Rattle.locale_numbers_answers.specs.Laws.{FitDecimals, IsAtMagnitude, TrimsNothing}
 use Rattle.locale_numbers_answers.specs.NumberReading.{number, reading_of}
 use Rattle.locale_numbers_formats.specs.Rounded.{limited, multiple_of, rounded, rounded_size}
-use Rattle.locale_numbers_requests.specs.declared.RoundingAsked.{RoundingAsked}
-use Rattle.locale_numbers_requests.specs.declared.RoundingAsked.TheVariants.{Unrounded, Cash, At}
-use Rattle.locale_numbers_requests.specs.declared.SignAsked.{SignAsked}
-use Rattle.locale_numbers_requests.specs.declared.SignAsked.TheVariants.{Keep, Show}
+use Rattle.fixed_decimal.specs.SignChoice.{chosen_sign}
+use Rattle.icu_dimension_fractions.specs.Fractions.{fraction_for}
+use Rattle.icu_dimension_fractions.specs.declared.CurrencyUsage.{CurrencyUsage}
+use Rattle.icu_dimension_fractions.specs.declared.CurrencyUsage.TheVariants as usage
+use Rattle.icu_dimension_fractions.specs.declared.CurrencyUsage.TheVariants.{Standard}
+use Rattle.icu_dimension_fractions.specs.declared.FractionInfo.{FractionInfo}
+use Rattle.locale_numbers_formats.specs.Changed.{amount_by, changed, end_trimmed, front_padded, front_trimmed, is_above_ones, padded_down, rounded_by, shown, signed_as, start_trimmed}
+use Rattle.locale_numbers_formats.specs.declared.LeadingZeros.{LeadingZeros}
+use Rattle.locale_numbers_formats.specs.declared.LeadingZeros.TheVariants as leading
+use Rattle.locale_numbers_formats.specs.declared.NumberOptions.{NumberOptions}
+use Rattle.locale_numbers_formats.specs.declared.Rounding.{Rounding}
+use Rattle.locale_numbers_formats.specs.declared.Rounding.TheVariants as rounding
+use Rattle.locale_numbers_formats.specs.declared.Rounding.TheVariants.{Usual, AsGiven, At}
+use Rattle.locale_numbers_formats.specs.declared.SignAsked.{SignAsked}
+use Rattle.locale_numbers_formats.specs.declared.SignAsked.TheVariants.{Keep, Show}
+use Rattle.locale_numbers_formats.specs.declared.TrailingZeros.{TrailingZeros}
+use Rattle.locale_numbers_formats.specs.declared.TrailingZeros.TheVariants as trailing
+use Rattle.locale_numbers_formats.proofs.ChangedLemmas.{same_fields, whole_below, whole_under, whole_whole}
 use Rattle.locale_numbers_answers.proofs.LawsLemmas.{one_reading}
 use Rattle.icu_dimension_fractions.specs.FractionRounding.{RoundsToFraction}
 use Rattle.icu_dimension_fractions.specs.Fractions.{increment_of, last_place, step}
 use Rattle.icu_dimension_fractions.specs.declared.Fraction.{Fraction}
 use Rattle.locale_numbers_formats.specs.AmountRounding.{amount_rounded, amount_size}
 use Rattle.locale_numbers_formats.proofs.AmountLemmas.{increment_positive, size_once as one_size, size_right as amount_once}
-use Rattle.locale_numbers_formats.proofs.RoundedLemmas.{multiple_right, rounds_as, size_right, unit_positive}
+use Rattle.locale_numbers_formats.proofs.RoundedLemmas.{holding_holds, holding_keeps, holding_lowest, multiple_right, rounds_as, size_right, unit_positive}
 
 -- ---- counts at a place
 
@@ -121,14 +135,6 @@ size_is_number mode increment at old is below =
       below = once.high.holds;
     }
 
-pub changed_is_decimal : (rounding : RoundingAsked) (sign : SignAsked) (value : SignedValue Number) → IsAtMagnitude rounding → IsDecimal value → IsDecimal (changed rounding sign value)
-changed_is_decimal Unrounded Keep value at is = is
-changed_is_decimal Unrounded (Show display) value at is = is
-changed_is_decimal Cash Keep value at is = is
-changed_is_decimal Cash (Show display) value at is = is
-changed_is_decimal (At position mode increment) Keep value at is = size_is_number (size_mode value.sign mode) increment (place position) value.absolute is at
-changed_is_decimal (At position mode increment) (Show display) value at is = size_is_number (size_mode value.sign mode) increment (place position) value.absolute is at
-
 amount_multiple : (f : Fraction) (n : ℕ) → IsMultiple (step f) (limited (multiple_of HalfEven (step f) n))
 amount_multiple f n =
     limited_multiple (step f) (multiple_of HalfEven (step f) n) (rounded_multiple HalfEven (step f) n (multiple_of HalfEven (step f) n) (multiple_right HalfEven (step f) n (increment_positive f.increment (last_place f))))
@@ -189,8 +195,144 @@ rounded_again mode first increment position sign old =
     let value : SignedValue Number = record { sign = sign; absolute = rounded_size first increment (place position) old } in
     sym (rounds_as mode increment position value value (record { sign = refl; size = size_again (size_mode sign mode) first increment (place position) old }))
 
-pub changed_again : (rounding : RoundingAsked) (sign : SignAsked) (value : SignedValue Number) → changed rounding Keep (changed rounding sign value) ≡ changed rounding sign value
-changed_again Unrounded sign value = refl
-changed_again Cash sign value = refl
-changed_again (At position mode increment) Keep value = rounded_again mode (size_mode value.sign mode) increment position value.sign value.absolute
-changed_again (At position mode increment) (Show display) value = rounded_again mode (size_mode value.sign mode) increment position _ value.absolute
+-- ---- what trims and pads leave
+
+start_is_number : (n : Number) → IsNumber n → IsNumber (start_trimmed n)
+start_is_number n is =
+    let ones = is.ones in
+    let below = is.below in
+    let whole : n.high + 1 ≡ 32768 + (n.high - 32768) + 1 = omega (arith, ones) in
+    let keeps = holding_keeps (n.high - 32768) 32768 n.count in
+    let under = holding_lowest (n.high - 32768) 32768 n.count n.high ones below in
+    record {
+      low = is.low;
+      ones = keeps;
+      high = let high = is.high in omega (arith, under, high);
+      whole = is.whole;
+      below = holding_holds (n.high - 32768) 32768 n.count (subst (λ (k : ℕ). n.count < 10 ^ k) whole below);
+    }
+
+front_is_number : (zeros : LeadingZeros) (asked : Rounding) (n : Number) → IsNumber n → IsNumber (front_trimmed zeros asked n)
+front_is_number leading.Keep asked n is = is
+front_is_number leading.Trim asked n is = start_is_number n is
+front_is_number leading.TrimRoundedZero asked n is = at (is_above_ones asked && (n.count == 0))
+  where
+    at : (b : Bool) → IsNumber (cond b (start_trimmed n) n)
+    at true = start_is_number n is
+    at false = is
+
+end_is_number : (zeros : TrailingZeros) (n : Number) → IsNumber n → IsNumber (end_trimmed zeros n)
+end_is_number trailing.Keep n is = is
+end_is_number trailing.Trim n is =
+    let low = is.low in
+    let under = whole_under (32768 - n.low) n.low n.count in
+    record {
+      low = omega (arith, low, under);
+      ones = is.ones;
+      high = is.high;
+      whole = whole_whole (32768 - n.low) n.low n.count is.whole;
+      below = is.below;
+    }
+end_is_number trailing.TrimWhole n is = at (n.count % 10 ^ 32768 == 0) refl
+  where
+    at : (b : Bool) → (n.count % 10 ^ 32768 == 0) ≡ b → IsNumber (cond b (record n { low = 32768 }) n)
+    at true none = record { low = omega arith; ones = is.ones; high = is.high; whole = eqb-true (n.count % 10 ^ 32768) 0 none; below = is.below }
+    at false some = is
+
+padded_front : (digits : ℤ) (n : Number) → place digits ≤ 65536 → IsNumber n → IsNumber (front_padded digits n)
+padded_front digits n fits is =
+    let ones = is.ones in
+    let high = is.high in
+    record {
+      low = is.low;
+      ones = omega (arith, ones);
+      high = omega (arith, high, fits);
+      whole = is.whole;
+      below = lt_of_lt_of_le is.below (pow-le-pow_right {n = 10} (omega arith) {i = n.high + 1} {j = max n.high (place digits - 1) + 1} (omega arith));
+    }
+
+padded_end : (position : ℤ) (n : Number) → IsNumber n → IsNumber (padded_down position n)
+padded_end position n is =
+    let low = is.low in
+    record {
+      low = omega (arith, low);
+      ones = is.ones;
+      high = is.high;
+      whole = whole_below n.count (min n.low (place position)) n.low is.whole (omega arith);
+      below = is.below;
+    }
+
+-- of so many integer digits as a decimal can have
+shown_is_number : (options : NumberOptions) (n : Number) → place options.integer_digits ≤ 65536 → IsNumber n → IsNumber (shown options n)
+shown_is_number options n fits is =
+    padded_end (neg_ℤ options.fraction_digits) _ (padded_front options.integer_digits _ fits (end_is_number options.zeros _ (front_is_number options.leading_zeros options.rounding n is)))
+
+amount_by_is_decimal : (fractions : Option FractionInfo) (u : CurrencyUsage) (value : SignedValue Number) → IsDecimal value → IsDecimal (amount_by fractions u value)
+amount_by_is_decimal None u value is = is
+amount_by_is_decimal (Some fractions) u value is = amount_is_decimal (fraction_for fractions u) value is
+
+rounded_is_decimal : (asked : Rounding) (fractions : Option FractionInfo) (value : SignedValue Number) → IsAtMagnitude asked → IsDecimal value → IsDecimal (rounded_by asked fractions value)
+rounded_is_decimal Usual fractions value at is = amount_by_is_decimal fractions Standard value is
+rounded_is_decimal rounding.Cash fractions value at is = amount_by_is_decimal fractions usage.Cash value is
+rounded_is_decimal AsGiven fractions value at is = is
+rounded_is_decimal (At position mode increment) fractions value at is = size_is_number (size_mode value.sign mode) increment (place position) value.absolute is at
+
+signed_is_decimal : (sign : SignAsked) (value : SignedValue Number) → IsDecimal value → IsDecimal (signed_as sign value)
+signed_is_decimal Keep value is = is
+signed_is_decimal (Show display) value is = is
+
+pub changed_is_decimal : (options : NumberOptions) (fractions : Option FractionInfo) (value : SignedValue Number) → FitDecimals options → IsDecimal value
+    → IsDecimal (changed options fractions value)
+changed_is_decimal options fractions value fits is =
+    let left = rounded_by options.rounding fractions value in
+    signed_is_decimal options.sign (record { sign = left.sign; absolute = shown options left.absolute })
+    (shown_is_number options left.absolute fits.integer (rounded_is_decimal options.rounding fractions value fits.position is))
+
+-- ---- options that trim and pad nothing
+
+-- what is shown of a number is the number
+pub shown_stays : (options : NumberOptions) (n : Number) → TrimsNothing options → IsNumber n → shown options n ≡ n
+shown_stays options n nothing is =
+    let low = is.low in
+    let ones = is.ones in
+    rw (nothing.leading, nothing.trailing, nothing.integer, nothing.fraction) (same_fields _ n refl (omega (arith, low)) (omega (arith, ones)))
+
+-- only its sign is chosen
+pub changed_as : (options : NumberOptions) (fractions : Option FractionInfo) (value : SignedValue Number) → TrimsNothing options → FitDecimals options → IsDecimal value
+    → changed options fractions value ≡ signed_as options.sign (rounded_by options.rounding fractions value)
+changed_as options fractions value nothing fits is =
+    let left = rounded_by options.rounding fractions value in
+    ap (λ (n : Number). signed_as options.sign (record { sign = left.sign; absolute = n }))
+    (shown_stays options left.absolute nothing (rounded_is_decimal options.rounding fractions value fits.position is))
+
+amount_by_again : (fractions : Option FractionInfo) (u : CurrencyUsage) (sign : SignAsked) (value : SignedValue Number)
+    → amount_by fractions u (signed_as sign (amount_by fractions u value)) ≡ signed_as sign (amount_by fractions u value)
+amount_by_again None u sign value = refl
+amount_by_again (Some fractions) u Keep value = λ i. record { sign = value.sign; absolute = amount_again (fraction_for fractions u) value.absolute i }
+amount_by_again (Some fractions) u (Show display) value =
+    λ i. record { sign = chosen_sign display value.sign ((amount_size (fraction_for fractions u) value.absolute).count == 0); absolute = amount_again (fraction_for fractions u) value.absolute i }
+
+-- what was rounded and signed is left by the same rounding as it is
+pub rounded_by_again : (asked : Rounding) (fractions : Option FractionInfo) (sign : SignAsked) (value : SignedValue Number)
+    → rounded_by asked fractions (signed_as sign (rounded_by asked fractions value)) ≡ signed_as sign (rounded_by asked fractions value)
+rounded_by_again Usual fractions sign value = amount_by_again fractions Standard sign value
+rounded_by_again rounding.Cash fractions sign value = amount_by_again fractions usage.Cash sign value
+rounded_by_again AsGiven fractions sign value = refl
+rounded_by_again (At position mode increment) fractions Keep value = rounded_again mode (size_mode value.sign mode) increment position value.sign value.absolute
+rounded_by_again (At position mode increment) fractions (Show display) value = rounded_again mode (size_mode value.sign mode) increment position _ value.absolute
+
+-- the same options, with the sign that was given
+abbrev pub keeping : NumberOptions → NumberOptions
+keeping options = record options { sign = Keep }
+
+-- what was changed is left as it is
+pub changed_again : (options : NumberOptions) (fractions : Option FractionInfo) (value : SignedValue Number) → TrimsNothing options → FitDecimals options → IsDecimal value
+    → changed (keeping options) fractions (changed options fractions value) ≡ changed options fractions value
+changed_again options fractions value nothing fits is =
+    let once = changed_as options fractions value nothing fits is in
+    let same : TrimsNothing (keeping options) = record { leading = nothing.leading; trailing = nothing.trailing; integer = nothing.integer; fraction = nothing.fraction } in
+    let fit : FitDecimals (keeping options) = record { position = fits.position; integer = fits.integer } in
+    changed_as (keeping options) fractions (changed options fractions value) same fit (changed_is_decimal options fractions value fits is)
+    ∙ ap (rounded_by options.rounding fractions) once
+    ∙ rounded_by_again options.rounding fractions options.sign value
+    ∙ sym once

@@ -3,7 +3,6 @@ use Rattle.std.proofs.Common.{sym, subst}
 use Rattle.fixed_decimal.specs.Number.{place}
 use Rattle.fixed_decimal.specs.SignedRounding.{RoundsSigned}
 use Rattle.locale_numbers_answers.specs.Laws.{HasOneRounding}
-use Rattle.locale_numbers_formats.specs.Rounded.{rounded}
 use Rattle.locale_numbers_formats.proofs.RoundedLemmas.{rounded_right, rounds_as}
 
 pub one_rounding : HasOneRounding

@@ -13,7 +13,9 @@ use Rattle.icu_decimal.specs.CompactText.{compact_decimal_text, value_shown}
 use Rattle.icu_decimal.specs.ShownChoice.{CanShow}
 use Rattle.locale_numbers_lines.specs.Growth.{Grows}
 use Rattle.locale_numbers_answers.specs.AnswerLine.{refused, written}
-use Rattle.locale_numbers_answers.specs.CompactAnswer.{can_be_shown, compact_answer, text_and_value}
+use Rattle.locale_numbers_answers.specs.NumberAnswer.{can_be_shown, number_answer, text_and_value}
+use Rattle.locale_numbers_formatter.specs.FormatText.{compact_tables, format_text}
+use Rattle.locale_numbers_formatter.specs.Laws.{CompactIsLayered, CompactValueIsShown}
 use Rattle.locale_numbers_requests.specs.Request.{tab}
 use Rattle.locale_numbers_requests.specs.declared.Refusal.TheVariants as refusal
 use Rattle.locale_numbers_answers.proofs.AnswerLineLemmas.{fits_after, front_fits, two_texts}
@@ -39,9 +41,10 @@ pub signed_whole : (v d : SignedValue Number) → v ≡ d
 signed_whole v d is = ap (λ text. (tab ∷ sign_text v.sign) ++ text) (events_text v.absolute) ∙ ap (λ (x : SignedValue Number). tab ∷ signed_text_of x) is
 
 -- the compact text and the value shown are the answer
-pub compact_whole : (t : CompactTables) (d : SignedValue Number) (shown : CompactValue) → CanShow t.patterns.entries d.absolute.count → shown ≡ value_shown t d
-    → written (compact_decimal_text t d) ++ tab ∷ compact_text_of shown ≡ compact_answer t d
-compact_whole t d shown can is =
+pub compact_whole : CompactIsLayered → CompactValueIsShown → (t : CompactTables) (d : SignedValue Number) (shown : CompactValue) → CanShow t.patterns.entries d.absolute.count → shown ≡ value_shown t d
+    → written (compact_decimal_text t d) ++ tab ∷ compact_text_of shown ≡ number_answer (compact_tables t) d
+compact_whole texts values t d shown can is =
     two_texts (compact_decimal_text t d) (compact_text_of shown)
-    ∙ ap (λ v. written (compact_decimal_text t d ++ tab ∷ compact_text_of v)) is
+    ∙ ap (λ text. written (text ++ tab ∷ compact_text_of shown)) (sym (texts t d))
+    ∙ ap (λ v. written (format_text (compact_tables t) d ++ tab ∷ compact_text_of v)) (is ∙ sym (values t d))
     ∙ by_test (can_be_shown t d) (written (text_and_value t d)) (refused refusal.Range) (can_test t d can)

@@ -1,25 +1,54 @@
--- The answer to a number's text with given tables: the number written with them once it is rounded and has its sign, or the word that refuses it.
--- Defined in docs/requests.md, "Answer line".
--- Cited by `answer` and `run`, through Answer.antt of `locale_numbers`.
-use Rattle.std.specs.Prelude.{ℕ, List, Result, Ok, Err}
+-- The answer to a number by a formatter of any format: its text, and of a compact format the value shown behind a tab; and to an exact form.
+-- Defined in docs/requests.md, "Answer line", and docs/compact-text.md, "The text" and "Exact forms".
+-- Cited by `answer` and `run`, through Answers.antt, and by `write_number_answer`, `write_digits_answer` and `write_exact_answer`.
+-- It joins texts of numbers, formats and requests, which are defined in four crates and imported from each.
+use Rattle.std.specs.Prelude.{ℕ, nat_lt, Bool, true, if◌then◌else◌, List, ◌∷◌, ◌++◌, Option, Some, None}
+use Rattle.fixed_decimal.specs.CompactText.{CompactValue, compact_text_of}
 use Rattle.fixed_decimal.specs.Number.{Number}
+use Rattle.fixed_decimal.specs.Rounding.{count_limit}
 use Rattle.fixed_decimal.specs.SignedValue.{SignedValue}
-use Rattle.icu_decimal.specs.declared.error.DataError.{DataError}
-use Rattle.icu_decimal.specs.PlainText.{Tables, decimal_text}
+use Rattle.icu_decimal.specs.CompactTables.{CompactTables}
+use Rattle.icu_decimal.specs.ExactForms.{exact_place}
+use Rattle.icu_decimal.specs.ShownChoice.{shown_under}
+use Rattle.locale_numbers_formats.specs.Changed.{signed_as}
+use Rattle.locale_numbers_formats.specs.declared.SignAsked.{SignAsked}
+use Rattle.locale_numbers_formatter.specs.ExactForms.{exact_format_text}
+use Rattle.locale_numbers_formatter.specs.FormatText.{FormatTables, compact_tables, format_text, format_value, plain_tables, unit_tables}
 use Rattle.locale_numbers_answers.specs.AnswerLine.{refused, written}
-use Rattle.locale_numbers_answers.specs.Changing.{changed}
-use Rattle.locale_numbers_answers.specs.NumberReading.{Reading, number, beyond, nothing}
-use Rattle.locale_numbers_requests.specs.declared.SignAsked.{SignAsked}
-use Rattle.locale_numbers_requests.specs.declared.RoundingAsked.{RoundingAsked}
+use Rattle.locale_numbers_requests.specs.Request.{tab}
 use Rattle.locale_numbers_requests.specs.declared.Refusal.TheVariants as refusal
 
--- a number written with some tables, where they are found
-abbrev pub answer_with : Result Tables DataError → SignedValue Number → List ℕ
-answer_with (Err error) value = refused refusal.Table
-answer_with (Ok tables) value = written (decimal_text tables value)
+-- ---- a number
 
--- the answer to a number's text: what is answered to the number, once it is rounded and has the sign that is asked for
-abbrev pub answer_to : (SignedValue Number → List ℕ) → SignAsked → RoundingAsked → Reading → List ℕ
-answer_to answer sign rounding nothing = refused refusal.Number
-answer_to answer sign rounding beyond = refused refusal.Limit
-answer_to answer sign rounding (number value) = answer (changed rounding sign value)
+-- whether the value that a number is shown as is one of a decimal
+abbrev pub can_be_shown : CompactTables → SignedValue Number → Bool
+can_be_shown t d = nat_lt (shown_under 32768 t.patterns.entries d.absolute.count) count_limit
+
+-- the compact text, and the value shown after a tab
+abbrev pub text_and_value : CompactTables → SignedValue Number → List ℕ
+text_and_value t d = format_text (compact_tables t) d ++ tab ∷ compact_text_of (format_value (compact_tables t) d)
+
+abbrev pub number_answer : FormatTables → SignedValue Number → List ℕ
+number_answer (plain_tables t) d = written (format_text (plain_tables t) d)
+number_answer (compact_tables t) d = if can_be_shown t d then written (text_and_value t d) else refused refusal.Range
+number_answer (unit_tables u) d = written (format_text (unit_tables u) d)
+
+-- ---- an exact form
+
+-- its significand has the sign that is asked for
+abbrev pub signed_form : SignAsked → CompactValue → CompactValue
+signed_form sign form = record { significand = signed_as sign form.significand; exponent = form.exponent }
+
+-- whether the magnitude of both together is one of a decimal, as it has to be under compact patterns
+abbrev pub is_form_in_range : FormatTables → CompactValue → Bool
+is_form_in_range (plain_tables t) form = true
+is_form_in_range (compact_tables t) form = nat_lt (exact_place form.significand.absolute.count form.exponent) 65536
+is_form_in_range (unit_tables u) form = true
+
+-- a text, where the exponent is the one of its magnitude
+abbrev pub exact_written : Option (List ℕ) → List ℕ
+exact_written None = refused refusal.Exponent
+exact_written (Some text) = written text
+
+abbrev pub exact_answer : FormatTables → CompactValue → List ℕ
+exact_answer f form = if is_form_in_range f form then exact_written (exact_format_text f form) else refused refusal.Range

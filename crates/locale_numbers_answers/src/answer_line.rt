@@ -1,12 +1,15 @@
 //! The two kinds of answer.
 
-ghost use Rattle.std.specs.Prelude.{◌≡◌, ◌≤◌, ◌++◌, IsOk, OnOk, OnErr, string_bytes, string_capacity};
+ghost use Rattle.std.specs.Prelude.{◌≡◌, true, ◌≤◌, ◌++◌, is_some, IsOk, OnOk, OnErr, string_bytes, string_capacity};
 ghost use Rattle.writeable.specs.AnnotatedText.{text_of};
 ghost use Rattle.locale_numbers_lines.specs.Growth.{Grows};
+ghost use Rattle.locale_numbers_formatter.specs.FormatReading.{text_by_reader};
 ghost use Rattle.locale_numbers_answers.specs.AnswerLine.{if_text, refused, written};
 ghost use Rattle.locale_numbers_answers.specs.AnswerSink.{HasRoom};
 
-use crate::answer_sink::write_text_of;
+use crate::answer_sink::{write_between, write_text_of};
+use fixed_decimal::Decimal;
+use locale_numbers_formatter::NumberReader;
 use locale_numbers_requests::{Refusal, is_text};
 use std::alloc::AllocError;
 use writeable::Writeable;
@@ -52,4 +55,20 @@ pub(crate) fn write_ok<T: Writeable>(out: &mut String, value: &T) -> Result<(), 
 {
     out.push_str("ok\t")?;
     write_text_of(out, value)
+}
+
+// Writes `ok`, a tab and a number, between affixes that a reader has put together, after what `out` holds.
+pub(crate) fn write_joined(
+    reader: &NumberReader<'_>,
+    value: &Decimal,
+    out: &mut String,
+) -> Result<(), AllocError>
+    requires { is_some reader.now ≡ true }
+    ensures text { OnOk result
+        (string_bytes out.new ≡ string_bytes out.old ++ written (text_by_reader reader.now value.now)) }
+    ensures err { OnErr result (Grows (string_bytes out.old) (string_bytes out.new)) }
+    ensures room { HasRoom out.old (written (text_by_reader reader.now value.now)) → IsOk result }
+{
+    out.push_str("ok\t")?;
+    write_between(reader, value, out)
 }

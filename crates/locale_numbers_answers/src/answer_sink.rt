@@ -1,15 +1,17 @@
 //! The buffer of answers as a sink, so that no text is copied.
 
-ghost use Rattle.std.specs.Prelude.{◌≡◌, ◌+◌, ◌<◌, ◌≤◌, ◌++◌, length, IfOk, IsOk, OnOk, OnErr, string_bytes, string_capacity};
+ghost use Rattle.std.specs.Prelude.{◌≡◌, true, ◌+◌, ◌<◌, ◌≤◌, ◌++◌, length, IfOk, is_some, IsOk, OnOk, OnErr, string_bytes, string_capacity};
 ghost use Rattle.writeable.specs.AnnotatedText.{text_of};
 ghost use Rattle.icu_decimal.specs.CompactText.{compact_decimal_text, value_shown};
 ghost use Rattle.icu_decimal.specs.HeldCompact.{compact_tables_of};
 ghost use Rattle.icu_decimal.specs.ShownChoice.{CanShow};
 ghost use Rattle.locale_numbers_lines.specs.Growth.{Grows};
+ghost use Rattle.locale_numbers_formatter.specs.FormatReading.{text_by_reader};
 ghost use Rattle.locale_numbers_answers.specs.AnswerSink.{HasRoom};
 
 use fixed_decimal::Decimal;
 use icu_decimal::CompactDecimalFormatter;
+use locale_numbers_formatter::NumberReader;
 use std::alloc::AllocError;
 use writeable::{Error, Part, Sink, Writeable};
 
@@ -154,6 +156,31 @@ pub(crate) fn write_number_shown(
     let AnswerSink { out: _, refused: _ } = sink;
     match written {
         Ok(exponent) => Ok(exponent),
+        Err(_) => Err(AllocError),
+    }
+}
+
+// Writes a number after what `out` holds, between affixes that a reader has put together.
+//
+// Where there is room, it does not allocate. After an error a part of the text may be there.
+pub(crate) fn write_between(
+    reader: &NumberReader<'_>,
+    value: &Decimal,
+    out: &mut String,
+) -> Result<(), AllocError>
+    requires { is_some reader.now ≡ true }
+    ensures text { OnOk result (string_bytes out.new ≡ string_bytes out.old ++ text_by_reader reader.now value.now) }
+    ensures err { OnErr result (Grows (string_bytes out.old) (string_bytes out.new)) }
+    ensures room { HasRoom out.old (text_by_reader reader.now value.now) → IsOk result }
+{
+    let mut sink = AnswerSink {
+        out,
+        refused: false,
+    };
+    let written = reader.write(value, &mut sink);
+    let AnswerSink { out: _, refused: _ } = sink;
+    match written {
+        Ok(()) => Ok(()),
         Err(_) => Err(AllocError),
     }
 }

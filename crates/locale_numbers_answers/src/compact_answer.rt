@@ -1,4 +1,4 @@
-//! The forms `short` and `long`: what a number is shown as, and the value shown.
+//! The answer of a compact format: what a number is shown as, and the value shown.
 
 ghost use Rattle.std.specs.Prelude.{◌≡◌, ◌≤◌, ◌∷◌, ◌++◌, map, IfOk, IsOk, OnOk, OnErr, string_bytes, string_capacity};
 ghost use Rattle.std.specs.Int.Digits.{digits_of};
@@ -12,13 +12,15 @@ ghost use Rattle.icu_decimal.specs.ShownChoice.{CanShow};
 ghost use Rattle.locale_numbers_lines.specs.Growth.{Grows};
 ghost use Rattle.locale_numbers_answers.specs.AnswerLine.{written};
 ghost use Rattle.locale_numbers_answers.specs.AnswerSink.{HasRoom};
-ghost use Rattle.locale_numbers_answers.specs.CompactAnswer.{compact_answer};
+ghost use Rattle.locale_numbers_formatter.specs.FormatText.{compact_tables};
+ghost use Rattle.locale_numbers_answers.specs.NumberAnswer.{number_answer};
 ghost use Rattle.locale_numbers_requests.specs.Request.{tab};
 
 use crate::answer_line::write_refusal;
 use crate::answer_sink::{write_number_shown, write_text_of};
 use fixed_decimal::{Decimal, Sign};
 use icu_decimal::CompactDecimalFormatter;
+use locale_numbers_formatter::laws::compact_is_layered;
 use locale_numbers_requests::Refusal;
 use std::alloc::AllocError;
 
@@ -118,22 +120,20 @@ fn write_ok_and_number_shown(
     write_number_shown(formatter, value, out)
 }
 
-/// Writes a number as a compact formatter shows it, and the value shown, after what `out` holds. The number becomes
-/// what is shown.
-///
-/// The word `range` is there where the value shown would be no decimal. Where there is room for the answer, it does
-/// not allocate. By a short formatter of `en` 1650 is answered by `ok`, `1.6K` and `1.6c3`, with tabs between.
-/// `AllocError`: out of memory; a part of the answer may then be there.
-pub fn write_compact_answer(
+// Writes the answer that is a compact number, and the value shown after a tab, after what `out` holds. The number becomes
+// what is shown. The word `range` is there where that would be no decimal.
+pub(crate) fn write_compact(
     formatter: &CompactDecimalFormatter<'_>,
     value: &mut Decimal,
     out: &mut String,
 ) -> Result<(), AllocError>
     ensures text { OnOk result (string_bytes out.new
-        ≡ string_bytes out.old ++ compact_answer (compact_tables_of formatter.now) value.old) }
+        ≡ string_bytes out.old ++ number_answer (compact_tables (compact_tables_of formatter.now)) value.old) }
     ensures err { OnErr result (Grows (string_bytes out.old) (string_bytes out.new)) }
-    ensures room { HasRoom out.old (compact_answer (compact_tables_of formatter.now) value.old) → IsOk result }
+    ensures room { HasRoom out.old (number_answer (compact_tables (compact_tables_of formatter.now)) value.old)
+        → IsOk result }
 {
+    compact_is_layered();
     if !formatter.can_format(value) {
         return write_refusal(out, Refusal::Range);
     }

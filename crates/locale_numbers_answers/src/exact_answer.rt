@@ -1,16 +1,18 @@
-//! The exact forms: a significand and an exponent, as they are given.
+//! The task that writes an exact form: a significand and an exponent, as they are given.
 
 ghost use Rattle.std.specs.Prelude.{◌≡◌, ◌++◌, IfOk, IsOk, OnOk, OnErr, IsErrOf, string_bytes};
 ghost use Rattle.fixed_decimal.specs.CompactText.{ReadsLongCompact};
-ghost use Rattle.icu_decimal.specs.HeldCompact.{compact_tables_of};
+ghost use Rattle.locale_numbers_formats.specs.Changed.{signed_as};
 ghost use Rattle.locale_numbers_lines.specs.Growth.{Grows};
 ghost use Rattle.locale_numbers_answers.specs.AnswerSink.{HasRoom};
-ghost use Rattle.locale_numbers_answers.specs.CompactAnswer.{exact_answer};
 ghost use Rattle.locale_numbers_answers.specs.CompactReading.{compact_beyond, compact_nothing, compact_number, compact_reading_of};
+ghost use Rattle.locale_numbers_answers.specs.NumberAnswer.{exact_answer, signed_form};
 
 use crate::answer_line::{write_ok, write_refusal};
 use fixed_decimal::{CompactDecimal, Decimal, ParseError};
-use icu_decimal::CompactDecimalFormatter;
+use locale_numbers_formats::SignAsked;
+use locale_numbers_formatter::laws::format_is_text;
+use locale_numbers_formatter::{ExactError, NumberFormatter};
 use locale_numbers_requests::Refusal;
 use std::alloc::{AllocError, Global};
 
@@ -29,33 +31,62 @@ pub fn read_compact(alloc: Global, text: &str) -> Result<CompactDecimal, ParseEr
     CompactDecimal::try_from_str(alloc, text)
 }
 
-/// Writes a significand with its exponent, as a compact formatter writes both, after what `out` holds; or the word
-/// `range`, where their magnitude is beyond that of a decimal; or the word `exponent`, where the formatter has another
+// Chooses the sign of a number, where that is asked for.
+fn choose_sign(value: &mut Decimal, sign: SignAsked)
+    ensures { value.new ≡ signed_as sign value.old }
+{
+    match sign {
+        SignAsked::Keep => {}
+        SignAsked::Show(display) => value.apply_sign_display(display),
+    }
+}
+
+// The same form with the sign that is asked for.
+fn signed(form: CompactDecimal, sign: SignAsked) -> CompactDecimal
+    ensures { result ≡ signed_form sign form }
+{
+    let exponent = form.exponent();
+    let mut significand = form.into_significand();
+    choose_sign(&mut significand, sign);
+    CompactDecimal::from_significand_and_exponent(significand, exponent)
+}
+
+// Writes the answer that is an exact form after what `out` holds.
+fn write_form(
+    formatter: &NumberFormatter<'_>,
+    form: &CompactDecimal,
+    out: &mut String,
+) -> Result<(), AllocError>
+    ensures text { OnOk result (string_bytes out.new ≡ string_bytes out.old ++ exact_answer formatter.now form.now) }
+    ensures err { OnErr result (Grows (string_bytes out.old) (string_bytes out.new)) }
+    ensures room { HasRoom out.old (exact_answer formatter.now form.now) → IsOk result }
+{
+    format_is_text();
+    match formatter.format_exact(form) {
+        Ok(number) => write_ok(out, &number),
+        Err(ExactError::Range) => write_refusal(out, Refusal::Range),
+        Err(ExactError::Exponent) => write_refusal(out, Refusal::Exponent),
+    }
+}
+
+/// Writes a significand with its exponent, with the sign that is asked for, by a formatter, after what `out` holds; or the
+/// word `range`, where their magnitude is beyond that of a decimal; or the word `exponent`, where the formatter has another
 /// exponent for it.
 ///
-/// By a short formatter of `en` -1.20 and 6 are answered by `ok`, a tab and `-1.20M`. `AllocError`: out of memory; a part
-/// of the answer may then be there.
+/// By a short formatter of `en` -1.20 and 6 are answered by `ok`, a tab and `-1.20M`. A format without compact patterns has
+/// the exponent 0 alone. Where there is room, it does not allocate. `AllocError`: out of memory; a part of the answer may
+/// then be there.
 pub fn write_exact_answer(
-    formatter: &CompactDecimalFormatter<'_>,
-    significand: &Decimal,
-    exponent: u8,
+    formatter: &NumberFormatter<'_>,
+    sign: SignAsked,
+    form: CompactDecimal,
     out: &mut String,
 ) -> Result<(), AllocError>
     ensures text { OnOk result (string_bytes out.new
-        ≡ string_bytes out.old ++ exact_answer (compact_tables_of formatter.now)
-        (record { significand = significand.now; exponent = exponent })) }
+        ≡ string_bytes out.old ++ exact_answer formatter.now (signed_form sign form)) }
     ensures err { OnErr result (Grows (string_bytes out.old) (string_bytes out.new)) }
-
-    // Where there is room for the answer, it does not allocate.
-    ensures room { HasRoom out.old
-        (exact_answer (compact_tables_of formatter.now) (record { significand = significand.now; exponent = exponent }))
-        → IsOk result }
+    ensures room { HasRoom out.old (exact_answer formatter.now (signed_form sign form)) → IsOk result }
 {
-    if !formatter.exponent_in_range(significand, exponent) {
-        return write_refusal(out, Refusal::Range);
-    }
-    match formatter.format_with_exponent(significand, exponent) {
-        Ok(text) => write_ok(out, &text),
-        Err(_) => write_refusal(out, Refusal::Exponent),
-    }
+    let form = signed(form, sign);
+    write_form(formatter, &form, out)
 }

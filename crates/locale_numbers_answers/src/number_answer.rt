@@ -1,22 +1,30 @@
-//! The forms that write a number.
+//! The task that writes a number.
 
-ghost use Rattle.std.specs.Prelude.{◌≡◌, true, ◌++◌, IsOk, OnOk, OnErr, IsErrOf, string_bytes};
+ghost use Rattle.std.specs.Prelude.{◌≡◌, true, ◌++◌, IfSome, IsOk, OnOk, OnErr, IsErrOf, string_bytes};
 ghost use Rattle.std.specs.Str.{is_utf8};
 ghost use Rattle.icu_decimal.specs.HeldTables.{tables_of};
-ghost use Rattle.icu_decimal.specs.PlainText.{decimal_text};
 ghost use Rattle.icu_decimal_direct.specs.TextDigits.{number_spelled};
 ghost use Rattle.icu_decimal_direct.specs.TextTables.{text_tables};
+ghost use Rattle.icu_dimension.specs.HeldFormatters.{code_of, currency_settings_of, settings_of_percent};
 ghost use Rattle.locale_numbers_lines.specs.Growth.{Grows};
-ghost use Rattle.locale_numbers_answers.specs.AnswerLine.{written};
+ghost use Rattle.locale_numbers_formatter.specs.FormatReading.{reader_of};
+ghost use Rattle.locale_numbers_formatter.specs.FormatText.{plain_tables, unit_tables};
+ghost use Rattle.locale_numbers_formatter.specs.HeldFormats.{currency_format, percent_format};
+ghost use Rattle.locale_numbers_answers.specs.AnswerMemory.{ReadsMore};
 ghost use Rattle.locale_numbers_answers.specs.AnswerSink.{HasRoom};
-ghost use Rattle.locale_numbers_answers.specs.Changing.{ReadsMore};
+ghost use Rattle.locale_numbers_answers.specs.NumberAnswer.{number_answer};
 ghost use Rattle.locale_numbers_answers.specs.NumberReading.{number, beyond, nothing, reading_of};
 
-use crate::answer_line::write_ok;
+use crate::answer_line::{write_joined, write_ok};
 use crate::answer_sink::write_piece;
+use crate::compact_answer::write_compact;
 use fixed_decimal::{Decimal, ParseError};
 use icu_decimal::DecimalFormatter;
 use icu_decimal_direct::{TextDigits, TextTables};
+use icu_dimension::laws::units::text_law;
+use icu_dimension::{CurrencyFormatter, PercentFormatter};
+use locale_numbers_formatter::laws::{plain_is_layered, unit_is_layered, written_reads_back};
+use locale_numbers_formatter::{FormatterKind, NumberFormatter, NumberReader};
 use std::alloc::AllocError;
 
 /// Reads the number that a text says in place of the one that is there: of `-987654.321` it reads -987654.321.
@@ -36,21 +44,98 @@ pub fn read_number(value: &mut Decimal, text: &[u8]) -> Result<(), ParseError>
     value.assign_from_utf8(text)
 }
 
-/// Writes the answer that is a number, as a plain formatter writes it, after what `out` holds.
-///
-/// By a formatter of `en` -987654.321 is answered by `ok`, a tab and `-987,654.321`. Where there is room, it does not
-/// allocate. `AllocError`: out of memory; a part of the answer may then be there.
-pub fn write_plain_answer(
+// Writes the answer that is a plain number after what `out` holds.
+fn write_plain(
     formatter: &DecimalFormatter<'_>,
     value: &Decimal,
     out: &mut String,
 ) -> Result<(), AllocError>
     ensures text { OnOk result (string_bytes out.new
-        ≡ string_bytes out.old ++ written (decimal_text (tables_of formatter.now) value.now)) }
+        ≡ string_bytes out.old ++ number_answer (plain_tables (tables_of formatter.now)) value.now) }
     ensures err { OnErr result (Grows (string_bytes out.old) (string_bytes out.new)) }
-    ensures room { HasRoom out.old (written (decimal_text (tables_of formatter.now) value.now)) → IsOk result }
+    ensures room { HasRoom out.old (number_answer (plain_tables (tables_of formatter.now)) value.now) → IsOk result }
 {
+    plain_is_layered();
     write_ok(out, &formatter.format(value))
+}
+
+// Writes the answer that is percents after what `out` holds: by a reader that has put their affixes together, where there
+// is one.
+fn write_percents(
+    formatter: &PercentFormatter<'_>,
+    reader: Option<&NumberReader<'_>>,
+    value: &Decimal,
+    out: &mut String,
+) -> Result<(), AllocError>
+    requires { IfSome reader (λ reader. reader.now
+        ≡ reader_of (unit_tables (percent_format (settings_of_percent formatter.now)))) }
+    ensures text { OnOk result (string_bytes out.new
+        ≡ string_bytes out.old ++ number_answer
+        (unit_tables (percent_format (settings_of_percent formatter.now))) value.now) }
+    ensures err { OnErr result (Grows (string_bytes out.old) (string_bytes out.new)) }
+    ensures room { HasRoom out.old
+        (number_answer (unit_tables (percent_format (settings_of_percent formatter.now))) value.now) → IsOk result }
+{
+    written_reads_back();
+    unit_is_layered();
+    text_law();
+    match reader {
+        Some(reader) => write_joined(reader, value, out),
+        None => write_ok(out, &formatter.format(value)),
+    }
+}
+
+// The same of an amount.
+fn write_amount(
+    formatter: &CurrencyFormatter<'_>,
+    reader: Option<&NumberReader<'_>>,
+    value: &Decimal,
+    out: &mut String,
+) -> Result<(), AllocError>
+    requires { IfSome reader (λ reader. reader.now
+        ≡ reader_of (unit_tables (currency_format (code_of formatter.now) (currency_settings_of formatter.now)))) }
+    ensures text { OnOk result (string_bytes out.new
+        ≡ string_bytes out.old ++ number_answer
+        (unit_tables (currency_format (code_of formatter.now) (currency_settings_of formatter.now))) value.now) }
+    ensures err { OnErr result (Grows (string_bytes out.old) (string_bytes out.new)) }
+    ensures room { HasRoom out.old
+        (number_answer (unit_tables (currency_format (code_of formatter.now) (currency_settings_of formatter.now)))
+        value.now) → IsOk result }
+{
+    written_reads_back();
+    unit_is_layered();
+    text_law();
+    match reader {
+        Some(reader) => write_joined(reader, value, out),
+        None => write_ok(out, &formatter.format(value)),
+    }
+}
+
+/// Writes the answer to a number by a formatter after what `out` holds: `ok`, a tab and its text, and of a compact format
+/// a tab and the value shown, or the word `range` where that would be no decimal.
+///
+/// By the formatter of `en` -987654.321 is answered by `ok`, a tab and `-987,654.321`; by a short one 1650 by `ok`, `1.6K`
+/// and `1.6c3`, with tabs between, and the number becomes what is shown. The number is written as it is given. With a
+/// reader of the formatter's its affixes are written, which were put together once; the condition is that it is the
+/// formatter's. Where there is room, it does not allocate. `AllocError`: out of memory; a part of the answer may then be
+/// there.
+pub fn write_number_answer(
+    formatter: &NumberFormatter<'_>,
+    reader: Option<&NumberReader<'_>>,
+    value: &mut Decimal,
+    out: &mut String,
+) -> Result<(), AllocError>
+    requires { IfSome reader (λ reader. reader.now ≡ reader_of formatter.now) }
+    ensures text { OnOk result (string_bytes out.new ≡ string_bytes out.old ++ number_answer formatter.now value.old) }
+    ensures err { OnErr result (Grows (string_bytes out.old) (string_bytes out.new)) }
+    ensures room { HasRoom out.old (number_answer formatter.now value.old) → IsOk result }
+{
+    match formatter.kind() {
+        FormatterKind::Plain(formatter) => write_plain(formatter, value, out),
+        FormatterKind::Compact(formatter) => write_compact(formatter, value, out),
+        FormatterKind::Percent(formatter) => write_percents(formatter, reader, value, out),
+        FormatterKind::Currency(formatter) => write_amount(formatter, reader, value, out),
+    }
 }
 
 // The bytes that an answer may have whose text is put directly.
@@ -66,11 +151,12 @@ pub fn write_digits_answer(
     out: &mut String,
 ) -> Result<(), AllocError>
     ensures text { OnOk result (string_bytes out.new
-        ≡ string_bytes out.old ++ written (decimal_text (text_tables tables.now) (number_spelled digits.now))) }
+        ≡ string_bytes out.old ++ number_answer (plain_tables (text_tables tables.now)) (number_spelled digits.now)) }
     ensures err { OnErr result (string_bytes out.new ≡ string_bytes out.old) }
-    ensures room { HasRoom out.old (written (decimal_text (text_tables tables.now) (number_spelled digits.now)))
+    ensures room { HasRoom out.old (number_answer (plain_tables (text_tables tables.now)) (number_spelled digits.now))
         → IsOk result }
 {
+    plain_is_layered();
     let mut answer = [0; ROOM];
     answer[0] = b'o';
     answer[1] = b'k';

@@ -1,5 +1,6 @@
 pub mod CodeLemmas
 pub mod DigitsLemmas
 mod KnownValues
+pub mod MagnitudeLemmas
 pub mod OldRequestsLemmas
 pub mod RequestLemmas

@@ -222,8 +222,9 @@ fn rounding_read(rounding: Rounding) -> Rounding
     }
 }
 
-// The format by which numbers are read that are written by another one.
-fn format_read(format: NumberFormat) -> NumberFormat
+/// The format by which numbers are read that are written by another one: what is read is not rounded, but an amount may
+/// have to have the digits of its currency. It does not allocate.
+pub fn format_read(format: NumberFormat) -> NumberFormat
     ensures { result ≡ format_read format }
 {
     NumberFormat {

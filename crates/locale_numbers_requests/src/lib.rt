@@ -23,7 +23,9 @@ mod rounding_field;
 mod sign_field;
 
 pub use digits::{are_digits, capped_number};
-pub use form_field::Task;
+pub use form_field::{Task, format_read};
 pub use locale_numbers_formats::{SignAsked, cut_field, cut_last};
 pub use refusal::Refusal;
-pub use request::{Request, as_text, is_text, read_request};
+pub use request::{Request, as_text, grouping_named, is_text, read_request};
+pub use rounding_field::{count_named, increment_named, last_named, mode_named, position_named};
+pub use sign_field::sign_named;

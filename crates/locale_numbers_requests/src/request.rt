@@ -34,8 +34,8 @@ const GROUPINGS: [(&[u8], GroupingStrategy); 4] = [
     (b"min2", GroupingStrategy::Min2),
 ];
 
-// The grouping that a field names.
-fn grouping_named(word: &[u8]) -> Option<GroupingStrategy>
+/// The grouping that a word names: `Min2` of `min2`. `None` where it names none, as `Auto`. It does not allocate.
+pub fn grouping_named(word: &[u8]) -> Option<GroupingStrategy>
     ensures { result ≡ grouping_named word.now }
 {
     value_beside(&GROUPINGS, word)

@@ -45,8 +45,8 @@ fn size_named(most: u32, word: &[u8]) -> Option<u32>
     if number <= most { Some(number) } else { None }
 }
 
-// The position that a word names.
-fn position_named(word: &[u8]) -> Option<i16>
+/// The position that a word names: -2 of `-2`. `None` where it names none, as `+1`, `01` and `32768`. It does not allocate.
+pub fn position_named(word: &[u8]) -> Option<i16>
     ensures { result ≡ position_named word.now }
 {
     let (first, rest) = word.split_first()?;
@@ -70,8 +70,9 @@ enum Places {
     Fraction(i16, i16),
 }
 
-// The number from 0 to 32767 that a word writes with no zero in front.
-fn count_named(word: &[u8]) -> Option<i16>
+/// The number from 0 to 32767 that a word writes with no zero in front: 2 of `2`. `None` where it writes none, as `02`. It
+/// does not allocate.
+pub fn count_named(word: &[u8]) -> Option<i16>
     ensures { result ≡ count_named word.now }
 {
     if word == b"0".as_slice() {
@@ -82,8 +83,9 @@ fn count_named(word: &[u8]) -> Option<i16>
     }
 }
 
-// The position of the last of so many digits of a fraction.
-fn last_named(word: &[u8]) -> Option<i16>
+/// The position of the last of so many digits of a fraction: -2 of `2`. `None` where the word writes no number from 0 to
+/// 32767. It does not allocate.
+pub fn last_named(word: &[u8]) -> Option<i16>
     ensures { result ≡ last_named word.now }
 {
     if word == b"0".as_slice() {
@@ -156,8 +158,8 @@ const MODES: [(&[u8], SignedRoundingMode); 9] = [
     ),
 ];
 
-// The mode that a word names.
-fn mode_named(word: &[u8]) -> Option<SignedRoundingMode>
+/// The mode that a word names: `Floor` of `floor`. `None` where it names none, as `down`. It does not allocate.
+pub fn mode_named(word: &[u8]) -> Option<SignedRoundingMode>
     ensures { result ≡ mode_named word.now }
 {
     value_beside(&MODES, word)
@@ -171,8 +173,8 @@ const INCREMENTS: [(&[u8], RoundingIncrement); 4] = [
     (b"25", RoundingIncrement::MultiplesOf25),
 ];
 
-// The increment that a word names.
-fn increment_named(word: &[u8]) -> Option<RoundingIncrement>
+/// The increment that a word names: `MultiplesOf5` of `5`. `None` where it names none, as `3`. It does not allocate.
+pub fn increment_named(word: &[u8]) -> Option<RoundingIncrement>
     ensures { result ≡ increment_named word.now }
 {
     value_beside(&INCREMENTS, word)

@@ -16,8 +16,8 @@ const SIGNS: [(&[u8], SignAsked); 6] = [
     (b"negative", SignAsked::Show(SignDisplay::Negative)),
 ];
 
-// The sign that a field asks for.
-pub(crate) fn sign_named(word: &[u8]) -> Option<SignAsked>
+/// The sign that a word asks for: `Keep` of `keep`. `None` where it asks for none, as `plus`. It does not allocate.
+pub fn sign_named(word: &[u8]) -> Option<SignAsked>
     ensures { result ≡ sign_named word.now }
 {
     value_beside(&SIGNS, word)

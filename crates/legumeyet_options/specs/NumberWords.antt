@@ -1,0 +1,126 @@
+-- What the options ask of numbers: what is done, and the format; or which of them is wrong.
+-- Defined in docs/command.md, "Options".
+-- Cited by `NumberWords::asked`.
+-- The words name types with cases, and the cases of each are imported beside it.
+use Rattle.std.specs.Prelude.{ℕ, Bool, true, false, not, ◌||◌, is_some, if◌then◌else◌, List, Option, Some, None, Result, Ok, Err}
+use Rattle.icu_decimal_symbols.specs.declared.options.GroupingStrategy.{GroupingStrategy}
+use Rattle.icu_decimal_symbols.specs.declared.options.GroupingStrategy.TheVariants as strategy
+use Rattle.icu_dimension_fractions.specs.CurrencyCodes.{is_currency_code}
+use Rattle.icu_dimension_fractions.specs.declared.CurrencyStyle.TheVariants as style
+use Rattle.icu_dimension_fractions.specs.declared.CurrencyWidth.TheVariants as width
+use Rattle.locale_numbers_formats.specs.SkeletonFormats.{format_of}
+use Rattle.locale_numbers_formats.specs.Skeletons.{skeleton_of}
+use Rattle.locale_numbers_formats.specs.declared.Notation.{Notation}
+use Rattle.locale_numbers_formats.specs.declared.Notation.TheVariants.{Standard}
+use Rattle.locale_numbers_formats.specs.declared.NumberOptions.{NumberOptions}
+use Rattle.locale_numbers_formats.specs.declared.NumberShape.{NumberShape}
+use Rattle.locale_numbers_formats.specs.declared.NumberUnit.{NumberUnit}
+use Rattle.locale_numbers_formats.specs.declared.NumberUnit.TheVariants as unit
+use Rattle.locale_numbers_formats.specs.declared.SignAsked.{SignAsked}
+use Rattle.locale_numbers_formats.specs.declared.SignAsked.TheVariants as sign
+use Rattle.locale_numbers_formats.specs.declared.Skeleton.{Skeleton}
+use Rattle.locale_numbers_formats.specs.declared.SkeletonError.{SkeletonError}
+use Rattle.locale_numbers_requests.specs.Request.{grouping_named, keeps_sign, sign_named}
+use Rattle.locale_numbers_requests.specs.declared.Task.{Task}
+use Rattle.locale_numbers_requests.specs.declared.Task.TheVariants.{Write, WriteExact, Read, ReadLenient}
+use Rattle.legumeyet_options.specs.Digits.{digits_said, is_coarse}
+use Rattle.legumeyet_options.specs.NumberForms.{form_said}
+use Rattle.legumeyet_options.specs.declared.number_words.NumbersAsked.{NumbersAsked}
+use Rattle.legumeyet_options.specs.declared.fault.OptionFault.{OptionFault}
+use Rattle.legumeyet_options.specs.declared.fault.OptionFault.TheVariants as fault
+
+-- the words of the options, where they are given
+pub record NumbersSaid : Type 0 where
+  pub form : Option (List ℕ)
+  pub format : Option (List ℕ)
+  pub currency : Option (List ℕ)
+  pub is_accounting : Bool
+  pub is_by_code : Bool
+  pub is_percent : Bool
+  pub grouping : Option (List ℕ)
+  pub sign : Option (List ℕ)
+  pub is_in_cash : Bool
+  pub round : Option (List ℕ)
+  pub digits : Option (List ℕ)
+  pub max_digits : Option (List ℕ)
+  pub min_digits : Option (List ℕ)
+
+-- ---- single options
+
+-- what a word names, or a fault
+abbrev pub named_or : {A : Type 0} → OptionFault → Option A → Result A OptionFault
+named_or fault None = Err fault
+named_or fault (Some x) = Ok x
+
+abbrev pub form_asked : Option (List ℕ) → Result (Task × Notation) OptionFault
+form_asked None = Ok (Write, Standard)
+form_asked (Some word) = named_or fault.Form (form_said word)
+
+abbrev pub grouping_asked : Option (List ℕ) → Result GroupingStrategy OptionFault
+grouping_asked None = Ok strategy.Auto
+grouping_asked (Some word) = named_or fault.Grouping (grouping_named word)
+
+abbrev pub sign_asked : Option (List ℕ) → Result SignAsked OptionFault
+sign_asked None = Ok sign.Keep
+sign_asked (Some word) = named_or fault.Sign (sign_named word)
+
+-- an amount, a percent, or neither
+abbrev pub unit_asked : Option (List ℕ) → Bool → Bool → Bool → Result NumberUnit OptionFault
+unit_asked None accounting by_code percent = Ok (if percent then unit.Percent else unit.None)
+unit_asked (Some code) accounting by_code percent =
+    if is_currency_code code then Ok (unit.Currency (record {
+      code = code;
+      style = if accounting then style.Accounting else style.Standard;
+      width = if by_code then width.IsoCode else width.Short;
+    }))
+    else Err fault.Code
+
+-- ---- together
+
+-- digits are chosen
+abbrev pub chooses_digits : Bool → Option (List ℕ) → Option (List ℕ) → Option (List ℕ) → Option (List ℕ) → Bool
+chooses_digits in_cash round digits most least = in_cash || is_some round || is_some digits || is_some most || is_some least
+
+-- an exact form shows the digits that it has, and what is read has the sign and the digits of its text
+abbrev pub task_fault : Task → SignAsked → Bool → Option OptionFault
+task_fault Write sign digits = None
+task_fault WriteExact sign digits = if digits then Some fault.DigitsOfExact else None
+task_fault Read sign digits = if not (keeps_sign sign) then Some fault.SignOfRead else if digits then Some fault.DigitsOfRead else None
+task_fault ReadLenient sign digits = if not (keeps_sign sign) then Some fault.SignOfRead else if digits then Some fault.DigitsOfRead else None
+
+abbrev pub is_coarse_round : Option (List ℕ) → Bool
+is_coarse_round None = false
+is_coarse_round (Some word) = is_coarse word
+
+abbrev pub asked_by : Option OptionFault → Task → NumberShape → SignAsked → NumberOptions → Bool → Result NumbersAsked OptionFault
+asked_by (Some fault) task shape sign options coarse = Err fault
+asked_by None task shape sign options coarse =
+    Ok (record { task = task; format = record { shape = shape; options = record options { sign = sign } }; is_coarse = coarse })
+
+-- with what one step gives
+abbrev pub after : {A B : Type 0} → Result A OptionFault → (A → Result B OptionFault) → Result B OptionFault
+after (Ok x) next = next x
+after (Err fault) next = Err fault
+
+-- what the words ask
+abbrev pub words_asked : NumbersSaid → Result NumbersAsked OptionFault
+words_asked s =
+    after (form_asked s.form) (λ form.
+    after (unit_asked s.currency s.is_accounting s.is_by_code s.is_percent) (λ unit.
+    after (grouping_asked s.grouping) (λ grouping.
+    after (sign_asked s.sign) (λ sign.
+    after (digits_said s.is_in_cash s.round s.digits s.max_digits s.min_digits) (λ options.
+    asked_by (task_fault form.0 sign (chooses_digits s.is_in_cash s.round s.digits s.max_digits s.min_digits)) form.0
+    (record { notation = form.1; unit = unit; grouping = grouping }) sign options (is_coarse_round s.round))))))
+
+-- what a skeleton asks
+abbrev pub skeleton_asked : Result Skeleton SkeletonError → Result NumbersAsked OptionFault
+skeleton_asked (Err error) = Err (fault.Format error)
+skeleton_asked (Ok skeleton) = Ok (record { task = Write; format = format_of skeleton; is_coarse = false })
+
+abbrev pub asked_as : Option (List ℕ) → NumbersSaid → Result NumbersAsked OptionFault
+asked_as None s = words_asked s
+asked_as (Some skeleton) s = skeleton_asked (skeleton_of skeleton)
+
+abbrev pub numbers_asked : NumbersSaid → Result NumbersAsked OptionFault
+numbers_asked s = asked_as s.format s

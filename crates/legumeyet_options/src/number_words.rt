@@ -1,0 +1,322 @@
+//! What the options ask of numbers.
+
+ghost use Rattle.std.specs.Prelude.{◌≡◌, option_map};
+ghost use Rattle.locale_numbers_formats.specs.Skeletons.{skeleton_of};
+ghost use Rattle.legumeyet_options.specs.NumberForms.{form_said};
+ghost use Rattle.legumeyet_options.specs.NumberWords.{asked_by, chooses_digits, form_asked, grouping_asked, is_coarse_round, numbers_asked, sign_asked, skeleton_asked, task_fault, unit_asked, words_asked};
+
+use crate::digits::{digits_said, is_coarse};
+use crate::fault::OptionFault;
+use icu_decimal_symbols::options::GroupingStrategy;
+use icu_dimension_fractions::{CurrencyCode, CurrencyStyle, CurrencyWidth};
+use locale_numbers_formats::{
+    CompactWidth, CurrencyUnit, Notation, NumberFormat, NumberOptions, NumberShape, NumberUnit,
+    SignAsked, Skeleton, value_beside,
+};
+use locale_numbers_requests::{Task, grouping_named, sign_named};
+
+/// The words of the options that say how numbers are written; `None` and `false` where an option is not given.
+#[derive(Clone, Copy, Debug)]
+pub struct NumberWords<'a> {
+    /// That of `--form`: `short`.
+    pub form: Option<&'a str>,
+    /// That of `--format`, a skeleton: `currency/EUR .00`.
+    pub format: Option<&'a str>,
+    /// That of `--currency`: `EUR`.
+    pub currency: Option<&'a str>,
+    /// Whether `--accounting` is given.
+    pub is_accounting: bool,
+    /// Whether `--code` is.
+    pub is_by_code: bool,
+    /// Whether `--percent` is.
+    pub is_percent: bool,
+    /// That of `--grouping`: `min2`.
+    pub grouping: Option<&'a str>,
+    /// That of `--sign`: `always`.
+    pub sign: Option<&'a str>,
+    /// Whether `--cash` is given.
+    pub is_in_cash: bool,
+    /// That of `--round`: `-2,floor`.
+    pub round: Option<&'a str>,
+    /// That of `--digits`: `2`.
+    pub digits: Option<&'a str>,
+    /// That of `--max-digits`: `2`.
+    pub max_digits: Option<&'a str>,
+    /// That of `--min-digits`: `2`.
+    pub min_digits: Option<&'a str>,
+}
+
+/// What is asked of numbers.
+#[derive(Clone, Copy, Debug, PartialEq, Eq)]
+pub struct NumbersAsked {
+    /// What is done with each text.
+    pub task: Task,
+    /// How numbers are written.
+    pub format: NumberFormat,
+    /// Whether they are rounded above the ones without a mode, as by `--round 2`: one with a fraction is then refused.
+    pub is_coarse: bool,
+}
+
+// The forms of numbers.
+const FORMS: [(&[u8], (Task, Notation)); 7] = [
+    (b"plain", (Task::Write, Notation::Standard)),
+    (
+        b"short",
+        (Task::Write, Notation::Compact(CompactWidth::Short)),
+    ),
+    (
+        b"long",
+        (Task::Write, Notation::Compact(CompactWidth::Long)),
+    ),
+    (
+        b"exact-short",
+        (Task::WriteExact, Notation::Compact(CompactWidth::Short)),
+    ),
+    (
+        b"exact-long",
+        (Task::WriteExact, Notation::Compact(CompactWidth::Long)),
+    ),
+    (b"read", (Task::Read, Notation::Standard)),
+    (b"read-lenient", (Task::ReadLenient, Notation::Standard)),
+];
+
+// What a form is.
+fn form_said(word: &[u8]) -> Option<(Task, Notation)>
+    ensures { result ≡ form_said word.now }
+{
+    value_beside(&FORMS, word)
+}
+
+// What `--form` asks.
+fn form_asked(word: Option<&str>) -> Result<(Task, Notation), OptionFault>
+    ensures { result ≡ form_asked (option_map (λ word. word.now) word.entry) }
+{
+    let Some(word) = word else {
+        return Ok((Task::Write, Notation::Standard));
+    };
+    match form_said(word.as_bytes()) {
+        Some(form) => Ok(form),
+        None => Err(OptionFault::Form),
+    }
+}
+
+// What `--grouping` asks.
+fn grouping_asked(word: Option<&str>) -> Result<GroupingStrategy, OptionFault>
+    ensures { result ≡ grouping_asked (option_map (λ word. word.now) word.entry) }
+{
+    let Some(word) = word else {
+        return Ok(GroupingStrategy::Auto);
+    };
+    match grouping_named(word.as_bytes()) {
+        Some(grouping) => Ok(grouping),
+        None => Err(OptionFault::Grouping),
+    }
+}
+
+// What `--sign` asks.
+fn sign_asked(word: Option<&str>) -> Result<SignAsked, OptionFault>
+    ensures { result ≡ sign_asked (option_map (λ word. word.now) word.entry) }
+{
+    let Some(word) = word else {
+        return Ok(SignAsked::Keep);
+    };
+    match sign_named(word.as_bytes()) {
+        Some(sign) => Ok(sign),
+        None => Err(OptionFault::Sign),
+    }
+}
+
+// What `--currency` and the options beside it ask, or `--percent`.
+fn unit_asked(
+    code: Option<&str>,
+    accounting: bool,
+    by_code: bool,
+    percent: bool,
+) -> Result<NumberUnit, OptionFault>
+    ensures { result ≡ unit_asked (option_map (λ word. word.now) code.entry) accounting by_code percent }
+{
+    let Some(code) = code else {
+        return Ok(if percent {
+            NumberUnit::Percent
+        } else {
+            NumberUnit::None
+        });
+    };
+    match CurrencyCode::try_from_str(code) {
+        Ok(code) => Ok(NumberUnit::Currency(CurrencyUnit {
+            code,
+            style: if accounting {
+                CurrencyStyle::Accounting
+            } else {
+                CurrencyStyle::Standard
+            },
+            width: if by_code {
+                CurrencyWidth::IsoCode
+            } else {
+                CurrencyWidth::Short
+            },
+        })),
+        Err(_) => Err(OptionFault::Code),
+    }
+}
+
+// What a task does not take.
+fn task_fault(task: Task, sign: SignAsked, digits: bool) -> Option<OptionFault>
+    ensures { result ≡ task_fault task sign digits }
+{
+    match task {
+        Task::Write => None,
+        Task::WriteExact if digits => Some(OptionFault::DigitsOfExact),
+        Task::WriteExact => None,
+        Task::Read | Task::ReadLenient => {
+            if !matches!(sign, SignAsked::Keep) {
+                Some(OptionFault::SignOfRead)
+            } else if digits {
+                Some(OptionFault::DigitsOfRead)
+            } else {
+                None
+            }
+        }
+    }
+}
+
+// Whether `--round` is a position above the ones alone.
+fn is_coarse_round(word: Option<&str>) -> bool
+    ensures { result ≡ is_coarse_round (option_map (λ word. word.now) word.entry) }
+{
+    match word {
+        None => false,
+        Some(word) => is_coarse(word.as_bytes()),
+    }
+}
+
+// What a task, a shape and options make, where nothing is wrong with them.
+fn asked_by(
+    fault: Option<OptionFault>,
+    task: Task,
+    shape: NumberShape,
+    sign: SignAsked,
+    options: NumberOptions,
+    is_coarse: bool,
+) -> Result<NumbersAsked, OptionFault>
+    ensures { result ≡ asked_by fault task shape sign options is_coarse }
+{
+    if let Some(fault) = fault {
+        return Err(fault);
+    }
+    Ok(NumbersAsked {
+        task,
+        format: NumberFormat {
+            shape,
+            options: NumberOptions { sign, ..options },
+        },
+        is_coarse,
+    })
+}
+
+// What a skeleton asks.
+fn skeleton_asked(skeleton: &str) -> Result<NumbersAsked, OptionFault>
+    ensures { result ≡ skeleton_asked (skeleton_of skeleton.now) }
+{
+    match Skeleton::try_from_str(skeleton) {
+        Ok(skeleton) => Ok(NumbersAsked {
+            task: Task::Write,
+            format: skeleton.format(),
+            is_coarse: false,
+        }),
+        Err(error) => Err(OptionFault::Format(error)),
+    }
+}
+
+impl NumberWords<'_> {
+    // Whether digits are chosen.
+    fn chooses_digits(&self) -> bool
+        ensures { result ≡ chooses_digits self.now.is_in_cash (option_map (λ word. word.now) self.now.round)
+            (option_map (λ word. word.now) self.now.digits) (option_map (λ word. word.now) self.now.max_digits)
+            (option_map (λ word. word.now) self.now.min_digits) }
+    {
+        self.is_in_cash
+            || self.round.is_some()
+            || self.digits.is_some()
+            || self.max_digits.is_some()
+            || self.min_digits.is_some()
+    }
+
+    // What the words ask, where they are no skeleton.
+    fn words_asked(&self) -> Result<NumbersAsked, OptionFault>
+        ensures { result ≡ words_asked (record {
+          form = option_map (λ word. word.now) self.now.form;
+          format = option_map (λ word. word.now) self.now.format;
+          currency = option_map (λ word. word.now) self.now.currency;
+          is_accounting = self.now.is_accounting;
+          is_by_code = self.now.is_by_code;
+          is_percent = self.now.is_percent;
+          grouping = option_map (λ word. word.now) self.now.grouping;
+          sign = option_map (λ word. word.now) self.now.sign;
+          is_in_cash = self.now.is_in_cash;
+          round = option_map (λ word. word.now) self.now.round;
+          digits = option_map (λ word. word.now) self.now.digits;
+          max_digits = option_map (λ word. word.now) self.now.max_digits;
+          min_digits = option_map (λ word. word.now) self.now.min_digits;
+        }) }
+    {
+        let (task, notation) = form_asked(self.form)?;
+        let unit = unit_asked(
+            self.currency,
+            self.is_accounting,
+            self.is_by_code,
+            self.is_percent,
+        )?;
+        let grouping = grouping_asked(self.grouping)?;
+        let sign = sign_asked(self.sign)?;
+        let options = digits_said(
+            self.is_in_cash,
+            self.round,
+            self.digits,
+            self.max_digits,
+            self.min_digits,
+        )?;
+        let shape = NumberShape {
+            notation,
+            unit,
+            grouping,
+        };
+        let fault = task_fault(task, sign, self.chooses_digits());
+        asked_by(
+            fault,
+            task,
+            shape,
+            sign,
+            options,
+            is_coarse_round(self.round),
+        )
+    }
+
+    /// What the words ask of numbers: of `--currency EUR --digits 3` that they are written as amounts in euros, to
+    /// thousandths. It does not allocate.
+    ///
+    /// `OptionFault`: an option is wrong, or does not go with the form. Where several are, it is the first of the form, the
+    /// currency, the grouping, the sign and the digits, and else that which does not go with the form.
+    pub fn asked(&self) -> Result<NumbersAsked, OptionFault>
+        ensures value { result ≡ numbers_asked (record {
+          form = option_map (λ word. word.now) self.now.form;
+          format = option_map (λ word. word.now) self.now.format;
+          currency = option_map (λ word. word.now) self.now.currency;
+          is_accounting = self.now.is_accounting;
+          is_by_code = self.now.is_by_code;
+          is_percent = self.now.is_percent;
+          grouping = option_map (λ word. word.now) self.now.grouping;
+          sign = option_map (λ word. word.now) self.now.sign;
+          is_in_cash = self.now.is_in_cash;
+          round = option_map (λ word. word.now) self.now.round;
+          digits = option_map (λ word. word.now) self.now.digits;
+          max_digits = option_map (λ word. word.now) self.now.max_digits;
+          min_digits = option_map (λ word. word.now) self.now.min_digits;
+        }) }
+    {
+        match self.format {
+            None => self.words_asked(),
+            Some(skeleton) => skeleton_asked(skeleton),
+        }
+    }
+}

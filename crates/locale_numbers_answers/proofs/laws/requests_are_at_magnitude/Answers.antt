@@ -1,5 +1,0 @@
-use Rattle.locale_numbers_answers.proofs.MagnitudeLemmas.{requests_placed}
-use Rattle.locale_numbers_answers.proofs.laws.requests_are_at_magnitude.Goals as goal
-
-pub returns : goal.returns
-returns c = requests_placed

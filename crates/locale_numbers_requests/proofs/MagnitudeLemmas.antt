@@ -1,0 +1,310 @@
+-- The options of a request fit decimals: the position of its rounding is a magnitude: `specs/Laws.antt`.
+use Rattle.std.proofs.Common.{◌≡◌, ◌≤◌, ◌<◌, ◌&&◌, ℕ, zero, suc, Bool, true, false, List, [], ◌∷◌, Option, Some, None, Result, Ok, Err, refl, subst, arith, if◌then◌else◌, drop, length, take, ◌-◌}
+use Rattle.std.proofs.lemmas.Bool.{leb-true}
+use Rattle.std.specs.Prelude.{◌==◌, codes, int_le, ℤ, neg_ℤ, pos, negsuc, nat_le}
+use Rattle.std.specs.Str.{bytes_eq, is_utf8}
+use Rattle.fixed_decimal.specs.Number.{place}
+use Rattle.fixed_decimal.specs.NumberText.{minus, spelled}
+use Rattle.fixed_decimal.specs.declared.RoundingIncrement.{RoundingIncrement}
+use Rattle.fixed_decimal.specs.declared.SignedRoundingMode.{SignedRoundingMode}
+use Rattle.icu_decimal_symbols.specs.declared.options.GroupingStrategy.{GroupingStrategy}
+use Rattle.icu_dimension_fractions.specs.CurrencyCodes.{is_currency_code}
+use Rattle.icu_dimension_fractions.specs.declared.CurrencyUsage.{CurrencyUsage}
+use Rattle.icu_dimension_fractions.specs.declared.CurrencyUsage.TheVariants as usage
+use Rattle.locale_numbers_formats.proofs.ReadLemmas.{skeleton_is}
+use Rattle.locale_numbers_formats.specs.Cutting.{cut_at}
+use Rattle.locale_numbers_formats.specs.SkeletonFormats as skeletons
+use Rattle.locale_numbers_formats.specs.SkeletonFormats.{by_usage, format_of, to_digits}
+use Rattle.locale_numbers_formats.specs.Skeletons.{is_compact, is_currency, skeleton_of}
+use Rattle.locale_numbers_formats.specs.declared.NumberFormat.{NumberFormat}
+use Rattle.locale_numbers_formats.specs.declared.Precision.{Precision}
+use Rattle.locale_numbers_formats.specs.declared.Precision.TheVariants as precision
+use Rattle.locale_numbers_formats.specs.declared.Rounding.{Rounding}
+use Rattle.locale_numbers_formats.specs.declared.Rounding.TheVariants as rounding
+use Rattle.locale_numbers_formats.specs.declared.Rounding.TheVariants.{Usual, AsGiven, At}
+use Rattle.locale_numbers_formats.specs.declared.SignAsked.{SignAsked}
+use Rattle.locale_numbers_formats.specs.declared.Skeleton.{Skeleton}
+use Rattle.locale_numbers_formats.specs.declared.SkeletonError.{SkeletonError}
+use Rattle.locale_numbers_requests.specs.Laws.{FitDecimals, IsAtMagnitude, RequestsAreAtMagnitude}
+use Rattle.locale_numbers_requests.specs.FormField.{amount_by, amount_form, amount_word, coded_form, colon, first_of, form_for, form_named, listed_form, rounding_read, skeleton_by, skeleton_in, skeleton_task}
+use Rattle.locale_numbers_requests.specs.Request.{Asked, asked_by, fields, format_asked, format_by, grouping_named, request_by, request_in, says_nothing, sign_named, takes}
+use Rattle.locale_numbers_requests.specs.RoundingField.{above_zero, all_of, below_zero, comma, count_named, counts_by, counts_in, digits_by, digits_in, increment_named, is_size, last_named, letter_f, mode_named, places_named, position_by, position_named, rounding_named, size_named, whole_by}
+use Rattle.locale_numbers_requests.specs.declared.form_field.AmountWord.{AmountWord}
+use Rattle.locale_numbers_requests.specs.declared.form_field.FormAsked.{FormAsked}
+use Rattle.locale_numbers_requests.specs.declared.form_field.FormAsked.TheVariants.{OfWord, OfSkeleton}
+use Rattle.locale_numbers_requests.specs.declared.form_field.Task.{Task}
+use Rattle.locale_numbers_requests.specs.declared.form_field.Task.TheVariants.{Write, WriteExact, Read, ReadLenient}
+use Rattle.locale_numbers_requests.specs.declared.rounding_field.DigitsAsked.{DigitsAsked}
+use Rattle.locale_numbers_requests.specs.declared.rounding_field.Places.{Places}
+use Rattle.locale_numbers_requests.specs.declared.rounding_field.Places.TheVariants.{Position, Fraction}
+use Rattle.locale_numbers_formats.specs.declared.TrailingZeros.TheVariants.{TrimWhole}
+
+abbrev IsPlaced : ℤ → Type 0
+IsPlaced position = place position < 65536
+
+-- ---- sizes
+
+size_below : (a : Bool) (n most m : ℕ) → (if a && nat_le n most then Some n else None) ≡ Some m → m ≤ most
+size_below true n most m is = by (nat_le n most) refl is
+  where
+    by : (b : Bool) → nat_le n most ≡ b → (if b then Some n else None) ≡ Some m → m ≤ most
+    by true test same = let one : n ≡ m = cc in subst (λ x. x ≤ most) one (leb-true n most test)
+    by false test same = absurd (cc)
+size_below false n most m is = absurd (cc)
+
+placed_above : (o : Option ℕ) (p : ℤ) → ((m : ℕ) → o ≡ Some m → m ≤ 32767) → above_zero o ≡ Some p → IsPlaced p
+placed_above None p most is = absurd (cc)
+placed_above (Some m) p most is = let one : pos m ≡ p = cc in subst IsPlaced one (let below = most m refl in omega (arith, below))
+
+placed_below : (o : Option ℕ) (p : ℤ) → below_zero o ≡ Some p → IsPlaced p
+placed_below None p is = absurd (cc)
+placed_below (Some zero) p is = let one : pos 0 ≡ p = cc in subst IsPlaced one (omega arith)
+placed_below (Some (suc m)) p is = let one : negsuc m ≡ p = cc in subst IsPlaced one (omega arith)
+
+-- ---- positions
+
+placed_by : (a b : Bool) (below above : Option ℕ) (p : ℤ) → ((m : ℕ) → above ≡ Some m → m ≤ 32767)
+    → (if a then Some (pos 0) else if b then below_zero below else above_zero above) ≡ Some p → IsPlaced p
+placed_by true b below above p most is = let one : pos 0 ≡ p = cc in subst IsPlaced one (omega arith)
+placed_by false true below above p most is = placed_below below p is
+placed_by false false below above p most is = placed_above above p most is
+
+position_placed : (word : List ℕ) (p : ℤ) → position_named word ≡ Some p → IsPlaced p
+position_placed [] p is = absurd (cc)
+position_placed (c ∷ cs) p is =
+    placed_by (bytes_eq (c ∷ cs) (codes "0")) (c == minus) (size_named 32768 cs) (size_named 32767 (c ∷ cs)) p
+    (λ m same. size_below (is_size (c ∷ cs)) (spelled (c ∷ cs)) 32767 m same) is
+
+-- ---- roundings of the field
+
+abbrev ArePlaced : Option DigitsAsked → Type 0
+ArePlaced None = Unit {0}
+ArePlaced (Some digits) = IsAtMagnitude digits.rounding
+
+-- and so are the places that a word names
+abbrev AreNamed : Option Places → Type 0
+AreNamed None = Unit {0}
+AreNamed (Some (Position position)) = IsPlaced position
+AreNamed (Some (Fraction least last)) = IsPlaced last
+
+last_placed : (word : List ℕ) (p : ℤ) → last_named word ≡ Some p → IsPlaced p
+last_placed word p is = by (bytes_eq word (codes "0")) is
+  where
+    by : (b : Bool) → (if b then Some (pos 0) else below_zero (size_named 32767 word)) ≡ Some p → IsPlaced p
+    by true same = let one : pos 0 ≡ p = cc in subst IsPlaced one (omega arith)
+    by false same = placed_below (size_named 32767 word) p same
+
+counted : (least last : Option ℤ) → ((p : ℤ) → last ≡ Some p → IsPlaced p) → AreNamed (counts_by least last)
+counted None last placed = tt
+counted (Some least) None placed = tt
+counted (Some least) (Some last) placed = by (int_le least (neg_ℤ last))
+  where
+    by : (b : Bool) → AreNamed (if b then Some (Fraction least last) else None)
+    by true = placed last refl
+    by false = tt
+
+counts_placed : (words : List (List ℕ)) → AreNamed (counts_in words)
+counts_placed [] = tt
+counts_placed (a ∷ []) = tt
+counts_placed (a ∷ b ∷ []) = counted (count_named a) (last_named b) (last_placed b)
+counts_placed (a ∷ b ∷ c ∷ more) = tt
+
+positioned : (p : Option ℤ) → ((z : ℤ) → p ≡ Some z → IsPlaced z) → AreNamed (position_by p)
+positioned None placed = tt
+positioned (Some p) placed = placed p refl
+
+places_placed : (word : List ℕ) → AreNamed (places_named word)
+places_placed [] = tt
+places_placed (c ∷ cs) = by (c == letter_f)
+  where
+    by : (b : Bool) → AreNamed (if b then counts_in (cut_at minus cs) else position_by (position_named (c ∷ cs)))
+    by true = counts_placed (cut_at minus cs)
+    by false = positioned (position_named (c ∷ cs)) (position_placed (c ∷ cs))
+
+digits_placed : (p : Option Places) (m : Option SignedRoundingMode) (i : Option RoundingIncrement) → AreNamed p → ArePlaced (digits_by p m i)
+digits_placed (Some (Position position)) (Some m) (Some i) placed = placed
+digits_placed (Some (Fraction least last)) (Some m) (Some i) placed = placed
+digits_placed (Some places) (Some m) None placed = tt
+digits_placed (Some places) None i placed = tt
+digits_placed None m i placed = tt
+
+whole_placed : (p : Option Places) (m : Option SignedRoundingMode) (i : Option RoundingIncrement) → AreNamed p → ArePlaced (whole_by p m i)
+whole_placed (Some (Position position)) (Some m) (Some i) placed = tt
+whole_placed (Some (Fraction least last)) (Some m) (Some i) placed = by (int_le (neg_ℤ last) least)
+  where
+    by : (b : Bool) → ArePlaced (if b then Some (record { rounding = At last m i; zeros = TrimWhole; fraction_digits = pos 0 }) else None)
+    by true = placed
+    by false = tt
+whole_placed (Some places) (Some m) None placed = tt
+whole_placed (Some places) None i placed = tt
+whole_placed None m i placed = tt
+
+words_placed : (words : List (List ℕ)) → ArePlaced (digits_in words)
+words_placed [] = tt
+words_placed (p ∷ []) = tt
+words_placed (p ∷ m ∷ []) = tt
+words_placed (p ∷ m ∷ i ∷ []) = digits_placed (places_named p) (mode_named m) (increment_named i) (places_placed p)
+words_placed (p ∷ m ∷ i ∷ w ∷ []) = by (bytes_eq w (codes "whole"))
+  where
+    by : (b : Bool) → ArePlaced (if b then whole_by (places_named p) (mode_named m) (increment_named i) else None)
+    by true = whole_placed (places_named p) (mode_named m) (increment_named i) (places_placed p)
+    by false = tt
+words_placed (p ∷ m ∷ i ∷ w ∷ other ∷ others) = tt
+
+rounding_placed : (word : List ℕ) → ArePlaced (rounding_named word)
+rounding_placed word = by (bytes_eq word (codes "-")) (bytes_eq word (codes "cash"))
+  where
+    by : (b c : Bool) → ArePlaced (if b then Some (all_of Usual) else if c then Some (all_of rounding.Cash) else digits_in (cut_at comma word))
+    by true c = tt
+    by false true = tt
+    by false false = words_placed (cut_at comma word)
+
+-- ---- roundings of a skeleton
+
+to_placed : (digits : ℕ) (mode : SignedRoundingMode) → IsAtMagnitude (to_digits digits mode)
+to_placed zero mode = omega arith
+to_placed (suc digits) mode = omega arith
+
+usage_placed : (u : CurrencyUsage) → IsAtMagnitude (by_usage u)
+usage_placed usage.Standard = tt
+usage_placed usage.Cash = tt
+
+precision_placed : (amount : Bool) (mode : SignedRoundingMode) (p : Precision) → IsAtMagnitude (skeletons.rounding_by amount mode p)
+precision_placed true mode precision.Usual = tt
+precision_placed false mode precision.Usual = to_placed 6 mode
+precision_placed amount mode precision.Unlimited = tt
+precision_placed amount mode (precision.Fraction least more) = to_placed _ mode
+precision_placed amount mode (precision.AtLeast least) = tt
+precision_placed amount mode (precision.Whole least) = to_placed least mode
+precision_placed amount mode (precision.Currency u) = usage_placed u
+precision_placed amount mode (precision.WholeCurrency u) = usage_placed u
+
+skeleton_placed : (s : Skeleton) → IsAtMagnitude (skeletons.rounding_of s)
+skeleton_placed s = by (is_compact s.notation)
+  where
+    by : (b : Bool) → IsAtMagnitude (if b then AsGiven else skeletons.rounding_by (is_currency s.unit) s.mode s.precision)
+    by true = tt
+    by false = precision_placed (is_currency s.unit) s.mode s.precision
+
+read_placed : (asked : Rounding) → IsAtMagnitude (rounding_read asked)
+read_placed Usual = tt
+read_placed rounding.Cash = tt
+read_placed AsGiven = tt
+read_placed (At position mode increment) = tt
+
+skeleton_fits : (text : List ℕ) (s : Skeleton) → skeleton_of text ≡ Ok s → FitDecimals (format_of s).options
+skeleton_fits text s is = let whole = (skeleton_is text s is).whole in record { position = skeleton_placed s; integer = omega (arith, whole) }
+
+-- ---- forms
+
+-- the options of a skeleton fit
+abbrev FitsForm : FormAsked → Type 0
+FitsForm (OfWord task notation unit) = Unit {0}
+FitsForm (OfSkeleton task format) = FitDecimals format.options
+
+abbrev FitForms : Option FormAsked → Type 0
+FitForms None = Unit {0}
+FitForms (Some form) = FitsForm form
+
+of_code : (word : Option AmountWord) (code : List ℕ) → FitForms (amount_by word code)
+of_code None code = tt
+of_code (Some word) code = by (is_currency_code code)
+  where
+    by : (b : Bool) → FitForms (if b then Some (amount_form word code) else None)
+    by true = tt
+    by false = tt
+
+of_task : (task : Task) (f : NumberFormat) → FitDecimals f.options → FitForms (form_for task f)
+of_task Write f fits = fits
+of_task WriteExact f fits = by (is_compact f.shape.notation)
+  where
+    by : (b : Bool) → FitForms (if b then Some (OfSkeleton WriteExact f) else None)
+    by true = fits
+    by false = tt
+of_task Read f fits = record { position = read_placed f.options.rounding; integer = fits.integer }
+of_task ReadLenient f fits = record { position = read_placed f.options.rounding; integer = fits.integer }
+
+of_skeleton : (task : Option Task) (text : List ℕ) (r : Result Skeleton SkeletonError) → skeleton_of text ≡ r → FitForms (skeleton_by task r)
+of_skeleton None text r is = tt
+of_skeleton (Some task) text (Err error) is = tt
+of_skeleton (Some task) text (Ok s) is = of_task task (format_of s) (skeleton_fits text s is)
+
+of_pieces : (list : List (List ℕ)) → FitForms (skeleton_in list)
+of_pieces [] = tt
+of_pieces (a ∷ []) = tt
+of_pieces (a ∷ b ∷ []) = tt
+of_pieces (a ∷ b ∷ c ∷ []) = by (bytes_eq b [])
+  where
+    by : (none : Bool) → FitForms (if none then skeleton_by (skeleton_task a) (skeleton_of c) else None)
+    by true = of_skeleton (skeleton_task a) c (skeleton_of c) refl
+    by false = tt
+of_pieces (a ∷ b ∷ c ∷ d ∷ more) = tt
+
+-- a word of a list, or what is after it
+listed : (b : Bool) (here : FormAsked) (rest : Option FormAsked) → FitsForm here → FitForms rest → FitForms (if b then Some here else rest)
+listed true here rest fits other = fits
+listed false here rest fits other = other
+
+of_list : (word : List ℕ) → FitForms (listed_form word)
+of_list word =
+    listed (bytes_eq word (codes "plain")) _ _ tt
+    (listed (bytes_eq word (codes "short")) _ _ tt
+    (listed (bytes_eq word (codes "long")) _ _ tt
+    (listed (bytes_eq word (codes "exact-short")) _ _ tt
+    (listed (bytes_eq word (codes "exact-long")) _ _ tt
+    (listed (bytes_eq word (codes "read")) _ _ tt
+    (listed (bytes_eq word (codes "read-lenient")) _ _ tt
+    (listed (bytes_eq word (codes "percent")) _ _ tt
+    (listed (bytes_eq word (codes "read-percent")) _ _ tt
+    (listed (bytes_eq word (codes "read-lenient-percent")) _ _ tt tt)))))))))
+
+either : (first second : Option FormAsked) → FitForms first → FitForms second → FitForms (first_of first second)
+either (Some form) second fits other = fits
+either None second fits other = other
+
+form_fits : (word : List ℕ) → FitForms (form_named word)
+form_fits word =
+    either (listed_form word) _ (of_list word)
+    (either (coded_form word) _ (of_code (amount_word (take (length word - 3) word)) (drop (length word - 3) word)) (of_pieces (cut_at colon word)))
+
+-- ---- requests
+
+abbrev FitsAsked : Option Asked → Type 0
+FitsAsked None = Unit {0}
+FitsAsked (Some asked) = FitDecimals asked.format.options
+
+if_taken : (b : Bool) (tag : List ℕ) (task : Task) (format : NumberFormat) (text : List ℕ) → FitDecimals format.options → FitsAsked (asked_by tag (if b then Some (task, format) else None) text)
+if_taken true tag task format text fits = fits
+if_taken false tag task format text fits = tt
+
+of_form : (tag : List ℕ) (form : FormAsked) (g : GroupingStrategy) (s : SignAsked) (d : DigitsAsked) (text : List ℕ) → FitsForm form → IsAtMagnitude d.rounding
+    → FitsAsked (asked_by tag (format_asked form g s d) text)
+of_form tag (OfWord task notation unit) g s d text fits at =
+    if_taken (takes task unit s d.rounding) tag task (format_by notation unit g s d) text (record { position = at; integer = omega arith })
+of_form tag (OfSkeleton task format) g s d text fits at = if_taken (says_nothing g s d.rounding) tag task format text fits
+
+request_fits : (tag : List ℕ) (f : Option FormAsked) (g : Option GroupingStrategy) (s : Option SignAsked) (d : Option DigitsAsked) (text : List ℕ) → FitForms f → ArePlaced d
+    → FitsAsked (request_by tag f g s d text)
+request_fits tag (Some form) (Some grouping) (Some sign) (Some digits) text fits at = of_form tag form grouping sign digits text fits at
+request_fits tag (Some form) (Some grouping) (Some sign) None text fits at = tt
+request_fits tag (Some form) (Some grouping) None d text fits at = tt
+request_fits tag (Some form) None s d text fits at = tt
+request_fits tag None g s d text fits at = tt
+
+fields_fit : (list : List (List ℕ)) → FitsAsked (request_in list)
+fields_fit [] = tt
+fields_fit (a ∷ []) = tt
+fields_fit (a ∷ b ∷ []) = tt
+fields_fit (a ∷ b ∷ c ∷ []) = tt
+fields_fit (a ∷ b ∷ c ∷ d ∷ []) = tt
+fields_fit (a ∷ b ∷ c ∷ d ∷ e ∷ []) = tt
+fields_fit (tag ∷ form ∷ grouping ∷ sign ∷ field ∷ text ∷ []) =
+    request_fits tag (form_named form) (grouping_named grouping) (sign_named sign) (rounding_named field) text (form_fits form) (rounding_placed field)
+fields_fit (a ∷ b ∷ c ∷ d ∷ e ∷ f ∷ g ∷ more) = tt
+
+pub requests_placed : RequestsAreAtMagnitude
+requests_placed line asked is = by (is_utf8 line) is
+  where
+    by : (b : Bool) → (if b then request_in (fields line) else None) ≡ Some asked → FitDecimals asked.format.options
+    by true same = subst FitsAsked same (fields_fit (fields line))
+    by false same = absurd (cc)
