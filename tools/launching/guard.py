@@ -8,7 +8,8 @@ import sys
 
 from .common import SIGNALS, signals_wait
 
-# Its input ends when the launcher does. It outlives the first signal, which lets rt tidy up.
+# Its input ends when the launcher does. It outlives the first signal, which lets rt tidy up. What makes a file until the end is ended
+# from outside of the group, so that what is removed after that stays so.
 SCRIPT = """
 trap '' TERM INT HUP
 read -r _
@@ -17,6 +18,7 @@ for _ in 1 2 3 4 5; do
     sleep 0.1
     rm -rf -- "$1"
 done
+setsid sh -c 'kill -KILL "-$0"; rm -rf -- "$1"' $$ "$1"
 kill -KILL 0
 """
 JOIN = "import os, sys; os.setpgid(0, int(sys.argv[1])); os.execvp(sys.argv[2], sys.argv[2:])"
