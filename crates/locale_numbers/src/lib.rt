@@ -41,12 +41,12 @@ pub use fault::ProgramFault;
 pub use locale_numbers_book::{
     Book, BookError, FormatterError, SAMPLE_BOOK, SAMPLE_UNITS_BOOK, Tables,
 };
-pub use locale_numbers_lines::{
-    ByteReadFault, ByteReader, ByteWriteFault, ByteWriter, Report, RunError, Tracked,
-};
 pub use locale_numbers_formats::{
     CompactWidth, CurrencyUnit, Notation, NumberFormat, NumberOptions, NumberShape, NumberUnit,
     Rounding, SignAsked,
+};
+pub use locale_numbers_lines::{
+    ByteReadFault, ByteReader, ByteWriteFault, ByteWriter, Report, RunError, Tracked,
 };
 pub use locale_numbers_requests::{Request, Task};
 pub use locale_numbers_world::{
