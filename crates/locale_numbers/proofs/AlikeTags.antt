@@ -28,7 +28,7 @@ use Rattle.locale_numbers_formats.specs.declared.NumberShape.{NumberShape}
 use Rattle.locale_numbers_formats.specs.declared.SignAsked.{SignAsked}
 use Rattle.locale_numbers_requests.specs.Cutting.{is_separator}
 use Rattle.locale_numbers_requests.specs.FormField.{form_named}
-use Rattle.locale_numbers_requests.specs.Request.{Asked, asked_by, tab, fields, format_asked, grouping_named, sign_named, request_by, request_in, request_of}
+use Rattle.locale_numbers_requests.specs.Request.{asked_by, tab, fields, format_asked, grouping_named, sign_named, request_by, request_in, request_of}
 use Rattle.locale_numbers_requests.specs.RoundingField.{rounding_named}
 use Rattle.locale_numbers_requests.specs.declared.Task.{Task}
 use Rattle.locale_numbers.specs.Answer.{answer_tagged, answer_asked, found_for, in_latin}

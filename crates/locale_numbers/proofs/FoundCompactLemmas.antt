@@ -1,23 +1,21 @@
 -- The patterns in what preferences find for compact numbers.
-use Rattle.std.proofs.Common.{◌≡◌, ℕ, List, Some, None, Result, Ok, Err, ap, ap₂, ◌∙◌}
-use Rattle.icu_locale_core.specs.TagPreferences.{DataLocaleMeaning, Preferences, language_priority}
+use Rattle.std.proofs.Common.{◌≡◌, Some, Result, Ok, Err, ap}
+use Rattle.icu_locale_core.specs.TagPreferences.{Preferences}
 use Rattle.icu_decimal.specs.declared.error.DataError.{DataError}
 use Rattle.icu_decimal.specs.declared.options.GroupingStrategy.{GroupingStrategy}
 use Rattle.icu_decimal.specs.Choice.{first_found}
 use Rattle.icu_decimal.specs.CompactTables.{CompactTables}
-use Rattle.icu_decimal.specs.FoundCompactTables.{found_compact_tables, patterns_identifiers, rules_identifiers, with_plain}
+use Rattle.icu_decimal.specs.FoundCompactTables.{patterns_identifiers, rules_identifiers, with_plain}
 use Rattle.icu_decimal.specs.FoundTables.{found_tables}
-use Rattle.icu_decimal.specs.Identifiers.{Identifier, identifiers_along, symbols_identifiers}
 use Rattle.icu_decimal.specs.KeptEntries.{CompactTable}
 use Rattle.icu_decimal.specs.PlainText.{Tables}
 use Rattle.icu_decimal.specs.Rules.{Rules}
-use Rattle.icu_decimal.specs.Symbols.{Symbols}
 use Rattle.locale_numbers_book.specs.Book.{BookTables}
 use Rattle.locale_numbers_book.specs.Tables.{chain_in, digits_under, rules_under, symbols_under}
 use Rattle.locale_numbers_book.specs.FoundFormats.{found_for, mapped}
 use Rattle.locale_numbers_book.specs.TagFormatters.{found_beside, patterns_under}
 use Rattle.locale_numbers_formats.specs.declared.CompactWidth.{CompactWidth}
-use Rattle.locale_numbers_formatter.specs.FormatText.{FormatTables, compact_tables}
+use Rattle.locale_numbers_formatter.specs.FormatText.{compact_tables}
 use Rattle.locale_numbers.specs.AskedFormats.{compact_shape}
 
 patterns_in : (plain : Result Tables DataError) (rules : Result Rules DataError) (patterns : Result CompactTable DataError) (tables : CompactTables) → with_plain plain rules patterns ≡ Ok tables → patterns ≡ Ok tables.patterns

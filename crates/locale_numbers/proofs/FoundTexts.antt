@@ -1,17 +1,14 @@
 -- What a request finds in a book, for plain numbers or for a unit, is made of texts: `specs/Laws.antt` and `specs/UnitLaws.antt`.
-use Rattle.std.proofs.Common.{◌≡◌, Some, None, Result, Ok, Err, refl, subst}
+use Rattle.std.proofs.Common.{◌≡◌, Some, Result, Ok, Err, refl, subst}
 use Rattle.icu_decimal.specs.PlainText.{Tables}
-use Rattle.icu_decimal.specs.ReadingLaws.{AreTables}
 use Rattle.icu_decimal.specs.declared.error.DataError.{DataError}
-use Rattle.icu_dimension.specs.FoundUnits.{CurrencySettings}
 use Rattle.icu_dimension.specs.UnitReading.{AreReaderTexts, reader_texts}
-use Rattle.icu_dimension.specs.UnitText.{UnitSettings}
 use Rattle.locale_numbers_book.specs.FoundFormats.{amount_options, mapped}
 use Rattle.locale_numbers_book.specs.Laws.{FoundAmountsAreTexts, FoundPercentsAreTexts}
 use Rattle.locale_numbers_book.specs.TagFormatters.{currency_found_in, found_plain, percent_found_in}
 use Rattle.locale_numbers_book.proofs.FoundTexts.{plain_texts}
 use Rattle.locale_numbers_formats.specs.declared.NumberUnit.TheVariants as unit
-use Rattle.locale_numbers_formatter.specs.FormatText.{FormatTables, UnitFormat, plain_tables, unit_tables}
+use Rattle.locale_numbers_formatter.specs.FormatText.{UnitFormat, plain_tables, unit_tables}
 use Rattle.locale_numbers_formatter.specs.HeldFormats.{currency_format, percent_format}
 use Rattle.locale_numbers.specs.Laws.{FoundTablesAreTexts}
 use Rattle.locale_numbers.specs.UnitLaws.{FoundUnitsAreTexts}

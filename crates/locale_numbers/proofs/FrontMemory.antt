@@ -11,7 +11,7 @@ use Rattle.locale_numbers_requests.specs.declared.Task.{Task}
 use Rattle.locale_numbers_requests.specs.declared.Task.TheVariants.{ReadLenient}
 use Rattle.locale_numbers.specs.Answer.{found_for, in_latin, refused}
 use Rattle.locale_numbers.specs.FormatterKeys.{key_in, reads_leniently}
-use Rattle.locale_numbers.specs.Front.{FitsKey, HasKeyThat, MayTakeAfter, MayTakeIn, MayTakeKeyed, answer_after, answer_by_key, answer_keyed, format_after, if_text, key_after, key_if_text, key_keyed}
+use Rattle.locale_numbers.specs.Front.{FitsKey, HasKeyThat, MayTakeAfter, MayTakeIn, MayTakeKeyed, answer_after, answer_keyed, format_after, if_text, key_after, key_if_text, key_keyed}
 use Rattle.locale_numbers.specs.declared.formatter_key.FormatterKey.{FormatterKey}
 use Rattle.locale_numbers.specs.declared.front.Front.{Front}
 

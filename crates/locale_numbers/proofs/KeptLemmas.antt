@@ -1,7 +1,7 @@
 -- What the formatter of a key answers is what is found for it, and where nothing is found the word `table`.
 use Rattle.std.proofs.Common.{◌≡◌, ℕ, Bool, List, [], ◌∷◌, Option, Some, None, Result, Ok, Err, is_ok, true, false, refl, ap, ◌∙◌, slice_get, sym, subst}
 use Rattle.std.specs.Map.{keys_of}
-use Rattle.std.specs.Prelude.{IfSome, option_map, if◌then◌else◌}
+use Rattle.std.specs.Prelude.{option_map, if◌then◌else◌}
 use Rattle.std.specs.Result.{result_ok}
 use Rattle.std.specs.Str.{bytes_eq}
 use Rattle.fixed_decimal.specs.CompactText.{CompactValue}
@@ -19,10 +19,9 @@ use Rattle.locale_numbers_formats.specs.Changed.{changed}
 use Rattle.locale_numbers_formats.specs.declared.NumberOptions.{NumberOptions}
 use Rattle.locale_numbers_formats.specs.declared.Rounding.{Rounding}
 use Rattle.locale_numbers_formatter.specs.FormatText.{FormatTables, HasNoUnit, compact_tables, digit_tables, fractions_in, plain_tables, unit_tables}
-use Rattle.locale_numbers_formatter.specs.FormatTyped.{format_typed_reading, reading_by_typed, typed_of, where_native}
+use Rattle.locale_numbers_formatter.specs.FormatTyped.{format_typed_reading, reading_by_typed, typed_of}
 use Rattle.locale_numbers_requests.specs.declared.Refusal.TheVariants as refusal
 use Rattle.locale_numbers.specs.Answer.{found_for, in_latin, refused}
-use Rattle.locale_numbers.specs.FormatterKeys.{finds}
 use Rattle.locale_numbers.specs.Front.{FindsUnits, is_as_it_is}
 use Rattle.locale_numbers.specs.KeptFormatters.{IsMadeFor, Kept}
 use Rattle.locale_numbers.specs.declared.formatter_key.FormatterKey.{FormatterKey}

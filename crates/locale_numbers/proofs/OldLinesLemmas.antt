@@ -1,5 +1,5 @@
 -- A line of the six forms is answered as it was, and one of another form was refused for its shape: `specs/OldLines.antt`.
-use Rattle.std.proofs.Common.{◌≡◌, ℕ, Bool, true, false, ◌||◌, List, Option, None, Some, refl, sym, subst, ap, ◌∙◌, true≢false}
+use Rattle.std.proofs.Common.{◌≡◌, ℕ, Bool, true, false, ◌||◌, List, Option, None, Some, refl, sym, ap, ◌∙◌, true≢false}
 use Rattle.icu_locale_core.specs.TagPreferences.{Preferences}
 use Rattle.locale_numbers_book.specs.Book.{BookTables}
 use Rattle.locale_numbers_book.specs.Wanted.{wanted_of}
@@ -7,7 +7,7 @@ use Rattle.locale_numbers_requests.specs.OldRequests.{OldRequestsStay, StaysRequ
 use Rattle.locale_numbers_requests.specs.Request.{Asked, request_of}
 use Rattle.locale_numbers_requests.specs.declared.Task.{Task}
 use Rattle.locale_numbers_requests.specs.declared.Task.TheVariants.{Write, WriteExact, Read, ReadLenient}
-use Rattle.locale_numbers.specs.Answer.{answer_asked, answer_in, answer_of, answer_tagged}
+use Rattle.locale_numbers.specs.Answer.{answer_asked, answer_in, answer_tagged}
 use Rattle.locale_numbers.specs.OldLines.{AsksAdded, OldLinesStay, StaysAnswered, old_answer_asked, old_answer_in, old_answer_tagged}
 
 -- the request that does a task in place of its own

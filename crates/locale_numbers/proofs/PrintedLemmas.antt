@@ -9,7 +9,7 @@ use Rattle.fixed_decimal.specs.TextLaws.{IsDecimal}
 use Rattle.fixed_decimal.proofs.CompactReadOnceLemmas.{compact_printed}
 use Rattle.icu_decimal.specs.CompactLaws.{ShownFormAnswers, ShownFormIsInRange, ShownFormIsShownValue, ShownFormWritesSame, ShownIsCompact}
 use Rattle.icu_decimal.specs.CompactTables.{CompactTables}
-use Rattle.icu_decimal.specs.CompactText.{compact_decimal_text, value_shown}
+use Rattle.icu_decimal.specs.CompactText.{value_shown}
 use Rattle.icu_decimal.specs.ExactForms.{exact_place}
 use Rattle.icu_decimal.specs.ExactLaws.{FlatTableUsesShownEntry, KeptMagnitudeUsesShownEntry, UsesShownEntry}
 use Rattle.icu_decimal.specs.ExactText.{exact_text, written_text}
@@ -17,7 +17,7 @@ use Rattle.icu_decimal.specs.ShownChoice.{CanShow, entry_at, exponent_of, shown_
 use Rattle.icu_decimal.specs.ShownValue.{magnitude}
 use Rattle.locale_numbers_answers.specs.Answers.{answer_by, exact_found, written_found, written_to}
 use Rattle.locale_numbers_answers.specs.CompactReading.{compact_number, compact_reading_of}
-use Rattle.locale_numbers_answers.specs.NumberAnswer.{can_be_shown, exact_answer, exact_written, number_answer, text_and_value}
+use Rattle.locale_numbers_answers.specs.NumberAnswer.{can_be_shown, exact_written, number_answer, text_and_value}
 use Rattle.locale_numbers_answers.specs.NumberReading.{reading_of}
 use Rattle.locale_numbers_answers.proofs.CompactReadingLemmas.{reads_compact}
 use Rattle.locale_numbers_answers.proofs.NumberBounds.{changed_is_decimal, reading_is_decimal}

@@ -1,9 +1,9 @@
 -- What is read back is written again, and what was written reads back: `specs/Laws.antt`.
-use Rattle.std.proofs.Common.{◌≡◌, ◌==◌, ℕ, Bool, true, false, codes, List, drop, get_or, Option, Some, None, Result, Ok, Err, refl, sym, ap, ap₂, ◌∙◌, subst, arith}
-use Rattle.std.specs.Prelude.{if◌then◌else◌, option_map, pos}
+use Rattle.std.proofs.Common.{◌≡◌, ◌==◌, ℕ, Bool, true, false, codes, List, drop, get_or, Option, Some, None, Result, Ok, Err, refl, sym, ap, ◌∙◌, subst, arith}
+use Rattle.std.specs.Prelude.{if◌then◌else◌, option_map}
 use Rattle.std.specs.Str.{bytes_eq}
 use Rattle.fixed_decimal.specs.CompactText.{CompactValue}
-use Rattle.fixed_decimal.specs.Number.{Number, place}
+use Rattle.fixed_decimal.specs.Number.{Number}
 use Rattle.fixed_decimal.specs.SignedText.{ReadsSigned, signed_text_of}
 use Rattle.fixed_decimal.specs.SignedValue.{SignedValue}
 use Rattle.fixed_decimal.specs.TextLaws.{IsDecimal}
@@ -34,20 +34,19 @@ use Rattle.icu_dimension.specs.UnitText.{UnitName}
 use Rattle.icu_dimension.specs.declared.FractionInfo.{FractionInfo}
 use Rattle.icu_dimension.specs.declared.UnitKind.TheVariants as kind
 use Rattle.icu_locale_core.specs.TagPreferences.{Preferences}
-use Rattle.locale_numbers_answers.specs.Answers.{answer_by, exact_found, exact_with, read_found, typed_found, where_found, written_found, written_to}
+use Rattle.locale_numbers_answers.specs.Answers.{answer_by, exact_found, read_found, typed_found, where_found, written_found, written_to}
 use Rattle.locale_numbers_answers.specs.CompactReading.{CompactReading, compact_beyond, compact_nothing, compact_number, compact_reading_of}
-use Rattle.locale_numbers_answers.specs.NumberAnswer.{exact_answer, exact_written, is_form_in_range, number_answer, signed_form}
+use Rattle.locale_numbers_answers.specs.NumberAnswer.{exact_written, is_form_in_range, signed_form}
 use Rattle.locale_numbers_answers.specs.NumberReading.{Reading, beyond, nothing, number, reading_of}
 use Rattle.locale_numbers_answers.specs.ReadAnswer.{own_reading, read_answer}
 use Rattle.locale_numbers_answers.proofs.NumberBounds.{changed_again, changed_is_decimal, reading_is_decimal}
 use Rattle.locale_numbers_answers.proofs.NumberReadingLemmas.{signed_number}
 use Rattle.locale_numbers_book.specs.Book.{BookTables}
-use Rattle.locale_numbers_book.specs.FoundFormats.{amount_options, compact_found, found_for, mapped, notation_found, standard_found}
+use Rattle.locale_numbers_book.specs.FoundFormats.{found_for, mapped, notation_found}
 use Rattle.locale_numbers_book.specs.Tables.{chain_in, digits_under, rules_under, symbols_under}
-use Rattle.locale_numbers_book.specs.TagFormatters.{currencies_in, found_beside, found_plain, patterns_under, percents_in}
+use Rattle.locale_numbers_book.specs.TagFormatters.{currencies_in, found_plain, patterns_under, percents_in}
 use Rattle.locale_numbers_book.specs.Wanted.{wanted_of}
 use Rattle.locale_numbers_formats.specs.Changed.{changed}
-use Rattle.locale_numbers_formats.specs.declared.CompactWidth.{CompactWidth}
 use Rattle.locale_numbers_formats.specs.declared.Notation.{Notation}
 use Rattle.locale_numbers_formats.specs.declared.Notation.TheVariants.{Standard, Compact}
 use Rattle.locale_numbers_formats.specs.declared.NumberFormat.{NumberFormat}
@@ -60,11 +59,11 @@ use Rattle.locale_numbers_formats.specs.declared.SignAsked.{SignAsked}
 use Rattle.locale_numbers_formats.specs.declared.SignAsked.TheVariants.{Keep}
 use Rattle.locale_numbers_formatter.specs.ExactForms.{under_entry}
 use Rattle.locale_numbers_formatter.specs.FormatReading.{format_reading}
-use Rattle.locale_numbers_formatter.specs.FormatText.{FormatTables, UnitFormat, compact_tables, fractions_in, plain_tables, shown_as_it_is, text_of_shown, unit_tables}
-use Rattle.locale_numbers_formatter.specs.FormatTyped.{format_typed_reading, plain_in, typed_unit, unit_in, units_in_turn, where_native}
+use Rattle.locale_numbers_formatter.specs.FormatText.{FormatTables, UnitFormat, compact_tables, plain_tables, shown_as_it_is, text_of_shown, unit_tables}
+use Rattle.locale_numbers_formatter.specs.FormatTyped.{plain_in, typed_unit, unit_in, units_in_turn, where_native}
 use Rattle.locale_numbers_formatter.specs.HeldFormats.{currency_format, percent_format}
 use Rattle.locale_numbers_formatter.specs.ReadingLaws.{PlainReadsByPairs}
-use Rattle.locale_numbers_formatter.specs.TypedPlain.{reading_by, reading_in_turn}
+use Rattle.locale_numbers_formatter.specs.TypedPlain.{reading_by}
 use Rattle.locale_numbers_formatter.specs.TypedUnits.{lenient_unit_reading, unit_reading_by}
 use Rattle.locale_numbers_formatter.proofs.LenientLemmas.{read_exactly, read_grouped}
 use Rattle.locale_numbers_formatter.proofs.LenientUnitLemmas.{in_turn_same}
@@ -73,9 +72,9 @@ use Rattle.locale_numbers_requests.specs.declared.Refusal.{Refusal}
 use Rattle.locale_numbers_requests.specs.declared.Refusal.TheVariants as refusal
 use Rattle.locale_numbers_requests.specs.declared.Task.{Task}
 use Rattle.locale_numbers_requests.specs.declared.Task.TheVariants.{Write, WriteExact, Read, ReadLenient}
-use Rattle.locale_numbers.specs.Answer.{answer_asked, answer_in, answer_tagged, in_latin, refused, written}
+use Rattle.locale_numbers.specs.Answer.{answer_asked, answer_tagged, in_latin, refused, written}
 use Rattle.locale_numbers.specs.AskedFormats.{grouping_in, keeping, options_of, plain_shape}
-use Rattle.locale_numbers.specs.Laws.{AutoIsAnsweredAsAlways, EachGroupingIsReadLeniently, FindsTables, FitDecimals, ReadIsReadLeniently, ReadIsWrittenAgain, RoundedIsWrittenAgain, TrimsNothing, WrittenReadsBack, grouped_by, lenient_request, plain_request, reading_request}
+use Rattle.locale_numbers.specs.Laws.{AutoIsAnsweredAsAlways, EachGroupingIsReadLeniently, FindsTables, ReadIsReadLeniently, ReadIsWrittenAgain, RoundedIsWrittenAgain, TrimsNothing, WrittenReadsBack, grouped_by, lenient_request, plain_request, reading_request}
 use Rattle.locale_numbers.proofs.FoundTexts.{in_plain}
 use Rattle.locale_numbers.proofs.TextDigitsLemmas.{changes_none}
 

@@ -1,6 +1,5 @@
 -- The test of two keys is true exactly where they are one, so any other such test is the same.
-use Rattle.std.proofs.Common.{◌≡◌, ℕ, Bool, true, false, List, Option, Some, None, refl, ap, Decides}
-use Rattle.std.specs.Str.{bytes_eq}
+use Rattle.std.proofs.Common.{◌≡◌, Bool, true, false, refl, ap, Decides}
 use Rattle.std.specs.Cmp.Lexicographic.{bytes_decides}
 use Rattle.std.proofs.lemmas.Bool.Decides.{Decides-and, Decides-like, same_from_decides}
 use Rattle.icu_decimal.specs.declared.options.GroupingStrategy.{GroupingStrategy}

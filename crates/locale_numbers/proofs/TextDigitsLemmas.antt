@@ -1,9 +1,8 @@
 -- The digits of a text are of the number that the text is read as, which a format of plain numbers leaves as it is given.
-use Rattle.std.proofs.Common.{◌≡◌, ◌≤◌, ◌-◌, ◌&&◌, ℕ, ℤ, Bool, List, Option, None, Some, IfSome, Result, Ok, Err, true, false, max, min, nat_le, refl, sym, ap, ◌∙◌, arith}
+use Rattle.std.proofs.Common.{◌≡◌, ◌≤◌, ◌-◌, ◌&&◌, ℕ, ℤ, Bool, List, Option, None, Some, IfSome, Result, Ok, Err, true, max, min, refl, sym, ap, ◌∙◌, arith}
 use Rattle.std.proofs.lemmas.Bool.{and_parts}
 use Rattle.std.proofs.lemmas.Bool.Decides.{nat_tests}
-use Rattle.std.specs.Prelude.{if◌then◌else◌, neg_ℤ, pos, negsuc}
-use Rattle.std.specs.Str.{is_utf8}
+use Rattle.std.specs.Prelude.{if◌then◌else◌, neg_ℤ}
 use Rattle.fixed_decimal.specs.Number.{IsNumber, Number, place}
 use Rattle.fixed_decimal.specs.SignedText.{ReadsSigned}
 use Rattle.fixed_decimal.specs.SignedValue.{SignedValue}

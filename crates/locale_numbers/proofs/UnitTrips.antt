@@ -1,5 +1,5 @@
 -- What is read with a unit is written again, and what was written with one reads back: `specs/UnitLaws.antt`.
-use Rattle.std.proofs.Common.{◌≡◌, ℕ, Bool, true, cond, List, ◌++◌, ◌||◌, None, Some, Option, Result, Ok, Err, refl, sym, ap, ◌∙◌, subst, arith}
+use Rattle.std.proofs.Common.{◌≡◌, ℕ, true, cond, List, ◌++◌, ◌||◌, None, Some, Result, Ok, Err, refl, sym, ap, ◌∙◌, subst, arith}
 use Rattle.std.proofs.lemmas.List.{append-nil}
 use Rattle.std.proofs.lemmas.Str.{IsUtf8-append}
 use Rattle.std.specs.Str.{IsUtf8}
@@ -20,7 +20,7 @@ use Rattle.icu_dimension.specs.UnitReadings.{unit_reading}
 use Rattle.icu_dimension.specs.UnitText.{UnitSettings, unit_decimal_text}
 use Rattle.icu_locale_core.specs.TagPreferences.{Preferences}
 use Rattle.locale_numbers_answers.specs.Answers.{answer_by, read_found, written_found, written_to}
-use Rattle.locale_numbers_answers.specs.Laws.{FitDecimals, IsAtMagnitude, TrimsNothing}
+use Rattle.locale_numbers_answers.specs.Laws.{FitDecimals, IsAtMagnitude}
 use Rattle.locale_numbers_answers.specs.NumberReading.{number, reading_of}
 use Rattle.locale_numbers_answers.specs.ReadAnswer.{fraction_asked, is_own_rounding, own_reading, read_answer}
 use Rattle.locale_numbers_answers.proofs.NumberBounds.{changed_is_decimal, reading_is_decimal}
@@ -30,13 +30,12 @@ use Rattle.locale_numbers_book.specs.Book.{BookTables}
 use Rattle.locale_numbers_book.specs.FoundFormats.{found_for, mapped}
 use Rattle.locale_numbers_book.specs.TagFormatters.{percent_found_in}
 use Rattle.locale_numbers_formats.specs.Changed.{changed}
-use Rattle.locale_numbers_formats.specs.declared.NumberOptions.{NumberOptions}
 use Rattle.locale_numbers_formats.specs.declared.NumberUnit.{NumberUnit}
 use Rattle.locale_numbers_formats.specs.declared.NumberUnit.TheVariants as unit
 use Rattle.locale_numbers_formats.specs.declared.Rounding.{Rounding}
 use Rattle.locale_numbers_formats.specs.declared.Rounding.TheVariants.{Usual, Cash, AsGiven, At}
 use Rattle.locale_numbers_formats.specs.declared.SignAsked.TheVariants.{Keep}
-use Rattle.locale_numbers_formatter.specs.FormatText.{FormatTables, UnitFormat, unit_tables}
+use Rattle.locale_numbers_formatter.specs.FormatText.{UnitFormat, unit_tables}
 use Rattle.locale_numbers_formatter.specs.HeldFormats.{percent_format}
 use Rattle.locale_numbers_requests.specs.Request.{Asked}
 use Rattle.locale_numbers_requests.specs.RoundingField.{is_cash, keeps_digits}

@@ -2,7 +2,7 @@
 -- Defined in docs/requests.md, "Request line" and "What a cache keeps".
 -- Cited by the private steps of an answer.
 -- A front is a line without its text, so both what a line asks and what it is answered are imported.
-use Rattle.std.specs.Prelude.{◌≡◌, ◌⊎◌, ◌&&◌, ℕ, ℤ, nat_le, Bool, List, [], Option, Some, None, true, false, option_map, IfSome, if◌then◌else◌, Result, Ok, Err}
+use Rattle.std.specs.Prelude.{◌≡◌, ◌⊎◌, ◌&&◌, ℕ, ℤ, nat_le, Bool, List, Option, Some, None, true, false, option_map, IfSome, if◌then◌else◌, Result, Ok, Err}
 use Rattle.std.specs.Str.{is_utf8}
 use Rattle.fixed_decimal.specs.Number.{Number, place}
 use Rattle.fixed_decimal.specs.SignedValue.{SignedValue}

@@ -10,9 +10,7 @@ use icu_decimal::options::GroupingStrategy;
 use icu_decimal_direct::TextTables;
 use locale_numbers_book::{Tables, find_formatter, find_latin};
 use locale_numbers_cache::{Hashed, Maker};
-use locale_numbers_formatter::{
-    FormatterKind, LenientNumberReader, NumberFormatter, NumberReader,
-};
+use locale_numbers_formatter::{FormatterKind, LenientNumberReader, NumberFormatter, NumberReader};
 use std::alloc::Global;
 use std::marker::Model;
 
@@ -58,9 +56,7 @@ fn kept_texts<'a>(
     ensures { KnowsTexts formatter.now result }
 {
     match formatter.kind() {
-        FormatterKind::Plain(plain) => {
-            TextTables::of(plain.symbols(), plain.digits(), grouping)
-        }
+        FormatterKind::Plain(plain) => { TextTables::of(plain.symbols(), plain.digits(), grouping) }
         FormatterKind::Compact(_) | FormatterKind::Percent(_) | FormatterKind::Currency(_) => None,
     }
 }
@@ -129,7 +125,10 @@ fn written_formatter<'a>(
     ensures { result.formatter ≡ formatter.entry }
 {
     let (texts, reader) = if keeps {
-        (kept_texts(&formatter, grouping), kept_reader(alloc, &formatter))
+        (
+            kept_texts(&formatter, grouping),
+            kept_reader(alloc, &formatter),
+        )
     } else {
         (None, None)
     };

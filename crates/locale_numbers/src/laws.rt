@@ -33,14 +33,14 @@ pub use locale_numbers_book::laws::{
     chains_end, cycles_are_met, data_locales_are_read, is_one_book, old_books_stay,
     sample_book_is_known, sample_units_book_is_known, tags_are_read,
 };
-pub use locale_numbers_cache::laws::{last_used_are_kept, unused_keys_miss};
-pub use locale_numbers_lines::laws::{
-    each_input_splits, lines_are_the_pieces, outputs_join, whole_lines_are_the_pieces,
-};
 use locale_numbers_book::{Tables, find_formatter};
+pub use locale_numbers_cache::laws::{last_used_are_kept, unused_keys_miss};
 use locale_numbers_formats::{CompactWidth, Notation, NumberShape, NumberUnit};
 use locale_numbers_formatter::FormatterKind;
 use locale_numbers_formatter::laws::{compact_is_layered, plain_reads_by_pairs};
+pub use locale_numbers_lines::laws::{
+    each_input_splits, lines_are_the_pieces, outputs_join, whole_lines_are_the_pieces,
+};
 pub use locale_numbers_requests::laws::{old_requests_stay, requests_have_codes};
 
 /// A line is answered as what its fields ask is, where these are UTF-8 and no tab is in them: so each law over

@@ -43,12 +43,12 @@ pub use locale_numbers_book::{
     Book, BookError, BookTexts, FormatterError, NumberTexts, SAMPLE_BOOK, SAMPLE_UNITS_BOOK,
     Tables, UnitTexts, book_text_for, put_book,
 };
-pub use locale_numbers_lines::{
-    ByteReadFault, ByteReader, ByteWriteFault, ByteWriter, Report, RunError, Tracked,
-};
 pub use locale_numbers_formats::{
     CompactWidth, CurrencyUnit, Notation, NumberFormat, NumberOptions, NumberShape, NumberUnit,
     Rounding, SignAsked,
+};
+pub use locale_numbers_lines::{
+    ByteReadFault, ByteReader, ByteWriteFault, ByteWriter, Report, RunError, Tracked,
 };
 pub use locale_numbers_requests::{Request, Task};
 pub use locale_numbers_world::{WORLD_LOCALES, world_tags};

@@ -148,11 +148,7 @@ fn digits_as_they_are(is_plain: bool, text: &[u8]) -> Option<TextDigits<'_>>
     ensures asked { IsSome result → is_plain ≡ true }
     ensures reads { IfSome result (λ digits. reading_of text.now ≡ number (number_spelled digits)) }
 {
-    if is_plain {
-        TextDigits::of(text)
-    } else {
-        None
-    }
+    if is_plain { TextDigits::of(text) } else { None }
 }
 
 // Writes the answer to a number's text, with the formatter of a key, after what `out` holds. `value` may be read again.

@@ -1,12 +1,10 @@
-use Rattle.std.proofs.Common.{sym, subst, inl, inr}
-use Rattle.std.specs.Prelude.{string_bytes}
+use Rattle.std.proofs.Common.{subst, inl, inr}
 use Rattle.fixed_decimal.specs.CompactText.{ReadsLongCompact}
 use Rattle.locale_numbers_answers.specs.AnswerMemory.{ReadAllocates, TypedFoundAllocates}
 use Rattle.locale_numbers_answers.specs.AnswerSink.{HasRoom}
 use Rattle.locale_numbers_requests.specs.declared.Task.TheVariants.{Write, WriteExact, Read, ReadLenient}
 use Rattle.locale_numbers.specs.Answer.{found_for, in_latin}
-use Rattle.locale_numbers.proofs.AnsweringLemmas.{on_ok_same}
-use Rattle.locale_numbers.proofs.FrontMemory.{answer_done, answer_shown, key_is_lenient, may_take, of_key}
+use Rattle.locale_numbers.proofs.FrontMemory.{answer_done, answer_shown, may_take, of_key}
 use Rattle.locale_numbers.proofs.answering.answer_after_front.Goals as goal
 
 pub returns-in-Write-clause-room : goal.returns-in-Write-clause-room

@@ -1,4 +1,4 @@
-use Rattle.std.proofs.Common.{◌∷◌, ap, ◌∙◌, subst, sym, true, ◌≡◌}
+use Rattle.std.proofs.Common.{◌∷◌, ap, ◌∙◌, subst, sym}
 use Rattle.std.specs.Prelude.{string_bytes}
 use Rattle.icu_decimal_direct.specs.TextDigits.{number_spelled}
 use Rattle.locale_numbers_answers.specs.AnswerMemory.{MayGrowFound}

@@ -1,4 +1,4 @@
-use Rattle.std.proofs.Common.{◌≡◌, ◌++◌, map, refl, sym, ap, ◌∙◌, subst}
+use Rattle.std.proofs.Common.{◌≡◌, map, refl, sym, ap, ◌∙◌, subst}
 use Rattle.std.specs.Prelude.{IsTrue, string_bytes}
 use Rattle.std.proofs.lemmas.Bool.{false≢true}
 use Rattle.locale_numbers_answers.specs.AnswerSink.{HasRoom}
