@@ -1,2 +1,3 @@
-mod DigitsLemmas
+pub mod DigitsLemmas
 mod KnownValues
+pub mod SayingLemmas

@@ -3,3 +3,4 @@ pub mod Invalids
 pub mod LocaleName
 pub mod NumberForms
 pub mod NumberWords
+pub mod Sayings
