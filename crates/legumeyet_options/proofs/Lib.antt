@@ -1,3 +1,4 @@
 pub mod DigitsLemmas
 mod KnownValues
+pub mod SayingLawsLemmas
 pub mod SayingLemmas

@@ -7,6 +7,7 @@ mod digits;
 mod fault;
 mod help;
 mod invalid;
+pub mod laws;
 mod locale_name;
 mod number_words;
 mod options;

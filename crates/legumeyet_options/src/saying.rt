@@ -26,6 +26,7 @@ use std::alloc::{AllocError, Global};
 use writeable::{PartsSink, Writeable};
 
 /// What texts are said by.
+#[derive(Drop)]
 pub enum Sayer<'a> {
     /// By nothing: the tag is no locale's.
     NoTag,
