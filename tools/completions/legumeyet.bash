@@ -19,8 +19,8 @@ _legumeyet() {
         -s | --sign) _legumeyet_reply -W "keep auto always never except-zero negative" ;;
         --invalid) _legumeyet_reply -W "empty keep skip abort" ;;
         -b | --book) _legumeyet_reply -f ;;
-        -r | --round | -c | --currency | --read | --read-exact | --capacity) ;;
-        *) [[ $word != -* ]] || _legumeyet_reply -W "--tag --form --grouping --sign --round --currency --accounting --code --cash --percent --read --read-exact --parts --invalid --book --locales --lines --capacity --help --version" ;;
+        --format | -r | --round | -d | --digits | --max-digits | --min-digits | -c | --currency | --read | --read-exact | --capacity) ;;
+        *) [[ $word != -* ]] || _legumeyet_reply -W "--tag --form --format --grouping --sign --round --digits --max-digits --min-digits --currency --accounting --code --cash --percent --read --read-exact --parts --invalid --book --locales --lines --capacity --help --version" ;;
     esac
 }
 complete -o filenames -F _legumeyet legumeyet

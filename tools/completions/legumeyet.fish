@@ -1,10 +1,14 @@
 # What fish completes of the words of `legumeyet`. Made by tools/man_page.
 complete -c legumeyet -f
 complete -c legumeyet -s t -l tag -x -a '(legumeyet --locales)' -d 'The locale, as de or ar-EG-u-nu-thai, or as de_DE.UTF-8 [default: that of the environment]'
-complete -c legumeyet -s f -l form -x -a 'plain short long exact-short exact-long read read-lenient' -d 'What is written'
-complete -c legumeyet -s g -l grouping -x -a 'auto always min2 never' -d 'Which digits are grouped; min2 groups from 10000 on'
-complete -c legumeyet -s s -l sign -x -a 'keep auto always never except-zero negative' -d 'When a sign is written; keep writes that of the number, a plus too'
+complete -c legumeyet -s f -l form -x -a 'plain short long exact-short exact-long read read-lenient' -d 'What is written [default: plain]'
+complete -c legumeyet -l format -x -d 'Writes by a number skeleton of ICU, as \'currency/EUR .00\', which says all that is written'
+complete -c legumeyet -s g -l grouping -x -a 'auto always min2 never' -d 'Which digits are grouped; min2 groups from 10000 on [default: auto]'
+complete -c legumeyet -s s -l sign -x -a 'keep auto always never except-zero negative' -d 'When a sign is written; keep writes that of the number, a plus too [default: keep]'
 complete -c legumeyet -s r -l round -x -d 'Rounds first: -2 to hundredths, -2,floor down, -2,half-even,5 to multiples of 0.05'
+complete -c legumeyet -s d -l digits -x -d 'Writes so many digits after the point, rounded half to even'
+complete -c legumeyet -l max-digits -x -d 'Writes so many digits after the point at most, and no zeros at the end'
+complete -c legumeyet -l min-digits -x -d 'Writes so many digits after the point at least; without --max-digits nothing is rounded'
 complete -c legumeyet -s c -l currency -x -d 'Writes amounts of this currency, as EUR, rounded to its digits'
 complete -c legumeyet -l accounting -d 'Writes amounts as accounts have them: in English -5 dollars are ($5.00)'
 complete -c legumeyet -l code -d 'Writes the code of the currency, EUR, in place of its symbol'

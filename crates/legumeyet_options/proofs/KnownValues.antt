@@ -91,8 +91,19 @@ hundredths = refl
 
 abbrev nothing : NumbersSaid
 nothing = record {
-  form = None; format = None; currency = None; is_accounting = false; is_by_code = false; is_percent = false; grouping = None; sign = None;
-  is_in_cash = false; round = None; digits = None; max_digits = None; min_digits = None;
+  form = None;
+  format = None;
+  currency = None;
+  is_accounting = false;
+  is_by_code = false;
+  is_percent = false;
+  grouping = None;
+  sign = None;
+  is_in_cash = false;
+  round = None;
+  digits = None;
+  max_digits = None;
+  min_digits = None;
 }
 
 abbrev written : NumberUnit → Rounding → TrailingZeros → ℕ → Bool → NumbersAsked

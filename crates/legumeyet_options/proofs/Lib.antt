@@ -1,2 +1,4 @@
-mod DigitsLemmas
+pub mod DigitsLemmas
 mod KnownValues
+pub mod SayingLawsLemmas
+pub mod SayingLemmas

@@ -19,11 +19,11 @@ use Rattle.locale_numbers_requests.specs.RoundingField.{comma, count_named, incr
 use Rattle.legumeyet_options.specs.declared.fault.OptionFault.{OptionFault}
 use Rattle.legumeyet_options.specs.declared.fault.OptionFault.TheVariants as fault
 
--- a rounding, the zeros at the end and the digits of the fraction at least, and nothing else
+-- a rounding, the zeros at the end and the digits of the fraction at least; a zero that a rounding above the ones leaves is one zero
 abbrev pub options_by : Rounding → TrailingZeros → ℤ → NumberOptions
 options_by rounding zeros least = record {
   rounding = rounding;
-  leading_zeros = leading.Keep;
+  leading_zeros = leading.TrimRoundedZero;
   zeros = zeros;
   integer_digits = pos 0;
   fraction_digits = least;

@@ -3,3 +3,5 @@ pub mod Invalids
 pub mod LocaleName
 pub mod NumberForms
 pub mod NumberWords
+pub mod SayingLaws
+pub mod Sayings

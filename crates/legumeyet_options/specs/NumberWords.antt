@@ -20,6 +20,7 @@ use Rattle.locale_numbers_formats.specs.declared.SignAsked.{SignAsked}
 use Rattle.locale_numbers_formats.specs.declared.SignAsked.TheVariants as sign
 use Rattle.locale_numbers_formats.specs.declared.Skeleton.{Skeleton}
 use Rattle.locale_numbers_formats.specs.declared.SkeletonError.{SkeletonError}
+use Rattle.locale_numbers_requests.specs.FormField.{format_read}
 use Rattle.locale_numbers_requests.specs.Request.{grouping_named, keeps_sign, sign_named}
 use Rattle.locale_numbers_requests.specs.declared.Task.{Task}
 use Rattle.locale_numbers_requests.specs.declared.Task.TheVariants.{Write, WriteExact, Read, ReadLenient}
@@ -124,3 +125,11 @@ asked_as (Some skeleton) s = skeleton_asked (skeleton_of skeleton)
 
 abbrev pub numbers_asked : NumbersSaid → Result NumbersAsked OptionFault
 numbers_asked s = asked_as s.format s
+
+-- what is asked of texts that are read beside them
+abbrev pub reading_asked : Task → NumbersAsked → NumbersAsked
+reading_asked task asked = record {
+  task = task;
+  format = record { shape = record asked.format.shape { notation = Standard }; options = (format_read asked.format).options };
+  is_coarse = false;
+}

@@ -12,13 +12,14 @@ use locale_numbers_requests::{
     count_named, cut_field, increment_named, last_named, mode_named, position_named,
 };
 
-// A rounding, the zeros at the end and the digits of the fraction at least, and nothing else.
+// A rounding, the zeros at the end and the digits of the fraction at least; a zero that a rounding above the ones leaves is
+// one zero.
 fn options_by(rounding: Rounding, zeros: TrailingZeros, least: i16) -> NumberOptions
     ensures { result ≡ options_by rounding zeros least }
 {
     NumberOptions {
         rounding,
-        leading_zeros: LeadingZeros::Keep,
+        leading_zeros: LeadingZeros::TrimRoundedZero,
         zeros,
         integer_digits: 0,
         fraction_digits: least,

@@ -30,30 +30,39 @@ Reading:
   --read takes what people type: with all separators between groups or with none, with spaces around
   it, with the digits of the locale or, where the locale has others, 0 to 9. Nothing is guessed: 1.23
   is no number under de. --read-exact takes a text only as it is written under the tag and the
-  grouping, so that each number has one text: for texts that a program wrote. The forms are
-  read-lenient and read; of a percent read-lenient-percent and read-percent, of an amount
-  read-lenient-currency-EUR, read-currency-EUR and so on.
+  grouping, so that each number has one text: for texts that a program wrote.
 
 Money and percents:
   --currency EUR writes an amount: 1.234,50 € under de. The code is three capitals; one that the book
   does not know is written by itself. The amount is rounded to the digits of the currency, half to
-  even, or with --cash to what is paid in cash, or as --round says. --accounting is for accounts:
-  ($5.00). --code writes EUR in place of €. --percent writes a number as it is given: 12.5 is 12.5%.
-  With either of these --read takes a text with the unit on either side, with its code or without.
+  even, or with --cash to what is paid in cash, or as an option of digits says. --accounting is for
+  accounts: ($5.00). --code writes EUR in place of €. --percent writes a number as it is given: 12.5 is
+  12.5%. With either of these --read takes a text with the unit on either side, with its code or
+  without.
 
-Rounding:
-  --round -2 rounds to hundredths, 0 to whole numbers, 3 to thousands. A mode may follow, and then an
-  increment: -2,floor and -2,half-even,5. The modes are expand, trunc, ceil, floor, half-expand,
-  half-trunc, half-ceil, half-floor and half-even, the increments 1, 2, 5 and 25. Without them it is
-  half-even and 1. Exact forms and texts that are read are not rounded.
+Digits:
+  --digits 2 shows two digits after the point; --max-digits 2 two at most, and none that is not
+  needed; --min-digits 2 two at least. The last two may be given together. They round half to even.
+  --round -2 rounds to hundredths and shows both digits, 0 rounds to whole numbers, 3 to thousands. A
+  mode may follow, and then an increment: -2,floor and -2,half-even,5. The modes are expand, trunc,
+  ceil, floor, half-expand, half-trunc, half-ceil, half-floor and half-even, the increments 1, 2, 5 and
+  25; without them it is half-even and 1. Under a position above 0 without a mode a number with a
+  fraction is refused: --round 2 rounds to hundreds, and --digits 2 may be meant. Exact forms and texts
+  that are read are not rounded.
+
+Skeletons:
+  --format takes a number skeleton, as ICU's message formatters have it behind ::, 'currency/EUR .00'
+  or 'compact-short sign-always'. Zeros that the number has in front, or at the end of its fraction,
+  are shown only where it asks for them. The texts of --read and --read-exact have its unit.
 
 Lines:
   A line of --lines has six fields with tabs between: tag, form, grouping, sign, rounding and number.
   The first five have the words of the options. Further forms are percent and, of amounts in euros,
-  currency-EUR, accounting-EUR and code-EUR; those that read are under Reading. The rounding is -,
-  cash, or all three words of --round; with - only amounts are rounded, to the digits of their
-  currency. The answer to a line is ok, a tab and the text, for short and long also a tab and the
-  value that is shown; or err, a tab and the first of these words that applies:
+  currency-EUR, accounting-EUR and code-EUR, each with read- or read-lenient- before it where a text is
+  read, and ::SKELETON. The rounding is -, cash, or all three words of --round, in which f0-2 is two
+  digits at most; with - only amounts are rounded, to the digits of their currency. The answer to a
+  line is ok, a tab and the text, for short and long also a tab and the value that is shown; or err, a
+  tab and the first of these words that applies:
 
     shape        the line does not have six fields of known words
     tag          the tag is no locale tag
@@ -84,7 +93,11 @@ Examples:
   $ legumeyet --tag de --currency EUR 1234.5
   1.234,50 €
 
-  $ legumeyet --tag de --round -2 --parts -1234.567
+  $ legumeyet --tag de --max-digits 2 1234.5 0.125
+  1.234,5
+  0,12
+
+  $ legumeyet --tag de --digits 2 --parts -1234.567
   -1.234,57
     minusSign -
     integer 1.234

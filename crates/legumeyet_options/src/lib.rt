@@ -7,12 +7,15 @@ mod digits;
 mod fault;
 mod help;
 mod invalid;
+pub mod laws;
 mod locale_name;
 mod number_words;
 mod options;
+mod saying;
 
 pub use fault::OptionFault;
 pub use invalid::Invalid;
 pub use locale_name::tag_of_name;
 pub use number_words::{NumberWords, NumbersAsked};
 pub use options::command;
+pub use saying::{NotSaid, Sayer};

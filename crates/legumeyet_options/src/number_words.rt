@@ -3,7 +3,7 @@
 ghost use Rattle.std.specs.Prelude.{◌≡◌, option_map};
 ghost use Rattle.locale_numbers_formats.specs.Skeletons.{skeleton_of};
 ghost use Rattle.legumeyet_options.specs.NumberForms.{form_said};
-ghost use Rattle.legumeyet_options.specs.NumberWords.{asked_by, chooses_digits, form_asked, grouping_asked, is_coarse_round, numbers_asked, sign_asked, skeleton_asked, task_fault, unit_asked, words_asked};
+ghost use Rattle.legumeyet_options.specs.NumberWords.{asked_by, chooses_digits, form_asked, grouping_asked, is_coarse_round, numbers_asked, reading_asked, sign_asked, skeleton_asked, task_fault, unit_asked, words_asked};
 
 use crate::digits::{digits_said, is_coarse};
 use crate::fault::OptionFault;
@@ -13,7 +13,7 @@ use locale_numbers_formats::{
     CompactWidth, CurrencyUnit, Notation, NumberFormat, NumberOptions, NumberShape, NumberUnit,
     SignAsked, Skeleton, value_beside,
 };
-use locale_numbers_requests::{Task, grouping_named, sign_named};
+use locale_numbers_requests::{Task, format_read, grouping_named, sign_named};
 
 /// The words of the options that say how numbers are written; `None` and `false` where an option is not given.
 #[derive(Clone, Copy, Debug)]
@@ -55,6 +55,28 @@ pub struct NumbersAsked {
     pub format: NumberFormat,
     /// Whether they are rounded above the ones without a mode, as by `--round 2`: one with a fraction is then refused.
     pub is_coarse: bool,
+}
+
+impl NumbersAsked {
+    /// What is asked of texts that are read beside numbers that are written: another task, and the format without compact
+    /// patterns and without a rounding, but that an amount has the digits of its currency where it is written so. It does
+    /// not allocate.
+    pub fn reading(&self, task: Task) -> NumbersAsked
+        ensures value { result ≡ reading_asked task self.now }
+    {
+        let format = format_read(self.format);
+        NumbersAsked {
+            task,
+            format: NumberFormat {
+                shape: NumberShape {
+                    notation: Notation::Standard,
+                    ..format.shape
+                },
+                options: format.options,
+            },
+            is_coarse: false,
+        }
+    }
 }
 
 // The forms of numbers.

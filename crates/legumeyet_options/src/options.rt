@@ -38,39 +38,79 @@ fn form<'a>(alloc: Global) -> Arg<'a> {
         .long("form")
         .value_name("FORM")
         .value_parser(FORMS.as_slice())
-        .default_value("plain")
-        .help("What is written")
+        .help("What is written [default: plain]")
 }
 
-fn grouping<'a>(alloc: Global) -> Arg<'a> {
+fn format<'a>(alloc: Global) -> Result<Arg<'a>, AllocError> {
+    Arg::new(alloc, "format")
+        .long("format")
+        .value_name("SKELETON")
+        .help(
+            "Writes by a number skeleton of ICU, as 'currency/EUR .00', which says all that is written",
+        )
+        .conflicts_with("form")
+}
+
+fn grouping<'a>(alloc: Global) -> Result<Arg<'a>, AllocError> {
     Arg::new(alloc, "grouping")
         .short('g')
         .long("grouping")
         .value_name("GROUPING")
         .value_parser(GROUPINGS.as_slice())
-        .default_value("auto")
-        .help("Which digits are grouped; min2 groups from 10000 on")
+        .help("Which digits are grouped; min2 groups from 10000 on [default: auto]")
+        .conflicts_with("format")
 }
 
-fn sign<'a>(alloc: Global) -> Arg<'a> {
+fn sign<'a>(alloc: Global) -> Result<Arg<'a>, AllocError> {
     Arg::new(alloc, "sign")
         .short('s')
         .long("sign")
         .value_name("SIGN")
         .value_parser(SIGNS.as_slice())
-        .default_value("keep")
-        .help("When a sign is written; keep writes that of the number, a plus too")
+        .help("When a sign is written; keep writes that of the number, a plus too [default: keep]")
+        .conflicts_with("format")
 }
 
-fn round<'a>(alloc: Global) -> Arg<'a> {
+fn round<'a>(alloc: Global) -> Result<Arg<'a>, AllocError> {
     Arg::new(alloc, "round")
         .short('r')
         .long("round")
         .value_name("POSITION[,MODE[,INCREMENT]]")
         .allow_hyphen_values(true)
-        .default_value("-")
-        .hide_default_value(true)
         .help("Rounds first: -2 to hundredths, -2,floor down, -2,half-even,5 to multiples of 0.05")
+        .conflicts_with("format")
+}
+
+fn digits<'a>(alloc: Global) -> Result<Arg<'a>, AllocError> {
+    Arg::new(alloc, "digits")
+        .short('d')
+        .long("digits")
+        .value_name("N")
+        .help("Writes so many digits after the point, rounded half to even")
+        .conflicts_with("format")?
+        .conflicts_with("round")
+}
+
+fn max_digits<'a>(alloc: Global) -> Result<Arg<'a>, AllocError> {
+    Arg::new(alloc, "max-digits")
+        .long("max-digits")
+        .value_name("N")
+        .help("Writes so many digits after the point at most, and no zeros at the end")
+        .conflicts_with("format")?
+        .conflicts_with("round")?
+        .conflicts_with("digits")
+}
+
+fn min_digits<'a>(alloc: Global) -> Result<Arg<'a>, AllocError> {
+    Arg::new(alloc, "min-digits")
+        .long("min-digits")
+        .value_name("N")
+        .help(
+            "Writes so many digits after the point at least; without --max-digits nothing is rounded",
+        )
+        .conflicts_with("format")?
+        .conflicts_with("round")?
+        .conflicts_with("digits")
 }
 
 fn currency<'a>(alloc: Global) -> Result<Arg<'a>, AllocError> {
@@ -79,7 +119,8 @@ fn currency<'a>(alloc: Global) -> Result<Arg<'a>, AllocError> {
         .long("currency")
         .value_name("CODE")
         .help("Writes amounts of this currency, as EUR, rounded to its digits")
-        .conflicts_with("form")
+        .conflicts_with("form")?
+        .conflicts_with("format")
 }
 
 fn accounting<'a>(alloc: Global) -> Result<Arg<'a>, AllocError> {
@@ -105,7 +146,10 @@ fn cash<'a>(alloc: Global) -> Result<Arg<'a>, AllocError> {
         .action(ArgAction::SetTrue)
         .help("Rounds amounts to what is paid in cash: 2.34 Swiss francs are 2.35")
         .requires_arg("currency")?
-        .conflicts_with("round")
+        .conflicts_with("round")?
+        .conflicts_with("digits")?
+        .conflicts_with("max-digits")?
+        .conflicts_with("min-digits")
 }
 
 fn percent<'a>(alloc: Global) -> Result<Arg<'a>, AllocError> {
@@ -115,6 +159,7 @@ fn percent<'a>(alloc: Global) -> Result<Arg<'a>, AllocError> {
         .action(ArgAction::SetTrue)
         .help("Writes percents: 12.5 is 12.5% in English")
         .conflicts_with("form")?
+        .conflicts_with("format")?
         .conflicts_with("currency")
 }
 
@@ -171,9 +216,13 @@ fn beside_no_number<'a>(option: Arg<'a>) -> Result<Arg<'a>, AllocError> {
         .conflicts_with("numbers")?
         .conflicts_with("tag")?
         .conflicts_with("form")?
+        .conflicts_with("format")?
         .conflicts_with("grouping")?
         .conflicts_with("sign")?
         .conflicts_with("round")?
+        .conflicts_with("digits")?
+        .conflicts_with("max-digits")?
+        .conflicts_with("min-digits")?
         .conflicts_with("currency")?
         .conflicts_with("percent")?
         .conflicts_with("read")?
@@ -240,14 +289,18 @@ fn put_written<'a>(alloc: Global, args: &mut Vec<Arg<'a>>) -> Result<(), AllocEr
     put(args, numbers(alloc))?;
     put(args, Ok(tag(alloc)))?;
     put(args, Ok(form(alloc)))?;
+    put(args, format(alloc))?;
     put(args, currency(alloc))?;
     put(args, accounting(alloc))?;
     put(args, code(alloc))?;
     put(args, cash(alloc))?;
     put(args, percent(alloc))?;
-    put(args, Ok(grouping(alloc)))?;
-    put(args, Ok(sign(alloc)))?;
-    put(args, Ok(round(alloc)))
+    put(args, grouping(alloc))?;
+    put(args, sign(alloc))?;
+    put(args, digits(alloc))?;
+    put(args, max_digits(alloc))?;
+    put(args, min_digits(alloc))?;
+    put(args, round(alloc))
 }
 
 // Puts the others after them.
