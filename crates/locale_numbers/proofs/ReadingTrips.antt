@@ -74,7 +74,7 @@ use Rattle.locale_numbers_requests.specs.declared.Task.{Task}
 use Rattle.locale_numbers_requests.specs.declared.Task.TheVariants.{Write, WriteExact, Read, ReadLenient}
 use Rattle.locale_numbers.specs.Answer.{answer_asked, answer_tagged, in_latin, refused, written}
 use Rattle.locale_numbers.specs.AskedFormats.{grouping_in, keeping, options_of, plain_shape}
-use Rattle.locale_numbers.specs.Laws.{AutoIsAnsweredAsAlways, EachGroupingIsReadLeniently, FindsTables, ReadIsReadLeniently, ReadIsWrittenAgain, RoundedIsWrittenAgain, TrimsNothing, WrittenReadsBack, grouped_by, lenient_request, plain_request, reading_request}
+use Rattle.locale_numbers.specs.Laws.{AutoIsAnsweredAsAlways, EachGroupingIsReadLeniently, FindsTables, FindsTexts, ReadIsReadLeniently, ReadIsWrittenAgain, RoundedIsWrittenAgain, TrimsNothing, WrittenReadsBack, grouped_by, lenient_request, plain_request, reading_request}
 use Rattle.locale_numbers.proofs.FoundTexts.{in_plain}
 use Rattle.locale_numbers.proofs.TextDigitsLemmas.{changes_none}
 
@@ -412,11 +412,34 @@ module _ (pairs : PlainReadsByPairs) (book : BookTables) (asked : Asked) (tables
 
 -- ---- the laws
 
-pub read_is_lenient : PlainReadsByPairs → ReadIsReadLeniently
-read_is_lenient pairs book asked tables text digits finds same =
+-- what a request finds whose text has an answer
+record FindsSome (book : BookTables) (asked : Asked) : Type 0 where
+  tables : Tables
+  finds : FindsTables book asked tables
+
+found_some : (book : BookTables) (asked : Asked) (text digits : List ℕ) (p : Preferences) → wanted_of asked.tag ≡ Some p → FindsTexts book asked
+    → (found : Result Tables DataError) → found_plain book p (Some (grouping_in asked)) ≡ found → read_found (mapped plain_tables found) Usual text ≡ written digits → FindsSome book asked
+found_some book asked text digits p tag texts (Err error) held same = absurd (refused_no refusal.Table digits same)
+found_some book asked text digits p tag texts (Ok tables) held same =
+    let there : found_for (plain_shape (grouping_in asked)) book p ≡ Ok (plain_tables tables) = ap (mapped plain_tables) held in
+    record { tables = tables; finds = record { preferences = p; tag = tag; found = there; are = texts p tag tables there } }
+
+wanted_some : (book : BookTables) (asked : Asked) (text digits : List ℕ) → FindsTexts book asked
+    → (wanted : Option Preferences) → wanted_of asked.tag ≡ wanted → answer_tagged book wanted (reading_request asked text) ≡ written digits → FindsSome book asked
+wanted_some book asked text digits texts None tag same = absurd (refused_no refusal.Tag digits same)
+wanted_some book asked text digits texts (Some p) tag same = found_some book asked text digits p tag texts (found_plain book p (Some (grouping_in asked))) refl same
+
+read_leniently : (pairs : PlainReadsByPairs) (book : BookTables) (asked : Asked) (tables : Tables) (text digits : List ℕ) → FindsTables book asked tables
+    → answer_asked book (Some (reading_request asked text)) ≡ written digits → answer_asked book (Some (lenient_request asked text)) ≡ written digits
+read_leniently pairs book asked tables text digits finds same =
     let read = read_of pairs book asked tables finds text digits same in
     lenient_found pairs book asked tables finds text read.value (λ second. read_exactly tables second text read.value read.is)
     ∙ ap written read.printed
+
+pub read_is_lenient : PlainReadsByPairs → ReadIsReadLeniently
+read_is_lenient pairs book asked text digits texts same =
+    let some = wanted_some book asked text digits texts (wanted_of asked.tag) refl same in
+    read_leniently pairs book asked some.tables text digits some.finds same
 
 pub read_again : PlainReadsByPairs → HasOnePlainReading → TextIsWrittenAgain → ReadIsWrittenAgain
 read_again pairs one again book asked tables text digits finds same =

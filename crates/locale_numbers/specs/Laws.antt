@@ -125,10 +125,14 @@ ReadIsWrittenAgain = (book : BookTables) (asked : Asked) (tables : Tables) (text
     → answer_asked book (Some (reading_request asked text)) ≡ written digits
     → answer_asked book (Some (plain_request asked (options_of Usual Keep) digits)) ≡ written text
 
+-- where a request finds tables in a book, these are such: of each book and of tables of one's own laws say so, as those of every formatter are
+abbrev pub FindsTexts : BookTables → Asked → Type 0
+FindsTexts book asked = (preferences : Preferences) → wanted_of asked.tag ≡ Some preferences → AreTexts (found_for (plain_shape (grouping_in asked)) book preferences)
+
 -- a text that is read is read leniently, with the same answer
 abbrev pub ReadIsReadLeniently : Type 0
-ReadIsReadLeniently = (book : BookTables) (asked : Asked) (tables : Tables) (text digits : List ℕ)
-    → FindsTables book asked tables
+ReadIsReadLeniently = (book : BookTables) (asked : Asked) (text digits : List ℕ)
+    → FindsTexts book asked
     → answer_asked book (Some (reading_request asked text)) ≡ written digits
     → answer_asked book (Some (lenient_request asked text)) ≡ written digits
 
