@@ -1,6 +1,8 @@
 // Answers request lines by ICU4C's number formatter: forms plain, short, long and percent, and of a currency
 // currency-EUR, code-EUR and accounting-EUR; rounding `-`, and of a currency `cash` too; each as `ok`, a tab
-// and the text. The form read takes a text and answers the decimal number that ICU4C's strict
+// and the text. So too a number skeleton behind two colons, as `::percent`, with grouping auto, sign keep and
+// rounding `-`; the form skeleton takes one for a text, and answers its normal text, or `err` and the place of its
+// fault. The form read takes a text and answers the decimal number that ICU4C's strict
 // parser finds in the whole of it. Any other line is `err`, a tab and a word. A formatter is kept for each
 // locale, form, grouping, sign and rounding, up to a thousand, and a parser for each locale.
 #include <unicode/fmtable.h>
@@ -59,6 +61,31 @@ static bool make_of_unit(const std::vector<std::string_view>& field, UNumberSign
     return U_SUCCESS(code);
 }
 
+static icu::UnicodeString unicode(std::string_view text) {
+    return icu::UnicodeString::fromUTF8({text.data(), int32_t(text.size())});
+}
+
+// A formatter for a number skeleton; false where it has a fault.
+static bool make_of_skeleton(const std::vector<std::string_view>& field, const icu::Locale& locale, LocalizedNumberFormatter& made) {
+    if (field[2] != "auto" || field[3] != "keep" || field[4] != "-") return false;
+    UErrorCode code = U_ZERO_ERROR;
+    made = icu::number::NumberFormatter::forSkeleton(unicode(field[1].substr(2)), code).locale(locale);
+    return U_SUCCESS(code);
+}
+
+// Writes the normal text of a skeleton, or the place of its fault, which is -1 where ICU4C says none.
+static bool write_normal(std::string_view skeleton, std::string& text) {
+    UErrorCode code = U_ZERO_ERROR;
+    UParseError fault;
+    fault.offset = -1;
+    const auto made = icu::number::NumberFormatter::forSkeleton(unicode(skeleton), fault, code);
+    const icu::UnicodeString normal = made.toSkeleton(code);
+    text.clear();
+    if (U_SUCCESS(code)) normal.toUTF8String(text);
+    else text = std::to_string(fault.offset);
+    return U_SUCCESS(code);
+}
+
 // A formatter for the first five fields; false where one of them is not known.
 static bool make(const std::vector<std::string_view>& field, LocalizedNumberFormatter& made) {
     static const std::unordered_map<std::string_view, UNumberGroupingStrategy> groupings = {
@@ -78,6 +105,7 @@ static bool make(const std::vector<std::string_view>& field, LocalizedNumberForm
     if (grouping == groupings.end() || sign == signs.end()) return false;
     UErrorCode code = U_ZERO_ERROR;
     const icu::Locale locale = icu::Locale::forLanguageTag({field[0].data(), int32_t(field[0].size())}, code);
+    if (field[1].substr(0, 2) == "::") return U_SUCCESS(code) && make_of_skeleton(field, locale, made);
     const auto base = icu::number::NumberFormatter::withLocale(locale).grouping(grouping->second).sign(sign->second);
     if (field[1] == "percent" || field[1].find('-') != std::string_view::npos) {
         made = base;
@@ -101,7 +129,7 @@ static bool read(std::string_view tag, std::string_view text, bool is_lenient, s
         if (U_FAILURE(code)) return false;
         parser->setLenient(is_lenient);
     }
-    const icu::UnicodeString given = icu::UnicodeString::fromUTF8({text.data(), int32_t(text.size())});
+    const icu::UnicodeString given = unicode(text);
     icu::ParsePosition end;
     icu::Formattable found;
     parser->parse(given, found, end);
@@ -126,7 +154,8 @@ int main() {
         const LocalizedNumberFormatter* formatter = nullptr;
         const bool is_lenient = field.size() == 6 && field[1] == "read-lenient";
         const bool is_read = is_lenient || (field.size() == 6 && field[1] == "read");
-        if (field.size() == 6 && !is_read) {
+        const bool is_skeleton = field.size() == 6 && field[1] == "skeleton";
+        if (field.size() == 6 && !is_read && !is_skeleton) {
             const std::string key = line.substr(0, field[5].data() - line.data());
             auto found = kept.find(key);
             if (LocalizedNumberFormatter made; found == kept.end() && make(field, made)) {
@@ -138,6 +167,9 @@ int main() {
         if (is_read) {
             if (read(field[0], field[5], is_lenient, text)) answers.append("ok\t").append(text).push_back('\n');
             else answers += "err\tnot-written\n";
+        } else if (is_skeleton) {
+            answers += write_normal(field[5], text) ? "ok\t" : "err\t";
+            answers.append(text).push_back('\n');
         } else if (formatter == nullptr) {
             answers += "err\tshape\n";
         } else {

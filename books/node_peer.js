@@ -1,7 +1,7 @@
-// Answers request lines by Intl.NumberFormat of Node: forms plain, short and long with the sign keep and the rounding
-// `-`, each as `ok`, a tab and the text. So too, with the sign keep or always, the form percent, and of a currency
-// currency-EUR, code-EUR and accounting-EUR; for cash, which Node does not know, the rounding names digits and increment,
-// as in `cash 2 5`. The form `locale` is answered with the locale that Node takes for the tag,
+// Answers request lines by Intl.NumberFormat of Node: forms plain, short and long with the rounding `-`, each as `ok`, a
+// tab and the text. So too the form percent, and of a currency currency-EUR, code-EUR and accounting-EUR; for cash, which
+// Node does not know, the rounding names digits and increment, as in `cash 2 5`. A form may be an object of options in JSON,
+// with the grouping auto, the sign keep and the rounding `-`. The form `locale` is answered with the locale that Node takes for the tag,
 // `script` with the tag that has its usual script put in, and `whole` with its usual script and region. Any other line is
 // `err`, a tab and a word. The word `version` alone prints the versions of Node and of its data.
 "use strict";
@@ -14,11 +14,11 @@ const kept = new Map();
 function formatter(tag, grouping, options) {
   const key = `${tag} ${grouping} ${JSON.stringify(options)}`;
   if (kept.size > 1000) kept.clear();
-  if (!kept.has(key)) kept.set(key, new Intl.NumberFormat(tag, { ...options, useGrouping: GROUPINGS[grouping] }));
+  if (!kept.has(key)) kept.set(key, new Intl.NumberFormat(tag, { useGrouping: GROUPINGS[grouping], ...options }));
   return kept.get(key);
 }
 
-const SIGNS = { keep: "auto", always: "always" };
+const SIGNS = { keep: "auto", auto: "auto", always: "always", never: "never", "except-zero": "exceptZero", negative: "negative" };
 const WIDTHS = { currency: {}, code: { currencyDisplay: "code" }, accounting: { currencySign: "accounting" } };
 
 // The digits and the increment of cash, and nothing without cash; null where the rounding is neither.
@@ -39,6 +39,14 @@ function unitOptions(form, sign, rounding) {
   return { style: "currency", currency, roundingMode: "halfEven", signDisplay, ...WIDTHS[width], ...digits };
 }
 
+// The options that the fields say; null where they say none.
+function optionsOf(form, sign, rounding) {
+  if (!(sign in SIGNS)) return null;
+  if (form.startsWith("{")) return sign === "keep" && rounding === "-" ? JSON.parse(form) : null;
+  if (form in FORMS) return rounding === "-" ? { ...FORMS[form], signDisplay: SIGNS[sign] } : null;
+  return unitOptions(form, sign, rounding);
+}
+
 // The number over 100, as a text: Node writes a ratio in percents.
 function ratio(number) {
   const [, sign, whole, fraction] = /^([-+]?)(\d+)(?:\.(\d+))?$/.exec(number);
@@ -55,12 +63,8 @@ function answered(line) {
   if (form === "locale") return new Intl.NumberFormat(tag).resolvedOptions().locale;
   if (form === "script") return withScript(tag);
   if (form === "whole") return new Intl.Locale(tag).maximize().toString();
-  if (!(grouping in GROUPINGS)) return null;
-  if (form in FORMS) {
-    return sign === "keep" && rounding === "-" ? formatter(tag, grouping, FORMS[form]).format(number) : null;
-  }
-  const options = sign in SIGNS ? unitOptions(form, sign, rounding) : null;
-  return options && formatter(tag, grouping, options).format(form === "percent" ? ratio(number) : number);
+  const options = grouping in GROUPINGS ? optionsOf(form, sign, rounding) : null;
+  return options && formatter(tag, grouping, options).format(options.style === "percent" ? ratio(number) : number);
 }
 
 function answer(line) {

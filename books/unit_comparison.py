@@ -3,7 +3,7 @@ a formatter writes another text than the definition of unit_text.py."""
 import collections
 import random
 
-from comparison import answers, number, say_unknown, text
+from comparison import answers, number, say_unknown, text, with_field
 from look_up import LETTERS, PLACEHOLDER, locale_of
 from unit_text import (
     FORM, Format, Symbols, affixes_of, answer, chosen_pattern, number_of, plain_tables, rounded, text_of, with_sign,
@@ -148,7 +148,9 @@ def texts_there(book, line):
     """What another formatter may write for a currency's line, each with its causes."""
     _, _, grouping, display, rounding, given = line.split("\t")
     for form, causes in formats_there(book, line):
-        its = with_sign(rounded(number_of(given), *form.rounding), display)
+        # a number that was rounded before is shown as it is given
+        value = number_of(given) if "," in rounding else rounded(number_of(given), *form.rounding)
+        its = with_sign(value, display)
         yield text_of(form, its, grouping), causes
         if rounding == "cash" and form.rounding[1] % 10 == 0 and its.fraction.endswith("0"):
             yield text_of(form, its._replace(fraction=its.fraction[:-1]), grouping), [*causes, CASH_ZERO]
@@ -156,7 +158,7 @@ def texts_there(book, line):
 
 def cause_of(book, line, there):
     """Why another formatter writes this text for a line, or None: the fewest causes under which it would be written here."""
-    is_answered = there.startswith("ok\t") and answer(book, line).startswith("ok\t")
+    is_answered = there.startswith("ok\t") and answer(book, with_field(line, 4, "-")).startswith("ok\t")
     if style_of(line) == "percent" or not is_answered:
         return None
     causes = [causes for its, causes in texts_there(book, line) if its == text(there)[1] and causes]

@@ -1,0 +1,56 @@
+"""Rows that books/try tries for number skeletons: as ICU4C 72 has them, but for docs/skeletons.md, "Where ICU differs"."""
+
+# A skeleton, and its normal text, or its fault and the place.
+NORMAL = [
+    tuple(row.split(" | "))
+    for row in """\
+notation-simple sign-auto % group-auto | percent
+ percent  .00  | percent .00
+currency/usd K | compact-short currency/USD
++! 000 ,_ rounding-mode-up .00+ % | percent .00* rounding-mode-up group-off integer-width/*000 sign-always
+unit-width-iso-code () currency/CHF precision-currency-cash | currency/CHF precision-currency-cash unit-width-iso-code sign-accounting
+. ,? | precision-integer group-min2
+compact-long group-auto | compact-long group-auto
+compact-long ,? | compact-long
+percent foo | Unknown at 8
+.0x | Unknown at 0
+currency | Unknown at 0
+percent currency/EUR | Twice at 8
+base-unit percent | Twice at 10
+.00 .0 | Twice at 4
+K currency/EURO | Code at 2
+.00 unit-width-iso-code percent | Pair at 4
+precision-currency-cash/w | Pair at 0
+percent latin | System at 8
+numbering-system/thai | System at 0
+KK .00 | Later at 3
+currency/EUR rounding-mode-up | Later at 13
+.##/@@@+ | Later at 0
+unit/kilometer | Later at 0
+%x100 | Later at 0
+integer-width/##00 | Unsupported at 0
+usage/road | Unsupported at 0""".split("\n")
+]
+# A skeleton, a number, the digits of the currency, and the line that asks for it by other words.
+LINES = [
+    tuple(row.split(" | "))
+    for row in """\
+base-unit | 007.500 | - | plain auto auto - 7.5
+base-unit | -1.23456789 | - | plain auto auto - -1.234568
+. | -0.001 | - | plain auto auto - -0
+.00## +! | 1.5 | - | plain auto always - 1.50
+.00/w 000 | 3 | - | plain auto auto - 003
+.00* ,_ | 1.2345 | - | plain never auto - 1.2345
+.0 rounding-mode-half-ceiling | -0.25 | - | plain auto auto - -0.2
+.0 rounding-mode-half-floor | -0.25 | - | plain auto auto - -0.3
+.+ +- | 1.23456789 | - | plain auto negative - 1.23456789
+% ,? | 1234.5 | - | percent min2 auto - 1234.5
+KK | 1234567.00 | - | long min2 auto - 1234567
+K group-auto +_ | 1234 | - | short auto never - 1234
+currency/JPY | 2.5 | 0 1 0 1 | currency-JPY auto auto 0,half-even,1 2
+currency/CHF precision-currency-cash | 5.03 | 2 1 2 5 | currency-CHF auto auto -2,half-even,1 5.05
+currency/USD ()! precision-currency-standard/w | 5 | 2 1 2 1 | accounting-USD auto always 0,half-even,1 5
+currency/USD unit-width-iso-code .0# | 5 | 2 1 2 1 | code-USD auto auto -1,half-even,1 5.0
+currency/USD unit-width-iso-code () | 5 | 2 1 2 1 | None
+K currency/EUR | 5 | 2 1 2 1 | None""".split("\n")
+]

@@ -1,0 +1,299 @@
+"""Number skeletons: what the words of one ask for, its normal text, and what it shows of a number.
+
+This is a definition: it goes by docs/skeletons.md, and shares nothing with the program.
+"""
+import decimal
+import re
+import typing
+
+KINDS = ("notation", "unit", "precision", "mode", "grouping", "integer", "width", "sign")
+# Of each kind the words of normal texts, each with its other spellings behind it; the first word of a row without a mark `=` is
+# written, that of one with it is usual.
+ROWS = """\
+notation = notation-simple
+notation compact-short K
+notation compact-long KK
+unit = base-unit
+unit percent %
+precision precision-integer .
+precision precision-unlimited .+ .*
+precision precision-currency-standard
+precision precision-currency-standard/w
+precision precision-currency-cash
+precision precision-currency-cash/w
+mode = rounding-mode-half-even
+mode rounding-mode-ceiling
+mode rounding-mode-floor
+mode rounding-mode-down
+mode rounding-mode-up
+mode rounding-mode-half-down
+mode rounding-mode-half-up
+mode rounding-mode-half-ceiling
+mode rounding-mode-half-floor
+grouping group-auto
+grouping group-off ,_
+grouping group-min2 ,?
+width = unit-width-short
+width unit-width-iso-code
+sign = sign-auto
+sign sign-always +!
+sign sign-never +_
+sign sign-except-zero +?
+sign sign-negative +-
+sign sign-accounting ()
+sign sign-accounting-always ()!
+sign sign-accounting-except-zero ()?
+sign sign-accounting-negative ()-
+"""
+REFUSED = {
+    "System": ("latin", "numbering-system/"),
+    "Later": ("permille scientific E0 engineering EE0 unit-width-narrow unit-width-full-name group-on-aligned ,! %x100 scale/ "
+              "precision-increment/ unit/ measure-unit/ scientific/ engineering/").split(),
+    "Unsupported": ("decimal-auto decimal-always integer-width-trunc unit-width-hidden unit-width-formal unit-width-variant group-thousands "
+                    "rounding-mode-half-odd rounding-mode-unnecessary per-measure-unit/ usage/").split(),
+}
+MOST = 100  # marks of a word
+FRACTION = re.compile(r"\.(0*)(#*)")
+AT_LEAST = re.compile(r"\.(0+)[*+]")
+WHOLE = re.compile(r"\.(0*)/w")
+LATER_DIGITS = re.compile(r"\.0*#*/.*|@.*")
+PADDED = re.compile(r"integer-width/[*+](0+)|(0+)")
+EXACT = decimal.Context(prec=200)
+MODES = {
+    "": decimal.ROUND_HALF_EVEN,
+    "rounding-mode-ceiling": decimal.ROUND_CEILING,
+    "rounding-mode-floor": decimal.ROUND_FLOOR,
+    "rounding-mode-down": decimal.ROUND_DOWN,
+    "rounding-mode-up": decimal.ROUND_UP,
+    "rounding-mode-half-down": decimal.ROUND_HALF_DOWN,
+    "rounding-mode-half-up": decimal.ROUND_HALF_UP,
+}
+
+
+class Skeleton(typing.NamedTuple):
+    """What is asked for: of each kind the word of the normal text, or nothing where it is usual."""
+
+    notation: str = ""
+    unit: str = ""
+    precision: str = ""
+    mode: str = ""
+    grouping: str = ""
+    integer: str = ""
+    width: str = ""
+    sign: str = ""
+
+    def normal_text(self):
+        """The normal text."""
+        return " ".join(filter(None, self))
+
+
+class Refused(Exception):
+    """A text that is no skeleton: the name of the fault and the place of the word."""
+
+
+def spellings():
+    """What each word without marks of its own sets, by each of its spellings: a kind, and the word of the normal text."""
+    found = {}
+    for row in ROWS.splitlines():
+        kind, *words = row.split()
+        normal = "" if words[0] == "=" else words[0]
+        found.update((word, (kind, normal)) for word in words if word != "=")
+    return found
+
+
+SPELLINGS = spellings()
+
+
+def fault_named(word):
+    """The name of the fault that a word is."""
+    front, slash, _ = word.partition("/")
+    return next((name for name, words in REFUSED.items() if front + slash in words), "Unknown")
+
+
+def digits_setting(word):
+    """What a word of marks sets, or None where it is no such word."""
+    if len(word) > MOST + 1 and word[0] == ".":
+        raise Refused("Unknown")
+    fraction, least, whole, padded = (it.fullmatch(word) for it in (FRACTION, AT_LEAST, WHOLE, PADDED))
+    if fraction:
+        return "precision", word
+    if least:
+        return "precision", f".{least[1]}*"
+    if whole:
+        return "precision", word
+    if padded:
+        zeros = padded[1] or padded[2]
+        if len(zeros) > MOST:
+            raise Refused("Unsupported" if padded[1] else "Unknown")
+        return "integer", f"integer-width/*{zeros}"
+    if LATER_DIGITS.fullmatch(word):
+        raise Refused("Later")
+    return None
+
+
+def setting(word):
+    """The kind that a word sets, and the word of the normal text."""
+    if word in SPELLINGS:
+        return SPELLINGS[word]
+    found = digits_setting(word)
+    if found:
+        return found
+    if word.startswith("currency/"):
+        code = word[len("currency/") :]
+        if not re.fullmatch("[A-Za-z]{3}", code, re.A):
+            raise Refused("Code")
+        return "unit", f"currency/{code.upper()}"
+    if word.startswith("integer-width/"):
+        raise Refused("Unsupported")
+    raise Refused(fault_named(word))
+
+
+def pair_fault(its):
+    """The kind and the fault of what does not go with another word, or None."""
+    is_amount, of_currency = its.unit.startswith("currency/"), its.precision.startswith("precision-currency")
+    has_own_digits = of_currency or (is_amount and not its.precision)
+    for kind, is_wrong, name in (
+        ("precision", its.notation and its.precision, "Later"),
+        ("precision", of_currency and not is_amount, "Pair"),
+        ("mode", its.mode and (its.notation or has_own_digits), "Later"),
+        ("width", its.width and not is_amount, "Pair"),
+        ("sign", its.sign.startswith("sign-accounting") and not is_amount, "Pair"),
+    ):
+        if is_wrong:
+            return kind, name
+    return None
+
+
+def read_skeleton(text):
+    """The skeleton that a text is; raises Refused with a fault and its place in bytes."""
+    found, places, place = {}, {}, 0
+    for word in text.split(" "):
+        if word:
+            try:
+                kind, normal = setting(word)
+            except Refused as fault:
+                raise Refused(*fault.args, place) from None
+            if kind in found:
+                raise Refused("Twice", place)
+            found[kind], places[kind] = normal, place
+        place += len(word.encode()) + 1
+    usual = "group-min2" if found.get("notation") else "group-auto"
+    if found.get("grouping") == usual:
+        found["grouping"] = ""
+    its = Skeleton(**found)
+    fault = pair_fault(its)
+    if fault:
+        raise Refused(fault[1], places[fault[0]])
+    return its
+
+
+class Digits(typing.NamedTuple):
+    """How many digits a fraction has at least and at most, or None, of what the last of them is a multiple, and whether a whole
+    number has none."""
+
+    least: int
+    most: typing.Optional[int]
+    increment: int = 1
+    hides_zeros: bool = False
+
+
+def is_amount(its):
+    """Whether a skeleton is for amounts of a currency."""
+    return its.unit.startswith("currency/")
+
+
+def digits_asked(its, of_currency):
+    """The digits of a fraction that a skeleton asks for, or None where a compact pattern says which; those of the currency are its
+    digits, its increment, its digits of cash and their increment."""
+    word, _, option = its.precision.partition("/")
+    if its.notation:
+        return None
+    if word.startswith("precision-currency") or (is_amount(its) and not word):
+        digits, increment = of_currency[2:] if word.endswith("cash") else of_currency[:2]
+        return Digits(digits, digits, increment, option == "w")
+    if not word:
+        return Digits(0, 6)
+    if word in ("precision-unlimited", "precision-integer"):
+        return Digits(0, None if word == "precision-unlimited" else 0)
+    least = word.count("0")
+    return Digits(least, None if word.endswith("*") else least + word.count("#"), 1, option == "w")
+
+
+def mode_of(its, is_negative):
+    """The rounding mode of a number with this sign."""
+    if its.mode in MODES:
+        return MODES[its.mode]
+    is_away = is_negative == (its.mode == "rounding-mode-half-floor")
+    return decimal.ROUND_HALF_UP if is_away else decimal.ROUND_HALF_DOWN
+
+
+def shown(its, number, of_currency):
+    """The text of what a skeleton shows of a number before it is written in a locale: its digits and its minus sign."""
+    value, asked = decimal.Decimal(number), digits_asked(its, of_currency)
+    if asked and asked.most is not None:
+        step = decimal.Decimal(asked.increment).scaleb(-asked.most)
+        mode = mode_of(its, value.is_signed())
+        value = EXACT.multiply(EXACT.divide(value, step).quantize(decimal.Decimal(1), mode, EXACT), step)
+    whole, _, fraction = f"{value.copy_abs():f}".partition(".")
+    fraction = fraction.rstrip("0")
+    if asked and not (asked.hides_zeros and not fraction):
+        fraction = fraction.ljust(asked.least, "0")
+    whole = (whole.lstrip("0") or "0").rjust(its.integer.count("0"), "0")
+    return f"{'-' if value.is_signed() else ''}{whole}{'.' if fraction else ''}{fraction}"
+
+
+GROUPINGS = {"group-auto": "auto", "group-off": "never", "group-min2": "min2"}
+
+
+def grouping_of(its):
+    """The word of a line for the grouping of a skeleton."""
+    return GROUPINGS[its.grouping] if its.grouping else "min2" if its.notation else "auto"
+
+
+def sign_of(its):
+    """The word of a line for the sign of a skeleton."""
+    return re.sub("^sign-(accounting-?)?", "", its.sign) or "auto"
+
+
+def form_of(its):
+    """The word of a line for the notation and the unit of a skeleton, or None where none says both."""
+    if its.notation:
+        return None if its.unit else its.notation.partition("-")[2]
+    if not is_amount(its):
+        return its.unit or "plain"
+    is_in_accounting = its.sign.startswith("sign-accounting")
+    if is_in_accounting and its.width:
+        return None
+    return f"{'accounting' if is_in_accounting else 'code' if its.width else 'currency'}-{its.unit[-3:]}"
+
+
+def line_of(its, tag, number, of_currency=None):
+    """The request line that asks by other words for what a skeleton shows of a number, or None where none does."""
+    form, number = form_of(its), shown(its, number, of_currency)
+    rounding = f"{-len(number.partition('.')[2])},half-even,1" if is_amount(its) else "-"
+    return form and "\t".join((tag, form, grouping_of(its), sign_of(its), rounding, number))
+
+
+def options_of(its, of_currency=None):
+    """The options of Intl.NumberFormat that ask for the same as a skeleton."""
+    camel = lambda word: re.sub("-(.)", lambda it: it[1].upper(), word)
+    asked, mode = digits_asked(its, of_currency), its.mode.replace("rounding-mode-", "")
+    modes = {"": "half-even", "up": "expand", "down": "trunc", "half-up": "half-expand", "half-down": "half-trunc",
+             "ceiling": "ceil", "half-ceiling": "half-ceil"}
+    found = {"roundingMode": camel(modes.get(mode, mode)), "signDisplay": camel(sign_of(its)),
+             "useGrouping": {"never": False}.get(grouping_of(its), grouping_of(its))}
+    if asked:
+        found |= {"minimumFractionDigits": asked.least, "maximumFractionDigits": max(20, asked.least) if asked.most is None else asked.most}
+        found |= {"roundingIncrement": asked.increment} if asked.increment != 1 else {}
+        found |= {"trailingZeroDisplay": "stripIfInteger"} if asked.hides_zeros else {}
+    if its.integer:
+        found["minimumIntegerDigits"] = its.integer.count("0")
+    if its.notation:
+        found |= {"notation": "compact", "compactDisplay": its.notation.partition("-")[2]}
+    if is_amount(its):
+        found |= {"style": "currency", "currency": its.unit[-3:]}
+        found |= {"currencyDisplay": "code"} if its.width else {}
+        found |= {"currencySign": "accounting"} if its.sign.startswith("sign-accounting") else {}
+    elif its.unit:
+        found["style"] = "percent"
+    return found
