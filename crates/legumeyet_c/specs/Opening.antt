@@ -15,7 +15,7 @@ use Rattle.locale_numbers.specs.declared.BookError.{BookError}
 use Rattle.locale_numbers.specs.declared.FormatterError.{FormatterError}
 use Rattle.locale_numbers.specs.declared.FormatterError.TheVariants as formatter
 use Rattle.legumeyet_c_values.specs.Choices.{both_of}
-use Rattle.locale_numbers.specs.declared.PatternLength.{PatternLength}
+use Rattle.locale_numbers.specs.declared.CompactWidth.{CompactWidth}
 use Rattle.legumeyet_c_values.specs.declared.CallError.{CallError}
 use Rattle.legumeyet_c_values.specs.declared.CallError.TheVariants.{Memory, Closed, UnknownOption, Tag, Table, Code, Book}
 use Rattle.legumeyet_c.specs.Kinds.{book_in, is_kept}
@@ -81,7 +81,7 @@ IsDecimalFault book strategy tag error = IsFindingFault (λ book strategy tag. p
 -- ---- of compact numbers
 
 -- what a book has for a tag in a width
-abbrev pub compact_for_width : PatternLength → BookTables → List ℕ → Result CompactTables FormatterError
+abbrev pub compact_for_width : CompactWidth → BookTables → List ℕ → Result CompactTables FormatterError
 compact_for_width width book tag = compact_grouped width book tag (Some GroupingStrategy.Min2)
 
 -- tables with another strategy
@@ -89,15 +89,15 @@ abbrev pub regrouped : GroupingStrategy → CompactTables → CompactTables
 regrouped strategy t = record t { plain = record t.plain { strategy = strategy } }
 
 -- the tables that a book has for a tag in a width, with the strategy that is asked for
-pub record IsCompactFor (book : BookTables) (tag : List ℕ) (width : PatternLength) (strategy : GroupingStrategy) (tables : CompactTables) : Type 0 where
+pub record IsCompactFor (book : BookTables) (tag : List ℕ) (width : CompactWidth) (strategy : GroupingStrategy) (tables : CompactTables) : Type 0 where
   pub found : CompactTables
   pub is_found : compact_for_width width book tag ≡ Ok found
   pub is : tables ≡ regrouped strategy found
 
-abbrev pub FindsCompact : Option BookTables → Option PatternLength → Option GroupingStrategy → List ℕ → CompactTables → Type 0
+abbrev pub FindsCompact : Option BookTables → Option CompactWidth → Option GroupingStrategy → List ℕ → CompactTables → Type 0
 FindsCompact book width strategy tag tables = Finds (λ book choice tag tables. IsCompactFor book tag choice.0 choice.1 tables) book (both_of width strategy) tag tables
 
-abbrev pub IsCompactFault : Option BookTables → Option PatternLength → Option GroupingStrategy → List ℕ → CallError → Type 0
+abbrev pub IsCompactFault : Option BookTables → Option CompactWidth → Option GroupingStrategy → List ℕ → CallError → Type 0
 IsCompactFault book width strategy tag error = IsFindingFault (λ book choice tag. compact_for_width choice.0 book tag) book (both_of width strategy) tag error
 
 -- ---- closing

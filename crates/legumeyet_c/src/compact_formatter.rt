@@ -14,7 +14,7 @@ use crate::opening::{Found, close, open};
 use icu_decimal::CompactDecimalFormatter;
 use icu_decimal::options::{CompactDecimalFormatterOptions, GroupingStrategy};
 use legumeyet_c_values::{CallError, answer, choice_by};
-use locale_numbers::{Book, FormatterError, PatternLength};
+use locale_numbers::{Book, CompactWidth, FormatterError};
 use std::alloc::Global;
 
 // The formatter that a book has for a tag in a width.
@@ -22,7 +22,7 @@ fn formatter_in<'b>(
     alloc: Global,
     book: &'b Book,
     tag: &str,
-    width: PatternLength,
+    width: CompactWidth,
 ) -> Result<CompactDecimalFormatter<'b>, FormatterError>
     ensures value { IfOk result
         (λ formatter. compact_for_width width book.now tag.now ≡ Ok (compact_tables_of formatter)) }
@@ -34,7 +34,7 @@ fn formatter_in<'b>(
 }
 
 impl Found for HeldCompactTables {
-    type Choice = (PatternLength, GroupingStrategy);
+    type Choice = (CompactWidth, GroupingStrategy);
 
     ghost found = { λ book choice tag. compact_for_width choice.0 book tag };
 
@@ -43,7 +43,7 @@ impl Found for HeldCompactTables {
     fn find(
         alloc: Global,
         book: &Book,
-        choice: (PatternLength, GroupingStrategy),
+        choice: (CompactWidth, GroupingStrategy),
         tag: &str,
     ) -> Result<HeldCompactTables, FormatterError> {
         let (width, strategy) = choice;
@@ -57,7 +57,7 @@ impl Found for HeldCompactTables {
     fn find_kept(
         alloc: Global,
         book: &'static Book,
-        choice: (PatternLength, GroupingStrategy),
+        choice: (CompactWidth, GroupingStrategy),
         tag: &str,
     ) -> Result<HeldCompactTables, FormatterError> {
         let (width, strategy) = choice;

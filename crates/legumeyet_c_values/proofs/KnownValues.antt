@@ -22,7 +22,7 @@ use Rattle.legumeyet_c_values.specs.Units.{amount_choices_of, unit_choices_of}
 use Rattle.legumeyet_c_values.specs.declared.call_error.CallError.TheVariants as call
 use Rattle.legumeyet_c_values.specs.declared.choices.Options.{Options}
 use Rattle.legumeyet_c_values.specs.declared.choices.TrailingZeros.TheVariants.{Keep, Trim, TrimWhole}
-use Rattle.locale_numbers_requests.specs.declared.PatternLength.TheVariants.{Long}
+use Rattle.locale_numbers_formats.specs.declared.CompactWidth.TheVariants.{Long}
 
 -- ---- what a call returns
 

@@ -24,8 +24,8 @@ use Rattle.legumeyet_c_values.specs.declared.choices.Choices.{Choices}
 use Rattle.legumeyet_c_values.specs.declared.choices.Options.{Options}
 use Rattle.legumeyet_c_values.specs.declared.choices.TrailingZeros.{TrailingZeros}
 use Rattle.legumeyet_c_values.specs.declared.choices.TrailingZeros.TheVariants.{Keep, Trim, TrimWhole}
-use Rattle.locale_numbers_requests.specs.declared.PatternLength.{PatternLength}
-use Rattle.locale_numbers_requests.specs.declared.PatternLength.TheVariants.{Short, Long}
+use Rattle.locale_numbers_formats.specs.declared.CompactWidth.{CompactWidth}
+use Rattle.locale_numbers_formats.specs.declared.CompactWidth.TheVariants.{Short, Long}
 
 -- the first keeps the sign as it is
 abbrev pub signs : List (Option SignDisplay)
@@ -39,7 +39,7 @@ modes = None ∷ Some (Unsigned Expand) ∷ Some (Unsigned Trunc) ∷ Some Ceil 
 abbrev pub groupings : List GroupingStrategy
 groupings = grouping.Auto ∷ grouping.Never ∷ grouping.Always ∷ grouping.Min2 ∷ []
 
-abbrev pub widths : List PatternLength
+abbrev pub widths : List CompactWidth
 widths = Short ∷ Long ∷ []
 
 abbrev pub sign_of : ℕ → Option (Option SignDisplay)
@@ -51,16 +51,16 @@ mode_of number = slice_get modes number
 abbrev pub grouping_of : ℕ → Option GroupingStrategy
 grouping_of number = slice_get groupings number
 
-abbrev pub width_of : ℕ → Option PatternLength
+abbrev pub width_of : ℕ → Option CompactWidth
 width_of number = slice_get widths number
 
 -- a width and a strategy, where each is known
-abbrev pub both_of : Option PatternLength → Option GroupingStrategy → Option (PatternLength × GroupingStrategy)
+abbrev pub both_of : Option CompactWidth → Option GroupingStrategy → Option (CompactWidth × GroupingStrategy)
 both_of None strategy = None
 both_of (Some width) None = None
 both_of (Some width) (Some strategy) = Some (width, strategy)
 
-abbrev pub choice_of : ℕ → ℕ → Option (PatternLength × GroupingStrategy)
+abbrev pub choice_of : ℕ → ℕ → Option (CompactWidth × GroupingStrategy)
 choice_of width grouping = both_of (width_of width) (grouping_of grouping)
 
 abbrev pub trimmings : List TrailingZeros

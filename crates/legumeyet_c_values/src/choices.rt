@@ -9,7 +9,7 @@ use fixed_decimal::{
     UnsignedRoundingMode,
 };
 use icu_decimal_symbols::options::GroupingStrategy;
-use locale_numbers_requests::PatternLength;
+use locale_numbers_formats::CompactWidth;
 
 /// What is made of a number before it is written, by numbers: `legumeyet_options`.
 #[repr(C)]
@@ -112,18 +112,18 @@ pub fn grouping_by(number: u32) -> Option<GroupingStrategy>
 }
 
 // The length of patterns of a number.
-fn width_by(number: u32) -> Option<PatternLength>
+fn width_by(number: u32) -> Option<CompactWidth>
     ensures { result ≡ width_of number }
 {
     match number {
-        0 => Some(PatternLength::Short),
-        1 => Some(PatternLength::Long),
+        0 => Some(CompactWidth::Short),
+        1 => Some(CompactWidth::Long),
         _ => None,
     }
 }
 
 /// The length of patterns and the strategy of two numbers, where both are known.
-pub fn choice_by(width: u32, grouping: u32) -> Option<(PatternLength, GroupingStrategy)>
+pub fn choice_by(width: u32, grouping: u32) -> Option<(CompactWidth, GroupingStrategy)>
     ensures { result ≡ choice_of width grouping }
 {
     let width = width_by(width)?;
