@@ -1,5 +1,7 @@
 # What decimals.sh and texts.sh share, which read this file: programs over copies of the crates, as they are or as they were at a commit.
 # `top` is the repository, `made` the folder of the copies, which keeps what is built.
+# shellcheck shell=sh
+: "${top:?}" "${made:?}"
 rt=${RT:-rt}
 for needed in python3 "$rt"; do
     command -v "$needed" >/dev/null || {
@@ -17,7 +19,7 @@ copy_crates() {
         cp "$top/crates.txt" "$made/commit.list"
     fi
     "$top/bench/below.py" "$made/commit.list" "$2" >"$1/crates.txt"
-    for crate in $(cut -d: -f1 "$1/crates.txt"); do
+    cut -d: -f1 "$1/crates.txt" | while read -r crate; do
         rm -rf "$1/crates/$crate/src" "$1/crates/$crate/specs" "$1/crates/$crate/proofs"
         if [ "${3-}" ]; then
             (cd "$top" && git archive "$3" "crates/$crate") | tar -x -C "$1"

@@ -9,7 +9,7 @@
 set -eu
 top=$(CDPATH='' cd -- "$(dirname -- "$0")/.." && pwd)
 here=$top/bench/languages made=$top/bench/made
-library=${1:-$made/c} turns=${2:-25} digits="1 7 18"
+library=${1:-$made/c} turns=${2:-25}
 python=/usr/bin/python3
 for needed in "${CC:-cc}" node "$python"; do
     command -v "$needed" >/dev/null || {
@@ -27,11 +27,12 @@ mkdir -p "$made"
     echo "bench: $library has no library: tools/build_c $library makes it" >&2
     exit 1
 }
+set -- 1 7 18
 "${CC:-cc}" -O2 -D_GNU_SOURCE "-I$library" -o "$made/languages" "$here/main.c" "$library/liblegumeyet.a"
-"$made/languages" "$turns" $digits >"$made/c.txt"
-node "$here/intl.js" "$turns" $digits >"$made/intl.txt"
+"$made/languages" "$turns" "$@" >"$made/c.txt"
+node "$here/intl.js" "$turns" "$@" >"$made/intl.txt"
 echo "digits       C    Intl  ratio   texts ratio  integers ratio  doubles ratio"
-for count in $digits; do
+for count in "$@"; do
     echo "$count"
 done | paste -d ' ' - "$made/c.txt" "$made/intl.txt" | while read -r count c ct texts tr integers ir doubles dr intl it; do
     [ "$ct" = "$it" ] || echo "bench: the texts differ: $ct $it" >&2
@@ -41,4 +42,4 @@ done
 wheel=$("$top/tools/build_wheel" --library "$library" "$made/wheels")
 rm -rf "$made/python"
 "$python" -m zipfile -e "$wheel" "$made/python"
-PYTHONPATH=$made/python:${PYTHONPATH:-} "$python" "$here/peers.py" "$turns" $digits
+PYTHONPATH=$made/python:${PYTHONPATH:-} "$python" "$here/peers.py" "$turns" "$@"

@@ -32,7 +32,7 @@ def refused(rng, turn):
         f"en\tplain\tauto\tkeep\t{text}",
         f"en-\tplain\tauto\tkeep\t-\t{text}",
         f"en\tplain\tauto\tkeep\t-\t{text}x",
-        f"en\tplain\tauto\tkeep\t-\t1e40000",
+        "en\tplain\tauto\tkeep\t-\t1e40000",
         f"xx\tplain\tauto\tkeep\t-\t{text}",
     ][turn % 5]
 

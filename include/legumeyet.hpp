@@ -480,9 +480,9 @@ class Digits {
 
   public:
     template <class T, std::enable_if_t<is_text<T>, int> = 0> Digits(const T &number) {
-        const std::string_view view = view_of(number);
-        text = view.data() != nullptr ? view.data() : near;
-        length = view.size();
+        const std::string_view given = view_of(number);
+        text = given.data();
+        length = given.size();
     }
     template <class T, std::enable_if_t<is_number<T> || std::is_same_v<T, double>, int> = 0> Digits(T number) noexcept {
         char *end = near;
@@ -663,7 +663,7 @@ class Column {
     using size_type = std::size_t;
 
     std::size_t size() const noexcept { return ends.size(); }
-    bool empty() const noexcept { return ends.empty(); }
+    [[nodiscard]] bool empty() const noexcept { return ends.empty(); }
 
     // A text, of a place below `size()`. It is the column's: it is used before that is changed, and a temporary column has none to give.
     std::string_view operator[](std::size_t at) const &noexcept LEGUMEYET_BORROWS {

@@ -5,8 +5,8 @@ usage: tools/launch.py SEEN WORD..
 
 SEEN is what the script saw of the sources and the program that the words are for; tools/help.txt says what the words are.
 """
-# First of all, and by the module that takes no time: a signal ends this process at once, without a traceback. The script had an
-# interrupt wait until here, where it could.
+# First of all, and by the module that takes no time: the system ends this process at a signal, at once and without a traceback. The
+# script had an interrupt wait until here, where it could. While there is a guard, it ends what was started too.
 import _signal
 
 if _signal.getsignal(_signal.SIGINT) == _signal.default_int_handler:
@@ -14,14 +14,14 @@ if _signal.getsignal(_signal.SIGINT) == _signal.default_int_handler:
 _signal.pthread_sigmask(_signal.SIG_UNBLOCK, [_signal.SIGINT])
 
 import os
-import signal
 import sys
 
 # Python is started with no path but its own, whatever the environment says.
 sys.path.append(os.path.dirname(os.path.realpath(__file__)))
 
 try:
-    from launching import answering, building, cldr_book, sources, words
+    for name in ("answering", "building", "cldr_book", "sources", "words"):
+        __import__(f"launching.{name}")
 except (EOFError, ValueError):
     # what Python keeps of a module was cut short on a full disk, which it does not see: it goes, and is not read again in this call
     import shutil
@@ -31,17 +31,6 @@ except (EOFError, ValueError):
 from launching import answering, building, cldr_book, sources
 from launching.common import COMMAND, FAILED, LINES, OUTPUT, Fault, fault_of, fill_closed_ends, say, write_all
 from launching.words import read_words
-
-
-def interrupted(number, _frame):
-    """Ends by a signal as other commands end, with no traceback."""
-    sys.exit(128 + number)
-
-
-# (only now: what is raised amid an import may be lost there, and the call would go on)
-for ending in (signal.SIGTERM, signal.SIGINT, signal.SIGHUP):
-    if signal.getsignal(ending) != signal.SIG_IGN:
-        signal.signal(ending, interrupted)
 
 
 def print_built(name):
@@ -90,4 +79,5 @@ def main(seen="", *words):
 
 
 if __name__ == "__main__":
-    sys.exit(main(*sys.argv[1:]))
+    # (at once: at the end of Python threads that still wait may fail)
+    os._exit(main(*sys.argv[1:]))

@@ -10,7 +10,7 @@
 
    REFUSE_FROM is the read from which on requests for memory are counted, or refused; without it all are.
    REFUSE_TELL is a file that gets the counts of requests, reads and writes when the program ends.
-   A program that still runs after a minute is ended by SIGALRM. */
+   A program that still runs after ten minutes is ended by SIGALRM. */
 #define _GNU_SOURCE
 #include <errno.h>
 #include <fcntl.h>
@@ -48,7 +48,7 @@ static void prepare(void) {
     short_write = said("SHORT_WRITE");
     short_size = said("SHORT_SIZE");
     if (!short_size) short_size = 1;
-    alarm(60);
+    alarm(600);
 }
 
 static int is_meant(unsigned long wanted, unsigned long number) { return wanted && (wanted == ALL || wanted == number); }

@@ -23,13 +23,12 @@ answers, for 65,536 bytes of lines.
 from decimal import Decimal
 
 try:
-    from . import _core
+    from ._errors import ClosedError, Error, InputError, OutOfMemoryError
 except ImportError as error:
     raise ImportError(f"{error}: the wheel of tools/build_wheel has this module, and `pip install ./python` compiles it") from None
-from ._errors import ClosedError, Error, InputError, OutOfMemoryError
 from ._formatters import Answers, Book, CompactDecimalFormatter, CurrencyFormatter, DecimalFormatter, Part, PercentFormatter
 from ._locales import minor, tag_of_locale_name, version, world_locales
-from ._options import Grouping, Kind, Rounding, Sign, TrailingZeros, Width
+from ._options import Grouping, Kind, Options, Rounding, Sign, TrailingZeros, Width
 
 __all__ = [
     "Answers",
@@ -43,6 +42,7 @@ __all__ = [
     "Grouping",
     "InputError",
     "Kind",
+    "Options",
     "OutOfMemoryError",
     "Part",
     "PercentFormatter",

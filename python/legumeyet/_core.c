@@ -1371,10 +1371,10 @@ static PyGetSetDef properties[] = {{"is_open", is_open, NULL, "Whether it is ope
     {"format", CALL(format), \
      "format($self, number, /, *, exponent=0, **options)\n--\n\n" \
      "The text of a number: a Decimal, an int, a float, or a str as '-1234.5'. A float is written by the shortest digits that give it back.\n" \
-     "An int is times ten to the power `exponent`: -12345 and -2 are -123.45. The options are sign, rounding, position, increment, trailing_zeros, minimum_integer_digits and minimum_fraction_digits; those that\n" \
-     "are not given are the formatter's. With a rounding the number is rounded at the position first, to a multiple of the increment, which\n" \
-     "is 1, 2, 5 or 25: 0, as without a position, is the ones, -2 the hundredths. A position without a rounding is that of HALF_EVEN, and an\n" \
-     "increment without both is a ValueError.\n\n" \
+     "An int is times ten to the power exponent: -12345 and -2 are -123.45. The options are sign, rounding, position, increment,\n" \
+     "trailing_zeros, minimum_integer_digits and minimum_fraction_digits; those that are not given are the formatter's. With a rounding the\n" \
+     "number is rounded at the position first, to a multiple of the increment, which is 1, 2, 5 or 25: 0, as without a position, is the ones,\n" \
+     "-2 the hundredths. A position without a rounding is that of HALF_EVEN, and an increment without both is a ValueError.\n\n" \
      "Raises Error 7 where the text is no number, or a float is not finite, 8 where a digit is beyond the magnitudes -32768 to 32767, 9 where\n" \
      "what is shown in compact form does, 2 where the formatter is closed, 1 where memory was refused.\n\n" \
      ">>> german = DecimalFormatter('de')\n" \
@@ -1486,7 +1486,7 @@ static PyMethodDef unit_methods[] = {
     CLOSE,
     SHARE,
     {"format", CALL(format),
-     "format($self, number, /, **options)\n--\n\n"
+     "format($self, number, /, *, exponent=0, **options)\n--\n\n"
      "The text of a percent or of an amount of money, which is a number as DecimalFormatter.format takes it. A percent is written as it is\n"
      "given, so a ratio is multiplied by 100 first. An amount is rounded to the digits of its currency, half even, and shown down to them:\n"
      "with Rounding.CASH they are those of the currency in cash, with Rounding.NONE it is written as given, and with another rounding, or\n"

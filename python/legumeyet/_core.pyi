@@ -1,52 +1,42 @@
 """What the module in C has."""
 from decimal import Decimal
-from typing import Any, AnyStr, Callable, Dict, Iterable, List, Optional, SupportsIndex, Tuple, Type, TypedDict, Union
+from typing import Any, AnyStr, Callable, Dict, Iterable, List, Optional, SupportsIndex, Tuple, Type, Union
 
 from typing_extensions import Unpack
 
 from ._errors import Error
-from ._formatters import Part
-from ._options import Kind, Rounding, Sign, TrailingZeros
+from ._formatters import Part, Text
+from ._options import Kind, Options, Rounding, Sign, TrailingZeros
 
-Number = Union[Decimal, int, float, str, SupportsIndex]
-Text = Union[str, bytes]
+_Number = Union[Decimal, int, float, str, SupportsIndex]
 
-class Options(TypedDict, total=False):
-    sign: Sign
-    rounding: Optional[Rounding]
-    position: Optional[SupportsIndex]
-    increment: SupportsIndex
-    trailing_zeros: TrailingZeros
-    minimum_integer_digits: SupportsIndex
-    minimum_fraction_digits: SupportsIndex
-
-class Open:
+class _Open:
     @property
     def is_open(self) -> bool: ...
     def close(self) -> None: ...
 
-class Book(Open):
+class Book(_Open):
     def keep(self) -> None: ...
     def answer(self, line: Text, /) -> str: ...
     def locales(self) -> List[str]: ...
 
-class Formatter(Open):
+class _Formatter(_Open):
     def share(self) -> None: ...
-    def format(self, number: Number, /, *, exponent: SupportsIndex = ..., **options: Unpack[Options]) -> str: ...
+    def format(self, number: _Number, /, *, exponent: SupportsIndex = ..., **options: Unpack[Options]) -> str: ...
     def format_all(self, numbers: Iterable[Any], /, *, exponent: SupportsIndex = ..., **options: Unpack[Options]) -> List[str]: ...
-    def format_parts(self, number: Number, /, **options: Unpack[Options]) -> Tuple[str, List[Part]]: ...
+    def format_parts(self, number: _Number, /, **options: Unpack[Options]) -> Tuple[str, List[Part]]: ...
 
-class DecimalFormatter(Formatter):
+class DecimalFormatter(_Formatter):
     def read(self, text: Text, /, *, lenient: bool = ...) -> Decimal: ...
 
-class CompactDecimalFormatter(Formatter):
-    def shown(self, number: Number, /, **options: Unpack[Options]) -> str: ...
+class CompactDecimalFormatter(_Formatter):
+    def shown(self, number: _Number, /, **options: Unpack[Options]) -> str: ...
     def format_exact(self, number: str, /, **options: Unpack[Options]) -> str: ...
 
-class UnitFormatter(Formatter):
+class UnitFormatter(_Formatter):
     def read(self, text: Text, /, *, lenient: bool = ...) -> Decimal: ...
 
-class Answers(Open):
+class Answers(_Open):
     def answer(self, lines: AnyStr, /) -> AnyStr: ...
 
 def open_book(book: Book, json: Optional[bytes]) -> None: ...

@@ -33,19 +33,39 @@ class Error(Exception):
 
 
 class InputError(Error, ValueError):
-    """What was given is refused: a tag, a number, a text to read back, or a book."""
+    """What was given is refused: a tag, a number, a text to read back, or a book.
+
+    >>> try:
+    ...     DecimalFormatter("de").format("1,5")
+    ... except ValueError as error:
+    ...     error.number, error.word
+    (7, 'no decimal number')
+    """
 
     __module__ = "legumeyet"
 
 
 class ClosedError(Error, RuntimeError):
-    """What is called is closed: a book, a formatter or answers."""
+    """What is called is closed: a book, a formatter or answers.
+
+    >>> with DecimalFormatter("de") as german:
+    ...     pass
+    >>> try:
+    ...     german.format(1)
+    ... except ClosedError as error:
+    ...     error.number
+    2
+    """
 
     __module__ = "legumeyet"
 
 
 class OutOfMemoryError(Error, MemoryError):
-    """Memory was refused."""
+    """Memory was refused.
+
+    >>> issubclass(OutOfMemoryError, MemoryError)
+    True
+    """
 
     __module__ = "legumeyet"
 

@@ -6,12 +6,10 @@ from typing import TYPE_CHECKING, Any, Dict, NamedTuple, NoReturn, Optional, Tup
 
 from . import _core
 from ._errors import CODE, TABLE, TAG, Error, wrong_number
-from ._options import Grouping, Kind, Rounding, Sign, TrailingZeros, Width, kind_of, number_of
+from ._options import Grouping, Kind, Options, Rounding, Sign, TrailingZeros, Width, kind_of, number_of
 
 if TYPE_CHECKING:
     from typing_extensions import Unpack
-
-    from ._core import Options
 
 Self = TypeVar("Self", bound="Open")
 Text = Union[str, bytes]
@@ -19,7 +17,11 @@ AnyFormatter = Union[_core.DecimalFormatter, _core.CompactDecimalFormatter]
 
 
 class Part(NamedTuple):
-    """A part of a text: the characters from `start` up to `end`. The kind is a number where a later library has one that is not a `Kind`."""
+    """A part of a text: the characters from `start` up to `end`. The kind is a number where a later library has one that is not a `Kind`.
+
+    >>> DecimalFormatter("de").format_parts(-5)
+    ('-5', [Part(kind=<Kind.MINUS_SIGN: 1>, start=0, end=1), Part(kind=<Kind.INTEGER: 3>, start=1, end=2)])
+    """
 
     kind: Union[Kind, int]
     start: int

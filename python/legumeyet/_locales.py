@@ -27,10 +27,18 @@ def world_locales() -> List[str]:
 
 
 def version() -> int:
-    """The version of the library."""
+    """The version of the library.
+
+    >>> version()
+    1
+    """
     return _core.version()
 
 
 def minor() -> int:
-    """The minor version of the library, which rises when something is added."""
+    """The minor version of the library, which rises when something is added.
+
+    >>> minor() >= 0
+    True
+    """
     return _core.minor()

@@ -1,6 +1,6 @@
-"""The numbers of options and of parts, as legumeyet.h has them."""
+"""Options by their names, and the numbers of options and of parts, as legumeyet.h has them."""
 from enum import IntEnum
-from typing import Type, Union
+from typing import Optional, SupportsIndex, Type, TypedDict, Union
 
 
 class Grouping(IntEnum):
@@ -8,6 +8,9 @@ class Grouping(IntEnum):
 
     AUTO: where the sizes of the locale place them, `1,234,567`. NEVER: nowhere, `1234567`. ALWAYS: as AUTO. MIN2: as AUTO, but only
     with two digits before the last separator, `1000` and `10,000`.
+
+    >>> [DecimalFormatter("en", grouping=it).format(1000) for it in Grouping]
+    ['1,000', '1000', '1,000', '1000']
     """
 
     AUTO = 0
@@ -17,7 +20,11 @@ class Grouping(IntEnum):
 
 
 class Width(IntEnum):
-    """Which patterns compact numbers are written in. SHORT: `1.6K`. LONG: `1.6 thousand`."""
+    """Which patterns compact numbers are written in. SHORT: `1.6K`. LONG: `1.6 thousand`.
+
+    >>> [CompactDecimalFormatter("en", width=it).format(1650) for it in Width]
+    ['1.6K', '1.6 thousand']
+    """
 
     SHORT = 0
     LONG = 1
@@ -29,6 +36,9 @@ class Sign(IntEnum):
     KEEP: the one of the number as it was given, so `+5` stays `+5`. AUTO: a minus where the number has one; a plus is left out. NEVER:
     none. ALWAYS: a plus where the number has none. EXCEPT_ZERO: none at zero, and else as ALWAYS. NEGATIVE: a minus on a number that
     is not zero, and else none.
+
+    >>> [DecimalFormatter("en", sign=it).format("-0") for it in Sign]
+    ['-0', '-0', '0', '-0', '0', '0']
     """
 
     KEEP = 0
@@ -42,6 +52,10 @@ class Sign(IntEnum):
 class Kind(IntEnum):
     """What a part of a text is. INTEGER: the integer digits with their separators; GROUP: a separator inside them; DECIMAL: the decimal
     separator; FRACTION: the fraction digits; CURRENCY: the symbol or the code of a currency, which may be inside a sign.
+
+    >>> text, parts = DecimalFormatter("de").format_parts("1234.5")
+    >>> {it.kind.name: text[it.start : it.end] for it in parts}
+    {'INTEGER': '1.234', 'GROUP': '.', 'DECIMAL': ',', 'FRACTION': '5'}
     """
 
     MINUS_SIGN = 1
@@ -60,6 +74,9 @@ class Rounding(IntEnum):
     KEEP: it is not rounded, and an amount of money to the digits of its currency. EXPAND: the one away from zero. TRUNC: towards zero. CEIL:
     upwards. FLOOR: downwards. Those of HALF: the nearest, and at a tie as their names say; HALF_EVEN: the even one. Only amounts have
     CASH: to the digits of the currency in cash, and NONE: it is not rounded.
+
+    >>> [DecimalFormatter("en", rounding=it).format("2.5") for it in (Rounding.HALF_EVEN, Rounding.HALF_EXPAND, Rounding.FLOOR)]
+    ['2', '3', '2']
     """
 
     KEEP = 0
@@ -79,11 +96,32 @@ class Rounding(IntEnum):
 class TrailingZeros(IntEnum):
     """What becomes of the zeros at the end of the fraction digits. KEEP: they stay, `1.50`. TRIM: they are trimmed, and the decimal separator
     where no digit is left, `1.5`, and `2` of `2.00`. TRIM_WHOLE: they are trimmed where no other digit is among them, `2` of `2.00`, and `1.50`.
+
+    >>> [DecimalFormatter("en", trailing_zeros=it).format("1.50") for it in TrailingZeros]
+    ['1.50', '1.5', '1.50']
     """
 
     KEEP = 0
     TRIM = 1
     TRIM_WHOLE = 2
+
+
+class Options(TypedDict, total=False):
+    """The options that a call of a formatter is given by their names, and a formatter when it is opened: `DecimalFormatter.format` says what
+    each does. It is the type of options that a program passes on.
+
+    >>> cents: Options = {"position": -2, "trailing_zeros": TrailingZeros.TRIM}
+    >>> DecimalFormatter("de").format(1.995, **cents)
+    '2'
+    """
+
+    sign: Sign
+    rounding: Optional[Rounding]
+    position: Optional[SupportsIndex]
+    increment: SupportsIndex
+    trailing_zeros: TrailingZeros
+    minimum_integer_digits: SupportsIndex
+    minimum_fraction_digits: SupportsIndex
 
 
 def number_of(kind: Type[IntEnum], option: IntEnum) -> int:

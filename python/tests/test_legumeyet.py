@@ -3,7 +3,6 @@
 usage: python3 -m unittest discover -s python/tests
 """
 import array
-import ast
 import concurrent.futures
 import contextlib
 import copy
@@ -44,7 +43,7 @@ JSON = """[[["en","","latn","-","","+","",".",",",3,3,1],["ar","","arab","-","",
 
 def load_tests(_loader, tests, _pattern):
     """The tests of this file, and the examples."""
-    for module in (legumeyet, _core, _errors, _formatters, _locales):
+    for module in (legumeyet, _core, _errors, _formatters, _locales, _options):
         tests.addTests(doctest.DocTestSuite(module, extraglobs={**vars(legumeyet), "Decimal": Decimal}))
     return tests
 
@@ -1099,21 +1098,10 @@ class Calls(unittest.TestCase):
         for words in ("import gc; gc.set_threshold(1); import legumeyet", dropped):
             subprocess.run([sys.executable, "-c", words], check=True, timeout=60)
 
-    def test_hints(self):
-        """The hints of the module in C name what it has, and nothing else."""
-        hints = ast.parse((pathlib.Path(_core.__file__).parent / "_core.pyi").read_text())
-        classes = {it.name: it for it in hints.body if isinstance(it, ast.ClassDef)}
-
-        def calls(name):
-            if name not in classes:
-                return set()
-            own = {it.name for it in classes[name].body if isinstance(it, ast.FunctionDef)}
-            return own.union(*(calls(base.id) for base in classes[name].bases))
-
-        for kind in (_core.Book, _core.DecimalFormatter, _core.CompactDecimalFormatter, _core.UnitFormatter, _core.Answers):
-            self.assertEqual({it for it in vars(kind) if not it.startswith("__")}, calls(kind.__name__))
-        functions = {it.name for it in hints.body if isinstance(it, ast.FunctionDef)}
-        self.assertEqual({it for it, value in vars(_core).items() if callable(value) and not isinstance(value, type) and it[0] != "_"}, functions)
+    def test_examples(self):
+        """What the package has is shown by an example, which load_tests finds."""
+        names = [it for it in legumeyet.__all__ if it != "Decimal"]
+        self.assertEqual([it for it in names if ">>> " not in (getattr(legumeyet, it).__doc__ or "")], [])
 
     def test_lets_go(self):
         for _ in range(200):

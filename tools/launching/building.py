@@ -280,7 +280,8 @@ def build_all(crates, sums, guard, done):
                 left.remove(crate)
                 progress.begins(crate, jobs)
                 under_way[pool.submit(build, crate, jobs, sums, guard)] = crate
-            for ended in wait(under_way, return_when=FIRST_COMPLETED).done:
+            # (not for ever: a signal that comes just before the wait would be seen only at its end)
+            for ended in wait(under_way, timeout=1, return_when=FIRST_COMPLETED).done:
                 crate = under_way.pop(ended)
                 if ended.result():
                     faults.append(ended.result())

@@ -8,12 +8,13 @@ import contextlib
 import glob
 import hashlib
 import os
+import secrets
 import stat
 import subprocess
 import sys
-import time
 
 from .common import TOP, Fault, fault_of, read_text, say, write_whole
+from .guard import Guard
 
 PARTS = ("main", "supplemental")
 
@@ -70,39 +71,31 @@ def kept_book(cache, text):
     return next(whole, None) if text else None
 
 
-def run_maker(folder, part, *more):
+def run_maker(guard, folder, book, *more):
     """Has books/make-cldr make the book of this data. Python keeps nothing of its modules, which a full disk would cut short."""
-    words = [sys.executable, "-EsSB", "-X", f"pycache_prefix={os.devnull}", f"{TOP}/books/make-cldr", *more, "--from", folder, part]
+    words = guard.words(sys.executable, "-EsSB", "-X", f"pycache_prefix={os.devnull}", f"{TOP}/books/make-cldr", *more, "--from", folder, book)
     return subprocess.run(words, stdin=subprocess.DEVNULL, stdout=subprocess.DEVNULL, stderr=subprocess.PIPE, errors="replace", check=False)
 
 
 def make(folder, cache, state, text):
-    """Makes the book of this data beside its place, with units where the data has them, names it and returns its path. Nothing is kept
-    where it goes wrong."""
-    part = f"{cache}/part-{os.getpid()}-book"
-    try:
-        ran = run_maker(folder, part, "--units")
+    """Makes the book of this data in a room beside its place, with units where the data has them, names it and returns its path. Nothing is
+    kept where it goes wrong."""
+    room = f"{cache}/part-{secrets.token_hex(8)}"
+    with Guard(room) as guard:
+        os.mkdir(room)
+        book = f"{room}/book"
+        ran = run_maker(guard, folder, book, "--units")
         if ran.returncode:
-            ran = run_maker(folder, part)
+            ran = run_maker(guard, folder, book)
         if ran.returncode:
             lines = ran.stderr.strip().splitlines() or [f"make-cldr ended with status {ran.returncode}"]
             raise Fault(f"no book was made of {folder}: {lines[-1].removeprefix('make-cldr: ')}")
         if told(folder, False) != state:
             raise Fault(f"no book was made of {folder}: its data was touched meanwhile; call again")
-        place = f"{cache}/{text}-{sum_of(part)}.json"
-        os.rename(part, place)
-    finally:
-        remove_parts(cache, part)
+        place = f"{cache}/{text}-{sum_of(book)}.json"
+        os.rename(book, place)
     say(f"made a book of {folder}: {place}")
     return place
-
-
-def remove_parts(cache, part):
-    """Removes what is left of a book, and of those of calls that were killed an hour ago or before."""
-    for left in glob.glob(f"{glob.escape(cache)}/part-*"):
-        with contextlib.suppress(FileNotFoundError):
-            if left.startswith(part) or os.stat(left).st_mtime < time.time() - 3600:
-                os.remove(left)
 
 
 def book_of_data(folder, cache, note):

@@ -1,7 +1,9 @@
 """Places, words to the user, and faults that end in one line."""
+import contextlib
 import os
 import re
 import shutil
+import signal
 
 TOP = os.path.dirname(os.path.dirname(os.path.dirname(os.path.realpath(__file__))))
 # The program of lines, and the command for people.
@@ -12,6 +14,8 @@ MINUTES = "30 to 60 minutes on four processors"
 NO_KIT = f"the command {RT} of the Rattle kit is not on the PATH; README.md, Install, has what needs no kit"
 
 FAILED, USAGE, OUTPUT, CUT_SHORT = 1, 2, 5, 7
+# What ends a call.
+SIGNALS = (signal.SIGTERM, signal.SIGINT, signal.SIGHUP)
 
 
 class Fault(Exception):
@@ -90,16 +94,27 @@ def fault_of(error):
     return Fault(f"{named}{error.strerror or error}")
 
 
-def write_whole(path, text):
-    """Writes a file beside its place and renames it, so that there is never half of it."""
-    part = f"{path}.{os.getpid()}.part"
+@contextlib.contextmanager
+def signals_wait():
+    """Has the signals that end a call wait until the end of this."""
+    masked = signal.pthread_sigmask(signal.SIG_BLOCK, SIGNALS)
     try:
-        with open(part, "w", encoding="utf-8") as file:
-            file.write(text)
-        os.replace(part, path)
+        yield
     finally:
-        if os.path.lexists(part):
-            os.remove(part)
+        signal.pthread_sigmask(signal.SIG_SETMASK, masked)
+
+
+def write_whole(path, text):
+    """Writes a file beside its place and renames it, so that there is never half of it, nor a signal leaves the other."""
+    part = f"{path}.{os.getpid()}.part"
+    with signals_wait():
+        try:
+            with open(part, "w", encoding="utf-8") as file:
+                file.write(text)
+            os.replace(part, path)
+        finally:
+            if os.path.lexists(part):
+                os.remove(part)
 
 
 def read_text(path):

@@ -6,7 +6,10 @@ import signal
 import subprocess
 import sys
 
-# Its input ends when the launcher does. It outlives the first signal, which lets rt tidy up.
+from .common import SIGNALS, signals_wait
+
+# Its input ends when the launcher does. It outlives the first signal, which lets rt tidy up. What makes a file until the end is ended
+# from outside of the group, so that what is removed after that stays so.
 SCRIPT = """
 trap '' TERM INT HUP
 read -r _
@@ -15,28 +18,28 @@ for _ in 1 2 3 4 5; do
     sleep 0.1
     rm -rf -- "$1"
 done
+setsid sh -c 'kill -KILL "-$0"; rm -rf -- "$1"' $$ "$1"
 kill -KILL 0
 """
 JOIN = "import os, sys; os.setpgid(0, int(sys.argv[1])); os.execvp(sys.argv[2], sys.argv[2:])"
-SIGNALS = (signal.SIGTERM, signal.SIGINT, signal.SIGHUP)
 
 
 class Guard:
-    """A process group of its own for all that is started, and a folder that is removed in the end."""
+    """A process group of its own for all that is started, and a folder that is removed in the end. Where there is no guard a signal ends
+    the launcher at once, by the system. Where there is one it raises nothing either: what is raised amid an import, a fork or the end
+    of Python may be lost there, and the call would go on."""
 
     def __init__(self, rooms):
         self.rooms = rooms
-        # a signal waits until it ends all of this: what is raised amid a fork may be lost there
-        masked = signal.pthread_sigmask(signal.SIG_BLOCK, SIGNALS)
-        ends, self.held = os.pipe()
-        how = {"stdin": ends, "stdout": subprocess.DEVNULL, "stderr": subprocess.DEVNULL}
-        self.process = subprocess.Popen(["sh", "-c", SCRIPT, "guard", rooms], preexec_fn=os.setpgrp, **how)
-        os.close(ends)
-        # what is ignored stays so, as under nohup
-        self.before = {it: signal.getsignal(it) for it in SIGNALS if signal.getsignal(it) != signal.SIG_IGN}
-        for number in self.before:
-            signal.signal(number, self.interrupted)
-        signal.pthread_sigmask(signal.SIG_SETMASK, masked)
+        with signals_wait():
+            ends, self.held = os.pipe()
+            how = {"stdin": ends, "stdout": subprocess.DEVNULL, "stderr": subprocess.DEVNULL}
+            self.process = subprocess.Popen(["sh", "-c", SCRIPT, "guard", rooms], preexec_fn=os.setpgrp, **how)
+            os.close(ends)
+            # what is ignored stays so, as under nohup
+            self.before = {it: signal.getsignal(it) for it in SIGNALS if signal.getsignal(it) != signal.SIG_IGN}
+            for number in self.before:
+                signal.signal(number, self.interrupted)
 
     def __enter__(self):
         return self
@@ -44,16 +47,18 @@ class Guard:
     def __exit__(self, *_):
         os.killpg(self.process.pid, signal.SIGKILL)
         self.process.wait()
-        os.close(self.held)
-        shutil.rmtree(self.rooms, ignore_errors=True)
-        for number, handler in self.before.items():
-            signal.signal(number, handler)
+        with signals_wait():
+            os.close(self.held)
+            shutil.rmtree(self.rooms, ignore_errors=True)
+            for number, handler in self.before.items():
+                signal.signal(number, handler)
 
     def interrupted(self, number, _frame):
         """Has the guard end everything, waits for it, and ends as the signal asks. Further signals change nothing, and one that
         comes while the rooms are removed has that done to its end."""
         for it in self.before:
-            signal.signal(it, signal.SIG_IGN)
+            # (Python tells of one that is there already and is ignored only now)
+            signal.signal(it, lambda *_: None)
         with contextlib.suppress(OSError):
             os.close(self.held)
             os.waitpid(self.process.pid, 0)

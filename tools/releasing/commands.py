@@ -4,9 +4,10 @@ import shutil
 # The packages whose name is another one than the command's.
 PACKAGES = {
     "cc": "gcc", "c++": "g++", "dpkg-deb": "dpkg", "qemu-aarch64-static": "qemu-user-static", "chroot": "coreutils", "unshare": "util-linux",
+    "stubtest": "mypy",
     **dict.fromkeys(("ar", "ld", "objcopy", "objdump", "readelf", "strip"), "binutils"),
 }
-KNOWN = {*PACKAGES, "cargo", "debootstrap", "git", "lintian", "mypy", "valgrind"}
+KNOWN = {*PACKAGES, "cargo", "debootstrap", "git", "lintian", "valgrind"}
 ARM64 = "aarch64-linux-gnu-"
 
 

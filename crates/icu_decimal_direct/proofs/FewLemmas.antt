@@ -1,10 +1,13 @@
 -- A text of few digits is found to be one: its first digits end where its integer does.
-use Rattle.std.proofs.Common.{◌≡◌, ℕ, zero, suc, ◌+◌, ◌-◌, ◌<◌, ◌≤◌, Bool, true, false, List, [], ◌∷◌, ◌++◌, drop, get_or, length, length-append, length-drop, slice_index, take, subst, sym, ap, ◌∙◌, refl, arith, inl, inr}
+use Rattle.std.proofs.Common.{◌≡◌, ℕ, zero, suc, ◌+◌, ◌-◌, ◌<◌, ◌≤◌, List, [], ◌∷◌, ◌++◌, drop, get_or, length, length-append, length-drop, slice_index, take, subst, sym, ap, ◌∙◌, refl, arith, inl, inr}
 use Rattle.std.proofs.lemmas.Bool.{cases_lt}
 use Rattle.std.proofs.lemmas.List.{drop_more, take_all}
 use Rattle.std.specs.Char.{digit_value}
 use Rattle.fixed_decimal.proofs.TextPartsLemmas.{cons_head, cons_tail}
-use Rattle.fixed_decimal.specs.NumberText.{AreDigits, after_point, minus, minus_if, point}
+use Rattle.fixed_decimal.specs.NumberText.{AreDigits, after_point, minus, point}
+use Rattle.fixed_decimal.specs.SignedText.{plus, sign_text}
+use Rattle.fixed_decimal.specs.declared.Sign.{Sign}
+use Rattle.fixed_decimal.specs.declared.Sign.TheVariants.{None as NoSign, Negative, Positive}
 use Rattle.icu_decimal_direct.specs.FewDigits.{AreFewDigits, IsFewText}
 use Rattle.icu_decimal_direct.proofs.ShownLemmas.{back_of, digits_told, each_digit, point_before}
 
@@ -83,28 +86,17 @@ all_ahead fraction n h stops =
       | inr all ↦ all
     ]
 
--- a minus before them, or none
-minus_rest : (negative : Bool) (rest integer fraction : List ℕ) (first : ℕ) → first ∷ rest ≡ minus_if negative ++ (integer ++ after_point fraction) → AreFewDigits integer fraction → first ≡ 45 → rest ≡ integer ++ after_point fraction
-minus_rest true rest integer fraction first is h sign = cons_tail first minus rest (integer ++ after_point fraction) is
-minus_rest false rest [] fraction first is h sign = let some = h.some in absurd (omega (arith, some))
-minus_rest false rest (c ∷ cs) fraction first is h sign =
-    let same : c ≡ 45 = sym (cons_head first c rest (cs ++ after_point fraction) is) ∙ sign in
-    let small : digit_value 45 < 10 = subst (λ d. digit_value d < 10) same (digits_told (c ∷ cs) h.whole).0 in
-    absurd (omega (arith, small))
+-- a sign before them, or none
+sign_rest : (sign : Sign) (rest integer fraction : List ℕ) (first : ℕ) → first ∷ rest ≡ sign_text sign ++ (integer ++ after_point fraction) → AreFewDigits integer fraction → 10 ≤ digit_value first → rest ≡ integer ++ after_point fraction
+sign_rest Negative rest integer fraction first is h other = cons_tail first minus rest (integer ++ after_point fraction) is
+sign_rest Positive rest integer fraction first is h other = cons_tail first plus rest (integer ++ after_point fraction) is
+sign_rest NoSign rest [] fraction first is h other = let some = h.some in absurd (omega (arith, some))
+sign_rest NoSign rest (c ∷ cs) fraction first is h other =
+    let small : digit_value first < 10 = subst (λ d. digit_value d < 10) (sym (cons_head first c rest (cs ++ after_point fraction) is)) (digits_told (c ∷ cs) h.whole).0 in
+    absurd (omega (arith, small, other))
 
-pub few_rest : (text rest : List ℕ) (first : ℕ) → text ≡ first ∷ rest → first ≡ 45 → (w : IsFewText text) → rest ≡ w.integer ++ after_point w.fraction
-few_rest text rest first is sign w = minus_rest w.negative rest w.integer w.fraction first (sym is ∙ w.whole) w.digits sign
-
-no_minus : (negative : Bool) (text integer fraction : List ℕ) → text ≡ minus_if negative ++ (integer ++ after_point fraction) → ¬ (get_or text 0 0 ≡ 45) → text ≡ integer ++ after_point fraction
-no_minus true text integer fraction is other = absurd (other (ap (λ t. get_or t 0 0) is))
-no_minus false text integer fraction is other = is
-
-pub few_same : (text : List ℕ) → ¬ (get_or text 0 0 ≡ 45) → (w : IsFewText text) → text ≡ w.integer ++ after_point w.fraction
-few_same text other w = no_minus w.negative text w.integer w.fraction w.whole other
-
-pub nothing_first : (text : List ℕ) → length text ≡ 0 → ¬ (get_or text 0 0 ≡ 45)
-nothing_first [] none same = absurd (omega (arith, same))
-nothing_first (c ∷ cs) none same = absurd (omega (arith, none))
+pub few_rest : (text rest : List ℕ) (first : ℕ) → text ≡ first ∷ rest → 10 ≤ digit_value first → (w : IsFewText text) → rest ≡ w.integer ++ after_point w.fraction
+few_rest text rest first is other w = sign_rest w.sign rest w.integer w.fraction first (sym is ∙ w.whole) w.digits other
 
 point_long : (fraction : List ℕ) → length (after_point fraction) ≤ length fraction + 1
 point_long [] = omega arith

@@ -1,15 +1,17 @@
 -- The text of a number's digits is UTF-8.
-use Rattle.std.proofs.Common.{ℕ, zero, suc, ◌+◌, Bool, true, false, List, [], ◌∷◌, ◌++◌, IsUtf8, drop, flat_map, length, map, subst, sym, take, arith}
+use Rattle.std.proofs.Common.{ℕ, zero, suc, ◌+◌, List, [], ◌∷◌, ◌++◌, IsUtf8, drop, flat_map, length, map, subst, sym, take, arith}
 use Rattle.std.proofs.lemmas.Int.Digits.{all_below_base_from_digits}
 use Rattle.std.proofs.lemmas.Str.{IsUtf8-append, IsUtf8-from_ascii, IsUtf8-had, IsUtf8-nil}
 use Rattle.std.specs.Char.{digit_value}
 use Rattle.std.specs.Int.Digits.{AllBelowBase}
+use Rattle.fixed_decimal.specs.declared.Sign.{Sign}
+use Rattle.fixed_decimal.specs.declared.Sign.TheVariants.{None as NoSign, Negative, Positive}
 use Rattle.icu_decimal_grouping.specs.Grouper.{cut_by, group_sizes, joined}
 use Rattle.icu_decimal_plain.specs.PlainText.{Tables, chained, decimal_text, digit_text, fraction_text, unsigned_text, whole_text}
 use Rattle.icu_decimal_plain.specs.Runs.{IsRun}
 use Rattle.icu_decimal_plain.proofs.PieceLemmas.{one_ascii}
 use Rattle.icu_decimal_direct.specs.Direct.{AreHeld}
-use Rattle.icu_decimal_direct.specs.FewDigits.{AreFewDigits, plain_number, sign_if}
+use Rattle.icu_decimal_direct.specs.FewDigits.{AreFewDigits, plain_number}
 use Rattle.icu_decimal_direct.specs.declared.text_tables.Direct.{Direct}
 use Rattle.icu_decimal_direct.proofs.ShownLemmas.{digits_told}
 use Rattle.icu_decimal_direct.proofs.TextLemmas.{unsigned_is}
@@ -70,9 +72,18 @@ utf8_unsigned t d integer fraction held h =
     (IsUtf8-append (whole_text t ds) (fraction_text t (map digit_value fraction)) whole
     (utf8_fraction t (map digit_value fraction) held.run (subst IsUtf8 held.decimal (IsUtf8-had d.decimal.now held.utf8_decimal)) (all_below_base_from_digits 10 fraction (digits_told fraction h.part))))
 
-pub utf8_decimal : (t : Tables) (d : Direct) (negative : Bool) (integer fraction : List ℕ) → AreHeld d t → AreFewDigits integer fraction
-    → IsUtf8 (decimal_text t (record { sign = sign_if negative; absolute = plain_number integer fraction }))
-utf8_decimal t d false integer fraction held h = IsUtf8-append (unsigned_text t (plain_number integer fraction)) [] (utf8_unsigned t d integer fraction held h) IsUtf8-nil
-utf8_decimal t d true integer fraction held h =
-    IsUtf8-append t.symbols.strings.minus_sign_prefix (unsigned_text t (plain_number integer fraction) ++ t.symbols.strings.minus_sign_suffix) (subst IsUtf8 held.prefix (IsUtf8-had d.prefix.now held.utf8_prefix))
-    (IsUtf8-append (unsigned_text t (plain_number integer fraction)) t.symbols.strings.minus_sign_suffix (utf8_unsigned t d integer fraction held h) (subst IsUtf8 held.suffix (IsUtf8-had d.suffix.now held.utf8_suffix)))
+utf8_between : (t : Tables) (d : Direct) (integer fraction before behind : List ℕ) → AreHeld d t → AreFewDigits integer fraction → IsUtf8 before → IsUtf8 behind
+    → IsUtf8 (before ++ (unsigned_text t (plain_number integer fraction) ++ behind))
+utf8_between t d integer fraction before behind held h first last =
+    IsUtf8-append before (unsigned_text t (plain_number integer fraction) ++ behind) first
+    (IsUtf8-append (unsigned_text t (plain_number integer fraction)) behind (utf8_unsigned t d integer fraction held h) last)
+
+pub utf8_decimal : (t : Tables) (d : Direct) (sign : Sign) (integer fraction : List ℕ) → AreHeld d t → AreFewDigits integer fraction
+    → IsUtf8 (decimal_text t (record { sign = sign; absolute = plain_number integer fraction }))
+utf8_decimal t d NoSign integer fraction held h = IsUtf8-append (unsigned_text t (plain_number integer fraction)) [] (utf8_unsigned t d integer fraction held h) IsUtf8-nil
+utf8_decimal t d Negative integer fraction held h =
+    utf8_between t d integer fraction t.symbols.strings.minus_sign_prefix t.symbols.strings.minus_sign_suffix held h
+    (subst IsUtf8 held.prefix (IsUtf8-had d.prefix.now held.utf8_prefix)) (subst IsUtf8 held.suffix (IsUtf8-had d.suffix.now held.utf8_suffix))
+utf8_decimal t d Positive integer fraction held h =
+    utf8_between t d integer fraction t.symbols.strings.plus_sign_prefix t.symbols.strings.plus_sign_suffix held h
+    (subst IsUtf8 held.plus_prefix (IsUtf8-had d.plus_prefix.now held.utf8_plus_prefix)) (subst IsUtf8 held.plus_suffix (IsUtf8-had d.plus_suffix.now held.utf8_plus_suffix))

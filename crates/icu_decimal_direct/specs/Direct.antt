@@ -28,12 +28,18 @@ pub record AreHeld (d : Direct) (t : Tables) : Type 0 where
   pub decimal : d.decimal.now ≡ t.symbols.strings.decimal_separator
   pub prefix : d.prefix.now ≡ t.symbols.strings.minus_sign_prefix
   pub suffix : d.suffix.now ≡ t.symbols.strings.minus_sign_suffix
+  pub plus_prefix : d.plus_prefix.now ≡ t.symbols.strings.plus_sign_prefix
+  pub plus_suffix : d.plus_suffix.now ≡ t.symbols.strings.plus_sign_suffix
   pub short_group : length d.group.now ≤ 4
   pub short_decimal : length d.decimal.now ≤ 4
   pub short_prefix : length d.prefix.now ≤ 4
   pub short_suffix : length d.suffix.now ≤ 4
+  pub short_plus_prefix : length d.plus_prefix.now ≤ 4
+  pub short_plus_suffix : length d.plus_suffix.now ≤ 4
   pub utf8_group : ∥ IsUtf8 d.group.now ∥₁
   pub utf8_decimal : ∥ IsUtf8 d.decimal.now ∥₁
   pub utf8_prefix : ∥ IsUtf8 d.prefix.now ∥₁
   pub utf8_suffix : ∥ IsUtf8 d.suffix.now ∥₁
+  pub utf8_plus_prefix : ∥ IsUtf8 d.plus_prefix.now ∥₁
+  pub utf8_plus_suffix : ∥ IsUtf8 d.plus_suffix.now ∥₁
   pub groups : AreGrouped t.strategy t.symbols.grouping_sizes d.groups

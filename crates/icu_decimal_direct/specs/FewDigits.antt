@@ -1,13 +1,13 @@
--- The number of a few digits: those before a point, those after it, and a minus before them or none.
+-- The number of a few digits: those before a point, those after it, and a sign before them or none.
 -- Defined in docs/numbers.md, "The text".
 -- Cited by `TextDigits::of` and `TextTables::put`, through TextDigits.antt.
-use Rattle.std.specs.Prelude.{◌≡◌, ℕ, ◌<◌, ◌≤◌, nat_lt, Bool, true, false, List, ◌++◌, length}
+use Rattle.std.specs.Prelude.{◌≡◌, ℕ, ◌<◌, ◌≤◌, nat_lt, Bool, true, List, ◌++◌, length}
 use Rattle.std.specs.Char.{digit_value}
 use Rattle.std.specs.List.{list_all}
 use Rattle.fixed_decimal.specs.Number.{Number}
-use Rattle.fixed_decimal.specs.NumberText.{after_point, minus_if, number_at, spelled}
+use Rattle.fixed_decimal.specs.NumberText.{after_point, number_at, spelled}
+use Rattle.fixed_decimal.specs.SignedText.{sign_text}
 use Rattle.fixed_decimal.specs.declared.Sign.{Sign}
-use Rattle.fixed_decimal.specs.declared.Sign.TheVariants.{None, Negative}
 
 -- the number of the digits before a point and of those after it
 abbrev pub plain_number : List ℕ → List ℕ → Number
@@ -25,15 +25,10 @@ pub record AreFewDigits (integer fraction : List ℕ) : Type 0 where
   pub few : length integer ≤ 16
   pub few_below : length fraction ≤ 16
 
--- a minus, or no sign
-abbrev pub sign_if : Bool → Sign
-sign_if true = Negative
-sign_if false = None
-
--- the text is made of few digits: a minus or none, those before the point, and a point and those after it where there are any
+-- the text is made of few digits: a sign or none, those before the point, and a point and those after it where there are any
 pub record IsFewText (text : List ℕ) : Type 0 where
-  pub negative : Bool
+  pub sign : Sign
   pub integer : List ℕ
   pub fraction : List ℕ
-  pub whole : text ≡ minus_if negative ++ (integer ++ after_point fraction)
+  pub whole : text ≡ sign_text sign ++ (integer ++ after_point fraction)
   pub digits : AreFewDigits integer fraction

@@ -23,4 +23,6 @@ pub record CanPut (t : Tables) : Type 0 where
   pub decimal : length t.symbols.strings.decimal_separator ≤ 4
   pub prefix : length t.symbols.strings.minus_sign_prefix ≤ 4
   pub suffix : length t.symbols.strings.minus_sign_suffix ≤ 4
+  pub plus_prefix : length t.symbols.strings.plus_sign_prefix ≤ 4
+  pub plus_suffix : length t.symbols.strings.plus_sign_suffix ≤ 4
   pub groups : HasKnownGroups t.strategy t.symbols.grouping_sizes

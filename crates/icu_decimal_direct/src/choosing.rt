@@ -51,7 +51,7 @@ impl<'b> TextTables<'b> {
     /// These symbols, these ten digits from zero up, and this strategy: of English with `Never`, -1234.5 is put as
     /// `-1234.5`.
     ///
-    /// `None`: the digits are not `0` to `9`, a separator or an affix of the minus sign has more than four bytes, or the
+    /// `None`: the digits are not `0` to `9`, a separator or an affix of a sign has more than four bytes, or the
     /// groups are others than of three digits, of two before the last, or none. It does not allocate.
     pub fn of(
         symbols: &'b DecimalSymbols,
@@ -71,12 +71,17 @@ impl<'b> TextTables<'b> {
             decimal: symbols.decimal_separator(),
             prefix: symbols.minus_sign_prefix(),
             suffix: symbols.minus_sign_suffix(),
+            plus_prefix: symbols.plus_sign_prefix(),
+            plus_suffix: symbols.plus_sign_suffix(),
             groups: groups_of(strategy, symbols.grouping_sizes)?,
         };
         if direct.group.len() > 4 || direct.decimal.len() > 4 {
             return None;
         }
         if direct.prefix.len() > 4 || direct.suffix.len() > 4 {
+            return None;
+        }
+        if direct.plus_prefix.len() > 4 || direct.plus_suffix.len() > 4 {
             return None;
         }
         Some(TextTables {

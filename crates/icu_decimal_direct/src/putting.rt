@@ -12,6 +12,7 @@ ghost use Rattle.icu_decimal_direct.specs.TextTables.{text_tables};
 
 use crate::text_digits::TextDigits;
 use crate::text_tables::TextTables;
+use fixed_decimal::Sign;
 
 // Puts bytes after the first `len` ones, and returns how many there are then.
 #[inline(always)]
@@ -232,11 +233,13 @@ impl TextTables<'_> {
         ensures utf8 { IsUtf8 (decimal_text (text_tables self.now) (number_spelled digits.now)) }
         ensures room { result ≤ len + 108 }
     {
-        if !digits.is_negative {
-            return put_unsigned(out, len, self, digits);
-        }
-        let begun = put_bytes(out, len, self.direct.prefix.as_bytes());
+        let (prefix, suffix) = match digits.sign {
+            Sign::None => return put_unsigned(out, len, self, digits),
+            Sign::Negative => (self.direct.prefix, self.direct.suffix),
+            Sign::Positive => (self.direct.plus_prefix, self.direct.plus_suffix),
+        };
+        let begun = put_bytes(out, len, prefix.as_bytes());
         let end = put_unsigned(out, begun, self, digits);
-        put_bytes(out, end, self.direct.suffix.as_bytes())
+        put_bytes(out, end, suffix.as_bytes())
     }
 }

@@ -9,6 +9,7 @@ ghost use Rattle.icu_decimal_direct.specs.Lanes.{first_set};
 ghost use Rattle.icu_decimal_direct.specs.TextDigits.{number_spelled};
 
 use crate::text_digits::TextDigits;
+use fixed_decimal::Sign;
 use std::simd::prelude::*;
 
 // How many digits a text may have on each side of its point.
@@ -134,8 +135,8 @@ fn digits_ahead(text: &[u8]) -> usize
 
 // The digits of a text without a sign, with this sign. `None`: it is another text, or has more digits.
 #[inline(always)]
-fn digits_of(text: &[u8], is_negative: bool) -> Option<TextDigits<'_>>
-    ensures sign { IfSome result (λ digits. digits.is_negative ≡ is_negative) }
+fn digits_of(text: &[u8], sign: Sign) -> Option<TextDigits<'_>>
+    ensures sign { IfSome result (λ digits. digits.sign ≡ sign) }
     ensures reads { IfSome result (λ digits. Reads text.now (plain_number digits.integer.now digits.fraction.now)) }
     ensures some { (integer fraction : List ℕ) → text.now ≡ integer ++ after_point fraction
         → AreFewDigits integer fraction → IsSome result }
@@ -150,7 +151,7 @@ fn digits_of(text: &[u8], is_negative: bool) -> Option<TextDigits<'_>>
     let integer = &text[..above];
     if above == text.len() {
         return Some(TextDigits {
-            is_negative,
+            sign,
             integer,
             fraction: &[],
         });
@@ -163,7 +164,7 @@ fn digits_of(text: &[u8], is_negative: bool) -> Option<TextDigits<'_>>
         return None;
     }
     Some(TextDigits {
-        is_negative,
+        sign,
         integer,
         fraction,
     })
@@ -172,7 +173,7 @@ fn digits_of(text: &[u8], is_negative: bool) -> Option<TextDigits<'_>>
 impl<'t> TextDigits<'t> {
     /// The digits of a text: of `-1234.5` the digits `1234` and `5`, with a minus.
     ///
-    /// `None` exactly where the text is another one, as `+5`, `1e3`, `5.` and `.5` are, or has more digits. It does not
+    /// `None` exactly where the text is another one, as `1e3`, `5.` and `.5` are, or has more digits. It does not
     /// allocate.
     #[inline(always)]
     pub fn of(text: &'t [u8]) -> Option<TextDigits<'t>>
@@ -180,8 +181,9 @@ impl<'t> TextDigits<'t> {
         ensures some { IsFewText text.now → IsSome result }
     {
         match text.split_first() {
-            Some((first, rest)) if *first == b'-' => digits_of(rest, true),
-            _ => digits_of(text, false),
+            Some((first, rest)) if *first == b'-' => digits_of(rest, Sign::Negative),
+            Some((first, rest)) if *first == b'+' => digits_of(rest, Sign::Positive),
+            _ => digits_of(text, Sign::None),
         }
     }
 }

@@ -2,13 +2,15 @@
 
 ghost use Rattle.icu_decimal_direct.specs.FewDigits.{AreFewDigits};
 
-/// The digits of a number's text: one to sixteen before its point, and none or up to sixteen after it, with a minus before
+use fixed_decimal::Sign;
+
+/// The digits of a number's text: one to sixteen before its point, and none or up to sixteen after it, with a sign before
 /// them or none.
 ///
 /// Of `-1234.5` the digits `1234` and `5`, with a minus. It borrows the text.
 #[derive(Clone, Copy, Debug)]
 pub struct TextDigits<'t> {
-    pub(crate) is_negative: bool,
+    pub(crate) sign: Sign,
     pub(crate) integer: &'t [u8],
     pub(crate) fraction: &'t [u8],
     pub(crate) ghost held: { AreFewDigits integer.now fraction.now },

@@ -19,6 +19,8 @@ pub(crate) struct Direct<'b> {
     pub decimal: &'b str,
     pub prefix: &'b str,
     pub suffix: &'b str,
+    pub plus_prefix: &'b str,
+    pub plus_suffix: &'b str,
     pub groups: Grouped,
 }
 

@@ -19,31 +19,19 @@ use Rattle.icu_locale_core.proofs.PlainPieces.{tag_plain, joined-pieces}
 use Rattle.icu_locale_core.proofs.NormalTags.{read_again}
 use Rattle.icu_decimal.specs.declared.options.GroupingStrategy.{GroupingStrategy}
 use Rattle.locale_numbers_book.specs.Book.{BookTables}
-use Rattle.locale_numbers_book.specs.Tables.{chain_in, symbols_under, digits_under, rules_under}
-use Rattle.locale_numbers_answers.specs.LenientAnswer.{lenient_with}
-use Rattle.locale_numbers_answers.specs.LenientUnitAnswer.{lenient_unit_with, typed_code}
-use Rattle.locale_numbers_answers.specs.NumberReading.{reading_of}
-use Rattle.locale_numbers_answers.specs.ReadAnswer.{read_with}
-use Rattle.locale_numbers_answers.specs.UnitAnswer.{read_unit_with, unit_to}
-use Rattle.locale_numbers_requests.specs.FormField.{form_named}
-use Rattle.locale_numbers_requests.specs.Request.{Asked, tab, fields, grouping_named, sign_named, takes, request_by, request_in, request_of}
-use Rattle.locale_numbers_requests.specs.Cutting.{is_separator}
-use Rattle.locale_numbers_requests.specs.RoundingField.{rounding_named}
-use Rattle.locale_numbers_requests.specs.declared.SignAsked.{SignAsked}
-use Rattle.locale_numbers_requests.specs.declared.RoundingAsked.{RoundingAsked}
-use Rattle.locale_numbers_requests.specs.declared.Form.{Form}
-use Rattle.locale_numbers_requests.specs.declared.Form.TheVariants.{Plain, Compact, Exact, Read, ReadLenient, Unit, ReadUnit, ReadLenientUnit}
-use Rattle.locale_numbers_requests.specs.declared.PatternLength.{PatternLength}
-use Rattle.locale_numbers_requests.specs.declared.UnitAsked.{UnitAsked}
-use Rattle.locale_numbers.specs.FoundUnit.{found_unit}
-use Rattle.locale_numbers.specs.CompactAnswer.{compact_with, found_compact, patterns_under}
-use Rattle.locale_numbers_answers.specs.CompactReading.{compact_reading_of}
 use Rattle.locale_numbers_book.specs.Wanted.{wanted_of}
-use Rattle.locale_numbers.specs.Answer.{found_in, in_latin, answer_with, answer_to, exact_to, answer_tagged, answer_asked}
-use Rattle.locale_numbers.proofs.FoundCompactLemmas.{compact_alike}
-use Rattle.locale_numbers.proofs.FoundLemmas.{found_alike}
-use Rattle.locale_numbers.proofs.FoundUnitLemmas.{unit_alike}
+use Rattle.locale_numbers_book.proofs.AlikeLemmas.{shape_alike}
 use Rattle.locale_numbers_book.proofs.WantedLemmas.{asks_of}
+use Rattle.locale_numbers_answers.specs.Answers.{answer_by}
+use Rattle.locale_numbers_formats.specs.declared.NumberFormat.{NumberFormat}
+use Rattle.locale_numbers_formats.specs.declared.NumberShape.{NumberShape}
+use Rattle.locale_numbers_formats.specs.declared.SignAsked.{SignAsked}
+use Rattle.locale_numbers_requests.specs.Cutting.{is_separator}
+use Rattle.locale_numbers_requests.specs.FormField.{form_named}
+use Rattle.locale_numbers_requests.specs.Request.{asked_by, tab, fields, format_asked, grouping_named, sign_named, request_by, request_in, request_of}
+use Rattle.locale_numbers_requests.specs.RoundingField.{rounding_named}
+use Rattle.locale_numbers_requests.specs.declared.Task.{Task}
+use Rattle.locale_numbers.specs.Answer.{answer_tagged, answer_asked, found_for, in_latin}
 use Rattle.locale_numbers.specs.Laws.{AreAlike, AlikeTagsAreAnsweredAlike, NormalTextIsAnsweredAlike}
 
 -- ---- the bytes of a tag
@@ -113,29 +101,23 @@ request_after text rest h =
 
 -- ---- fields after a tag
 
-abbrev asked_by : List ℕ → Form → GroupingStrategy → SignAsked → RoundingAsked → List ℕ → Asked
-asked_by tag form grouping sign rounding digits =
-    record { tag = tag; form = form; grouping = grouping; sign = sign; rounding = rounding; text = digits }
-
 -- the answer to the rest of a request by what a tag prefers, the same for both
 abbrev AreAnsweredAlike : BookTables → List ℕ → List ℕ → Option Preferences → Option Preferences → Type 0
-AreAnsweredAlike book text other one two = (form : Form) (grouping : GroupingStrategy) (sign : SignAsked) (rounding : RoundingAsked) (digits : List ℕ)
-    → answer_tagged book one (asked_by text form grouping sign rounding digits) ≡ answer_tagged book two (asked_by other form grouping sign rounding digits)
+AreAnsweredAlike book text other one two = (task : Task) (format : NumberFormat) (digits : List ℕ)
+    → answer_tagged book one (record { tag = text; task = task; format = format; text = digits }) ≡ answer_tagged book two (record { tag = other; task = task; format = format; text = digits })
 
 module _ (book : BookTables) (text other : List ℕ) (alike : AreAnsweredAlike book text other (wanted_of text) (wanted_of other)) where
-  taken_alike : (form : Form) (grouping : GroupingStrategy) (sign : SignAsked) (rounding : RoundingAsked) (digits : List ℕ) (b : Bool)
-      → answer_asked book (if b then Some (asked_by text form grouping sign rounding digits) else None)
-      ≡ answer_asked book (if b then Some (asked_by other form grouping sign rounding digits) else None)
-  taken_alike form grouping sign rounding digits true = alike form grouping sign rounding digits
-  taken_alike form grouping sign rounding digits false = refl
+  taken_alike : (digits : List ℕ) (found : Option (Task × NumberFormat)) → answer_asked book (asked_by text found digits) ≡ answer_asked book (asked_by other found digits)
+  taken_alike digits (Some found) = alike found.0 found.1 digits
+  taken_alike digits None = refl
 
-  known_alike : (digits : List ℕ) (form : Option Form) (grouping : Option GroupingStrategy) (sign : Option SignAsked) (rounding : Option RoundingAsked)
-      → answer_asked book (request_by text form grouping sign rounding digits) ≡ answer_asked book (request_by other form grouping sign rounding digits)
-  known_alike digits (Some form) (Some grouping) (Some sign) (Some rounding) = taken_alike form grouping sign rounding digits (takes form sign rounding)
+  known_alike : (digits : List ℕ) (form : Option _) (grouping : Option GroupingStrategy) (sign : Option SignAsked) (shown : Option _)
+      → answer_asked book (request_by text form grouping sign shown digits) ≡ answer_asked book (request_by other form grouping sign shown digits)
+  known_alike digits (Some form) (Some grouping) (Some sign) (Some shown) = taken_alike digits (format_asked form grouping sign shown)
   known_alike digits (Some form) (Some grouping) (Some sign) None = refl
-  known_alike digits (Some form) (Some grouping) None rounding = refl
-  known_alike digits (Some form) None sign rounding = refl
-  known_alike digits None grouping sign rounding = refl
+  known_alike digits (Some form) (Some grouping) None shown = refl
+  known_alike digits (Some form) None sign shown = refl
+  known_alike digits None grouping sign shown = refl
 
   fields_alike : (fs : List (List ℕ)) → answer_asked book (request_in (text ∷ fs)) ≡ answer_asked book (request_in (other ∷ fs))
   fields_alike [] = refl
@@ -158,51 +140,17 @@ locales_same : (m n : TagMeaning) → AreAlike m n → language_priority (prefer
 locales_same m n a =
     λ i. record { language = a.language i; script = a.script i; region = a.region i; variant = a.variant i; subdivision = a.subdivision i }
 
--- so their preferences find the same tables
-found_same : (book : BookTables) (m n : TagMeaning) → AreAlike m n → (grouping : GroupingStrategy)
-    → found_in book (preferences_of m) grouping ≡ found_in book (preferences_of n) grouping
-found_same book m n a grouping =
-    found_alike (chain_in book) (symbols_under book) (digits_under book) grouping (preferences_of m) (preferences_of n) (locales_same m n a) a.numbering_system
+-- so their preferences find the same
+found_same : (book : BookTables) (m n : TagMeaning) → AreAlike m n → (shape : NumberShape) → found_for shape book (preferences_of m) ≡ found_for shape book (preferences_of n)
+found_same book m n a shape = shape_alike book (preferences_of m) (preferences_of n) (locales_same m n a) a.numbering_system shape
 
-latin_same : (book : BookTables) (m n : TagMeaning) → AreAlike m n → (grouping : GroupingStrategy)
-    → found_in book (in_latin (preferences_of m)) grouping ≡ found_in book (in_latin (preferences_of n)) grouping
-latin_same book m n a grouping =
-    found_alike (chain_in book) (symbols_under book) (digits_under book) grouping (in_latin (preferences_of m)) (in_latin (preferences_of n)) (locales_same m n a) refl
-
-compact_same : (book : BookTables) (m n : TagMeaning) → AreAlike m n → (length : PatternLength) (grouping : GroupingStrategy)
-    → found_compact length book (preferences_of m) grouping ≡ found_compact length book (preferences_of n) grouping
-compact_same book m n a length grouping =
-    compact_alike (chain_in book) (symbols_under book) (digits_under book) (rules_under book) (patterns_under length book) grouping (preferences_of m) (preferences_of n)
-    (locales_same m n a) a.numbering_system
-
-unit_same : (book : BookTables) (m n : TagMeaning) → AreAlike m n → (unit : UnitAsked) (grouping : GroupingStrategy)
-    → found_unit unit book (preferences_of m) grouping ≡ found_unit unit book (preferences_of n) grouping
-unit_same book m n a unit grouping =
-    unit_alike book (preferences_of m) (preferences_of n) (locales_same m n a) a.numbering_system grouping unit
-
-latin_unit_same : (book : BookTables) (m n : TagMeaning) → AreAlike m n → (unit : UnitAsked) (grouping : GroupingStrategy)
-    → found_unit unit book (in_latin (preferences_of m)) grouping ≡ found_unit unit book (in_latin (preferences_of n)) grouping
-latin_unit_same book m n a unit grouping =
-    unit_alike book (in_latin (preferences_of m)) (in_latin (preferences_of n)) (locales_same m n a) refl grouping unit
+latin_same : (book : BookTables) (m n : TagMeaning) → AreAlike m n → (shape : NumberShape) → found_for shape book (in_latin (preferences_of m)) ≡ found_for shape book (in_latin (preferences_of n))
+latin_same book m n a shape = shape_alike book (in_latin (preferences_of m)) (in_latin (preferences_of n)) (locales_same m n a) refl shape
 
 asks_alike : (book : BookTables) (text other : List ℕ) (m n : TagMeaning) → AreAlike m n → AreAnsweredAlike book text other (Some (preferences_of m)) (Some (preferences_of n))
-asks_alike book text other m n a Plain grouping sign rounding digits =
-    ap (λ found. answer_to (answer_with found) sign rounding (reading_of digits)) (found_same book m n a grouping)
-asks_alike book text other m n a (Compact length) grouping sign rounding digits =
-    ap (λ found. answer_to (compact_with found) sign rounding (reading_of digits)) (compact_same book m n a length grouping)
-asks_alike book text other m n a (Exact length) grouping sign rounding digits =
-    ap (λ found. exact_to found sign (compact_reading_of digits)) (compact_same book m n a length grouping)
-asks_alike book text other m n a Read grouping sign rounding digits = ap (λ found. read_with found digits) (found_same book m n a grouping)
-asks_alike book text other m n a ReadLenient grouping sign rounding digits =
-    ap (λ found. lenient_with found (found_in book (in_latin (preferences_of m)) grouping) digits) (found_same book m n a grouping)
-    ∙ ap (λ latin. lenient_with (found_in book (preferences_of n) grouping) latin digits) (latin_same book m n a grouping)
-asks_alike book text other m n a (Unit unit) grouping sign rounding digits =
-    ap (λ found. unit_to found sign rounding (reading_of digits)) (unit_same book m n a unit grouping)
-asks_alike book text other m n a (ReadUnit unit) grouping sign rounding digits =
-    ap (λ found. read_unit_with found rounding digits) (unit_same book m n a unit grouping)
-asks_alike book text other m n a (ReadLenientUnit unit) grouping sign rounding digits =
-    ap (λ found. lenient_unit_with (typed_code unit) found (found_unit unit book (in_latin (preferences_of m)) grouping) digits) (unit_same book m n a unit grouping)
-    ∙ ap (λ latin. lenient_unit_with (typed_code unit) (found_unit unit book (preferences_of n) grouping) latin digits) (latin_unit_same book m n a unit grouping)
+asks_alike book text other m n a task format digits =
+    ap (λ found. answer_by task format found (found_for format.shape book (in_latin (preferences_of m))) digits) (found_same book m n a format.shape)
+    ∙ ap (λ latin. answer_by task format (found_for format.shape book (preferences_of n)) latin digits) (latin_same book m n a format.shape)
 
 pub alike_tags : AlikeTagsAreAnsweredAlike
 alike_tags book text other rest m n first second a =

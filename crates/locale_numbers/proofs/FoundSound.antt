@@ -9,14 +9,14 @@ use Rattle.locale_numbers_book.specs.Book.{BookTables}
 use Rattle.locale_numbers_book.specs.Keys.{same_key, table_at}
 use Rattle.locale_numbers_book.specs.Laws.{AreSoundTables, BookTablesAreSound, IsSoundTable}
 use Rattle.locale_numbers_book.specs.Tables.{chain_in}
-use Rattle.locale_numbers.specs.CompactAnswer.{patterns_under}
+use Rattle.locale_numbers_book.specs.TagFormatters.{patterns_under}
 use Rattle.locale_numbers.specs.PrintedLaws.{FoundTablesAreSound}
-use Rattle.locale_numbers_requests.specs.declared.PatternLength.{PatternLength}
-use Rattle.locale_numbers_requests.specs.declared.PatternLength.TheVariants.{Short, Long}
+use Rattle.locale_numbers_formats.specs.declared.CompactWidth.{CompactWidth}
+use Rattle.locale_numbers_formats.specs.declared.CompactWidth.TheVariants.{Short, Long}
 use Rattle.locale_numbers.proofs.FoundCompactLemmas.{patterns_of_found}
 use Rattle.locale_numbers_book.proofs.ReadTables.{first_holds, is_there, under_holds}
 
-table_is_sound : (length : PatternLength) (book : BookTables) (id : Identifier) (table : CompactTable) → AreSoundTables book.short → AreSoundTables book.long → patterns_under length book id ≡ Ok table → IsSoundTable table
+table_is_sound : (length : CompactWidth) (book : BookTables) (id : Identifier) (table : CompactTable) → AreSoundTables book.short → AreSoundTables book.long → patterns_under length book id ≡ Ok table → IsSoundTable table
 table_is_sound Short book id table short long is = under_holds IsSoundTable same_key id book.short table short (is_there (table_at same_key id book.short) table is)
 table_is_sound Long book id table short long is = under_holds IsSoundTable same_key id book.long table long (is_there (table_at same_key id book.long) table is)
 

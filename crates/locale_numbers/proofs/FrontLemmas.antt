@@ -11,22 +11,21 @@ use Rattle.std.proofs.lemmas.List.{append_assoc, length-append}
 use Rattle.std.proofs.lemmas.List.Splits.{length-slice_split, slice_split-cons_no, slice_split-cons_yes, slice_split_none}
 use Rattle.std.proofs.lemmas.Str.{IsUtf8-from_is_utf8, is_utf8-from_IsUtf8, IsUtf8-append, IsUtf8-take, IsUtf8-drop, IsCharBoundary-after_ascii}
 use Rattle.icu_decimal.specs.declared.options.GroupingStrategy.{GroupingStrategy}
-use Rattle.locale_numbers_requests.specs.Cutting.{IsLastCut, IsNot, is_separator}
 use Rattle.icu_locale_core.specs.TagPreferences.{Preferences}
 use Rattle.locale_numbers_book.specs.Book.{BookTables}
-use Rattle.locale_numbers_cache.specs.LastRead.{Remembered}
-use Rattle.locale_numbers.specs.Answer.{answer_asked, answer_in, answer_of, answer_tagged, refused}
-use Rattle.locale_numbers.specs.FormatterKeys.{key_asked, key_of, key_tagged, key_with, kind_of}
-use Rattle.locale_numbers.specs.Front.{FitsForm, FitsKey, HasKeyThat, answer_after, answer_front, answer_keyed, asked_after, asked_text, front_asked, front_of, key_after, key_front, key_keyed}
-use Rattle.locale_numbers_requests.specs.Request.{Asked, fields, request_by, request_in, request_of, tab, takes, with_text}
 use Rattle.locale_numbers_book.specs.Wanted.{wanted_of}
+use Rattle.locale_numbers_cache.specs.LastRead.{Remembered}
+use Rattle.locale_numbers_formats.specs.declared.NumberFormat.{NumberFormat}
+use Rattle.locale_numbers_formats.specs.declared.SignAsked.{SignAsked}
+use Rattle.locale_numbers_requests.specs.Cutting.{IsLastCut, IsNot, is_separator}
+use Rattle.locale_numbers_requests.specs.Request.{Asked, asked_by, fields, format_asked, request_by, request_in, request_of, tab, with_text}
+use Rattle.locale_numbers_requests.specs.declared.Refusal.TheVariants as refusal
+use Rattle.locale_numbers_requests.specs.declared.Task.{Task}
+use Rattle.locale_numbers.specs.Answer.{answer_asked, answer_of, answer_tagged, refused}
+use Rattle.locale_numbers.specs.FormatterKeys.{key_asked, key_of, key_tagged, key_with}
+use Rattle.locale_numbers.specs.Front.{FitsKey, HasKeyThat, answer_after, answer_front, answer_keyed, asked_text, front_asked, front_of, is_as_it_is, key_after, key_front, key_keyed}
 use Rattle.locale_numbers.specs.declared.formatter_key.FormatterKey.{FormatterKey}
 use Rattle.locale_numbers.specs.declared.front.Front.{Front}
-use Rattle.locale_numbers_requests.specs.declared.Refusal.TheVariants as refusal
-use Rattle.locale_numbers_requests.specs.declared.SignAsked.{SignAsked}
-use Rattle.locale_numbers_requests.specs.declared.RoundingAsked.{RoundingAsked}
-use Rattle.locale_numbers_requests.specs.declared.Form.{Form}
-use Rattle.locale_numbers_requests.specs.declared.Form.TheVariants.{Plain, Compact, Exact, Read, ReadLenient, Unit, ReadUnit, ReadLenientUnit}
 
 -- ---- the fields
 
@@ -64,18 +63,17 @@ no_text before = split_apart (is_separator tab) before tab [] refl
 
 -- ---- what they ask
 
-asks_by : (b : Bool) (tag text : List ℕ) (form : Form) (grouping : GroupingStrategy) (sign : SignAsked) (rounding : RoundingAsked) → takes form sign rounding ≡ b
-    → request_by tag (Some form) (Some grouping) (Some sign) (Some rounding) text ≡ with_text text (request_by tag (Some form) (Some grouping) (Some sign) (Some rounding) [])
-asks_by true tag text form grouping sign rounding is = rw is refl
-asks_by false tag text form grouping sign rounding is = rw is refl
+asks_by : (tag : List ℕ) (found : Option (Task × NumberFormat)) (text : List ℕ) → asked_by tag found text ≡ with_text text (asked_by tag found [])
+asks_by tag None text = refl
+asks_by tag (Some found) text = refl
 
-asks : (tag : List ℕ) (form : Option Form) (grouping : Option GroupingStrategy) (sign : Option SignAsked) (rounding : Option RoundingAsked) (text : List ℕ)
-    → request_by tag form grouping sign rounding text ≡ with_text text (request_by tag form grouping sign rounding [])
-asks tag None grouping sign rounding text = refl
-asks tag (Some form) None sign rounding text = refl
-asks tag (Some form) (Some grouping) None rounding text = refl
+asks : (tag : List ℕ) (form : Option _) (grouping : Option GroupingStrategy) (sign : Option SignAsked) (digits : Option _) (text : List ℕ)
+    → request_by tag form grouping sign digits text ≡ with_text text (request_by tag form grouping sign digits [])
+asks tag None grouping sign digits text = refl
+asks tag (Some form) None sign digits text = refl
+asks tag (Some form) (Some grouping) None digits text = refl
 asks tag (Some form) (Some grouping) (Some sign) None text = refl
-asks tag (Some form) (Some grouping) (Some sign) (Some rounding) text = asks_by (takes form sign rounding) tag text form grouping sign rounding refl
+asks tag (Some form) (Some grouping) (Some sign) (Some digits) text = asks_by tag (format_asked form grouping sign digits) text
 
 asks_in : (before : List (List ℕ)) (text : List ℕ) → request_in (before ++ text ∷ []) ≡ with_text text (request_in (before ++ [] ∷ []))
 asks_in [] text = refl
@@ -167,32 +165,24 @@ module _ (line front text : List ℕ) (cut : IsLastCut tab line front text) wher
 
 -- a request with another text, and the front that it has
 abbrev texted : Asked → List ℕ → Asked
-texted asked text = record { tag = asked.tag; form = asked.form; grouping = asked.grouping; sign = asked.sign; rounding = asked.rounding; text = text }
+texted asked text = record { tag = asked.tag; task = asked.task; format = asked.format; text = text }
 
 abbrev fronted : Asked → Option FormatterKey → Front
-fronted asked key = record { form = asked.form; sign = asked.sign; rounding = asked.rounding; key = key }
+fronted asked key = record { task = asked.task; options = asked.format.options; is_as_it_is = is_as_it_is asked.format; key = key }
 
-answered_in : (form : Form) (book : BookTables) (p : Preferences) (asked : Asked) (key : Option FormatterKey) (text : List ℕ)
-    → answer_in form book p (texted asked text) ≡ answer_in form book p (asked_after (fronted asked key) (key_with asked.form asked.grouping p) text)
-answered_in Plain book p asked key text = refl
-answered_in (Compact length) book p asked key text = refl
-answered_in (Exact length) book p asked key text = refl
-answered_in Read book p asked key text = refl
-answered_in ReadLenient book p asked key text = refl
-answered_in (Unit unit) book p asked key text = refl
-answered_in (ReadUnit unit) book p asked key text = refl
-answered_in (ReadLenientUnit unit) book p asked key text = refl
+abbrev keyed_with : Asked → Option Preferences → Option FormatterKey
+keyed_with asked wanted = option_map (key_with asked.task asked.format.shape) wanted
 
 answered_by : (book : BookTables) (asked : Asked) (key : Option FormatterKey) (wanted : Option Preferences) (text : List ℕ)
-    → answer_tagged book wanted (texted asked text) ≡ answer_keyed book (fronted asked key) (option_map (key_with asked.form asked.grouping) wanted) text
+    → answer_tagged book wanted (texted asked text) ≡ answer_keyed book (fronted asked key) (keyed_with asked wanted) text
 answered_by book asked key None text = refl
-answered_by book asked key (Some p) text = answered_in asked.form book p asked key text
+answered_by book asked key (Some p) text = refl
 
 answered : (book : BookTables) (asked : Option Asked) (text : List ℕ) → answer_asked book (with_text text asked) ≡ answer_front book (front_asked asked) text
 answered book None text = refl
-answered book (Some asked) text = answered_by book asked (option_map (key_with asked.form asked.grouping) (wanted_of asked.tag)) (wanted_of asked.tag) text
+answered book (Some asked) text = answered_by book asked (keyed_with asked (wanted_of asked.tag)) (wanted_of asked.tag) text
 
-keyed_by : (asked : Asked) (wanted : Option Preferences) (text : List ℕ) → key_tagged (texted asked text) wanted ≡ key_keyed asked.form (option_map (key_with asked.form asked.grouping) wanted) text
+keyed_by : (asked : Asked) (wanted : Option Preferences) (text : List ℕ) → key_tagged (texted asked text) wanted ≡ key_keyed asked.task (keyed_with asked wanted) text
 keyed_by asked None text = refl
 keyed_by asked (Some p) text = refl
 
@@ -223,24 +213,30 @@ with_no_text None = refl
 with_no_text (Some asked) = refl
 
 -- what is made of the parts of a front that was read
-pub front_read : (bytes : List ℕ) (asked : Asked) (wanted : Option Preferences) (key : Option FormatterKey) → with_text [] (request_of bytes) ≡ Some asked
-    → wanted ≡ wanted_of asked.tag → key ≡ option_map (key_with asked.form asked.grouping) wanted → Some (fronted asked key) ≡ front_of bytes
-front_read bytes asked wanted key read prefers made =
-    ap (λ k. Some (fronted asked k)) (made ∙ ap (option_map (key_with asked.form asked.grouping)) prefers)
+pub front_read : (bytes : List ℕ) (asked : Asked) (wanted : Option Preferences) (key : Option FormatterKey) (given : Bool) → with_text [] (request_of bytes) ≡ Some asked
+    → wanted ≡ wanted_of asked.tag → key ≡ keyed_with asked wanted → given ≡ is_as_it_is asked.format
+    → Some (record { task = asked.task; options = asked.format.options; is_as_it_is = given; key = key }) ≡ front_of bytes
+front_read bytes asked wanted key given read prefers made plain =
+    ap (λ b. Some (record { task = asked.task; options = asked.format.options; is_as_it_is = b; key = key })) plain
+    ∙ ap (λ k. Some (fronted asked k)) (made ∙ ap (keyed_with asked) prefers)
     ∙ sym (ap front_asked read)
     ∙ with_no_text (request_of bytes)
 
-fits_by : (asked : Asked) (wanted : Option Preferences) → IfSome (option_map (key_with asked.form asked.grouping) wanted) (FitsKey asked.form)
-fits_by asked None = tt
-fits_by asked (Some p) = record { kind = refl; code = refl }
+-- what fits a front with its key
+abbrev Fits : Front → Type 0
+Fits front = IfSome front.key (FitsKey front)
 
-fits : (asked : Option Asked) → IfSome (front_asked asked) FitsForm
+fits_by : (asked : Asked) (key : Option FormatterKey) (wanted : Option Preferences) → IfSome (keyed_with asked wanted) (FitsKey (fronted asked key))
+fits_by asked key None = tt
+fits_by asked key (Some p) = record { lenient = refl; plain = refl }
+
+fits : (asked : Option Asked) → IfSome (front_asked asked) Fits
 fits None = tt
-fits (Some asked) = fits_by asked (wanted_of asked.tag)
+fits (Some asked) = fits_by asked (keyed_with asked (wanted_of asked.tag)) (wanted_of asked.tag)
 
--- the key of a front that was read is of the kind of its form
-pub fits_form : (front : Option Front) (bytes : List ℕ) → front ≡ front_of bytes → IfSome front FitsForm
-fits_form front bytes is = subst (λ f. IfSome f FitsForm) (sym is) (fits (request_of bytes))
+-- the key of a front that was read is that of its task, and what is known of its format is so
+pub fits_front : (front : Option Front) (bytes : List ℕ) → front ≡ front_of bytes → IfSome front Fits
+fits_front front bytes is = subst (λ f. IfSome f Fits) (sym is) (fits (request_of bytes))
 
 -- ---- the front that came last
 

@@ -4,10 +4,10 @@ use Rattle.locale_numbers_book.specs.Book.{BookTables}
 use Rattle.locale_numbers_cache.specs.Cached.{Cached, made_over, recent_of}
 use Rattle.locale_numbers.specs.FormatterKeys.{finds, key_of, same_keys}
 use Rattle.locale_numbers.specs.KeptAnswers.{Keeping, keeping, makes_after}
+use Rattle.locale_numbers.specs.KeptFormatters.{Kept}
 use Rattle.locale_numbers.specs.declared.formatter_key.FormatterKey.{FormatterKey}
-use Rattle.locale_numbers.specs.declared.line_formatter.LineFormatter.{LineFormatter}
 
-pub counts : (same : FormatterKey → FormatterKey → Bool) → same ≡ same_keys → (made_of book : BookTables) → made_of ≡ book → (formatters : Cached FormatterKey LineFormatter) (kept : Keeping)
+pub counts : (same : FormatterKey → FormatterKey → Bool) → same ≡ same_keys → (made_of book : BookTables) → made_of ≡ book → (formatters : Cached FormatterKey Kept) (kept : Keeping)
     → keeping book formatters.capacity (recent_of formatters) formatters.made ≡ kept → (lines : List (List ℕ))
     → made_over same (finds made_of) formatters (map key_of lines) ≡ makes_after kept lines
 counts same is made_of book own formatters kept view lines =

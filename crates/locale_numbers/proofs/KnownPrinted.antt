@@ -12,10 +12,11 @@ use Rattle.locale_numbers_book.specs.TagReading as reading
 use Rattle.locale_numbers.specs.Answer.{answer_asked, written}
 use Rattle.locale_numbers.specs.Printed.{FindsCompact, KeepsEntry, Prints, PrintsSize, exact_request}
 use Rattle.locale_numbers_requests.specs.Request.{Asked}
-use Rattle.locale_numbers_requests.specs.declared.Form.TheVariants.{Compact}
-use Rattle.locale_numbers_requests.specs.declared.PatternLength.TheVariants.{Short}
-use Rattle.locale_numbers_requests.specs.declared.RoundingAsked.TheVariants.{Unrounded}
-use Rattle.locale_numbers_requests.specs.declared.SignAsked.TheVariants.{Keep}
+use Rattle.locale_numbers_requests.specs.declared.Task.TheVariants.{Write}
+use Rattle.locale_numbers_formats.specs.declared.CompactWidth.TheVariants.{Short}
+use Rattle.locale_numbers_formats.specs.declared.Rounding.TheVariants.{Usual}
+use Rattle.locale_numbers_formats.specs.declared.SignAsked.TheVariants.{Keep}
+use Rattle.locale_numbers.specs.AskedFormats.{compact_shape, options_of}
 use Rattle.locale_numbers_answers.proofs.KnownCompactAnswers.{english, zero_of}
 
 abbrev en : DataLocaleMeaning
@@ -33,13 +34,14 @@ book = record {
 }
 
 abbrev asked : Asked
-asked = record { tag = codes "en"; form = Compact Short; grouping = Auto; sign = Keep; rounding = Unrounded; text = codes "-0" }
+asked = record { tag = codes "en"; task = Write; format = record { shape = compact_shape Short Auto; options = options_of Usual Keep }; text = codes "-0" }
 
 finds : FindsCompact book asked Short english zero_of
 unfolding reading.tag_of stepping.whole_after
 finds = record {
-  form = refl;
-  at = tt;
+  task = refl;
+  shape = refl;
+  fits = record { position = tt; integer = omega arith };
   preferences = record { locale = record { language = codes "en"; script = None; region = None; variant = None; subdivision = None; region_override = None }; numbering_system = None };
   tag = refl;
   found = refl;

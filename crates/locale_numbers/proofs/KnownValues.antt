@@ -10,16 +10,26 @@ use Rattle.icu_locale_core.specs.Subtags.{Text}
 use Rattle.icu_locale_core.specs.TagPreferences.{DataLocaleMeaning, Preferences, language_priority}
 use Rattle.locale_numbers_book.specs.TagReading.{tag_of}
 use Rattle.locale_numbers_book.specs.Wanted.{wanted_of}
-use Rattle.locale_numbers.specs.FormatterKeys.{code_of, kind_of, same_grouping, same_kind}
+use Rattle.locale_numbers.specs.AskedFormats.{options_of, plain_shape}
+use Rattle.locale_numbers.specs.FormatterKeys.{reads_leniently, same_grouping, same_notation, same_unit}
+use Rattle.locale_numbers.specs.Front.{is_as_it_is}
 use Rattle.locale_numbers.specs.Laws.{joined_fields}
 use Rattle.locale_numbers.specs.Words.{words_said, capacity_named}
-use Rattle.locale_numbers.specs.declared.formatter_key.KeyedUnit.TheVariants as keyed
-use Rattle.locale_numbers.specs.declared.formatter_key.Kind.TheVariants as kind
+use Rattle.std.specs.Prelude.{pos}
+use Rattle.fixed_decimal.specs.declared.RoundingIncrement.TheVariants.{MultiplesOf1}
+use Rattle.fixed_decimal.specs.declared.SignedRoundingMode.TheVariants.{Ceil}
 use Rattle.icu_decimal.specs.declared.options.GroupingStrategy.TheVariants.{Auto, Always}
-use Rattle.locale_numbers_requests.specs.declared.AmountStyle.TheVariants.{Standard, Code}
-use Rattle.locale_numbers_requests.specs.declared.Form.TheVariants as form
-use Rattle.locale_numbers_requests.specs.declared.PatternLength.TheVariants.{Short, Long}
-use Rattle.locale_numbers_requests.specs.declared.UnitAsked.TheVariants.{Percent, Currency}
+use Rattle.icu_dimension.specs.declared.CurrencyStyle.{CurrencyStyle}
+use Rattle.icu_dimension.specs.declared.CurrencyStyle.TheVariants.{Standard, Accounting}
+use Rattle.icu_dimension.specs.declared.CurrencyWidth.{CurrencyWidth}
+use Rattle.icu_dimension.specs.declared.CurrencyWidth.TheVariants as width
+use Rattle.locale_numbers_formats.specs.declared.CompactWidth.TheVariants.{Short, Long}
+use Rattle.locale_numbers_formats.specs.declared.Notation.TheVariants.{Compact}
+use Rattle.locale_numbers_formats.specs.declared.NumberUnit.{NumberUnit}
+use Rattle.locale_numbers_formats.specs.declared.NumberUnit.TheVariants as unit
+use Rattle.locale_numbers_formats.specs.declared.Rounding.TheVariants.{Usual, At}
+use Rattle.locale_numbers_formats.specs.declared.SignAsked.TheVariants.{Keep}
+use Rattle.locale_numbers_requests.specs.declared.Task.TheVariants.{Write, Read, ReadLenient}
 
 -- ---- what tags ask for
 
@@ -125,31 +135,40 @@ two_groupings : same_grouping Auto Always ≡ false
 two_groupings = refl
 
 -- two ways of writing an amount are two
-two_ways : same_kind (kind.Unit (keyed.Amount Standard)) (kind.Unit (keyed.Amount Code)) ≡ false
+abbrev euros : CurrencyStyle → CurrencyWidth → NumberUnit
+euros style width = unit.Currency (record { code = codes "EUR"; style = style; width = width })
+
+two_ways : same_unit (euros Standard width.Short) (euros Standard width.IsoCode) ≡ false
 two_ways = refl
 
-one_way : same_kind (kind.Unit (keyed.Amount Standard)) (kind.Unit (keyed.Amount Standard)) ≡ true
+two_styles : same_unit (euros Standard width.Short) (euros Accounting width.Short) ≡ false
+two_styles = refl
+
+one_way : same_unit (euros Standard width.Short) (euros Standard width.Short) ≡ true
 one_way = refl
 
--- what is read back has the kind and the code of what is written
-one_unit : kind_of (form.ReadUnit Percent) ≡ kind_of (form.Unit Percent)
-one_unit = refl
+two_codes : same_unit (euros Standard width.Short) (unit.Currency (record { code = codes "USD"; style = Standard; width = width.Short })) ≡ false
+two_codes = refl
 
--- what was typed has a kind of its own, with the same code
-typed_unit : kind_of (form.ReadLenientUnit Percent) ≡ kind.LenientUnit keyed.Percent
-typed_unit = refl
+two_units : same_unit unit.Percent unit.None ≡ false
+two_units = refl
 
-typed_apart : same_kind (kind.Unit keyed.Percent) (kind.LenientUnit keyed.Percent) ≡ false
+-- what is read back has the formatter of what is written, and what was typed one of its own
+one_formatter : reads_leniently Read ≡ reads_leniently Write
+one_formatter = refl
+
+typed_apart : reads_leniently ReadLenient ≡ true
 typed_apart = refl
 
-typed_euros : code_of (form.ReadLenientUnit (Currency Code (codes "EUR"))) ≡ Some (codes "EUR")
-typed_euros = refl
-
-euros : code_of (form.ReadUnit (Currency Code (codes "EUR"))) ≡ Some (codes "EUR")
-euros = refl
-
-two_lengths : same_kind (kind.Compact Short) (kind.Compact Long) ≡ false
+two_lengths : same_notation (Compact Short) (Compact Long) ≡ false
 two_lengths = refl
 
-one_kind : same_kind (kind.Compact Long) (kind.Compact Long) ≡ true
-one_kind = refl
+one_length : same_notation (Compact Long) (Compact Long) ≡ true
+one_length = refl
+
+-- plain numbers as they are given, and not with a rounding
+given : is_as_it_is (record { shape = plain_shape Auto; options = options_of Usual Keep }) ≡ true
+given = refl
+
+rounded : is_as_it_is (record { shape = plain_shape Auto; options = options_of (At (pos 0) Ceil MultiplesOf1) Keep }) ≡ false
+rounded = refl

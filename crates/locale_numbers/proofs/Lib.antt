@@ -5,7 +5,7 @@ pub mod FoundCompactLemmas
 pub mod FoundLemmas
 pub mod FoundSound
 pub mod FoundTexts
-pub mod FoundUnitLemmas
+pub mod FoundFormatLemmas
 pub mod FrontLemmas
 pub mod FrontMemory
 pub mod KeptAnswersLemmas
@@ -14,7 +14,6 @@ pub mod KnownPrinted
 pub mod KnownValues
 pub mod LineMemoryLemmas
 pub mod LastTabLemmas
-pub mod LenientUnitSteps
 pub mod LenientUnitTrips
 pub mod NumbersAlone
 pub mod OldLinesLemmas

@@ -18,7 +18,7 @@ use Rattle.locale_numbers.specs.declared.front.Front.{Front}
 pub tag_taken : (o : Option Asked) (read : Asked) → with_text [] o ≡ Some read → tag_may_grow (pieces read.tag) ≡ true → MayTakeTag o
 tag_taken None read is grows = absurd (cc)
 tag_taken (Some asked) read is grows =
-    let one : ◌≡◌ {A = Asked} (record { tag = asked.tag; form = asked.form; grouping = asked.grouping; sign = asked.sign; rounding = asked.rounding; text = [] }) read = cc in
+    let one : ◌≡◌ {A = Asked} (record { tag = asked.tag; task = asked.task; format = asked.format; text = [] }) read = cc in
     subst (λ (a : Asked). tag_may_grow (pieces a.tag) ≡ true) (sym one) grows
 
 -- a front and a text are those of a request
@@ -34,7 +34,7 @@ record IsOf (o : Option Asked) (text : List ℕ) (asked : Asked) : Type 0 where
 
 of_by : (b : Bool) (o : Option Asked) (text : List ℕ) (asked : Asked) → (if b then with_text text o else None) ≡ Some asked → IsOf o text asked
 of_by true (Some a) text asked is =
-    let one : ◌≡◌ {A = Asked} (record { tag = a.tag; form = a.form; grouping = a.grouping; sign = a.sign; rounding = a.rounding; text = text }) asked = cc in
+    let one : ◌≡◌ {A = Asked} (record { tag = a.tag; task = a.task; format = a.format; text = text }) asked = cc in
     subst (λ (x : Asked). IsOf (Some a) text x) one (record { fronts = refl; texts = refl; tags = λ grows. grows })
 of_by true None text asked is = absurd (cc)
 of_by false o text asked is = absurd (cc)

@@ -1,5 +1,5 @@
 -- What is read back is written again, and what was written reads back: `specs/Laws.antt`.
-use Rattle.std.proofs.Common.{◌≡◌, ℕ, Bool, true, false, List, drop, get_or, Option, Some, None, Result, Ok, Err, refl, sym, ap, ◌∙◌, subst, arith}
+use Rattle.std.proofs.Common.{◌≡◌, ◌==◌, ℕ, Bool, true, false, codes, List, drop, get_or, Option, Some, None, Result, Ok, Err, refl, sym, ap, ◌∙◌, subst, arith}
 use Rattle.std.specs.Prelude.{if◌then◌else◌, option_map}
 use Rattle.std.specs.Str.{bytes_eq}
 use Rattle.fixed_decimal.specs.CompactText.{CompactValue}
@@ -10,6 +10,7 @@ use Rattle.fixed_decimal.specs.TextLaws.{IsDecimal}
 use Rattle.fixed_decimal.proofs.SignedReadOnceLemmas.{signed_printed}
 use Rattle.icu_decimal.specs.declared.error.DataError.{DataError}
 use Rattle.icu_decimal.specs.declared.options.GroupingStrategy.{GroupingStrategy}
+use Rattle.icu_decimal.specs.declared.provider.CompactEntry.{CompactEntry}
 use Rattle.icu_decimal.specs.declared.options.GroupingStrategy.TheVariants.{Auto, Always}
 use Rattle.icu_decimal.specs.Choice.{first_found}
 use Rattle.icu_decimal.specs.CompactTables.{CompactTables}
@@ -21,23 +22,10 @@ use Rattle.icu_decimal.specs.Folding.{plain_digits}
 use Rattle.icu_decimal.specs.LenientLaws.{under}
 use Rattle.icu_decimal.specs.PlainReading.{IsPlainText, PlainReading, decimal, not_written, plain_reading, unreadable}
 use Rattle.icu_decimal.specs.PlainText.{Tables, decimal_text}
-use Rattle.icu_decimal.specs.ReadingLaws.{HasOneReading as HasOnePlainReading, ReadIsWrittenAgain as TextIsWrittenAgain, TextsHaveOneDecimal, WrittenReadsBack as TextReadsBack}
+use Rattle.icu_decimal.specs.ReadingLaws.{AreTables, HasOneReading as HasOnePlainReading, ReadIsWrittenAgain as TextIsWrittenAgain, TextsHaveOneDecimal, WrittenReadsBack as TextReadsBack}
 use Rattle.icu_decimal.specs.Rules.{Rules}
+use Rattle.icu_decimal.specs.ShownChoice.{exact_entry}
 use Rattle.icu_decimal.specs.Symbols.{Symbols}
-use Rattle.icu_locale_core.specs.TagPreferences.{Preferences}
-use Rattle.locale_numbers_book.specs.Book.{BookTables}
-use Rattle.locale_numbers_book.specs.Tables.{chain_in, digits_under, rules_under, symbols_under}
-use Rattle.locale_numbers.specs.Answer.{answer_asked, answer_in, answer_tagged, answer_to, answer_with, exact_to, found_in, in_latin, refused, written}
-use Rattle.locale_numbers_answers.specs.Changing.{changed, signed_as}
-use Rattle.locale_numbers.specs.CompactAnswer.{compact_with, exact_with, found_compact, patterns_under}
-use Rattle.locale_numbers_answers.specs.CompactReading.{CompactReading, compact_beyond, compact_nothing, compact_number, compact_reading_of}
-use Rattle.locale_numbers.specs.Laws.{AutoIsAnsweredAsAlways, EachGroupingIsReadLeniently, FindsTables, ReadIsReadLeniently, ReadIsWrittenAgain, RoundedIsWrittenAgain, WrittenReadsBack, grouped_by, lenient_request, plain_request, reading_request}
-use Rattle.locale_numbers_answers.specs.LenientAnswer.{lenient_with, reading_by, second_of, where_found}
-use Rattle.locale_numbers_answers.specs.LenientUnitAnswer.{lenient_unit_reading, lenient_unit_with, second_unit, typed_code, typed_found, typed_in_turn, unit_reading_by}
-use Rattle.locale_numbers_answers.specs.NumberReading.{Reading, beyond, nothing, number, reading_of}
-use Rattle.locale_numbers_answers.specs.ReadAnswer.{read_answer, read_with}
-use Rattle.locale_numbers_answers.specs.UnitAnswer.{UnitFound, read_unit_with, unit_to}
-use Rattle.locale_numbers_answers.proofs.LenientUnitLemmas.{in_turn_same}
 use Rattle.icu_dimension.specs.FoundUnits.{amount_settings, percent_settings, then_found, unit_locales, with_own}
 use Rattle.icu_dimension.specs.ProvidedUnits.{AmountTexts, PercentTexts, SymbolText}
 use Rattle.icu_dimension.specs.UnitChoice.{amounts_found, fractions_found, name_found, percent_found}
@@ -45,24 +33,50 @@ use Rattle.icu_dimension.specs.UnitPatterns.{PatternTexts, chosen}
 use Rattle.icu_dimension.specs.UnitText.{UnitName}
 use Rattle.icu_dimension.specs.declared.FractionInfo.{FractionInfo}
 use Rattle.icu_dimension.specs.declared.UnitKind.TheVariants as kind
-use Rattle.locale_numbers_book.specs.TagFormatters.{currencies_in, percents_in}
-use Rattle.locale_numbers.specs.FoundUnit.{as_amounts, as_percents, found_unit, way_of, width_of}
-use Rattle.locale_numbers_requests.specs.declared.UnitAsked.{UnitAsked}
-use Rattle.locale_numbers_requests.specs.declared.UnitAsked.TheVariants.{Percent, Currency}
-use Rattle.locale_numbers_requests.specs.Request.{Asked}
-use Rattle.locale_numbers_book.specs.Wanted.{wanted_of}
-use Rattle.locale_numbers_requests.specs.declared.Refusal.{Refusal}
-use Rattle.locale_numbers_requests.specs.declared.Refusal.TheVariants as refusal
-use Rattle.locale_numbers_requests.specs.declared.Form.{Form}
-use Rattle.locale_numbers_requests.specs.declared.Form.TheVariants.{Plain, Compact, Exact, Read, ReadLenient, Unit, ReadUnit, ReadLenientUnit}
-use Rattle.locale_numbers_requests.specs.declared.PatternLength.{PatternLength}
-use Rattle.locale_numbers_requests.specs.declared.RoundingAsked.{RoundingAsked}
-use Rattle.locale_numbers_requests.specs.declared.RoundingAsked.TheVariants.{Unrounded}
-use Rattle.locale_numbers_requests.specs.declared.SignAsked.{SignAsked}
-use Rattle.locale_numbers_requests.specs.declared.SignAsked.TheVariants.{Keep}
-use Rattle.locale_numbers_answers.proofs.LenientLemmas.{read_exactly, read_grouped}
+use Rattle.icu_locale_core.specs.TagPreferences.{Preferences}
+use Rattle.locale_numbers_answers.specs.Answers.{answer_by, exact_found, read_found, typed_found, where_found, written_found, written_to}
+use Rattle.locale_numbers_answers.specs.CompactReading.{CompactReading, compact_beyond, compact_nothing, compact_number, compact_reading_of}
+use Rattle.locale_numbers_answers.specs.NumberAnswer.{exact_written, is_form_in_range, signed_form}
+use Rattle.locale_numbers_answers.specs.NumberReading.{Reading, beyond, nothing, number, reading_of}
+use Rattle.locale_numbers_answers.specs.ReadAnswer.{own_reading, read_answer}
 use Rattle.locale_numbers_answers.proofs.NumberBounds.{changed_again, changed_is_decimal, reading_is_decimal}
 use Rattle.locale_numbers_answers.proofs.NumberReadingLemmas.{signed_number}
+use Rattle.locale_numbers_book.specs.Book.{BookTables}
+use Rattle.locale_numbers_book.specs.FoundFormats.{found_for, mapped, notation_found}
+use Rattle.locale_numbers_book.specs.Tables.{chain_in, digits_under, rules_under, symbols_under}
+use Rattle.locale_numbers_book.specs.TagFormatters.{currencies_in, found_plain, patterns_under, percents_in}
+use Rattle.locale_numbers_book.specs.Wanted.{wanted_of}
+use Rattle.locale_numbers_formats.specs.Changed.{changed}
+use Rattle.locale_numbers_formats.specs.declared.Notation.{Notation}
+use Rattle.locale_numbers_formats.specs.declared.Notation.TheVariants.{Standard, Compact}
+use Rattle.locale_numbers_formats.specs.declared.NumberFormat.{NumberFormat}
+use Rattle.locale_numbers_formats.specs.declared.NumberOptions.{NumberOptions}
+use Rattle.locale_numbers_formats.specs.declared.NumberUnit.{NumberUnit}
+use Rattle.locale_numbers_formats.specs.declared.NumberUnit.TheVariants as unit
+use Rattle.locale_numbers_formats.specs.declared.Rounding.{Rounding}
+use Rattle.locale_numbers_formats.specs.declared.Rounding.TheVariants.{Usual}
+use Rattle.locale_numbers_formats.specs.declared.SignAsked.{SignAsked}
+use Rattle.locale_numbers_formats.specs.declared.SignAsked.TheVariants.{Keep}
+use Rattle.locale_numbers_formatter.specs.ExactForms.{under_entry}
+use Rattle.locale_numbers_formatter.specs.FormatReading.{format_reading}
+use Rattle.locale_numbers_formatter.specs.FormatText.{FormatTables, UnitFormat, compact_tables, plain_tables, shown_as_it_is, text_of_shown, unit_tables}
+use Rattle.locale_numbers_formatter.specs.FormatTyped.{plain_in, typed_unit, unit_in, units_in_turn, where_native}
+use Rattle.locale_numbers_formatter.specs.HeldFormats.{currency_format, percent_format}
+use Rattle.locale_numbers_formatter.specs.ReadingLaws.{PlainReadsByPairs}
+use Rattle.locale_numbers_formatter.specs.TypedPlain.{reading_by}
+use Rattle.locale_numbers_formatter.specs.TypedUnits.{lenient_unit_reading, unit_reading_by}
+use Rattle.locale_numbers_formatter.proofs.LenientLemmas.{read_exactly, read_grouped}
+use Rattle.locale_numbers_formatter.proofs.LenientUnitLemmas.{in_turn_same}
+use Rattle.locale_numbers_requests.specs.Request.{Asked}
+use Rattle.locale_numbers_requests.specs.declared.Refusal.{Refusal}
+use Rattle.locale_numbers_requests.specs.declared.Refusal.TheVariants as refusal
+use Rattle.locale_numbers_requests.specs.declared.Task.{Task}
+use Rattle.locale_numbers_requests.specs.declared.Task.TheVariants.{Write, WriteExact, Read, ReadLenient}
+use Rattle.locale_numbers.specs.Answer.{answer_asked, answer_tagged, in_latin, refused, written}
+use Rattle.locale_numbers.specs.AskedFormats.{grouping_in, keeping, options_of, plain_shape}
+use Rattle.locale_numbers.specs.Laws.{AutoIsAnsweredAsAlways, EachGroupingIsReadLeniently, FindsTables, ReadIsReadLeniently, ReadIsWrittenAgain, RoundedIsWrittenAgain, TrimsNothing, WrittenReadsBack, grouped_by, lenient_request, plain_request, reading_request}
+use Rattle.locale_numbers.proofs.FoundTexts.{in_plain}
+use Rattle.locale_numbers.proofs.TextDigitsLemmas.{changes_none}
 
 -- ---- answers apart
 
@@ -91,178 +105,183 @@ twin_symbols : (book : BookTables) (p : Preferences) (answer : Result Symbols Da
 twin_symbols book p (Ok symbols) = twin_digits symbols (first_found (digits_under book) (digits_identifiers p.numbering_system symbols.strings.numsys))
 twin_symbols book p (Err error) = failed error
 
-twins_of : (book : BookTables) (p : Preferences) → AreTwins (found_in book p Auto) (found_in book p Always)
+twins_of : (book : BookTables) (p : Preferences) → AreTwins (found_plain book p (Some Auto)) (found_plain book p (Some Always))
 twins_of book p = twin_symbols book p (first_found (symbols_under book) (symbols_identifiers (chain_in book) p))
 
-twins_write : (one two : Result Tables DataError) → AreTwins one two → (value : SignedValue Number) → answer_with one value ≡ answer_with two value
-twins_write one two (found symbols digits) value = refl
-twins_write one two (failed error) value = refl
+-- the same of formats
+data AreFormatTwins : Result FormatTables DataError → Result FormatTables DataError → Type 0 where
+  plain_found : (symbols : Symbols) (digits : List ℕ)
+      → AreFormatTwins
+      (Ok (plain_tables (record { symbols = symbols; digits = digits; strategy = Auto })))
+      (Ok (plain_tables (record { symbols = symbols; digits = digits; strategy = Always })))
+  shown_found : (symbols : Symbols) (digits : List ℕ) (rules : Rules) (patterns : CompactTable)
+      → AreFormatTwins
+      (Ok (compact_tables (record { plain = record { symbols = symbols; digits = digits; strategy = Auto }; rules = rules; patterns = patterns })))
+      (Ok (compact_tables (record { plain = record { symbols = symbols; digits = digits; strategy = Always }; rules = rules; patterns = patterns })))
+  unit_found : (symbols : Symbols) (digits : List ℕ) (pattern : PatternTexts) (name : UnitName) (code : List ℕ) (fractions : Option FractionInfo)
+      → AreFormatTwins
+      (Ok (unit_tables (record { settings = record { tables = record { symbols = symbols; digits = digits; strategy = Auto }; pattern = pattern; unit = name }; code = code; fractions = fractions })))
+      (Ok (unit_tables (record { settings = record { tables = record { symbols = symbols; digits = digits; strategy = Always }; pattern = pattern; unit = name }; code = code; fractions = fractions })))
+  none_found : (error : DataError) → AreFormatTwins (Err error) (Err error)
 
-twins_read : (one two : Result Tables DataError) → AreTwins one two → (text : List ℕ) → read_with one text ≡ read_with two text
-twins_read one two (found symbols digits) text = refl
-twins_read one two (failed error) text = refl
+plain_twins : (one two : Result Tables DataError) → AreTwins one two → AreFormatTwins (mapped plain_tables one) (mapped plain_tables two)
+plain_twins one two (found symbols digits) = plain_found symbols digits
+plain_twins one two (failed error) = none_found error
 
-twins_in_turn : (latin latin_two : Result Tables DataError) → AreTwins latin latin_two → (symbols : Symbols) (digits text : List ℕ) (ascii : Bool)
-    → reading_by (record { symbols = symbols; digits = digits; strategy = Auto }) (if ascii then None else where_found latin) text
-    ≡ reading_by (record { symbols = symbols; digits = digits; strategy = Always }) (if ascii then None else where_found latin_two) text
-twins_in_turn latin latin_two twins symbols digits text true = refl
-twins_in_turn latin latin_two (found s d) symbols digits text false = refl
-twins_in_turn latin latin_two (failed error) symbols digits text false = refl
-
-twins_lenient : (one two latin latin_two : Result Tables DataError) → AreTwins one two → AreTwins latin latin_two → (text : List ℕ)
-    → lenient_with one latin text ≡ lenient_with two latin_two text
-twins_lenient one two latin latin_two (found symbols digits) twins text =
-    ap read_answer (twins_in_turn latin latin_two twins symbols digits text (bytes_eq digits plain_digits))
-twins_lenient one two latin latin_two (failed error) twins text = refl
-
--- the same of compact tables
-data AreCompactTwins : Result CompactTables DataError → Result CompactTables DataError → Type 0 where
-  compact_found : (symbols : Symbols) (digits : List ℕ) (rules : Rules) (patterns : CompactTable)
-      → AreCompactTwins
-      (Ok (record { plain = record { symbols = symbols; digits = digits; strategy = Auto }; rules = rules; patterns = patterns }))
-      (Ok (record { plain = record { symbols = symbols; digits = digits; strategy = Always }; rules = rules; patterns = patterns }))
-  compact_failed : (error : DataError) → AreCompactTwins (Err error) (Err error)
-
-twin_plain : (one two : Result Tables DataError) → AreTwins one two → (rules : Result Rules DataError) (patterns : Result CompactTable DataError)
-    → AreCompactTwins (with_plain one rules patterns) (with_plain two rules patterns)
-twin_plain one two (found symbols digits) (Ok rules) (Ok patterns) = compact_found symbols digits rules patterns
-twin_plain one two (found symbols digits) (Ok rules) (Err error) = compact_failed error
-twin_plain one two (found symbols digits) (Err error) patterns = compact_failed error
-twin_plain one two (failed error) rules patterns = compact_failed error
-
-compact_twins_of : (length : PatternLength) (book : BookTables) (p : Preferences) → AreCompactTwins (found_compact length book p Auto) (found_compact length book p Always)
-compact_twins_of length book p =
-    twin_plain (found_in book p Auto) (found_in book p Always) (twins_of book p)
-    (first_found (rules_under book) (rules_identifiers (chain_in book) p)) (first_found (patterns_under length book) (patterns_identifiers (chain_in book) p))
-
-twins_show : (one two : Result CompactTables DataError) → AreCompactTwins one two → (value : SignedValue Number) → compact_with one value ≡ compact_with two value
-twins_show one two (compact_found symbols digits rules patterns) value = refl
-twins_show one two (compact_failed error) value = refl
-
-twins_exact : (one two : Result CompactTables DataError) → AreCompactTwins one two → (value : CompactValue) → exact_with one value ≡ exact_with two value
-twins_exact one two (compact_found symbols digits rules patterns) value = refl
-twins_exact one two (compact_failed error) value = refl
-
-twins_answer : (one two : SignedValue Number → List ℕ) → ((value : SignedValue Number) → one value ≡ two value)
-    → (sign : SignAsked) (rounding : RoundingAsked) (reading : Reading) → answer_to one sign rounding reading ≡ answer_to two sign rounding reading
-twins_answer one two same sign rounding nothing = refl
-twins_answer one two same sign rounding beyond = refl
-twins_answer one two same sign rounding (number value) = same (changed rounding sign value)
-
-twins_exactly : (one two : Result CompactTables DataError) → AreCompactTwins one two → (sign : SignAsked) (reading : CompactReading) → exact_to one sign reading ≡ exact_to two sign reading
-twins_exactly one two twins sign compact_nothing = refl
-twins_exactly one two twins sign compact_beyond = refl
-twins_exactly one two twins sign (compact_number value) =
-    twins_exact one two twins (record { significand = signed_as sign value.significand; exponent = value.exponent })
-
--- the same of what numbers with a unit are written with
-data AreUnitTwins : Result UnitFound DataError → Result UnitFound DataError → Type 0 where
-  unit_found : (symbols : Symbols) (digits : List ℕ) (pattern : PatternTexts) (unit : UnitName) (fractions : Option FractionInfo)
-      → AreUnitTwins
-      (Ok (record { settings = record { tables = record { symbols = symbols; digits = digits; strategy = Auto }; pattern = pattern; unit = unit }; digits = fractions }))
-      (Ok (record { settings = record { tables = record { symbols = symbols; digits = digits; strategy = Always }; pattern = pattern; unit = unit }; digits = fractions }))
-  unit_failed : (error : DataError) → AreUnitTwins (Err error) (Err error)
+compact_twins : (one two : Result Tables DataError) → AreTwins one two → (rules : Result Rules DataError) (patterns : Result CompactTable DataError)
+    → AreFormatTwins (mapped compact_tables (with_plain one rules patterns)) (mapped compact_tables (with_plain two rules patterns))
+compact_twins one two (found symbols digits) (Ok rules) (Ok patterns) = shown_found symbols digits rules patterns
+compact_twins one two (found symbols digits) (Ok rules) (Err error) = none_found error
+compact_twins one two (found symbols digits) (Err error) patterns = none_found error
+compact_twins one two (failed error) rules patterns = none_found error
 
 -- with the symbols of an entry's own, or those of plain text
-own_twins : (own : Option Symbols) (symbols : Symbols) (digits : List ℕ) (pattern : PatternTexts) (unit : UnitName) (fractions : Option FractionInfo)
-    → AreUnitTwins
-    (Ok (record { settings = record { tables = with_own own (record { symbols = symbols; digits = digits; strategy = Auto }); pattern = pattern; unit = unit }; digits = fractions }))
-    (Ok (record { settings = record { tables = with_own own (record { symbols = symbols; digits = digits; strategy = Always }); pattern = pattern; unit = unit }; digits = fractions }))
-own_twins None symbols digits pattern unit fractions = unit_found symbols digits pattern unit fractions
-own_twins (Some own) symbols digits pattern unit fractions = unit_found own digits pattern unit fractions
+own_twins : (own : Option Symbols) (symbols : Symbols) (digits : List ℕ) (pattern : PatternTexts) (name : UnitName) (code : List ℕ) (fractions : Option FractionInfo)
+    → AreFormatTwins
+    (Ok (unit_tables (record { settings = record { tables = with_own own (record { symbols = symbols; digits = digits; strategy = Auto }); pattern = pattern; unit = name }; code = code; fractions = fractions })))
+    (Ok (unit_tables (record { settings = record { tables = with_own own (record { symbols = symbols; digits = digits; strategy = Always }); pattern = pattern; unit = name }; code = code; fractions = fractions })))
+own_twins None symbols digits pattern name code fractions = unit_found symbols digits pattern name code fractions
+own_twins (Some own) symbols digits pattern name code fractions = unit_found own digits pattern name code fractions
 
 percent_twins : (one two : Result Tables DataError) → AreTwins one two → (percents : Result PercentTexts DataError)
-    → AreUnitTwins
-    (as_percents (then_found one (λ t. then_found percents (λ e. Ok (percent_settings t e)))))
-    (as_percents (then_found two (λ t. then_found percents (λ e. Ok (percent_settings t e)))))
-percent_twins one two (found symbols digits) (Ok e) = own_twins e.symbols symbols digits e.pattern (record { kind = kind.Percent; text = e.sign }) None
-percent_twins one two (found symbols digits) (Err error) = unit_failed error
-percent_twins one two (failed error) percents = unit_failed error
+    → AreFormatTwins
+    (mapped (λ settings. unit_tables (percent_format settings)) (then_found one (λ t. then_found percents (λ e. Ok (percent_settings t e)))))
+    (mapped (λ settings. unit_tables (percent_format settings)) (then_found two (λ t. then_found percents (λ e. Ok (percent_settings t e)))))
+percent_twins one two (found symbols digits) (Ok e) = own_twins e.symbols symbols digits e.pattern (record { kind = kind.Percent; text = e.sign }) (codes "%") None
+percent_twins one two (found symbols digits) (Err error) = none_found error
+percent_twins one two (failed error) percents = none_found error
 
-amount_twins : (one two : Result Tables DataError) → AreTwins one two → (amounts : Result AmountTexts DataError) (name : Result SymbolText DataError) (fractions : Result FractionInfo DataError)
-    → AreUnitTwins
-    (as_amounts (then_found one (λ t. then_found amounts (λ e. then_found name (λ n. then_found fractions (λ f. Ok (record { unit = amount_settings t e n; fractions = f })))))))
-    (as_amounts (then_found two (λ t. then_found amounts (λ e. then_found name (λ n. then_found fractions (λ f. Ok (record { unit = amount_settings t e n; fractions = f })))))))
-amount_twins one two (found symbols digits) (Ok e) (Ok n) (Ok f) = own_twins e.symbols symbols digits (chosen e.patterns n.ends) (record { kind = kind.Currency; text = n.text }) (Some f)
-amount_twins one two (found symbols digits) (Ok e) (Ok n) (Err error) = unit_failed error
-amount_twins one two (found symbols digits) (Ok e) (Err error) fractions = unit_failed error
-amount_twins one two (found symbols digits) (Err error) name fractions = unit_failed error
-amount_twins one two (failed error) amounts name fractions = unit_failed error
+amount_twins : (code : List ℕ) (one two : Result Tables DataError) → AreTwins one two → (amounts : Result AmountTexts DataError) (name : Result SymbolText DataError) (fractions : Result FractionInfo DataError)
+    → AreFormatTwins
+    (mapped (λ settings. unit_tables (currency_format code settings)) (then_found one (λ t. then_found amounts (λ e. then_found name (λ n. then_found fractions (λ f. Ok (record { unit = amount_settings t e n; fractions = f })))))))
+    (mapped (λ settings. unit_tables (currency_format code settings)) (then_found two (λ t. then_found amounts (λ e. then_found name (λ n. then_found fractions (λ f. Ok (record { unit = amount_settings t e n; fractions = f })))))))
+amount_twins code one two (found symbols digits) (Ok e) (Ok n) (Ok f) = own_twins e.symbols symbols digits (chosen e.patterns n.ends) (record { kind = kind.Currency; text = n.text }) code (Some f)
+amount_twins code one two (found symbols digits) (Ok e) (Ok n) (Err error) = none_found error
+amount_twins code one two (found symbols digits) (Ok e) (Err error) fractions = none_found error
+amount_twins code one two (found symbols digits) (Err error) name fractions = none_found error
+amount_twins code one two (failed error) amounts name fractions = none_found error
 
-unit_twins_of : (unit : UnitAsked) (book : BookTables) (p : Preferences) → AreUnitTwins (found_unit unit book p Auto) (found_unit unit book p Always)
-unit_twins_of Percent book p =
-    percent_twins (found_in book p Auto) (found_in book p Always) (twins_of book p)
+format_twins : (notation : Notation) (of : NumberUnit) (book : BookTables) (p : Preferences) → AreFormatTwins (notation_found notation of book p Auto) (notation_found notation of book p Always)
+format_twins Standard unit.None book p = plain_twins (found_plain book p (Some Auto)) (found_plain book p (Some Always)) (twins_of book p)
+format_twins Standard unit.Percent book p =
+    percent_twins (found_plain book p (Some Auto)) (found_plain book p (Some Always)) (twins_of book p)
     (percent_found (percents_in book).percents (unit_locales (percents_in book).decimals p) p.numbering_system)
-unit_twins_of (Currency style code) book p =
-    amount_twins (found_in book p Auto) (found_in book p Always) (twins_of book p)
-    (amounts_found (way_of style) (currencies_in book).currencies (currencies_in book).accounts (unit_locales (currencies_in book).decimals p) p.numbering_system code)
-    (name_found (width_of style) (currencies_in book).symbols (unit_locales (currencies_in book).decimals p) code)
-    (fractions_found (currencies_in book).fractions code)
+format_twins Standard (unit.Currency currency) book p =
+    amount_twins currency.code (found_plain book p (Some Auto)) (found_plain book p (Some Always)) (twins_of book p)
+    (amounts_found currency.style (currencies_in book).currencies (currencies_in book).accounts (unit_locales (currencies_in book).decimals p) p.numbering_system currency.code)
+    (name_found currency.width (currencies_in book).symbols (unit_locales (currencies_in book).decimals p) currency.code)
+    (fractions_found (currencies_in book).fractions currency.code)
+format_twins (Compact width) unit.None book p =
+    compact_twins (found_plain book p (Some Auto)) (found_plain book p (Some Always)) (twins_of book p)
+    (first_found (rules_under book) (rules_identifiers (chain_in book) p)) (first_found (patterns_under width book) (patterns_identifiers (chain_in book) p))
+format_twins (Compact width) unit.Percent book p = none_found DataError.IdentifierNotFound
+format_twins (Compact width) (unit.Currency currency) book p = none_found DataError.IdentifierNotFound
 
-twins_with_unit : (one two : Result UnitFound DataError) → AreUnitTwins one two → (sign : SignAsked) (rounding : RoundingAsked) (reading : Reading)
-    → unit_to one sign rounding reading ≡ unit_to two sign rounding reading
-twins_with_unit one two twins sign rounding nothing = refl
-twins_with_unit one two twins sign rounding beyond = refl
-twins_with_unit one two (unit_found symbols digits pattern unit fractions) sign rounding (number value) = refl
-twins_with_unit one two (unit_failed error) sign rounding (number value) = refl
+-- numbers with a unit, by a grouping
+abbrev unit_under : Symbols → List ℕ → PatternTexts → UnitName → List ℕ → Option FractionInfo → GroupingStrategy → UnitFormat
+unit_under symbols digits pattern name code fractions strategy =
+    record { settings = record { tables = record { symbols = symbols; digits = digits; strategy = strategy }; pattern = pattern; unit = name }; code = code; fractions = fractions }
 
-twins_read_unit : (one two : Result UnitFound DataError) → AreUnitTwins one two → (rounding : RoundingAsked) (text : List ℕ)
-    → read_unit_with one rounding text ≡ read_unit_with two rounding text
-twins_read_unit one two (unit_found symbols digits pattern unit fractions) rounding text = refl
-twins_read_unit one two (unit_failed error) rounding text = refl
+-- they answer alike
+twins_write : (one two : Result FormatTables DataError) → AreFormatTwins one two → (options : NumberOptions) (reading : Reading) → written_to one options reading ≡ written_to two options reading
+twins_write one two twins options nothing = refl
+twins_write one two twins options beyond = refl
+twins_write one two (plain_found symbols digits) options (number value) = refl
+twins_write one two (shown_found symbols digits rules patterns) options (number value) = refl
+twins_write one two (unit_found symbols digits pattern name code fractions) options (number value) = refl
+twins_write one two (none_found error) options (number value) = refl
 
-typed_twins : (code : List ℕ) (latin latin_two : Result UnitFound DataError) → AreUnitTwins latin latin_two → (symbols : Symbols) (digits : List ℕ) (pattern : PatternTexts) (unit : UnitName) (fractions : Option FractionInfo) (text : List ℕ) (ascii : Bool)
-    → unit_reading_by
-    (typed_found code (record { settings = record { tables = record { symbols = symbols; digits = digits; strategy = Auto }; pattern = pattern; unit = unit }; digits = fractions }))
-    (option_map (typed_found code) (if ascii then None else where_found latin)) text
-    ≡ unit_reading_by
-    (typed_found code (record { settings = record { tables = record { symbols = symbols; digits = digits; strategy = Always }; pattern = pattern; unit = unit }; digits = fractions }))
-    (option_map (typed_found code) (if ascii then None else where_found latin_two)) text
+-- a form under an entry of compact tables, by a grouping
+abbrev compact_under : Symbols → List ℕ → Rules → CompactTable → GroupingStrategy → CompactTables
+compact_under symbols digits rules patterns strategy =
+    record { plain = record { symbols = symbols; digits = digits; strategy = strategy }; rules = rules; patterns = patterns }
+
+entry_twins : (symbols : Symbols) (digits : List ℕ) (rules : Rules) (patterns : CompactTable) (form : CompactValue) (entry : Option (Option CompactEntry))
+    → option_map text_of_shown (option_map (under_entry (compact_under symbols digits rules patterns Auto) form) entry)
+    ≡ option_map text_of_shown (option_map (under_entry (compact_under symbols digits rules patterns Always) form) entry)
+entry_twins symbols digits rules patterns form None = refl
+entry_twins symbols digits rules patterns form (Some entry) = refl
+
+twins_exact : (one two : Result FormatTables DataError) → AreFormatTwins one two → (sign : SignAsked) (reading : CompactReading) → exact_found one sign reading ≡ exact_found two sign reading
+twins_exact one two twins sign compact_nothing = refl
+twins_exact one two twins sign compact_beyond = refl
+twins_exact one two (plain_found symbols digits) sign (compact_number form) = at (form.exponent == 0)
+  where
+    at : (b : Bool) → exact_written (option_map text_of_shown (if b then Some (shown_as_it_is (plain_tables (record { symbols = symbols; digits = digits; strategy = Auto })) (signed_form sign form).significand) else None))
+        ≡ exact_written (option_map text_of_shown (if b then Some (shown_as_it_is (plain_tables (record { symbols = symbols; digits = digits; strategy = Always })) (signed_form sign form).significand) else None))
+    at true = refl
+    at false = refl
+twins_exact one two (shown_found symbols digits rules patterns) sign (compact_number form) =
+    let of : GroupingStrategy → CompactTables = compact_under symbols digits rules patterns in
+    let signed = signed_form sign form in
+    ap (λ text. if is_form_in_range (compact_tables (of Auto)) signed then exact_written text else refused refusal.Range)
+    (entry_twins symbols digits rules patterns signed (exact_entry 32768 patterns.entries signed.significand.absolute.count signed.exponent))
+twins_exact one two (unit_found symbols digits pattern name code fractions) sign (compact_number form) = at (form.exponent == 0)
+  where
+    at : (b : Bool) → exact_written (option_map text_of_shown (if b then Some (shown_as_it_is (unit_tables (unit_under symbols digits pattern name code fractions Auto)) (signed_form sign form).significand) else None))
+        ≡ exact_written (option_map text_of_shown (if b then Some (shown_as_it_is (unit_tables (unit_under symbols digits pattern name code fractions Always)) (signed_form sign form).significand) else None))
+    at true = refl
+    at false = refl
+twins_exact one two (none_found error) sign (compact_number form) = refl
+
+twins_read : (one two : Result FormatTables DataError) → AreFormatTwins one two → (rounding : Rounding) (text : List ℕ) → read_found one rounding text ≡ read_found two rounding text
+twins_read one two (plain_found symbols digits) rounding text = refl
+twins_read one two (shown_found symbols digits rules patterns) rounding text = refl
+twins_read one two (unit_found symbols digits pattern name code fractions) rounding text = refl
+twins_read one two (none_found error) rounding text = refl
+
+plain_in_turn : (latin latin_two : Result FormatTables DataError) → AreFormatTwins latin latin_two → (symbols : Symbols) (digits text : List ℕ) (ascii : Bool)
+    → reading_by (record { symbols = symbols; digits = digits; strategy = Auto }) (if ascii then None else plain_in (where_found latin)) text
+    ≡ reading_by (record { symbols = symbols; digits = digits; strategy = Always }) (if ascii then None else plain_in (where_found latin_two)) text
+plain_in_turn latin latin_two twins symbols digits text true = refl
+plain_in_turn latin latin_two (plain_found s d) symbols digits text false = refl
+plain_in_turn latin latin_two (shown_found s d r p) symbols digits text false = refl
+plain_in_turn latin latin_two (unit_found s d p n c f) symbols digits text false = refl
+plain_in_turn latin latin_two (none_found error) symbols digits text false = refl
+
+unit_in_turn : (latin latin_two : Result FormatTables DataError) → AreFormatTwins latin latin_two → (symbols : Symbols) (digits : List ℕ) (pattern : PatternTexts) (name : UnitName) (code : List ℕ) (fractions : Option FractionInfo) (text : List ℕ) (ascii : Bool)
+    → unit_reading_by (typed_unit (unit_under symbols digits pattern name code fractions Auto)) (option_map typed_unit (if ascii then None else unit_in (where_found latin))) text
+    ≡ unit_reading_by (typed_unit (unit_under symbols digits pattern name code fractions Always)) (option_map typed_unit (if ascii then None else unit_in (where_found latin_two))) text
 unfolding lenient_unit_reading
-typed_twins code latin latin_two twins symbols digits pattern unit fractions text true = refl
-typed_twins code latin latin_two (unit_found s d p u f) symbols digits pattern unit fractions text false = refl
-typed_twins code latin latin_two (unit_failed error) symbols digits pattern unit fractions text false = refl
+unit_in_turn latin latin_two twins symbols digits pattern name code fractions text true = refl
+unit_in_turn latin latin_two (plain_found s d) symbols digits pattern name code fractions text false = refl
+unit_in_turn latin latin_two (shown_found s d r p) symbols digits pattern name code fractions text false = refl
+unit_in_turn latin latin_two (unit_found s d p n c f) symbols digits pattern name code fractions text false = refl
+unit_in_turn latin latin_two (none_found error) symbols digits pattern name code fractions text false = refl
 
-twins_lenient_unit : (code : List ℕ) (one two latin latin_two : Result UnitFound DataError) → AreUnitTwins one two → AreUnitTwins latin latin_two → (text : List ℕ)
-    → lenient_unit_with code one latin text ≡ lenient_unit_with code two latin_two text
-twins_lenient_unit code one two latin latin_two (unit_found symbols digits pattern unit fractions) twins text =
+twins_typed : (one two latin latin_two : Result FormatTables DataError) → AreFormatTwins one two → AreFormatTwins latin latin_two → (text : List ℕ)
+    → typed_found one latin text ≡ typed_found two latin_two text
+twins_typed one two latin latin_two (plain_found symbols digits) twins text = ap read_answer (plain_in_turn latin latin_two twins symbols digits text (bytes_eq digits plain_digits))
+twins_typed one two latin latin_two (shown_found symbols digits rules patterns) twins text = refl
+twins_typed one two latin latin_two (unit_found symbols digits pattern name code fractions) twins text =
+    let by : GroupingStrategy → UnitFormat = unit_under symbols digits pattern name code fractions in
     ap read_answer
     (in_turn_same
-    (typed_in_turn code (unit_with Auto) (second_unit (unit_with Auto) latin))
-    (typed_in_turn code (unit_with Always) (second_unit (unit_with Always) latin_two))
-    (λ some. typed_twins code latin latin_two twins symbols digits pattern unit fractions some (bytes_eq digits plain_digits))
+    (units_in_turn (by Auto) (where_native digits (unit_in (where_found latin))))
+    (units_in_turn (by Always) (where_native digits (unit_in (where_found latin_two))))
+    (λ some. unit_in_turn latin latin_two twins symbols digits pattern name code fractions some (bytes_eq digits plain_digits))
     (λ some. refl) text)
-  where
-    unit_with : GroupingStrategy → UnitFound
-    unit_with strategy = record { settings = record { tables = record { symbols = symbols; digits = digits; strategy = strategy }; pattern = pattern; unit = unit }; digits = fractions }
-twins_lenient_unit code one two latin latin_two (unit_failed error) twins text = refl
+twins_typed one two latin latin_two (none_found error) twins text = refl
 
-auto_in : (book : BookTables) (p : Preferences) (asked : Asked) (form : Form)
-    → answer_in form book p (grouped_by Auto asked) ≡ answer_in form book p (grouped_by Always asked)
-auto_in book p asked Plain =
-    twins_answer (answer_with (found_in book p Auto)) (answer_with (found_in book p Always))
-    (twins_write (found_in book p Auto) (found_in book p Always) (twins_of book p)) asked.sign asked.rounding (reading_of asked.text)
-auto_in book p asked (Compact length) =
-    twins_answer (compact_with (found_compact length book p Auto)) (compact_with (found_compact length book p Always))
-    (twins_show (found_compact length book p Auto) (found_compact length book p Always) (compact_twins_of length book p)) asked.sign asked.rounding (reading_of asked.text)
-auto_in book p asked (Exact length) =
-    twins_exactly (found_compact length book p Auto) (found_compact length book p Always) (compact_twins_of length book p) asked.sign (compact_reading_of asked.text)
-auto_in book p asked Read = twins_read (found_in book p Auto) (found_in book p Always) (twins_of book p) asked.text
-auto_in book p asked ReadLenient =
-    twins_lenient (found_in book p Auto) (found_in book p Always) (found_in book (in_latin p) Auto) (found_in book (in_latin p) Always)
-    (twins_of book p) (twins_of book (in_latin p)) asked.text
-auto_in book p asked (Unit unit) =
-    twins_with_unit (found_unit unit book p Auto) (found_unit unit book p Always) (unit_twins_of unit book p) asked.sign asked.rounding (reading_of asked.text)
-auto_in book p asked (ReadUnit unit) =
-    twins_read_unit (found_unit unit book p Auto) (found_unit unit book p Always) (unit_twins_of unit book p) asked.rounding asked.text
-auto_in book p asked (ReadLenientUnit unit) =
-    twins_lenient_unit (typed_code unit) (found_unit unit book p Auto) (found_unit unit book p Always) (found_unit unit book (in_latin p) Auto) (found_unit unit book (in_latin p) Always)
-    (unit_twins_of unit book p) (unit_twins_of unit book (in_latin p)) asked.text
+twins_answer : (task : Task) (one two : NumberFormat) → one.options ≡ two.options → (held held_two latin latin_two : Result FormatTables DataError) → AreFormatTwins held held_two → AreFormatTwins latin latin_two → (text : List ℕ)
+    → answer_by task one held latin text ≡ answer_by task two held_two latin_two text
+twins_answer Write one two same held held_two latin latin_two twins second text =
+    ap (λ options. written_to held options (reading_of text)) same ∙ twins_write held held_two twins two.options (reading_of text)
+twins_answer WriteExact one two same held held_two latin latin_two twins second text =
+    ap (λ (options : NumberOptions). exact_found held options.sign (compact_reading_of text)) same ∙ twins_exact held held_two twins two.options.sign (compact_reading_of text)
+twins_answer Read one two same held held_two latin latin_two twins second text =
+    ap (λ (options : NumberOptions). read_found held options.rounding text) same ∙ twins_read held held_two twins two.options.rounding text
+twins_answer ReadLenient one two same held held_two latin latin_two twins second text = twins_typed held held_two latin latin_two twins second text
 
 auto_tagged : (book : BookTables) (asked : Asked) (p : Option Preferences)
     → answer_tagged book p (grouped_by Auto asked) ≡ answer_tagged book p (grouped_by Always asked)
 auto_tagged book asked None = refl
-auto_tagged book asked (Some p) = auto_in book p asked asked.form
+auto_tagged book asked (Some p) =
+    let shape = asked.format.shape in
+    twins_answer asked.task (grouped_by Auto asked).format (grouped_by Always asked).format refl
+    (notation_found shape.notation shape.unit book p Auto) (notation_found shape.notation shape.unit book p Always)
+    (notation_found shape.notation shape.unit book (in_latin p) Auto) (notation_found shape.notation shape.unit book (in_latin p) Always)
+    (format_twins shape.notation shape.unit book p) (format_twins shape.notation shape.unit book (in_latin p)) asked.text
 
 pub auto_is_always : AutoIsAnsweredAsAlways
 auto_is_always book asked = auto_tagged book asked (wanted_of asked.tag)
@@ -284,7 +303,7 @@ regrouped_symbols one other book p (Ok symbols) =
 regrouped_symbols one other book p (Err error) = refl
 
 found_regrouped : (one other : GroupingStrategy) (book : BookTables) (p : Preferences)
-    → found_in book p other ≡ regrouped other (found_in book p one)
+    → found_plain book p (Some other) ≡ regrouped other (found_plain book p (Some one))
 found_regrouped one other book p = regrouped_symbols one other book p (first_found (symbols_under book) (symbols_identifiers (chain_in book) p))
 
 -- ---- requests whose tables are found
@@ -300,77 +319,88 @@ read_by tables text digits unreadable is same = absurd (refused_no refusal.Unrea
 read_by tables text digits not_written is same = absurd (refused_no refusal.NotWritten digits same)
 read_by tables text digits (decimal value) is same = record { value = value; is = is; printed = one_text (signed_text_of value) digits same }
 
--- so it is read leniently
-read_leniently : (found latin : Result Tables DataError) (text digits : List ℕ) → read_with found text ≡ written digits → lenient_with found latin text ≡ written digits
-read_leniently (Err error) latin text digits same = absurd (refused_no refusal.Table digits same)
-read_leniently (Ok tables) latin text digits same =
-    let read = read_by tables text digits (plain_reading tables text) refl same in
-    ap read_answer (read_exactly tables (second_of tables latin) text read.value read.is)
-    ∙ ap written read.printed
-
-read_tagged : (book : BookTables) (asked : Asked) (wanted : Option Preferences) (text digits : List ℕ)
-    → answer_tagged book wanted (reading_request asked text) ≡ written digits → answer_tagged book wanted (lenient_request asked text) ≡ written digits
-read_tagged book asked None text digits same = absurd (refused_no refusal.Tag digits same)
-read_tagged book asked (Some p) text digits same =
-    read_leniently (found_in book p asked.grouping) (found_in book (in_latin p) asked.grouping) text digits same
-
-pub read_is_lenient : ReadIsReadLeniently
-read_is_lenient book asked text digits same = read_tagged book asked (wanted_of asked.tag) text digits same
-
 -- the number of a plain request that has an answer
 record IsWritten (tables : Tables) (asked : Asked) (text : List ℕ) : Type 0 where
   value : SignedValue Number
   is : reading_of asked.text ≡ number value
-  shown : decimal_text tables (changed asked.rounding asked.sign value) ≡ text
+  shown : decimal_text tables (changed asked.format.options None value) ≡ text
 
-module _ (book : BookTables) (asked : Asked) (tables : Tables) (finds : FindsTables book asked tables) where
-  read_found : (text : List ℕ) → answer_asked book (Some (reading_request asked text)) ≡ read_answer (plain_reading tables text)
-  read_found text =
+-- without digits of a currency each reading is one
+no_digits : (r : PlainReading) → own_reading None r ≡ r
+no_digits unreadable = refl
+no_digits not_written = refl
+no_digits (decimal v) = refl
+
+-- the grouping is no part of what texts are
+regrouped_are : (grouping : GroupingStrategy) (tables : Tables) → AreTables tables → AreTables (under grouping tables)
+regrouped_are grouping tables are = record {
+  ten = are.ten;
+  digits = are.digits;
+  minus_prefix = are.minus_prefix;
+  minus_suffix = are.minus_suffix;
+  plus_prefix = are.plus_prefix;
+  plus_suffix = are.plus_suffix;
+  point = are.point;
+  group = are.group;
+}
+
+-- what is asked of plain numbers trims and pads nothing
+pub plain_options : (rounding : Rounding) (sign : SignAsked) → TrimsNothing (options_of rounding sign)
+plain_options rounding sign = record { leading = refl; trailing = refl; integer = refl; fraction = refl }
+
+module _ (pairs : PlainReadsByPairs) (book : BookTables) (asked : Asked) (tables : Tables) (finds : FindsTables book asked tables) where
+  read_found_is : (text : List ℕ) → answer_asked book (Some (reading_request asked text)) ≡ read_answer (plain_reading tables text)
+  read_found_is text =
       ap (λ p. answer_tagged book p (reading_request asked text)) finds.tag
-      ∙ ap (λ found. read_with found text) finds.found
+      ∙ ap (λ found. read_found found Usual text) finds.found
+      ∙ ap read_answer (no_digits (format_reading (plain_tables tables) text) ∙ pairs tables text finds.are)
 
   -- and what the request with another grouping reads
   regrouped_found : (grouping : GroupingStrategy) (text : List ℕ)
       → answer_asked book (Some (reading_request (grouped_by grouping asked) text)) ≡ read_answer (plain_reading (under grouping tables) text)
   regrouped_found grouping text =
+      let held : found_plain book finds.preferences (Some (grouping_in asked)) ≡ Ok tables = in_plain (found_plain book finds.preferences (Some (grouping_in asked))) tables finds.found in
       ap (λ p. answer_tagged book p (reading_request (grouped_by grouping asked) text)) finds.tag
-      ∙ ap (λ found. read_with found text) (found_regrouped asked.grouping grouping book finds.preferences)
-      ∙ ap (λ found. read_with (regrouped grouping found) text) finds.found
+      ∙ ap (λ found. read_found (mapped plain_tables found) Usual text) (found_regrouped (grouping_in asked) grouping book finds.preferences ∙ ap (regrouped grouping) held)
+      ∙ ap read_answer (no_digits (format_reading (plain_tables (under grouping tables)) text) ∙ pairs (under grouping tables) text (regrouped_are grouping tables finds.are))
 
   -- what is read whatever the second tables are is answered
   lenient_found : (text : List ℕ) (value : SignedValue Number) → ((second : Option Tables) → reading_by tables second text ≡ decimal value)
       → answer_asked book (Some (lenient_request asked text)) ≡ written (signed_text_of value)
   lenient_found text value is =
-      let latin : Result Tables DataError = found_in book (in_latin finds.preferences) asked.grouping in
+      let latin : Result FormatTables DataError = found_for (plain_shape (grouping_in asked)) book (in_latin finds.preferences) in
       ap (λ p. answer_tagged book p (lenient_request asked text)) finds.tag
-      ∙ ap (λ found. lenient_with found latin text) finds.found
-      ∙ ap read_answer (is (second_of tables latin))
+      ∙ ap (λ found. typed_found found latin text) finds.found
+      ∙ ap read_answer (is (where_native tables.digits (plain_in (where_found latin))))
 
-  plain_found : (rounding : RoundingAsked) (digits : List ℕ) (value : SignedValue Number) → reading_of digits ≡ number value
-      → answer_asked book (Some (plain_request asked rounding digits)) ≡ written (decimal_text tables (changed rounding Keep value))
-  plain_found rounding digits value is =
-      ap (λ p. answer_tagged book p (plain_request asked rounding digits)) finds.tag
-      ∙ ap (answer_to (answer_with (found_in book finds.preferences asked.grouping)) Keep rounding) is
-      ∙ ap (λ found. answer_with found (changed rounding Keep value)) finds.found
+  plain_found_is : (options : NumberOptions) (digits : List ℕ) (value : SignedValue Number) → reading_of digits ≡ number value
+      → answer_asked book (Some (plain_request asked options digits)) ≡ written (decimal_text tables (changed options None value))
+  plain_found_is options digits value is =
+      ap (λ p. answer_tagged book p (plain_request asked options digits)) finds.tag
+      ∙ ap (written_to (found_for (plain_shape (grouping_in asked)) book finds.preferences) options) is
+      ∙ ap (λ found. written_found found options value) finds.found
 
   read_of : (text digits : List ℕ) → answer_asked book (Some (reading_request asked text)) ≡ written digits → IsRead tables text digits
-  read_of text digits same = read_by tables text digits (plain_reading tables text) refl (sym (read_found text) ∙ same)
+  read_of text digits same = read_by tables text digits (plain_reading tables text) refl (sym (read_found_is text) ∙ same)
 
   written_by : (text : List ℕ) (reading : Reading) → reading_of asked.text ≡ reading
-      → answer_to (answer_with (found_in book finds.preferences asked.grouping)) asked.sign asked.rounding reading ≡ written text → IsWritten tables asked text
+      → written_to (found_for (plain_shape (grouping_in asked)) book finds.preferences) asked.format.options reading ≡ written text → IsWritten tables asked text
   written_by text nothing is same = absurd (refused_no refusal.Number text same)
   written_by text beyond is same = absurd (refused_no refusal.Limit text same)
   written_by text (number value) is same = record {
     value = value;
     is = is;
-    shown = one_text (decimal_text tables (changed asked.rounding asked.sign value)) text
-        (sym (ap (λ found. answer_with found (changed asked.rounding asked.sign value)) finds.found) ∙ same);
+    shown = one_text (decimal_text tables (changed asked.format.options None value)) text
+        (sym (ap (λ found. written_found found asked.format.options value) finds.found) ∙ same);
   }
 
-  written_of : (text : List ℕ) → asked.form ≡ Plain → answer_asked book (Some asked) ≡ written text → IsWritten tables asked text
-  written_of text plain same =
+  written_of : (text : List ℕ) → asked.task ≡ Write → asked.format.shape ≡ plain_shape (grouping_in asked) → answer_asked book (Some asked) ≡ written text → IsWritten tables asked text
+  written_of text task shape same =
+      let latin = found_for asked.format.shape book (in_latin finds.preferences) in
       written_by text (reading_of asked.text) refl
-      (sym (ap (λ p. answer_tagged book p asked) finds.tag ∙ ap (λ form. answer_in form book finds.preferences asked) plain) ∙ same)
+      (sym (ap (λ p. answer_tagged book p asked) finds.tag
+      ∙ ap (λ t. answer_by t asked.format (found_for asked.format.shape book finds.preferences) latin asked.text) task
+      ∙ ap (λ s. written_to (found_for s book finds.preferences) asked.format.options (reading_of asked.text)) shape) ∙ same)
 
   -- what was read, sent again, is read as the same number
   sent_again : (text digits : List ℕ) (read : IsRead tables text digits) → IsDecimal read.value → reading_of digits ≡ number read.value
@@ -382,34 +412,43 @@ module _ (book : BookTables) (asked : Asked) (tables : Tables) (finds : FindsTab
 
 -- ---- the laws
 
-pub read_again : HasOnePlainReading → TextIsWrittenAgain → ReadIsWrittenAgain
-read_again one again book asked tables text digits finds same =
-    let read = read_of book asked tables finds text digits same in
-    let plain = read_plainly book asked tables finds one text read.value read.is in
-    plain_found book asked tables finds Unrounded digits read.value (sent_again book asked tables finds text digits read plain.decimal)
-    ∙ ap written (again tables text read.value read.is)
-
-pub each_grouping_is_read : EachGroupingIsReadLeniently
-each_grouping_is_read book asked tables grouping text digits finds readable utf8 same =
-    let other : Tables = under grouping tables in
-    let read = read_by other text digits (plain_reading other text) refl (sym (regrouped_found book asked tables finds grouping text) ∙ same) in
-    lenient_found book asked tables finds text read.value (λ second. read_grouped tables second grouping text read.value finds.are utf8 readable read.is)
+pub read_is_lenient : PlainReadsByPairs → ReadIsReadLeniently
+read_is_lenient pairs book asked tables text digits finds same =
+    let read = read_of pairs book asked tables finds text digits same in
+    lenient_found pairs book asked tables finds text read.value (λ second. read_exactly tables second text read.value read.is)
     ∙ ap written read.printed
 
-pub reads_back : TextReadsBack → WrittenReadsBack
-reads_back back book asked tables value finds readable is =
-    read_found book asked tables finds (decimal_text tables value)
+pub read_again : PlainReadsByPairs → HasOnePlainReading → TextIsWrittenAgain → ReadIsWrittenAgain
+read_again pairs one again book asked tables text digits finds same =
+    let read = read_of pairs book asked tables finds text digits same in
+    let plain = read_plainly pairs book asked tables finds one text read.value read.is in
+    plain_found_is pairs book asked tables finds (options_of Usual Keep) digits read.value (sent_again pairs book asked tables finds text digits read plain.decimal)
+    ∙ ap (λ v. written (decimal_text tables v)) (changes_none (record { shape = plain_shape (grouping_in asked); options = options_of Usual Keep }) refl read.value plain.decimal)
+    ∙ ap written (again tables text read.value read.is)
+
+pub each_grouping_is_read : PlainReadsByPairs → EachGroupingIsReadLeniently
+each_grouping_is_read pairs book asked tables grouping text digits finds readable utf8 same =
+    let other : Tables = under grouping tables in
+    let read = read_by other text digits (plain_reading other text) refl (sym (regrouped_found pairs book asked tables finds grouping text) ∙ same) in
+    lenient_found pairs book asked tables finds text read.value (λ second. read_grouped tables second grouping text read.value finds.are utf8 readable read.is)
+    ∙ ap written read.printed
+
+pub reads_back : PlainReadsByPairs → TextReadsBack → WrittenReadsBack
+reads_back pairs back book asked tables value finds readable is =
+    read_found_is pairs book asked tables finds (decimal_text tables value)
     ∙ ap read_answer (back tables value finds.are readable is)
 
-pub rounded_again : HasOnePlainReading → TextsHaveOneDecimal → RoundedIsWrittenAgain
-rounded_again one texts book asked tables text digits plain at finds readable wrote same =
-    let read = read_of book asked tables finds text digits same in
-    let is = read_plainly book asked tables finds one text read.value read.is in
-    let first = written_of book asked tables finds text plain wrote in
-    let value : SignedValue Number = changed asked.rounding asked.sign first.value in
-    let whole : IsDecimal value = changed_is_decimal asked.rounding asked.sign first.value at (reading_is_decimal asked.text first.value first.is) in
+pub rounded_again : PlainReadsByPairs → HasOnePlainReading → TextsHaveOneDecimal → RoundedIsWrittenAgain
+rounded_again pairs one texts book asked tables text digits task shape plainly fits finds readable wrote same =
+    let options = asked.format.options in
+    let read = read_of pairs book asked tables finds text digits same in
+    let is = read_plainly pairs book asked tables finds one text read.value read.is in
+    let first = written_of pairs book asked tables finds text task shape wrote in
+    let was : IsDecimal first.value = reading_is_decimal asked.text first.value first.is in
+    let value : SignedValue Number = changed options None first.value in
+    let whole : IsDecimal value = changed_is_decimal options None first.value fits was in
     let one_value : read.value ≡ value = texts tables read.value value finds.are readable is.decimal whole (is.written ∙ sym first.shown) in
-    let kept : changed asked.rounding Keep read.value ≡ value = ap (changed asked.rounding Keep) one_value ∙ changed_again asked.rounding asked.sign first.value in
-    plain_found book asked tables finds asked.rounding digits read.value (sent_again book asked tables finds text digits read is.decimal)
+    let kept : changed (keeping options) None read.value ≡ value = ap (changed (keeping options) None) one_value ∙ changed_again options None first.value plainly fits was in
+    plain_found_is pairs book asked tables finds (keeping options) digits read.value (sent_again pairs book asked tables finds text digits read is.decimal)
     ∙ ap (λ v. written (decimal_text tables v)) kept
     ∙ ap written first.shown

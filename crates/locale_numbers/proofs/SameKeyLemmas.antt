@@ -1,86 +1,74 @@
 -- The test of two keys is true exactly where they are one, so any other such test is the same.
-use Rattle.std.proofs.Common.{◌≡◌, ℕ, Bool, List, Option, Some, None, refl, ap, Decides}
-use Rattle.std.specs.Option.{option_eq}
-use Rattle.std.specs.Str.{bytes_eq}
+use Rattle.std.proofs.Common.{◌≡◌, Bool, true, false, refl, ap, Decides}
 use Rattle.std.specs.Cmp.Lexicographic.{bytes_decides}
 use Rattle.std.proofs.lemmas.Bool.Decides.{Decides-and, Decides-like, same_from_decides}
 use Rattle.icu_decimal.specs.declared.options.GroupingStrategy.{GroupingStrategy}
 use Rattle.icu_decimal.specs.declared.options.GroupingStrategy.TheVariants.{Auto, Never, Always, Min2}
+use Rattle.icu_dimension.specs.declared.CurrencyStyle.{CurrencyStyle}
+use Rattle.icu_dimension.specs.declared.CurrencyStyle.TheVariants as style
+use Rattle.icu_dimension.specs.declared.CurrencyWidth.{CurrencyWidth}
+use Rattle.icu_dimension.specs.declared.CurrencyWidth.TheVariants as width
 use Rattle.icu_locale_core.specs.SamePreferences.{same_preferences}
 use Rattle.icu_locale_core.specs.TagPreferences.{Preferences}
 use Rattle.icu_locale_core.proofs.SameLemmas.{same_locale_preferences, texts_decide}
-use Rattle.locale_numbers.specs.FormatterKeys.{same_grouping, same_keys, same_kind, same_length, same_style, same_unit}
+use Rattle.locale_numbers_formats.specs.declared.CompactWidth.{CompactWidth}
+use Rattle.locale_numbers_formats.specs.declared.CompactWidth.TheVariants.{Short, Long}
+use Rattle.locale_numbers_formats.specs.declared.CurrencyUnit.{CurrencyUnit}
+use Rattle.locale_numbers_formats.specs.declared.Notation.{Notation}
+use Rattle.locale_numbers_formats.specs.declared.Notation.TheVariants.{Standard, Compact}
+use Rattle.locale_numbers_formats.specs.declared.NumberShape.{NumberShape}
+use Rattle.locale_numbers_formats.specs.declared.NumberUnit.{NumberUnit}
+use Rattle.locale_numbers_formats.specs.declared.NumberUnit.TheVariants as unit
+use Rattle.locale_numbers.specs.FormatterKeys.{same_compact, same_currency, same_grouping, same_keys, same_leniency, same_notation, same_shape, same_style, same_unit, same_width}
 use Rattle.locale_numbers.specs.Laws.{TellsKeys}
 use Rattle.locale_numbers.specs.declared.formatter_key.FormatterKey.{FormatterKey}
-use Rattle.locale_numbers.specs.declared.formatter_key.KeyedUnit.{KeyedUnit}
-use Rattle.locale_numbers.specs.declared.formatter_key.KeyedUnit.TheVariants.{Percent, Amount}
-use Rattle.locale_numbers.specs.declared.formatter_key.Kind.{Kind}
-use Rattle.locale_numbers.specs.declared.formatter_key.Kind.TheVariants as kind
-use Rattle.locale_numbers_requests.specs.declared.AmountStyle.{AmountStyle}
-use Rattle.locale_numbers_requests.specs.declared.AmountStyle.TheVariants.{Standard, Accounting, Code}
-use Rattle.locale_numbers_requests.specs.declared.PatternLength.{PatternLength}
-use Rattle.locale_numbers_requests.specs.declared.PatternLength.TheVariants.{Short, Long}
 
-lengths_decide : (a b : PatternLength) → Decides (same_length a b) (a ≡ b)
-lengths_decide Short Short = (λ e. refl, λ e. refl)
-lengths_decide Short Long = (λ e. cc, λ e. cc)
-lengths_decide Long Short = (λ e. cc, λ e. cc)
-lengths_decide Long Long = (λ e. refl, λ e. refl)
+widths_decide : (a b : CompactWidth) → Decides (same_compact a b) (a ≡ b)
+widths_decide Short Short = (λ e. refl, λ e. refl)
+widths_decide Short Long = (λ e. cc, λ e. cc)
+widths_decide Long Short = (λ e. cc, λ e. cc)
+widths_decide Long Long = (λ e. refl, λ e. refl)
 
-styles_decide : (a b : AmountStyle) → Decides (same_style a b) (a ≡ b)
-styles_decide Standard Standard = (λ e. refl, λ e. refl)
-styles_decide Standard Accounting = (λ e. cc, λ e. cc)
-styles_decide Standard Code = (λ e. cc, λ e. cc)
-styles_decide Accounting Standard = (λ e. cc, λ e. cc)
-styles_decide Accounting Accounting = (λ e. refl, λ e. refl)
-styles_decide Accounting Code = (λ e. cc, λ e. cc)
-styles_decide Code Standard = (λ e. cc, λ e. cc)
-styles_decide Code Accounting = (λ e. cc, λ e. cc)
-styles_decide Code Code = (λ e. refl, λ e. refl)
+notations_decide : (a b : Notation) → Decides (same_notation a b) (a ≡ b)
+notations_decide Standard Standard = (λ e. refl, λ e. refl)
+notations_decide Standard (Compact w) = (λ e. cc, λ e. cc)
+notations_decide (Compact v) Standard = (λ e. cc, λ e. cc)
+notations_decide (Compact v) (Compact w) = (λ e. ap Compact ((widths_decide v w).0 e), λ e. (widths_decide v w).1 (cc))
 
-abbrev style_or : AmountStyle → KeyedUnit → AmountStyle
-style_or other (Amount s) = s
-style_or other Percent = other
+styles_decide : (a b : CurrencyStyle) → Decides (same_style a b) (a ≡ b)
+styles_decide style.Standard style.Standard = (λ e. refl, λ e. refl)
+styles_decide style.Standard style.Accounting = (λ e. cc, λ e. cc)
+styles_decide style.Accounting style.Standard = (λ e. cc, λ e. cc)
+styles_decide style.Accounting style.Accounting = (λ e. refl, λ e. refl)
 
-units_decide : (a b : KeyedUnit) → Decides (same_unit a b) (a ≡ b)
-units_decide Percent Percent = (λ e. refl, λ e. refl)
-units_decide Percent (Amount t) = (λ e. cc, λ e. cc)
-units_decide (Amount s) Percent = (λ e. cc, λ e. cc)
-units_decide (Amount s) (Amount t) = (λ e. ap Amount ((styles_decide s t).0 e), λ e. (styles_decide s t).1 (ap (style_or s) e))
+signs_decide : (a b : CurrencyWidth) → Decides (same_width a b) (a ≡ b)
+signs_decide width.Short width.Short = (λ e. refl, λ e. refl)
+signs_decide width.Short width.IsoCode = (λ e. cc, λ e. cc)
+signs_decide width.IsoCode width.Short = (λ e. cc, λ e. cc)
+signs_decide width.IsoCode width.IsoCode = (λ e. refl, λ e. refl)
 
-abbrev unit_or : KeyedUnit → Kind → KeyedUnit
-unit_or other (kind.Unit u) = u
-unit_or other (kind.LenientUnit u) = u
-unit_or other kind.Plain = other
-unit_or other (kind.Compact l) = other
-unit_or other kind.Lenient = other
+currencies_decide : (a b : CurrencyUnit) → Decides (same_currency a b) (a ≡ b)
+currencies_decide a b = Decides-like (same_currency a b)
+    (λ h i. record { code = h.0 i; style = h.1.0 i; width = h.1.1 i })
+    (λ e. (ap (λ u. u.code) e, (ap (λ u. u.style) e, ap (λ u. u.width) e)))
+    (Decides-and _ _ (bytes_decides a.code b.code) (Decides-and _ _ (styles_decide a.style b.style) (signs_decide a.width b.width)))
 
-kinds_decide : (a b : Kind) → Decides (same_kind a b) (a ≡ b)
-kinds_decide kind.Plain kind.Plain = (λ e. refl, λ e. refl)
-kinds_decide kind.Plain (kind.Compact m) = (λ e. cc, λ e. cc)
-kinds_decide kind.Plain kind.Lenient = (λ e. cc, λ e. cc)
-kinds_decide kind.Plain (kind.Unit v) = (λ e. cc, λ e. cc)
-kinds_decide kind.Plain (kind.LenientUnit v) = (λ e. cc, λ e. cc)
-kinds_decide (kind.Compact l) kind.Plain = (λ e. cc, λ e. cc)
-kinds_decide (kind.Compact l) (kind.Compact m) = (λ e. ap kind.Compact ((lengths_decide l m).0 e), λ e. (lengths_decide l m).1 (cc))
-kinds_decide (kind.Compact l) kind.Lenient = (λ e. cc, λ e. cc)
-kinds_decide (kind.Compact l) (kind.Unit v) = (λ e. cc, λ e. cc)
-kinds_decide (kind.Compact l) (kind.LenientUnit v) = (λ e. cc, λ e. cc)
-kinds_decide kind.Lenient kind.Plain = (λ e. cc, λ e. cc)
-kinds_decide kind.Lenient (kind.Compact m) = (λ e. cc, λ e. cc)
-kinds_decide kind.Lenient kind.Lenient = (λ e. refl, λ e. refl)
-kinds_decide kind.Lenient (kind.Unit v) = (λ e. cc, λ e. cc)
-kinds_decide kind.Lenient (kind.LenientUnit v) = (λ e. cc, λ e. cc)
-kinds_decide (kind.Unit u) kind.Plain = (λ e. cc, λ e. cc)
-kinds_decide (kind.Unit u) (kind.Compact m) = (λ e. cc, λ e. cc)
-kinds_decide (kind.Unit u) kind.Lenient = (λ e. cc, λ e. cc)
-kinds_decide (kind.Unit u) (kind.Unit v) = (λ e. ap kind.Unit ((units_decide u v).0 e), λ e. (units_decide u v).1 (ap (unit_or u) e))
-kinds_decide (kind.Unit u) (kind.LenientUnit v) = (λ e. cc, λ e. cc)
-kinds_decide (kind.LenientUnit u) kind.Plain = (λ e. cc, λ e. cc)
-kinds_decide (kind.LenientUnit u) (kind.Compact m) = (λ e. cc, λ e. cc)
-kinds_decide (kind.LenientUnit u) kind.Lenient = (λ e. cc, λ e. cc)
-kinds_decide (kind.LenientUnit u) (kind.Unit v) = (λ e. cc, λ e. cc)
-kinds_decide (kind.LenientUnit u) (kind.LenientUnit v) = (λ e. ap kind.LenientUnit ((units_decide u v).0 e), λ e. (units_decide u v).1 (ap (unit_or u) e))
+abbrev currency_or : CurrencyUnit → NumberUnit → CurrencyUnit
+currency_or other (unit.Currency currency) = currency
+currency_or other unit.None = other
+currency_or other unit.Percent = other
+
+units_decide : (a b : NumberUnit) → Decides (same_unit a b) (a ≡ b)
+units_decide unit.None unit.None = (λ e. refl, λ e. refl)
+units_decide unit.None unit.Percent = (λ e. cc, λ e. cc)
+units_decide unit.None (unit.Currency d) = (λ e. cc, λ e. cc)
+units_decide unit.Percent unit.None = (λ e. cc, λ e. cc)
+units_decide unit.Percent unit.Percent = (λ e. refl, λ e. refl)
+units_decide unit.Percent (unit.Currency d) = (λ e. cc, λ e. cc)
+units_decide (unit.Currency c) unit.None = (λ e. cc, λ e. cc)
+units_decide (unit.Currency c) unit.Percent = (λ e. cc, λ e. cc)
+units_decide (unit.Currency c) (unit.Currency d) =
+    (λ e. ap unit.Currency ((currencies_decide c d).0 e), λ e. (currencies_decide c d).1 (ap (currency_or c) e))
 
 groupings_decide : (a b : GroupingStrategy) → Decides (same_grouping a b) (a ≡ b)
 groupings_decide Auto Auto = (λ e. refl, λ e. refl)
@@ -106,23 +94,24 @@ preferences_decide a b = Decides-like (same_preferences a b)
     (λ e. (ap (λ p. p.locale) e, ap (λ p. p.numbering_system) e))
     (Decides-and _ _ (same_locale_preferences a.locale b.locale) (texts_decide a.numbering_system b.numbering_system))
 
-abbrev code_or : List ℕ → Option (List ℕ) → List ℕ
-code_or other (Some code) = code
-code_or other None = other
+shapes_decide : (a b : NumberShape) → Decides (same_shape a b) (a ≡ b)
+shapes_decide a b = Decides-like (same_shape a b)
+    (λ h i. record { notation = h.0 i; unit = h.1.0 i; grouping = h.1.1 i })
+    (λ e. (ap (λ s. s.notation) e, (ap (λ s. s.unit) e, ap (λ s. s.grouping) e)))
+    (Decides-and _ _ (notations_decide a.notation b.notation) (Decides-and _ _ (units_decide a.unit b.unit) (groupings_decide a.grouping b.grouping)))
 
-codes_decide : (s t : Option (List ℕ)) → Decides (option_eq bytes_eq s t) (s ≡ t)
-codes_decide None None = (λ e. refl, λ e. refl)
-codes_decide None (Some t) = (λ e. cc, λ e. cc)
-codes_decide (Some s) None = (λ e. cc, λ e. cc)
-codes_decide (Some s) (Some t) = (λ e. ap Some ((bytes_decides s t).0 e), λ e. (bytes_decides s t).1 (ap (code_or s) e))
+leniencies_decide : (a b : Bool) → Decides (same_leniency a b) (a ≡ b)
+leniencies_decide true true = (λ e. refl, λ e. refl)
+leniencies_decide true false = (λ e. cc, λ e. cc)
+leniencies_decide false true = (λ e. cc, λ e. cc)
+leniencies_decide false false = (λ e. refl, λ e. refl)
 
 pub keys_decide : (one other : FormatterKey) → Decides (same_keys one other) (one ≡ other)
 keys_decide one other = Decides-like (same_keys one other)
-    (λ h i. record { preferences = h.0 i; kind = h.1.0 i; code = h.1.1.0 i; grouping = h.1.1.1 i })
-    (λ e. (ap (λ k. k.preferences) e, (ap (λ k. k.kind) e, (ap (λ k. k.code) e, ap (λ k. k.grouping) e))))
+    (λ h i. record { preferences = h.0 i; shape = h.1.0 i; is_lenient = h.1.1 i })
+    (λ e. (ap (λ k. k.preferences) e, (ap (λ k. k.shape) e, ap (λ k. k.is_lenient) e)))
     (Decides-and _ _ (preferences_decide one.preferences other.preferences)
-    (Decides-and _ _ (kinds_decide one.kind other.kind)
-    (Decides-and _ _ (codes_decide one.code other.code) (groupings_decide one.grouping other.grouping))))
+    (Decides-and _ _ (shapes_decide one.shape other.shape) (leniencies_decide one.is_lenient other.is_lenient)))
 
 pub test_is : (same : FormatterKey → FormatterKey → Bool) → TellsKeys same → same ≡ same_keys
 test_is same tells = λ i one other. same_from_decides (same one other) (same_keys one other) (tells one other) (keys_decide one other) i

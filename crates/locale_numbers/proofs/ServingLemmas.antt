@@ -19,26 +19,23 @@ use Rattle.icu_dimension.specs.declared.CurrencyWidth.TheVariants as width
 use Rattle.icu_dimension.specs.declared.FractionInfo.{FractionInfo}
 use Rattle.icu_locale_core.specs.Subtags.{Text}
 use Rattle.icu_locale_core.specs.TagPreferences.{Preferences}
-use Rattle.locale_numbers.specs.Answer.{answer_asked, answer_in, answer_of, answer_tagged, answer_to, answer_with, exact_to, found_in, in_latin}
-use Rattle.locale_numbers.specs.CompactAnswer.{compact_with, found_compact, patterns_under}
-use Rattle.locale_numbers.specs.FoundUnit.{as_amounts, as_percents, found_unit, options_of}
-use Rattle.locale_numbers_answers.specs.CompactReading.{compact_reading_of}
-use Rattle.locale_numbers_answers.specs.LenientAnswer.{lenient_with}
-use Rattle.locale_numbers_answers.specs.LenientUnitAnswer.{lenient_unit_with, typed_code}
-use Rattle.locale_numbers_answers.specs.NumberReading.{reading_of}
-use Rattle.locale_numbers_answers.specs.ReadAnswer.{read_with}
-use Rattle.locale_numbers_answers.specs.UnitAnswer.{read_unit_with, unit_to}
+use Rattle.locale_numbers_answers.specs.Answers.{answer_by}
 use Rattle.locale_numbers_book.specs.Book.{BookTables}
-use Rattle.locale_numbers_book.specs.TagFormatters.{currency_found_in, percent_found_in}
+use Rattle.locale_numbers_book.specs.FoundFormats.{amount_options, compact_found, found_for, mapped, notation_found, standard_found}
+use Rattle.locale_numbers_book.specs.TagFormatters.{currency_found_in, found_beside, found_plain, patterns_under, percent_found_in}
 use Rattle.locale_numbers_book.specs.Tables.{accounts_under, chain_in, currencies_under, currency_symbols_under, digits_under, fractions_under, long_under, percents_under, rules_under, short_under, symbols_under}
 use Rattle.locale_numbers_book.specs.Wanted.{wanted_of}
+use Rattle.locale_numbers_formats.specs.declared.CompactWidth.{CompactWidth}
+use Rattle.locale_numbers_formats.specs.declared.CompactWidth.TheVariants as patterns
+use Rattle.locale_numbers_formats.specs.declared.Notation.{Notation}
+use Rattle.locale_numbers_formats.specs.declared.Notation.TheVariants.{Standard, Compact}
+use Rattle.locale_numbers_formats.specs.declared.NumberShape.{NumberShape}
+use Rattle.locale_numbers_formats.specs.declared.NumberUnit.{NumberUnit}
+use Rattle.locale_numbers_formats.specs.declared.NumberUnit.TheVariants as unit
+use Rattle.locale_numbers_formatter.specs.FormatText.{compact_tables, plain_tables, unit_tables}
+use Rattle.locale_numbers_formatter.specs.HeldFormats.{currency_format, percent_format}
 use Rattle.locale_numbers_requests.specs.Request.{Asked, request_of}
-use Rattle.locale_numbers_requests.specs.declared.Form.{Form}
-use Rattle.locale_numbers_requests.specs.declared.Form.TheVariants.{Plain, Compact, Exact, Read, ReadLenient, Unit as OfUnit, ReadUnit, ReadLenientUnit}
-use Rattle.locale_numbers_requests.specs.declared.PatternLength.{PatternLength}
-use Rattle.locale_numbers_requests.specs.declared.PatternLength.TheVariants as patterns
-use Rattle.locale_numbers_requests.specs.declared.UnitAsked.{UnitAsked}
-use Rattle.locale_numbers_requests.specs.declared.UnitAsked.TheVariants.{Percent, Currency}
+use Rattle.locale_numbers.specs.Answer.{answer_asked, answer_of, answer_tagged, in_latin}
 use Rattle.locale_numbers.specs.Serving.{Agree, Serves, unit_locales_in}
 
 -- ---- the first that is found
@@ -65,7 +62,7 @@ module _ (small whole : BookTables) (p : Preferences) (serves : Serves small who
       ap (with_digits strategy symbols) (agreed (digits_under small) (digits_under whole) (digits_identifiers p.numbering_system symbols.strings.numsys) (serves.digits symbols is))
   digits_same strategy (Err error) is = refl
 
-  plain_same : (grouping : GroupingStrategy) → found_in small p grouping ≡ found_in whole p grouping
+  plain_same : (grouping : GroupingStrategy) → found_plain small p (Some grouping) ≡ found_plain whole p (Some grouping)
   plain_same grouping =
       ap (with_symbols grouping (digits_under small) p) symbols_same
       ∙ digits_same grouping (first_found (symbols_under whole) (symbols_identifiers (chain_in whole) p)) refl
@@ -75,14 +72,14 @@ module _ (small whole : BookTables) (p : Preferences) (serves : Serves small who
       ap (λ locales. first_found (rules_under small) (identifiers_along None locales)) serves.chains
       ∙ agreed (rules_under small) (rules_under whole) (rules_identifiers (chain_in whole) p) serves.rules
 
-  patterns_same : (length : PatternLength) → first_found (patterns_under length small) (patterns_identifiers (chain_in small) p) ≡ first_found (patterns_under length whole) (patterns_identifiers (chain_in whole) p)
+  patterns_same : (length : CompactWidth) → first_found (patterns_under length small) (patterns_identifiers (chain_in small) p) ≡ first_found (patterns_under length whole) (patterns_identifiers (chain_in whole) p)
   patterns_same patterns.Short = ap (first_found (short_under small)) symbols_ids ∙ agreed (short_under small) (short_under whole) (patterns_identifiers (chain_in whole) p) serves.short
   patterns_same patterns.Long = ap (first_found (long_under small)) symbols_ids ∙ agreed (long_under small) (long_under whole) (patterns_identifiers (chain_in whole) p) serves.long
 
-  compact_same : (length : PatternLength) (grouping : GroupingStrategy) → found_compact length small p grouping ≡ found_compact length whole p grouping
+  compact_same : (length : CompactWidth) (grouping : GroupingStrategy) → found_beside (patterns_under length small) small p (Some grouping) ≡ found_beside (patterns_under length whole) whole p (Some grouping)
   compact_same length grouping =
       ap₂ (λ plain rules. with_plain plain rules (first_found (patterns_under length small) (patterns_identifiers (chain_in small) p))) (plain_same grouping) rules_same
-      ∙ ap (with_plain (found_in whole p grouping) (first_found (rules_under whole) (rules_identifiers (chain_in whole) p))) (patterns_same length)
+      ∙ ap (with_plain (found_plain whole p (Some grouping)) (first_found (rules_under whole) (rules_identifiers (chain_in whole) p))) (patterns_same length)
 
   -- ---- units
 
@@ -92,7 +89,7 @@ module _ (small whole : BookTables) (p : Preferences) (serves : Serves small who
   percents_same : (grouping : GroupingStrategy) → percent_found_in small p (Some grouping) ≡ percent_found_in whole p (Some grouping)
   percents_same grouping =
       ap₂ (λ tables locales. then_found tables (λ t. then_found (percent_found (percents_under small) locales p.numbering_system) (λ e. Ok (percent_settings t e)))) (plain_same grouping) locales_same
-      ∙ ap (λ found. then_found (found_in whole p grouping) (λ t. then_found found (λ e. Ok (percent_settings t e))))
+      ∙ ap (λ found. then_found (found_plain whole p (Some grouping)) (λ t. then_found found (λ e. Ok (percent_settings t e))))
       (agreed (percents_under small) (percents_under whole) (identifiers_along p.numbering_system (unit_locales_in whole p)) serves.percents)
 
   usual_same : (style : CurrencyStyle) → usual_amounts style (currencies_under small) (accounts_under small) (unit_locales_in whole p) p.numbering_system
@@ -126,24 +123,27 @@ module _ (small whole : BookTables) (p : Preferences) (serves : Serves small who
       ∙ ap₂ (put_together (found_tables (chain_in whole) (symbols_under whole) (digits_under whole) p options.grouping_strategy) (amounts_found options.style (currencies_under whole) (accounts_under whole) (unit_locales_in whole p) p.numbering_system code))
       (names_same options.width code) (ap (λ found. or_usual found usual_fractions) (serves.fractions code))
 
-  unit_same : (unit : UnitAsked) (grouping : GroupingStrategy) → found_unit unit small p grouping ≡ found_unit unit whole p grouping
-  unit_same Percent grouping = ap as_percents (percents_same grouping)
-  unit_same (Currency style code) grouping = ap as_amounts (currency_same code (options_of style grouping) grouping refl)
+  -- ---- shapes
+
+  standard_same : (of : NumberUnit) (grouping : GroupingStrategy) → standard_found of small p grouping ≡ standard_found of whole p grouping
+  standard_same unit.None grouping = ap (mapped plain_tables) (plain_same grouping)
+  standard_same unit.Percent grouping = ap (mapped (λ settings. unit_tables (percent_format settings))) (percents_same grouping)
+  standard_same (unit.Currency currency) grouping =
+      ap (mapped (λ settings. unit_tables (currency_format currency.code settings))) (currency_same currency.code (amount_options currency grouping) grouping refl)
+
+  compact_found_same : (wide : CompactWidth) (of : NumberUnit) (grouping : GroupingStrategy) → compact_found wide of small p grouping ≡ compact_found wide of whole p grouping
+  compact_found_same wide unit.None grouping = ap (mapped compact_tables) (compact_same wide grouping)
+  compact_found_same wide unit.Percent grouping = refl
+  compact_found_same wide (unit.Currency currency) grouping = refl
+
+  notation_same : (notation : Notation) (of : NumberUnit) (grouping : GroupingStrategy) → notation_found notation of small p grouping ≡ notation_found notation of whole p grouping
+  notation_same Standard of grouping = standard_same of grouping
+  notation_same (Compact wide) of grouping = compact_found_same wide of grouping
+
+  shape_same : (shape : NumberShape) → found_for shape small p ≡ found_for shape whole p
+  shape_same shape = notation_same shape.notation shape.unit shape.grouping
 
 -- ---- answers
-
-module _ (small whole : BookTables) (p : Preferences) (serves : Serves small whole p) (latin : Serves small whole (in_latin p)) where
-  form_same : (form : Form) (asked : Asked) → answer_in form small p asked ≡ answer_in form whole p asked
-  form_same Plain asked = ap (λ found. answer_to (answer_with found) asked.sign asked.rounding (reading_of asked.text)) (plain_same small whole p serves asked.grouping)
-  form_same (Compact length) asked = ap (λ found. answer_to (compact_with found) asked.sign asked.rounding (reading_of asked.text)) (compact_same small whole p serves length asked.grouping)
-  form_same (Exact length) asked = ap (λ found. exact_to found asked.sign (compact_reading_of asked.text)) (compact_same small whole p serves length asked.grouping)
-  form_same Read asked = ap (λ found. read_with found asked.text) (plain_same small whole p serves asked.grouping)
-  form_same ReadLenient asked =
-      ap₂ (λ found second. lenient_with found second asked.text) (plain_same small whole p serves asked.grouping) (plain_same small whole (in_latin p) latin asked.grouping)
-  form_same (OfUnit unit) asked = ap (λ found. unit_to found asked.sign asked.rounding (reading_of asked.text)) (unit_same small whole p serves unit asked.grouping)
-  form_same (ReadUnit unit) asked = ap (λ found. read_unit_with found asked.rounding asked.text) (unit_same small whole p serves unit asked.grouping)
-  form_same (ReadLenientUnit unit) asked =
-      ap₂ (λ found second. lenient_unit_with (typed_code unit) found second asked.text) (unit_same small whole p serves unit asked.grouping) (unit_same small whole (in_latin p) latin unit asked.grouping)
 
 pub answered_alike : (small whole : BookTables) (line : List ℕ) (asked : Asked) (p : Preferences)
     → request_of line ≡ Some asked → wanted_of asked.tag ≡ Some p → Serves small whole p → Serves small whole (in_latin p)
@@ -151,6 +151,6 @@ pub answered_alike : (small whole : BookTables) (line : List ℕ) (asked : Asked
 answered_alike small whole line asked p is wants serves latin =
     ap (answer_asked small) is
     ∙ ap (λ preferences. answer_tagged small preferences asked) wants
-    ∙ form_same small whole p serves latin asked.form asked
+    ∙ ap₂ (λ found second. answer_by asked.task asked.format found second asked.text) (shape_same small whole p serves asked.format.shape) (shape_same small whole (in_latin p) latin asked.format.shape)
     ∙ sym (ap (λ preferences. answer_tagged whole preferences asked) wants)
     ∙ sym (ap (answer_asked whole) is)

@@ -1,36 +1,145 @@
--- The digits of a text are of the number that the text is read as, which is answered.
-use Rattle.std.proofs.Common.{◌≡◌, ℕ, List, Option, None, Some, IfSome, true, ap, ◌∙◌}
-use Rattle.std.specs.Prelude.{if◌then◌else◌}
-use Rattle.std.specs.Str.{is_utf8}
-use Rattle.fixed_decimal.specs.Number.{Number}
+-- The digits of a text are of the number that the text is read as, which a format of plain numbers leaves as it is given.
+use Rattle.std.proofs.Common.{◌≡◌, ◌≤◌, ◌-◌, ◌&&◌, ℕ, ℤ, Bool, List, Option, None, Some, IfSome, Result, Ok, Err, true, max, min, refl, sym, ap, ◌∙◌, arith}
+use Rattle.std.proofs.lemmas.Bool.{and_parts}
+use Rattle.std.proofs.lemmas.Bool.Decides.{nat_tests}
+use Rattle.std.specs.Prelude.{if◌then◌else◌, neg_ℤ}
+use Rattle.fixed_decimal.specs.Number.{IsNumber, Number, place}
 use Rattle.fixed_decimal.specs.SignedText.{ReadsSigned}
 use Rattle.fixed_decimal.specs.SignedValue.{SignedValue}
+use Rattle.icu_decimal.specs.PlainText.{Tables}
+use Rattle.icu_decimal.specs.declared.error.DataError.{DataError}
 use Rattle.icu_decimal_direct.specs.TextDigits.{number_spelled}
 use Rattle.icu_decimal_direct.specs.declared.text_digits.TextDigits.{TextDigits}
-use Rattle.locale_numbers_answers.specs.Changing.{changed}
+use Rattle.locale_numbers_answers.specs.Answers.{written_found, written_to}
+use Rattle.locale_numbers_answers.specs.NumberAnswer.{number_answer}
 use Rattle.locale_numbers_answers.specs.NumberReading.{number, reading_of}
+use Rattle.locale_numbers_answers.proofs.NumberBounds.{reading_is_decimal}
 use Rattle.locale_numbers_answers.proofs.NumberReadingLemmas.{signed_number}
 use Rattle.locale_numbers_answers.proofs.TextLemmas.{number_is_text}
+use Rattle.locale_numbers_book.specs.Book.{BookTables}
+use Rattle.locale_numbers_book.specs.FoundFormats.{found_for, mapped, notation_found}
+use Rattle.locale_numbers_book.specs.TagFormatters.{found_plain}
+use Rattle.locale_numbers_formats.specs.Changed.{changed, end_trimmed, front_trimmed, rounded_by, shown, shown_signed, signed_as}
+use Rattle.locale_numbers_formats.specs.declared.LeadingZeros.{LeadingZeros}
+use Rattle.locale_numbers_formats.specs.declared.LeadingZeros.TheVariants as leading
+use Rattle.locale_numbers_formats.specs.declared.Notation.{Notation}
+use Rattle.locale_numbers_formats.specs.declared.Notation.TheVariants.{Standard, Compact}
+use Rattle.locale_numbers_formats.specs.declared.NumberFormat.{NumberFormat}
+use Rattle.locale_numbers_formats.specs.declared.NumberOptions.{NumberOptions}
+use Rattle.locale_numbers_formats.specs.declared.NumberUnit.{NumberUnit}
+use Rattle.locale_numbers_formats.specs.declared.NumberUnit.TheVariants as unit
+use Rattle.locale_numbers_formats.specs.declared.Rounding.{Rounding}
+use Rattle.locale_numbers_formats.specs.declared.Rounding.TheVariants.{Usual, Cash, AsGiven, At}
+use Rattle.locale_numbers_formats.specs.declared.SignAsked.{SignAsked}
+use Rattle.locale_numbers_formats.specs.declared.SignAsked.TheVariants.{Keep, Show}
+use Rattle.locale_numbers_formats.specs.declared.TrailingZeros.{TrailingZeros}
+use Rattle.locale_numbers_formats.specs.declared.TrailingZeros.TheVariants as trailing
+use Rattle.locale_numbers_formats.proofs.ChangedLemmas.{same_fields}
+use Rattle.locale_numbers_formatter.specs.FormatText.{FormatTables, fractions_in, plain_tables}
+use Rattle.locale_numbers_requests.specs.Request.{keeps_sign}
 use Rattle.locale_numbers_requests.specs.declared.Refusal.TheVariants as refusal
-use Rattle.locale_numbers_requests.specs.declared.RoundingAsked.{RoundingAsked}
-use Rattle.locale_numbers_requests.specs.declared.SignAsked.{SignAsked}
-use Rattle.locale_numbers.specs.Answer.{answer_to, refused}
+use Rattle.icu_locale_core.specs.TagPreferences.{Preferences}
+use Rattle.locale_numbers.specs.Answer.{refused}
 use Rattle.locale_numbers.specs.FormatterKeys.{key_text}
-use Rattle.locale_numbers.specs.Front.{if_text, key_if_text}
+use Rattle.locale_numbers.specs.Front.{adds_none, if_text, is_as_it_is, is_plain, keeps_zeros, key_if_text, rounds_none}
 use Rattle.locale_numbers.specs.declared.formatter_key.FormatterKey.{FormatterKey}
 
 pub digits_read : (text : List ℕ) (found : Option TextDigits) → IfSome found (λ digits. ReadsSigned text (number_spelled digits)) → IfSome found (λ digits. reading_of text ≡ number (number_spelled digits))
 digits_read text None reads = tt
 digits_read text (Some digits) reads = signed_number text (number_spelled digits) reads
 
--- a number that stays as it is is answered
-pub answered_so : (answer : SignedValue Number → List ℕ) (sign : SignAsked) (rounding : RoundingAsked) (text : List ℕ) (value : SignedValue Number) → reading_of text ≡ number value → changed rounding sign value ≡ value
-    → if_text text (answer_to answer sign rounding (reading_of text)) ≡ answer value
-answered_so answer sign rounding text value reads same =
-    ap (λ reading. if_text text (answer_to answer sign rounding reading)) reads
-    ∙ ap (λ b. if b then answer (changed rounding sign value) else refused refusal.Shape) (number_is_text text value reads)
-    ∙ ap answer same
+-- a text that says a number is answered as that
+pub answered_so : (found : Result FormatTables DataError) (options : NumberOptions) (text : List ℕ) (value : SignedValue Number) → reading_of text ≡ number value
+    → if_text text (written_to found options (reading_of text)) ≡ written_found found options value
+answered_so found options text value reads =
+    ap (λ reading. if_text text (written_to found options reading)) reads
+    ∙ ap (λ b. if b then written_found found options value else refused refusal.Shape) (number_is_text text value reads)
 
 pub keyed_so : (key : FormatterKey) (text : List ℕ) (value : SignedValue Number) → reading_of text ≡ number value → key_if_text text (key_text key (reading_of text)) ≡ Some key
 keyed_so key text value reads =
     ap (λ reading. key_if_text text (key_text key reading)) reads ∙ ap (λ b. if b then Some key else None) (number_is_text text value reads)
+
+-- ---- a format that leaves a number as it is given
+
+rounds : (rounding : Rounding) (value : SignedValue Number) → rounds_none rounding ≡ true → rounded_by rounding None value ≡ value
+rounds Usual value h = refl
+rounds Cash value h = refl
+rounds AsGiven value h = refl
+rounds (At position mode increment) value h = absurd (cc)
+
+trims : (front : LeadingZeros) (end : TrailingZeros) (rounding : Rounding) (value : Number) → keeps_zeros front end ≡ true → end_trimmed end (front_trimmed front rounding value) ≡ value
+trims leading.Keep trailing.Keep rounding value h = refl
+trims leading.Keep trailing.Trim rounding value h = absurd (cc)
+trims leading.Keep trailing.TrimWhole rounding value h = absurd (cc)
+trims leading.TrimRoundedZero end rounding value h = absurd (cc)
+trims leading.Trim end rounding value h = absurd (cc)
+
+signs : (sign : SignAsked) (value : SignedValue Number) → keeps_sign sign ≡ true → signed_as sign value ≡ value
+signs Keep value h = refl
+signs (Show display) value h = absurd (cc)
+
+none_down : (digits : ℤ) → adds_none digits ≡ true → 32768 ≤ place (neg_ℤ digits)
+none_down digits h = grind (arith, nat_tests)
+
+none_up : (digits : ℤ) → adds_none digits ≡ true → place digits ≤ 32768
+none_up digits h = grind (arith, nat_tests)
+
+-- each part of what is asked
+pub record LeavesAll (format : NumberFormat) : Type 0 where
+  pub plain : is_plain format.shape.notation format.shape.unit ≡ true
+  pub rounds : rounds_none format.options.rounding ≡ true
+  pub zeros : keeps_zeros format.options.leading_zeros format.options.zeros ≡ true
+  pub integer_digits : adds_none format.options.integer_digits ≡ true
+  pub fraction_digits : adds_none format.options.fraction_digits ≡ true
+  pub sign : keeps_sign format.options.sign ≡ true
+
+pub leaves_all : (format : NumberFormat) → is_as_it_is format ≡ true → LeavesAll format
+leaves_all format h =
+    let o = format.options in
+    let shape : Bool = is_plain format.shape.notation format.shape.unit in
+    let e = and_parts (shape && rounds_none o.rounding && keeps_zeros o.leading_zeros o.zeros && adds_none o.integer_digits && adds_none o.fraction_digits) (keeps_sign o.sign) h in
+    let d = and_parts (shape && rounds_none o.rounding && keeps_zeros o.leading_zeros o.zeros && adds_none o.integer_digits) (adds_none o.fraction_digits) e.0 in
+    let c = and_parts (shape && rounds_none o.rounding && keeps_zeros o.leading_zeros o.zeros) (adds_none o.integer_digits) d.0 in
+    let b = and_parts (shape && rounds_none o.rounding) (keeps_zeros o.leading_zeros o.zeros) c.0 in
+    let a = and_parts shape (rounds_none o.rounding) b.0 in
+    record { plain = a.0; rounds = a.1; zeros = b.1; integer_digits = c.1; fraction_digits = d.1; sign = e.1 }
+
+shown_so : (format : NumberFormat) → LeavesAll format → (value : Number) → IsNumber value → shown format.options value ≡ value
+shown_so format all value is =
+    let o = format.options in
+    let untrimmed : end_trimmed o.zeros (front_trimmed o.leading_zeros o.rounding value) ≡ value = trims o.leading_zeros o.zeros o.rounding value all.zeros in
+    let down = none_down o.fraction_digits all.fraction_digits in
+    let up = none_up o.integer_digits all.integer_digits in
+    let low = is.low in
+    let ones = is.ones in
+    ap (λ (n : Number). record { count = n.count; low = min n.low (place (neg_ℤ o.fraction_digits)); high = max n.high (place o.integer_digits - 1) }) untrimmed
+    ∙ same_fields (record { count = value.count; low = min value.low (place (neg_ℤ o.fraction_digits)); high = max value.high (place o.integer_digits - 1) }) value refl
+    (omega (arith, down, low)) (omega (arith, up, ones))
+
+pub changes_none : (format : NumberFormat) → is_as_it_is format ≡ true → (value : SignedValue Number) → IsNumber value.absolute → changed format.options None value ≡ value
+changes_none format h value is =
+    let all = leaves_all format h in
+    ap (shown_signed format.options) (rounds format.options.rounding value all.rounds)
+    ∙ ap (λ (n : Number). signed_as format.options.sign (record { sign = value.sign; absolute = n })) (shown_so format all value.absolute is)
+    ∙ signs format.options.sign value all.sign
+
+-- such a format finds plain tables
+finds_plain : (notation : Notation) (of : NumberUnit) (book : BookTables) (p : Preferences) (format : NumberFormat) → is_plain notation of ≡ true
+    → notation_found notation of book p format.shape.grouping ≡ mapped plain_tables (found_plain book p (Some format.shape.grouping))
+finds_plain Standard unit.None book p format h = refl
+finds_plain Standard unit.Percent book p format h = absurd (cc)
+finds_plain Standard (unit.Currency currency) book p format h = absurd (cc)
+finds_plain (Compact width) of book p format h = absurd (cc)
+
+no_fractions : (found : Result Tables DataError) (format : FormatTables) → mapped plain_tables found ≡ Ok format → fractions_in format ≡ None
+no_fractions (Ok tables) format is = let one : plain_tables tables ≡ format = cc in ap fractions_in (sym one)
+no_fractions (Err error) format is = absurd (cc)
+
+-- so what is answered of a number is it, as it is given
+pub leaves_so : (format : NumberFormat) → is_as_it_is format ≡ true → (book : BookTables) (p : Preferences) (made : FormatTables) → found_for format.shape book p ≡ Ok made
+    → (value : SignedValue Number) (text : List ℕ) → reading_of text ≡ number value → number_answer made (changed format.options (fractions_in made) value) ≡ number_answer made value
+leaves_so format h book p made is value text reads =
+    let plain = finds_plain format.shape.notation format.shape.unit book p format (leaves_all format h).plain in
+    let none : fractions_in made ≡ None = no_fractions (found_plain book p (Some format.shape.grouping)) made (sym plain ∙ is) in
+    ap (λ fractions. number_answer made (changed format.options fractions value)) none
+    ∙ ap (number_answer made) (changes_none format h value (reading_is_decimal text value reads))

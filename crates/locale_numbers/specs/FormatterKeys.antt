@@ -1,75 +1,47 @@
 -- What a formatter is kept under, which key a line uses, and how many formatters are made for lines.
 -- Defined in docs/requests.md, "What a cache keeps".
 -- Cited by `run`.
--- A key depends on the tag, the form, the grouping and the text, and each of these is defined in a file of its own to import.
-use Rattle.std.specs.Prelude.{ℕ, Bool, true, false, ◌&&◌, List, [], map, min, Option, Some, None, Result, is_ok}
-use Rattle.std.specs.Option.{option_eq}
+-- A key has a shape, which is made of types with cases, and the cases of each are imported beside it.
+use Rattle.std.specs.Prelude.{ℕ, Bool, true, false, ◌&&◌, List, [], map, min, Option, Some, None, is_ok}
 use Rattle.std.specs.Str.{bytes_eq}
-use Rattle.icu_decimal.specs.declared.error.DataError.{DataError}
 use Rattle.icu_decimal.specs.declared.options.GroupingStrategy.{GroupingStrategy}
 use Rattle.icu_decimal.specs.declared.options.GroupingStrategy.TheVariants.{Auto, Never, Always, Min2}
+use Rattle.icu_dimension.specs.declared.CurrencyStyle.{CurrencyStyle}
+use Rattle.icu_dimension.specs.declared.CurrencyStyle.TheVariants as style
+use Rattle.icu_dimension.specs.declared.CurrencyWidth.{CurrencyWidth}
+use Rattle.icu_dimension.specs.declared.CurrencyWidth.TheVariants as width
 use Rattle.icu_locale_core.specs.SamePreferences.{same_preferences}
 use Rattle.icu_locale_core.specs.TagPreferences.{Preferences}
 use Rattle.locale_numbers_book.specs.Book.{BookTables}
+use Rattle.locale_numbers_book.specs.FoundFormats.{found_for}
+use Rattle.locale_numbers_book.specs.Wanted.{wanted_of}
 use Rattle.locale_numbers_cache.specs.Cached.{most, used}
 use Rattle.locale_numbers_cache.specs.Recent.{misses}
-use Rattle.locale_numbers.specs.Answer.{found_in}
-use Rattle.locale_numbers.specs.CompactAnswer.{found_compact}
-use Rattle.locale_numbers.specs.FoundUnit.{found_amounts, found_unit}
 use Rattle.locale_numbers_answers.specs.CompactReading.{CompactReading, compact_beyond, compact_nothing, compact_number, compact_reading_of}
 use Rattle.locale_numbers_answers.specs.NumberReading.{Reading, number, beyond, nothing, reading_of}
-use Rattle.locale_numbers_answers.specs.UnitAnswer.{UnitFound}
+use Rattle.locale_numbers_formats.specs.declared.CompactWidth.{CompactWidth}
+use Rattle.locale_numbers_formats.specs.declared.CompactWidth.TheVariants.{Short, Long}
+use Rattle.locale_numbers_formats.specs.declared.CurrencyUnit.{CurrencyUnit}
+use Rattle.locale_numbers_formats.specs.declared.Notation.{Notation}
+use Rattle.locale_numbers_formats.specs.declared.Notation.TheVariants.{Standard, Compact}
+use Rattle.locale_numbers_formats.specs.declared.NumberShape.{NumberShape}
+use Rattle.locale_numbers_formats.specs.declared.NumberUnit.{NumberUnit}
+use Rattle.locale_numbers_formats.specs.declared.NumberUnit.TheVariants as unit
 use Rattle.locale_numbers_requests.specs.Request.{Asked, request_of}
-use Rattle.locale_numbers_book.specs.Wanted.{wanted_of}
-use Rattle.locale_numbers_requests.specs.declared.AmountStyle.{AmountStyle}
-use Rattle.locale_numbers_requests.specs.declared.AmountStyle.TheVariants.{Standard, Accounting, Code}
-use Rattle.locale_numbers_requests.specs.declared.Form.{Form}
-use Rattle.locale_numbers_requests.specs.declared.Form.TheVariants as form
-use Rattle.locale_numbers_requests.specs.declared.PatternLength.{PatternLength}
-use Rattle.locale_numbers_requests.specs.declared.PatternLength.TheVariants.{Short, Long}
-use Rattle.locale_numbers_requests.specs.declared.UnitAsked.{UnitAsked}
-use Rattle.locale_numbers_requests.specs.declared.UnitAsked.TheVariants.{Percent, Currency}
+use Rattle.locale_numbers_requests.specs.declared.Task.{Task}
+use Rattle.locale_numbers_requests.specs.declared.Task.TheVariants.{Write, WriteExact, Read, ReadLenient}
 use Rattle.locale_numbers.specs.declared.formatter_key.FormatterKey.{FormatterKey}
-use Rattle.locale_numbers.specs.declared.formatter_key.KeyedUnit.{KeyedUnit}
-use Rattle.locale_numbers.specs.declared.formatter_key.KeyedUnit.TheVariants as keyed
-use Rattle.locale_numbers.specs.declared.formatter_key.Kind.{Kind}
-use Rattle.locale_numbers.specs.declared.formatter_key.Kind.TheVariants as kind
 
--- the unit of a key, without its code
-abbrev pub keyed_unit : UnitAsked → KeyedUnit
-keyed_unit Percent = keyed.Percent
-keyed_unit (Currency style code) = keyed.Amount style
+-- what was typed is read with folded symbols, and so by a formatter of its own
+abbrev pub reads_leniently : Task → Bool
+reads_leniently Write = false
+reads_leniently WriteExact = false
+reads_leniently Read = false
+reads_leniently ReadLenient = true
 
--- the kind of tables that a form is written with; what is read back is read with those that it was written with, and what was typed
--- with folded ones
-abbrev pub kind_of : Form → Kind
-kind_of form.Plain = kind.Plain
-kind_of (form.Compact length) = kind.Compact length
-kind_of (form.Exact length) = kind.Compact length
-kind_of form.Read = kind.Plain
-kind_of form.ReadLenient = kind.Lenient
-kind_of (form.Unit unit) = kind.Unit (keyed_unit unit)
-kind_of (form.ReadUnit unit) = kind.Unit (keyed_unit unit)
-kind_of (form.ReadLenientUnit unit) = kind.LenientUnit (keyed_unit unit)
-
--- the code of the currency that a form names
-abbrev pub unit_code : UnitAsked → Option (List ℕ)
-unit_code Percent = None
-unit_code (Currency style code) = Some code
-
-abbrev pub code_of : Form → Option (List ℕ)
-code_of form.Plain = None
-code_of (form.Compact length) = None
-code_of (form.Exact length) = None
-code_of form.Read = None
-code_of form.ReadLenient = None
-code_of (form.Unit unit) = unit_code unit
-code_of (form.ReadUnit unit) = unit_code unit
-code_of (form.ReadLenientUnit unit) = unit_code unit
-
--- the key of what a tag prefers, a form and a grouping
-abbrev pub key_with : Form → GroupingStrategy → Preferences → FormatterKey
-key_with form grouping preferences = record { preferences = preferences; kind = kind_of form; code = code_of form; grouping = grouping }
+-- the key of what a tag prefers, a task and a shape
+abbrev pub key_with : Task → NumberShape → Preferences → FormatterKey
+key_with task shape preferences = record { preferences = preferences; shape = shape; is_lenient = reads_leniently task }
 
 -- the key is asked for where the text says a number within the limits
 abbrev pub key_text : FormatterKey → Reading → Option FormatterKey
@@ -83,21 +55,17 @@ key_exact key (compact_number value) = Some key
 key_exact key compact_beyond = None
 key_exact key compact_nothing = None
 
--- the key that a form asks for: any text may be one to read back
-abbrev pub key_in : Form → FormatterKey → List ℕ → Option FormatterKey
-key_in form.Plain key text = key_text key (reading_of text)
-key_in (form.Compact length) key text = key_text key (reading_of text)
-key_in (form.Exact length) key text = key_exact key (compact_reading_of text)
-key_in form.Read key text = Some key
-key_in form.ReadLenient key text = Some key
-key_in (form.Unit unit) key text = key_text key (reading_of text)
-key_in (form.ReadUnit unit) key text = Some key
-key_in (form.ReadLenientUnit unit) key text = Some key
+-- the key that a task asks for: any text may be one to read back
+abbrev pub key_in : Task → FormatterKey → List ℕ → Option FormatterKey
+key_in Write key text = key_text key (reading_of text)
+key_in WriteExact key text = key_exact key (compact_reading_of text)
+key_in Read key text = Some key
+key_in ReadLenient key text = Some key
 
 -- the key of a request by what its tag prefers, where it is a tag
 abbrev pub key_tagged : Asked → Option Preferences → Option FormatterKey
 key_tagged asked None = None
-key_tagged asked (Some preferences) = key_in asked.form (key_with asked.form asked.grouping preferences) asked.text
+key_tagged asked (Some preferences) = key_in asked.task (key_with asked.task asked.format.shape preferences) asked.text
 
 -- the key of a request, or of a line that is not one
 abbrev pub key_asked : Option Asked → Option FormatterKey
@@ -108,50 +76,41 @@ key_asked (Some asked) = key_tagged asked (wanted_of asked.tag)
 abbrev pub key_of : List ℕ → Option FormatterKey
 key_of line = key_asked (request_of line)
 
--- what a book has for the unit of a key, with a code where it has one
-abbrev pub found_keyed_unit : KeyedUnit → Option (List ℕ) → BookTables → Preferences → GroupingStrategy → Result UnitFound DataError
-found_keyed_unit keyed.Percent code book preferences grouping = found_unit Percent book preferences grouping
-found_keyed_unit (keyed.Amount style) code book preferences grouping = found_amounts style code book preferences grouping
-
--- whether a book has the tables of a kind, and of a code where the kind has one
-abbrev pub finds_kind : Kind → Option (List ℕ) → BookTables → Preferences → GroupingStrategy → Bool
-finds_kind kind.Plain code book preferences grouping = is_ok (found_in book preferences grouping)
-finds_kind (kind.Compact length) code book preferences grouping = is_ok (found_compact length book preferences grouping)
-finds_kind kind.Lenient code book preferences grouping = is_ok (found_in book preferences grouping)
-finds_kind (kind.Unit unit) code book preferences grouping = is_ok (found_keyed_unit unit code book preferences grouping)
-finds_kind (kind.LenientUnit unit) code book preferences grouping = is_ok (found_keyed_unit unit code book preferences grouping)
-
--- whether it has those of a key
+-- whether a book has the tables of a key
 abbrev pub finds : BookTables → FormatterKey → Bool
-finds book key = finds_kind key.kind key.code book key.preferences key.grouping
+finds book key = is_ok (found_for key.shape book key.preferences)
 
--- two lengths of patterns are one
-abbrev pub same_length : PatternLength → PatternLength → Bool
-same_length Short Short = true
-same_length Long Long = true
-same_length _ _ = false
+-- ---- when keys are one
 
--- two ways of writing amounts are one
-abbrev pub same_style : AmountStyle → AmountStyle → Bool
-same_style Standard Standard = true
-same_style Accounting Accounting = true
-same_style Code Code = true
+-- two widths of compact patterns are one
+abbrev pub same_compact : CompactWidth → CompactWidth → Bool
+same_compact Short Short = true
+same_compact Long Long = true
+same_compact _ _ = false
+
+abbrev pub same_notation : Notation → Notation → Bool
+same_notation Standard Standard = true
+same_notation (Compact one) (Compact other) = same_compact one other
+same_notation _ _ = false
+
+abbrev pub same_style : CurrencyStyle → CurrencyStyle → Bool
+same_style style.Standard style.Standard = true
+same_style style.Accounting style.Accounting = true
 same_style _ _ = false
 
--- two units are one, but for their codes
-abbrev pub same_unit : KeyedUnit → KeyedUnit → Bool
-same_unit keyed.Percent keyed.Percent = true
-same_unit (keyed.Amount one) (keyed.Amount other) = same_style one other
-same_unit _ _ = false
+abbrev pub same_width : CurrencyWidth → CurrencyWidth → Bool
+same_width width.Short width.Short = true
+same_width width.IsoCode width.IsoCode = true
+same_width _ _ = false
 
--- two kinds of tables are one
-abbrev pub same_kind : Kind → Kind → Bool
-same_kind kind.Plain kind.Plain = true
-same_kind (kind.Compact one) (kind.Compact other) = same_length one other
-same_kind kind.Lenient kind.Lenient = true
-same_kind (kind.Unit one) (kind.Unit other) = same_unit one other
-same_kind (kind.LenientUnit one) (kind.LenientUnit other) = same_unit one other
-same_kind _ _ = false
+abbrev pub same_currency : CurrencyUnit → CurrencyUnit → Bool
+same_currency one other = bytes_eq one.code other.code && (same_style one.style other.style && same_width one.width other.width)
+
+abbrev pub same_unit : NumberUnit → NumberUnit → Bool
+same_unit unit.None unit.None = true
+same_unit unit.Percent unit.Percent = true
+same_unit (unit.Currency one) (unit.Currency other) = same_currency one other
+same_unit _ _ = false
 
 -- two groupings are one; `auto` and `always` are two
 abbrev pub same_grouping : GroupingStrategy → GroupingStrategy → Bool
@@ -161,11 +120,21 @@ same_grouping Always Always = true
 same_grouping Min2 Min2 = true
 same_grouping _ _ = false
 
--- two keys are one: what the tags prefer, the kind, the code and the grouping are the same
+abbrev pub same_shape : NumberShape → NumberShape → Bool
+same_shape one other = same_notation one.notation other.notation && (same_unit one.unit other.unit && same_grouping one.grouping other.grouping)
+
+abbrev pub same_leniency : Bool → Bool → Bool
+same_leniency true true = true
+same_leniency false false = true
+same_leniency _ _ = false
+
+-- two keys are one: what the tags prefer, the shape, and whether what is typed is read, are the same
 abbrev pub same_keys : FormatterKey → FormatterKey → Bool
 same_keys one other =
     same_preferences one.preferences other.preferences
-    && (same_kind one.kind other.kind && (option_eq bytes_eq one.code other.code && same_grouping one.grouping other.grouping))
+    && (same_shape one.shape other.shape && same_leniency one.is_lenient other.is_lenient)
+
+-- ---- how many are made
 
 -- how many formatters are made for these lines by a test of keys, where so many may be kept: one for each use of a key that is not kept
 abbrev pub makes_by : (FormatterKey → FormatterKey → Bool) → BookTables → ℕ → List (List ℕ) → ℕ

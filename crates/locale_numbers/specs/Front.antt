@@ -2,66 +2,115 @@
 -- Defined in docs/requests.md, "Request line" and "What a cache keeps".
 -- Cited by the private steps of an answer.
 -- A front is a line without its text, so both what a line asks and what it is answered are imported.
-use Rattle.std.specs.Prelude.{◌≡◌, ◌⊎◌, ℕ, List, [], Option, Some, None, true, option_map, IfSome, if◌then◌else◌}
+use Rattle.std.specs.Prelude.{◌≡◌, ◌⊎◌, ◌&&◌, ℕ, ℤ, nat_le, Bool, List, Option, Some, None, true, false, option_map, IfSome, if◌then◌else◌, Result, Ok, Err}
 use Rattle.std.specs.Str.{is_utf8}
-use Rattle.fixed_decimal.specs.CompactText.{ReadsLongCompact}
-use Rattle.fixed_decimal.specs.Number.{Number}
+use Rattle.fixed_decimal.specs.Number.{Number, place}
 use Rattle.fixed_decimal.specs.SignedValue.{SignedValue}
-use Rattle.locale_numbers_book.specs.Book.{BookTables}
-use Rattle.locale_numbers.specs.Answer.{answer_in, found_in, in_latin, refused}
+use Rattle.icu_decimal.specs.declared.error.DataError.{DataError}
+use Rattle.locale_numbers_answers.specs.AnswerMemory.{AnswerAllocates}
+use Rattle.locale_numbers_answers.specs.Answers.{answer_by}
 pub use Rattle.locale_numbers_answers.specs.AnswerLine.{if_text}
-use Rattle.locale_numbers_answers.specs.Changing.{MayGrowRead, ReadsMore}
-use Rattle.locale_numbers.specs.FormatterKeys.{code_of, key_in, key_with, kind_of}
-use Rattle.locale_numbers_answers.specs.NumberReading.{reading_of}
-use Rattle.locale_numbers_answers.specs.LenientAnswer.{MayAllocateWith}
-use Rattle.locale_numbers_answers.specs.ReadAnswer.{HasManyDigitsWith}
-use Rattle.locale_numbers_answers.specs.UnitAnswer.{MayGrowUnit}
-use Rattle.locale_numbers_requests.specs.Request.{Asked, request_of, with_text}
+use Rattle.locale_numbers_book.specs.Book.{BookTables}
 use Rattle.locale_numbers_book.specs.Wanted.{wanted_of}
-use Rattle.locale_numbers.specs.FoundUnit.{found_unit}
+use Rattle.locale_numbers_formats.specs.declared.LeadingZeros.{LeadingZeros}
+use Rattle.locale_numbers_formats.specs.declared.LeadingZeros.TheVariants as leading
+use Rattle.locale_numbers_formats.specs.declared.Notation.{Notation}
+use Rattle.locale_numbers_formats.specs.declared.Notation.TheVariants.{Standard, Compact}
+use Rattle.locale_numbers_formats.specs.declared.NumberFormat.{NumberFormat}
+use Rattle.locale_numbers_formats.specs.declared.NumberUnit.{NumberUnit}
+use Rattle.locale_numbers_formats.specs.declared.NumberUnit.TheVariants as unit
+use Rattle.locale_numbers_formats.specs.declared.Rounding.{Rounding}
+use Rattle.locale_numbers_formats.specs.declared.Rounding.TheVariants.{Usual, Cash, AsGiven, At}
+use Rattle.locale_numbers_formats.specs.declared.TrailingZeros.{TrailingZeros}
+use Rattle.locale_numbers_formats.specs.declared.TrailingZeros.TheVariants as trailing
+use Rattle.locale_numbers_formatter.specs.FormatText.{FormatTables, compact_tables, plain_tables, unit_tables}
+use Rattle.locale_numbers_requests.specs.Request.{Asked, keeps_sign, request_of, with_text}
+use Rattle.locale_numbers_requests.specs.declared.Refusal.TheVariants as refusal
+use Rattle.locale_numbers_requests.specs.declared.Task.{Task}
+use Rattle.locale_numbers_requests.specs.declared.Task.TheVariants.{Write, WriteExact, Read, ReadLenient}
+use Rattle.locale_numbers.specs.Answer.{found_for, in_latin, refused}
+use Rattle.locale_numbers.specs.FormatterKeys.{key_in, key_with, reads_leniently}
 use Rattle.locale_numbers.specs.declared.formatter_key.FormatterKey.{FormatterKey}
 use Rattle.locale_numbers.specs.declared.front.Front.{Front}
-use Rattle.locale_numbers_requests.specs.declared.Refusal.TheVariants as refusal
-use Rattle.locale_numbers_requests.specs.declared.Form.{Form}
-use Rattle.locale_numbers_requests.specs.declared.Form.TheVariants as form
-use Rattle.locale_numbers_requests.specs.declared.RoundingAsked.{RoundingAsked}
 
 -- what a line asks, by the text after its front and what this asks: nothing, where the text is not UTF-8
 abbrev pub asked_text : List ℕ → Option Asked → Option Asked
 asked_text text asked = if is_utf8 text then with_text text asked else None
 
--- what is kept of a request for any text: its form, sign and rounding, and its key, where its tag is one
+-- ---- plain numbers as they are given
+
+abbrev pub is_plain : Notation → NumberUnit → Bool
+is_plain Standard unit.None = true
+is_plain Standard unit.Percent = false
+is_plain Standard (unit.Currency currency) = false
+is_plain (Compact width) unit = false
+
+-- a number that is no amount is not rounded
+abbrev pub rounds_none : Rounding → Bool
+rounds_none Usual = true
+rounds_none Cash = true
+rounds_none AsGiven = true
+rounds_none (At position mode increment) = false
+
+abbrev pub keeps_zeros : LeadingZeros → TrailingZeros → Bool
+keeps_zeros leading.Keep trailing.Keep = true
+keeps_zeros leading.Keep trailing.Trim = false
+keeps_zeros leading.Keep trailing.TrimWhole = false
+keeps_zeros leading.TrimRoundedZero end = false
+keeps_zeros leading.Trim end = false
+
+-- so many digits at least, where they are none that has to be added
+abbrev pub adds_none : ℤ → Bool
+adds_none digits = nat_le (place digits) 32768
+
+abbrev pub is_as_it_is : NumberFormat → Bool
+is_as_it_is format =
+    is_plain format.shape.notation format.shape.unit
+    && rounds_none format.options.rounding
+    && keeps_zeros format.options.leading_zeros format.options.zeros
+    && adds_none format.options.integer_digits
+    && adds_none format.options.fraction_digits
+    && keeps_sign format.options.sign
+
+-- ---- fronts
+
+-- what is kept of a request for any text: its task and its options, and its key, where its tag is one
 abbrev pub front_asked : Option Asked → Option Front
 front_asked None = None
-front_asked (Some asked) =
-    Some (record { form = asked.form; sign = asked.sign; rounding = asked.rounding; key = option_map (key_with asked.form asked.grouping) (wanted_of asked.tag) })
+front_asked (Some asked) = Some (record {
+  task = asked.task;
+  options = asked.format.options;
+  is_as_it_is = is_as_it_is asked.format;
+  key = option_map (key_with asked.task asked.format.shape) (wanted_of asked.tag);
+})
 
 -- what a front asks
 abbrev pub front_of : List ℕ → Option Front
 front_of bytes = front_asked (request_of bytes)
 
--- the key is of the kind of the form, and has its code
-pub record FitsKey (form : Form) (key : FormatterKey) : Type 0 where
-  pub kind : key.kind ≡ kind_of form
-  pub code : key.code ≡ code_of form
+-- the format of a front with this key
+abbrev pub format_after : Front → FormatterKey → NumberFormat
+format_after front key = record { shape = key.shape; options = front.options }
 
-abbrev pub FitsForm : Front → Type 0
-FitsForm front = IfSome front.key (FitsKey front.form)
+-- the key reads what is typed where the task does, and what is known of the format is so
+pub record FitsKey (front : Front) (key : FormatterKey) : Type 0 where
+  pub lenient : key.is_lenient ≡ reads_leniently front.task
+  pub plain : front.is_as_it_is ≡ is_as_it_is (format_after front key)
 
 -- this holds of the front's key, where it has one
 abbrev pub HasKeyThat : (FormatterKey → Type 0) → Option Front → Type 0
 HasKeyThat holds None = Unit {0}
 HasKeyThat holds (Some front) = IfSome front.key holds
 
--- what a front with this key asks of a text; the tag is in the key
-abbrev pub asked_after : Front → FormatterKey → List ℕ → Asked
-asked_after front key text =
-    record { tag = []; form = front.form; grouping = key.grouping; sign = front.sign; rounding = front.rounding; text = text }
+-- the answer to a text after a front with this key
+abbrev pub answer_by_key : BookTables → Front → FormatterKey → List ℕ → List ℕ
+answer_by_key book front key text =
+    answer_by front.task (format_after front key) (found_for key.shape book key.preferences) (found_for key.shape book (in_latin key.preferences)) text
 
 -- the answer to a text after a front, by its key, where its tag is one
 abbrev pub answer_keyed : BookTables → Front → Option FormatterKey → List ℕ → List ℕ
 answer_keyed book front None text = refused refusal.Tag
-answer_keyed book front (Some key) text = answer_in front.form book key.preferences (asked_after front key text)
+answer_keyed book front (Some key) text = answer_by_key book front key text
 
 -- the answer to a text after a front, or after one that asks nothing
 abbrev pub answer_front : BookTables → Option Front → List ℕ → List ℕ
@@ -73,13 +122,13 @@ abbrev pub answer_after : BookTables → Option Front → List ℕ → List ℕ
 answer_after book front text = if_text text (answer_front book front text)
 
 -- the key that such a line asks for
-abbrev pub key_keyed : Form → Option FormatterKey → List ℕ → Option FormatterKey
-key_keyed form None text = None
-key_keyed form (Some key) text = key_in form key text
+abbrev pub key_keyed : Task → Option FormatterKey → List ℕ → Option FormatterKey
+key_keyed task None text = None
+key_keyed task (Some key) text = key_in task key text
 
 abbrev pub key_front : Option Front → List ℕ → Option FormatterKey
 key_front None text = None
-key_front (Some front) text = key_keyed front.form front.key text
+key_front (Some front) text = key_keyed front.task front.key text
 
 -- this key of a text, where it is UTF-8
 abbrev pub key_if_text : List ℕ → Option FormatterKey → Option FormatterKey
@@ -88,26 +137,29 @@ key_if_text text key = if is_utf8 text then key else None
 abbrev pub key_after : Option Front → List ℕ → Option FormatterKey
 key_after front text = key_if_text text (key_front front text)
 
--- a text that may want memory, beside its answer and its formatter. To write a number: one that says a number of more than sixteen digits, and
--- of more than the one that is there, or one whose number a rounding to multiples of 25 may lengthen. In an exact form: one that says a
--- number of more than sixteen digits. To be read back: one with more than sixteen digits of the tables. To be read leniently: this too, and one
--- that is folded. To be read back with a unit, or leniently with one: any text, since what it is read with may be put together for it.
-abbrev pub MayTakeIn : Form → BookTables → FormatterKey → RoundingAsked → List ℕ → SignedValue Number → Type 0
-MayTakeIn form.Plain book key rounding text value = ReadsMore text value ⊎ MayGrowRead rounding (reading_of text)
-MayTakeIn (form.Compact length) book key rounding text value = ReadsMore text value ⊎ MayGrowRead rounding (reading_of text)
-MayTakeIn (form.Exact length) book key rounding text value = ReadsLongCompact text
-MayTakeIn form.Read book key rounding text value = (is_utf8 text ≡ true) × HasManyDigitsWith (found_in book key.preferences key.grouping) text
-MayTakeIn form.ReadLenient book key rounding text value =
-    (is_utf8 text ≡ true) × MayAllocateWith (found_in book key.preferences key.grouping) (found_in book (in_latin key.preferences) key.grouping) text
-MayTakeIn (form.Unit unit) book key rounding text value =
-    ReadsMore text value ⊎ MayGrowUnit (found_unit unit book key.preferences key.grouping) rounding (reading_of text)
-MayTakeIn (form.ReadUnit unit) book key rounding text value = is_utf8 text ≡ true
-MayTakeIn (form.ReadLenientUnit unit) book key rounding text value = is_utf8 text ≡ true
+-- ---- memory
+
+-- what is found has a unit
+abbrev pub FindsUnits : Result FormatTables DataError → Type 0
+FindsUnits (Err error) = ⊥
+FindsUnits (Ok (plain_tables t)) = ⊥
+FindsUnits (Ok (compact_tables t)) = ⊥
+FindsUnits (Ok (unit_tables u)) = Unit {0}
+
+-- a text that may want memory, beside its answer and its formatter, by the task: one for which the answer may; and of a unit any that is
+-- read, since what it is read with may be put together for it
+abbrev pub MayTakeIn : Task → Rounding → Result FormatTables DataError → Result FormatTables DataError → List ℕ → SignedValue Number → Type 0
+MayTakeIn Write rounding found latin text value = AnswerAllocates Write rounding found latin text value
+MayTakeIn WriteExact rounding found latin text value = AnswerAllocates WriteExact rounding found latin text value
+MayTakeIn Read rounding found latin text value = (is_utf8 text ≡ true) × (AnswerAllocates Read rounding found latin text value ⊎ FindsUnits found)
+MayTakeIn ReadLenient rounding found latin text value =
+    (is_utf8 text ≡ true) × (AnswerAllocates ReadLenient rounding found latin text value ⊎ FindsUnits found)
 
 -- the same after a front, by its key: where its tag is not one, no text wants memory
 abbrev pub MayTakeKeyed : BookTables → Front → Option FormatterKey → List ℕ → SignedValue Number → Type 0
 MayTakeKeyed book front None text value = ⊥
-MayTakeKeyed book front (Some key) text value = MayTakeIn front.form book key front.rounding text value
+MayTakeKeyed book front (Some key) text value =
+    MayTakeIn front.task front.options.rounding (found_for key.shape book key.preferences) (found_for key.shape book (in_latin key.preferences)) text value
 
 -- nor after a front that asks nothing
 abbrev pub MayTakeAfter : BookTables → Option Front → List ℕ → SignedValue Number → Type 0

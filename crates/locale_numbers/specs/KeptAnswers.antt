@@ -8,9 +8,9 @@ use Rattle.locale_numbers_cache.specs.LastRead.{Remembered}
 use Rattle.locale_numbers_cache.specs.Recent.{misses}
 use Rattle.locale_numbers.specs.FormatterKeys.{finds, key_of, same_keys}
 use Rattle.locale_numbers.specs.LineState.{IsSoundState}
+use Rattle.locale_numbers.specs.KeptFormatters.{Kept}
 use Rattle.locale_numbers.specs.declared.formatter_key.FormatterKey.{FormatterKey}
 use Rattle.locale_numbers.specs.declared.front.Front.{Front}
-use Rattle.locale_numbers.specs.declared.line_formatter.LineFormatter.{LineFormatter}
 
 -- a book, how many formatters are kept at most, the keys of those that are, the last used first, and how many were made
 pub record Keeping : Type 0 where
@@ -27,5 +27,5 @@ abbrev pub makes_after : Keeping → List (List ℕ) → ℕ
 makes_after kept lines = min (kept.made + misses same_keys kept.capacity kept.recent (used (finds kept.book) (map key_of lines))) most
 
 -- what is kept is sound by the tables that make it, which are those of the book
-abbrev pub IsAnswerer : BookTables → BookTables → Cached FormatterKey LineFormatter → Remembered (Option Front) → Bool → Type 0
+abbrev pub IsAnswerer : BookTables → BookTables → Cached FormatterKey Kept → Remembered (Option Front) → Bool → Type 0
 IsAnswerer book made_of formatters read is_held = IsSoundState made_of formatters read is_held × (made_of ≡ book)

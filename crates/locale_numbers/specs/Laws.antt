@@ -22,15 +22,17 @@ use Rattle.icu_locale_core.specs.Meaning.{TagMeaning, MeansTag}
 use Rattle.icu_locale_core.specs.NormalText.{normal_text}
 use Rattle.icu_locale_core.specs.TagPreferences.{Preferences, least_of, keyword_piece, keyword_subdivision, numbering_key, subdivision_key}
 use Rattle.locale_numbers_book.specs.Book.{BookTables, IsBook}
-pub use Rattle.locale_numbers_answers.specs.Laws.{IsReading, HasOneReading, IsCompactReading, HasOneCompactReading, HasOneRounding, IsAtMagnitude, RequestsAreAtMagnitude}
-use Rattle.locale_numbers_requests.specs.Request.{tab, Asked, request_in}
+pub use Rattle.locale_numbers_answers.specs.Laws.{IsReading, HasOneReading, IsCompactReading, HasOneCompactReading, HasOneRounding, FitDecimals, IsAtMagnitude, RequestsAreAtMagnitude, TrimsNothing}
 use Rattle.locale_numbers_book.specs.Wanted.{wanted_of}
-use Rattle.locale_numbers.specs.Answer.{written, found_in, answer_asked, answer_of}
+use Rattle.locale_numbers_formats.specs.declared.NumberOptions.{NumberOptions}
+use Rattle.locale_numbers_formats.specs.declared.Rounding.TheVariants.{Usual}
+use Rattle.locale_numbers_formats.specs.declared.SignAsked.TheVariants.{Keep}
+use Rattle.locale_numbers_formatter.specs.FormatText.{FormatTables, plain_tables}
+use Rattle.locale_numbers_requests.specs.Request.{tab, Asked, request_in}
+use Rattle.locale_numbers_requests.specs.declared.Task.TheVariants.{Write, Read, ReadLenient}
+use Rattle.locale_numbers.specs.Answer.{written, found_for, answer_asked, answer_of}
+use Rattle.locale_numbers.specs.AskedFormats.{grouping_in, keeping, options_of, plain_shape, request_like}
 use Rattle.locale_numbers.specs.declared.formatter_key.FormatterKey.{FormatterKey}
-use Rattle.locale_numbers_requests.specs.declared.Form.TheVariants.{Plain, Read, ReadLenient}
-use Rattle.locale_numbers_requests.specs.declared.SignAsked.TheVariants.{Keep}
-use Rattle.locale_numbers_requests.specs.declared.RoundingAsked.{RoundingAsked}
-use Rattle.locale_numbers_requests.specs.declared.RoundingAsked.TheVariants.{Unrounded}
 
 -- ---- lines
 
@@ -79,7 +81,7 @@ NormalTextIsAnsweredAlike = (book : BookTables) (text rest : List ℕ) (m : TagM
 
 -- the same request with another grouping
 abbrev pub grouped_by : GroupingStrategy → Asked → Asked
-grouped_by grouping asked = record asked { grouping = grouping }
+grouped_by grouping asked = record asked { format = record asked.format { shape = record asked.format.shape { grouping = grouping } } }
 
 -- the groupings `auto` and `always` have the same answer to every request
 abbrev pub AutoIsAnsweredAsAlways : Type 0
@@ -90,45 +92,43 @@ AutoIsAnsweredAsAlways = (book : BookTables) (asked : Asked)
 
 -- the request that reads a text back, with the tag and the grouping of another
 abbrev pub reading_request : Asked → List ℕ → Asked
-reading_request asked text =
-    record { tag = asked.tag; form = Read; grouping = asked.grouping; sign = Keep; rounding = Unrounded; text = text }
+reading_request asked text = request_like asked Read (plain_shape (grouping_in asked)) (options_of Usual Keep) text
 
 -- the one that reads it leniently
 abbrev pub lenient_request : Asked → List ℕ → Asked
-lenient_request asked text =
-    record { tag = asked.tag; form = ReadLenient; grouping = asked.grouping; sign = Keep; rounding = Unrounded; text = text }
+lenient_request asked text = request_like asked ReadLenient (plain_shape (grouping_in asked)) (options_of Usual Keep) text
 
--- the request that rounds and writes a number with its own sign
-abbrev pub plain_request : Asked → RoundingAsked → List ℕ → Asked
-plain_request asked rounding digits =
-    record { tag = asked.tag; form = Plain; grouping = asked.grouping; sign = Keep; rounding = rounding; text = digits }
+-- the request that writes a number by these options
+abbrev pub plain_request : Asked → NumberOptions → List ℕ → Asked
+plain_request asked options digits = request_like asked Write (plain_shape (grouping_in asked)) options digits
 
 -- a request finds tables in a book, and these are ten digits and symbols that are texts, as those of every formatter are
 pub record FindsTables (book : BookTables) (asked : Asked) (tables : Tables) : Type 0 where
   pub preferences : Preferences
   pub tag : wanted_of asked.tag ≡ Some preferences
-  pub found : found_in book preferences asked.grouping ≡ Ok tables
+  pub found : found_for (plain_shape (grouping_in asked)) book preferences ≡ Ok (plain_tables tables)
   pub are : AreTables tables
 
 -- what is found in a book is so
 abbrev pub FoundTablesAreTexts : Type 0
 FoundTablesAreTexts = (value : Data) (book : BookTables) → IsBook value book → (preferences : Preferences) (grouping : GroupingStrategy) (tables : Tables)
-    → found_in book preferences grouping ≡ Ok tables → AreTables tables
+    → found_for (plain_shape grouping) book preferences ≡ Ok (plain_tables tables) → AreTables tables
 
 -- what is found is ten digits, and symbols that are texts
-abbrev pub AreTexts : Result Tables DataError → Type 0
-AreTexts found = (tables : Tables) → found ≡ Ok tables → AreTables tables
+abbrev pub AreTexts : Result FormatTables DataError → Type 0
+AreTexts found = (tables : Tables) → found ≡ Ok (plain_tables tables) → AreTables tables
 
 -- the number that is answered for a text, sent as it is, is written as that text
 abbrev pub ReadIsWrittenAgain : Type 0
 ReadIsWrittenAgain = (book : BookTables) (asked : Asked) (tables : Tables) (text digits : List ℕ)
     → FindsTables book asked tables
     → answer_asked book (Some (reading_request asked text)) ≡ written digits
-    → answer_asked book (Some (plain_request asked Unrounded digits)) ≡ written text
+    → answer_asked book (Some (plain_request asked (options_of Usual Keep) digits)) ≡ written text
 
 -- a text that is read is read leniently, with the same answer
 abbrev pub ReadIsReadLeniently : Type 0
-ReadIsReadLeniently = (book : BookTables) (asked : Asked) (text digits : List ℕ)
+ReadIsReadLeniently = (book : BookTables) (asked : Asked) (tables : Tables) (text digits : List ℕ)
+    → FindsTables book asked tables
     → answer_asked book (Some (reading_request asked text)) ≡ written digits
     → answer_asked book (Some (lenient_request asked text)) ≡ written digits
 
@@ -153,10 +153,11 @@ WrittenReadsBack = (book : BookTables) (asked : Asked) (tables : Tables) (value 
 -- under readable symbols a plain answer, read back and written again with the same rounding and its own sign, is the same text
 abbrev pub RoundedIsWrittenAgain : Type 0
 RoundedIsWrittenAgain = (book : BookTables) (asked : Asked) (tables : Tables) (text digits : List ℕ)
-    → asked.form ≡ Plain → IsAtMagnitude asked.rounding → FindsTables book asked tables → is_readable_by tables ≡ true
+    → asked.task ≡ Write → asked.format.shape ≡ plain_shape (grouping_in asked)
+    → TrimsNothing asked.format.options → FitDecimals asked.format.options → FindsTables book asked tables → is_readable_by tables ≡ true
     → answer_asked book (Some asked) ≡ written text
     → answer_asked book (Some (reading_request asked text)) ≡ written digits
-    → answer_asked book (Some (plain_request asked asked.rounding digits)) ≡ written text
+    → answer_asked book (Some (plain_request asked (keeping asked.format.options) digits)) ≡ written text
 
 -- ---- keys
 

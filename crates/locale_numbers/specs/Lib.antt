@@ -1,6 +1,4 @@
 -- What a reader must believe: the answers to request lines.
-pub mod CompactAnswer
-pub mod FoundUnit
 pub mod WithoutUnits
 pub mod Answer
 -- Keys of formatters, and how many are made.
@@ -10,13 +8,13 @@ pub mod Words
 pub mod Fault
 pub mod Program
 -- What private steps follow.
-pub mod UnitHeld
-pub mod LineFormatters
+pub mod KeptFormatters
 pub mod Front
 pub mod LineMemory
 pub mod LineState
 pub mod KeptAnswers
 -- Statements of laws.
+pub mod AskedFormats
 pub mod SameKeys
 pub mod Laws
 pub mod Printed
@@ -36,6 +34,7 @@ pub use Rattle.locale_numbers_book.specs.Entries as BookEntries
 pub use Rattle.locale_numbers_book.specs.Faults as BookFaults
 pub use Rattle.locale_numbers_book.specs.Fields as BookFields
 pub use Rattle.locale_numbers_book.specs.Form as BookForm
+pub use Rattle.locale_numbers_book.specs.FoundFormats
 pub use Rattle.locale_numbers_book.specs.Json
 pub use Rattle.locale_numbers_book.specs.Keys as BookKeys
 pub use Rattle.locale_numbers_book.specs.Laws as BookLaws
@@ -61,9 +60,9 @@ pub use Rattle.locale_numbers_book.specs.UnitFields
 pub use Rattle.locale_numbers_book.specs.UnitPatterns
 pub use Rattle.locale_numbers_book.specs.Units
 -- Of the inner crates: texts of books, and the small book of a tag as a text.
-pub use Rattle.locale_numbers_world.specs.BookText
-pub use Rattle.locale_numbers_world.specs.EntryFields
-pub use Rattle.locale_numbers_world.specs.SelectedText
+pub use Rattle.locale_numbers_book.specs.BookText
+pub use Rattle.locale_numbers_book.specs.EntryFields
+pub use Rattle.locale_numbers_book.specs.SelectedText
 -- Of the inner crates: what is kept from line to line.
 pub use Rattle.locale_numbers_cache.specs.Cached
 pub use Rattle.locale_numbers_cache.specs.Laws as CacheLaws
@@ -77,22 +76,25 @@ pub use Rattle.locale_numbers_requests.specs.OldRequests
 pub use Rattle.locale_numbers_requests.specs.Refusal
 pub use Rattle.locale_numbers_requests.specs.Request
 pub use Rattle.locale_numbers_requests.specs.RoundingField
--- Of the inner crates: what is answered with tables that are there, and what the answers go by.
+-- Of the inner crates: formats, and what numbers of each are written and read with.
+pub use Rattle.locale_numbers_formats.specs.Changed
+pub use Rattle.locale_numbers_formats.specs.SkeletonFormats
+pub use Rattle.locale_numbers_formats.specs.Skeletons
+pub use Rattle.locale_numbers_formatter.specs.FormatReading
+pub use Rattle.locale_numbers_formatter.specs.FormatText
+pub use Rattle.locale_numbers_formatter.specs.FormatTyped
+pub use Rattle.locale_numbers_formatter.specs.ReadingLaws as FormatReadingLaws
+-- Of the inner crates: what is answered with what is found, and what the answers go by.
 pub use Rattle.locale_numbers_answers.specs.AnswerLine
+pub use Rattle.locale_numbers_answers.specs.AnswerMemory
 pub use Rattle.locale_numbers_answers.specs.AnswerSink
 pub use Rattle.locale_numbers_answers.specs.AnswerSinkLaws
-pub use Rattle.locale_numbers_answers.specs.AmountRounding
-pub use Rattle.locale_numbers_answers.specs.Changing
-pub use Rattle.locale_numbers_answers.specs.CompactAnswer as CompactAnswers
+pub use Rattle.locale_numbers_answers.specs.Answers
 pub use Rattle.locale_numbers_answers.specs.CompactReading
 pub use Rattle.locale_numbers_answers.specs.Laws as AnswerLaws
-pub use Rattle.locale_numbers_answers.specs.LenientAnswer
-pub use Rattle.locale_numbers_answers.specs.LenientUnitAnswer
 pub use Rattle.locale_numbers_answers.specs.NumberAnswer
 pub use Rattle.locale_numbers_answers.specs.NumberReading
 pub use Rattle.locale_numbers_answers.specs.ReadAnswer
-pub use Rattle.locale_numbers_answers.specs.Rounded
-pub use Rattle.locale_numbers_answers.specs.UnitAnswer
 pub use Rattle.icu_dimension.specs.UnitReadings
 -- Of the inner crates: lines, readers and writers.
 pub use Rattle.locale_numbers_lines.specs.ByteIo

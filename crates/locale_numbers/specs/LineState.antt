@@ -8,15 +8,14 @@ use Rattle.locale_numbers_cache.specs.Cached.{Cached, IsLatest, IsSound}
 use Rattle.locale_numbers_cache.specs.LastRead.{AreRead, Remembered}
 use Rattle.locale_numbers.specs.FormatterKeys.{finds}
 use Rattle.locale_numbers.specs.Front.{HasKeyThat, front_of}
-use Rattle.locale_numbers.specs.LineFormatters.{IsKeptFor}
+use Rattle.locale_numbers.specs.KeptFormatters.{IsMadeFor, Kept}
 use Rattle.locale_numbers.specs.declared.formatter_key.FormatterKey.{FormatterKey}
 use Rattle.locale_numbers.specs.declared.front.Front.{Front}
-use Rattle.locale_numbers.specs.declared.line_formatter.LineFormatter.{LineFormatter}
 
 -- each formatter is the one of its key, and what was read of each front is what it asks; for the front that came last it is right what is
 -- noted: where the formatter that was found last is noted to be that of this front, it is
-abbrev pub IsSoundState : BookTables → Cached FormatterKey LineFormatter → Remembered (Option Front) → Bool → Type 0
+abbrev pub IsSoundState : BookTables → Cached FormatterKey Kept → Remembered (Option Front) → Bool → Type 0
 IsSoundState book formatters read is_held =
-    IsSound (finds book) (IsKeptFor book) formatters
+    IsSound (finds book) (IsMadeFor book) formatters
     × All (AreRead front_of) read.pairs
-    × IfSome read.latest (HasKeyThat (λ key. IsTrue is_held → IsLatest (IsKeptFor book) key formatters))
+    × IfSome read.latest (HasKeyThat (λ key. IsTrue is_held → IsLatest (IsMadeFor book) key formatters))

@@ -17,60 +17,61 @@ use Rattle.icu_decimal.specs.declared.options.GroupingStrategy.{GroupingStrategy
 use Rattle.icu_locale_core.specs.TagPreferences.{Preferences}
 use Rattle.locale_numbers_book.specs.Book.{BookTables, IsBook}
 use Rattle.locale_numbers_book.specs.Laws.{IsSoundTable}
-use Rattle.locale_numbers.specs.Answer.{answer_asked, refused, written}
-use Rattle.locale_numbers.specs.CompactAnswer.{found_compact}
+use Rattle.locale_numbers_formats.specs.declared.CompactWidth.{CompactWidth}
+use Rattle.locale_numbers_formats.specs.declared.Rounding.TheVariants.{Usual}
+use Rattle.locale_numbers_formatter.specs.FormatText.{FormatTables, compact_tables}
+use Rattle.locale_numbers.specs.Answer.{answer_asked, found_for, refused, written}
+use Rattle.locale_numbers.specs.AskedFormats.{compact_shape}
 use Rattle.locale_numbers.specs.Printed.{FindsCompact, KeepsEntry, Prints, PrintsSize, exact_request, number_shown}
 use Rattle.locale_numbers_requests.specs.Request.{Asked}
 use Rattle.locale_numbers_requests.specs.declared.Refusal.TheVariants as refusal
-use Rattle.locale_numbers_requests.specs.declared.PatternLength.{PatternLength}
-use Rattle.locale_numbers_requests.specs.declared.RoundingAsked.TheVariants.{Unrounded}
 
 -- ---- the value sent back
 
 -- it is refused by `exponent` exactly where the entry of its magnitude has another exponent than the printed one, and by no other word; else it
 -- is written under that entry
 abbrev pub PrintedIsAnswered : Type 0
-PrintedIsAnswered = (book : BookTables) (asked : Asked) (length : PatternLength) (tables : CompactTables) (read : SignedValue Number) (text printed : List ℕ)
-    → FindsCompact book asked length tables read → Prints book asked text printed
+PrintedIsAnswered = (book : BookTables) (asked : Asked) (width : CompactWidth) (tables : CompactTables) (read : SignedValue Number) (text printed : List ℕ)
+    → FindsCompact book asked width tables read → Prints book asked text printed
     → let shown = value_shown tables (number_shown asked read) in
     let entry = entry_at 32768 tables.patterns.entries (magnitude 32768 (shown_under 32768 tables.patterns.entries (number_shown asked read).absolute.count)) in
-    answer_asked book (Some (exact_request asked length printed))
+    answer_asked book (Some (exact_request asked width printed))
     ≡ (if exponent_of entry == shown.exponent then written (written_text tables shown.significand entry) else refused refusal.Exponent)
 
 -- and it is the same text where the entry is kept
 abbrev pub PrintedIsWrittenAgain : Type 0
-PrintedIsWrittenAgain = (book : BookTables) (asked : Asked) (length : PatternLength) (tables : CompactTables) (read : SignedValue Number) (text printed : List ℕ)
-    → FindsCompact book asked length tables read → Prints book asked text printed
+PrintedIsWrittenAgain = (book : BookTables) (asked : Asked) (width : CompactWidth) (tables : CompactTables) (read : SignedValue Number) (text printed : List ℕ)
+    → FindsCompact book asked width tables read → Prints book asked text printed
     → KeepsEntry tables.patterns.entries (number_shown asked read).absolute.count
-    → answer_asked book (Some (exact_request asked length printed)) ≡ written text
+    → answer_asked book (Some (exact_request asked width printed)) ≡ written text
 
 -- ---- the size of the value printed
 
 -- of two requests of one tag and form without a rounding, the one for a number of smaller size never prints a value of larger size
 abbrev pub PrintedKeepsOrder : Type 0
-PrintedKeepsOrder = (book : BookTables) (one other : Asked) (length : PatternLength) (t u : CompactTables) (n m : SignedValue Number) (v w : ℕ)
-    → one.tag ≡ other.tag → one.rounding ≡ Unrounded → other.rounding ≡ Unrounded
-    → FindsCompact book one length t n → FindsCompact book other length u m
+PrintedKeepsOrder = (book : BookTables) (one other : Asked) (width : CompactWidth) (t u : CompactTables) (n m : SignedValue Number) (v w : ℕ)
+    → one.tag ≡ other.tag → one.format.options.rounding ≡ Usual → other.format.options.rounding ≡ Usual
+    → FindsCompact book one width t n → FindsCompact book other width u m
     → PrintsSize book one v → PrintsSize book other w
     → n.absolute.count ≤ m.absolute.count → v ≤ w
 
 -- a printed value is off by at most a twentieth of the number shown
 abbrev pub PrintedIsNear : Type 0
-PrintedIsNear = (book : BookTables) (asked : Asked) (length : PatternLength) (tables : CompactTables) (read : SignedValue Number) (v : ℕ)
-    → FindsCompact book asked length tables read → PrintsSize book asked v
+PrintedIsNear = (book : BookTables) (asked : Asked) (width : CompactWidth) (tables : CompactTables) (read : SignedValue Number) (v : ℕ)
+    → FindsCompact book asked width tables read → PrintsSize book asked v
     → 20 * distance (number_shown asked read).absolute.count v ≤ (number_shown asked read).absolute.count
 
 -- so zero is printed for zero, and for nothing else
 abbrev pub ZeroIsPrintedForZero : Type 0
-ZeroIsPrintedForZero = (book : BookTables) (asked : Asked) (length : PatternLength) (tables : CompactTables) (read : SignedValue Number) (v : ℕ)
-    → FindsCompact book asked length tables read → PrintsSize book asked v
+ZeroIsPrintedForZero = (book : BookTables) (asked : Asked) (width : CompactWidth) (tables : CompactTables) (read : SignedValue Number) (v : ℕ)
+    → FindsCompact book asked width tables read → PrintsSize book asked v
     → v ≡ 0 ↔ (number_shown asked read).absolute.count ≡ 0
 
 -- of two requests of one tag and form, where the number of one has the size of the value that the other printed, it prints a value of this size
 abbrev pub PrintedPrintsItself : Type 0
-PrintedPrintsItself = (book : BookTables) (one other : Asked) (length : PatternLength) (t u : CompactTables) (n m : SignedValue Number) (v w : ℕ)
+PrintedPrintsItself = (book : BookTables) (one other : Asked) (width : CompactWidth) (t u : CompactTables) (n m : SignedValue Number) (v w : ℕ)
     → one.tag ≡ other.tag
-    → FindsCompact book one length t n → FindsCompact book other length u m
+    → FindsCompact book one width t n → FindsCompact book other width u m
     → PrintsSize book one v → PrintsSize book other w
     → (number_shown other m).absolute.count ≡ v → w ≡ v
 
@@ -78,9 +79,9 @@ PrintedPrintsItself = (book : BookTables) (one other : Asked) (length : PatternL
 
 -- what requests find in a book is sound
 abbrev pub FoundTablesAreSound : Type 0
-FoundTablesAreSound = (value : Data) (book : BookTables) (length : PatternLength) (preferences : Preferences) (grouping : GroupingStrategy) (tables : CompactTables)
-    → IsBook value book → found_compact length book preferences grouping ≡ Ok tables → IsSoundTable tables.patterns
+FoundTablesAreSound = (value : Data) (book : BookTables) (width : CompactWidth) (preferences : Preferences) (grouping : GroupingStrategy) (tables : CompactTables)
+    → IsBook value book → found_for (compact_shape width grouping) book preferences ≡ Ok (compact_tables tables) → IsSoundTable tables.patterns
 
 -- what is found is sound
-abbrev pub IsSoundWhereFound : Result CompactTables DataError → Type 0
-IsSoundWhereFound found = (tables : CompactTables) → found ≡ Ok tables → IsSoundTable tables.patterns
+abbrev pub IsSoundWhereFound : Result FormatTables DataError → Type 0
+IsSoundWhereFound found = (tables : CompactTables) → found ≡ Ok (compact_tables tables) → IsSoundTable tables.patterns

@@ -11,7 +11,19 @@ use Rattle.icu_locale_core.specs.TagPreferences.{Subdivision, LocalePreferencesM
 use Rattle.icu_locale_core.specs.SamePreferences.{same_subdivision, same_locale, same_preferences}
 use Rattle.icu_decimal.specs.declared.options.GroupingStrategy.{GroupingStrategy}
 use Rattle.locale_numbers.specs.declared.formatter_key.FormatterKey.{FormatterKey}
-use Rattle.locale_numbers.specs.declared.formatter_key.Kind.{Kind}
+use Rattle.locale_numbers_formats.specs.declared.Notation.{Notation}
+use Rattle.locale_numbers_formats.specs.declared.NumberShape.{NumberShape}
+use Rattle.locale_numbers_formats.specs.declared.NumberUnit.{NumberUnit}
+use Rattle.locale_numbers_formats.specs.declared.NumberUnit.TheVariants as unit
+use Rattle.locale_numbers_formats.specs.declared.CurrencyUnit.{CurrencyUnit}
+use Rattle.locale_numbers_formats.specs.contracts.shape.NumberUnitPartialEq.TheImpl as units
+use Rattle.icu_dimension_fractions.specs.contracts.code.CurrencyCodePartialEq.TheImpl as codes
+use Rattle.icu_dimension_fractions.specs.contracts.style.CurrencyStylePartialEq.TheImpl as styles
+use Rattle.icu_dimension_fractions.specs.contracts.style.CurrencyWidthPartialEq.TheImpl as widths
+use Rattle.icu_dimension_fractions.specs.declared.CurrencyStyle.{CurrencyStyle}
+use Rattle.icu_dimension_fractions.specs.declared.CurrencyStyle.TheVariants as style
+use Rattle.icu_dimension_fractions.specs.declared.CurrencyWidth.{CurrencyWidth}
+use Rattle.icu_dimension_fractions.specs.declared.CurrencyWidth.TheVariants as width
 
 texts : (s t : Option Text) → option_eq same_text s t ≡ true → s ≡ t
 texts None None h = refl
@@ -67,22 +79,62 @@ preferences_are a b h =
     let system : a.numbering_system ≡ b.numbering_system = texts a.numbering_system b.numbering_system p.1 in
     λ i. record { locale = locale i; numbering_system = system i }
 
-codes_are : (eq : Text → Text → Bool) → ((a b : Text) → eq a b ≡ true → a ≡ b) → (s t : Option Text) → option_eq eq s t ≡ true → s ≡ t
-codes_are eq is None None h = refl
-codes_are eq is None (Some t) h = cc
-codes_are eq is (Some s) None h = cc
-codes_are eq is (Some s) (Some t) h = ap Some (is s t h)
+-- ---- shapes
 
-module _ (kinds : Kind → Kind → Bool) (codes : Text → Text → Bool) (groupings : GroupingStrategy → GroupingStrategy → Bool) (kind_is : (a b : Kind) → kinds a b ≡ true → a ≡ b) (code_is : (a b : Text) → codes a b ≡ true → a ≡ b) (grouping_is : (a b : GroupingStrategy) → groupings a b ≡ true → a ≡ b) where
-  -- keys whose preferences, kinds, codes and groupings are `==` are one
+style_is : (a b : CurrencyStyle) → styles.ghosts.eq a b ≡ true → a ≡ b
+style_is style.Standard style.Standard h = refl
+style_is style.Standard style.Accounting h = cc
+style_is style.Accounting style.Standard h = cc
+style_is style.Accounting style.Accounting h = refl
+
+width_is : (a b : CurrencyWidth) → widths.ghosts.eq a b ≡ true → a ≡ b
+width_is width.Short width.Short h = refl
+width_is width.Short width.IsoCode h = cc
+width_is width.IsoCode width.Short h = cc
+width_is width.IsoCode width.IsoCode h = refl
+
+currency_is : (a b : CurrencyUnit) → codes.ghosts.eq a.code b.code && (styles.ghosts.eq a.style b.style && widths.ghosts.eq a.width b.width) ≡ true → a ≡ b
+currency_is a b h =
+    let p = and_parts (codes.ghosts.eq a.code b.code) (styles.ghosts.eq a.style b.style && widths.ghosts.eq a.width b.width) h in
+    let q = and_parts (styles.ghosts.eq a.style b.style) (widths.ghosts.eq a.width b.width) p.1 in
+    let code : a.code ≡ b.code = (bytes_decides a.code b.code).0 p.0 in
+    let style : a.style ≡ b.style = style_is a.style b.style q.0 in
+    let width : a.width ≡ b.width = width_is a.width b.width q.1 in
+    λ i. record { code = code i; style = style i; width = width i }
+
+unit_is : (a b : NumberUnit) → units.ghosts.eq a b ≡ true → a ≡ b
+unit_is unit.None unit.None h = refl
+unit_is unit.None unit.Percent h = cc
+unit_is unit.None (unit.Currency d) h = cc
+unit_is unit.Percent unit.None h = cc
+unit_is unit.Percent unit.Percent h = refl
+unit_is unit.Percent (unit.Currency d) h = cc
+unit_is (unit.Currency c) unit.None h = cc
+unit_is (unit.Currency c) unit.Percent h = cc
+unit_is (unit.Currency c) (unit.Currency d) h = ap unit.Currency (currency_is c d h)
+
+module _ (notations : Notation → Notation → Bool) (groupings : GroupingStrategy → GroupingStrategy → Bool) (leniencies : Bool → Bool → Bool)
+    (notation_is : (a b : Notation) → notations a b ≡ true → a ≡ b)
+    (grouping_is : (a b : GroupingStrategy) → groupings a b ≡ true → a ≡ b) (leniency_is : (a b : Bool) → leniencies a b ≡ true → a ≡ b) where
+  abbrev same_shapes : NumberShape → NumberShape → Bool
+  same_shapes a b = notations a.notation b.notation && (units.ghosts.eq a.unit b.unit && groupings a.grouping b.grouping)
+
+  shape_is : (a b : NumberShape) → same_shapes a b ≡ true → a ≡ b
+  shape_is a b h =
+      let p = and_parts (notations a.notation b.notation) (units.ghosts.eq a.unit b.unit && groupings a.grouping b.grouping) h in
+      let q = and_parts (units.ghosts.eq a.unit b.unit) (groupings a.grouping b.grouping) p.1 in
+      let notation : a.notation ≡ b.notation = notation_is a.notation b.notation p.0 in
+      let unit : a.unit ≡ b.unit = unit_is a.unit b.unit q.0 in
+      let grouping : a.grouping ≡ b.grouping = grouping_is a.grouping b.grouping q.1 in
+      λ i. record { notation = notation i; unit = unit i; grouping = grouping i }
+
+  -- keys whose preferences, shapes and leniencies are `==` are one
   pub keys_are : (one other : FormatterKey)
-      → same_preferences one.preferences other.preferences && (kinds one.kind other.kind && (option_eq codes one.code other.code && groupings one.grouping other.grouping)) ≡ true → one ≡ other
+      → same_preferences one.preferences other.preferences && (same_shapes one.shape other.shape && leniencies one.is_lenient other.is_lenient) ≡ true → one ≡ other
   keys_are one other h =
-      let p = and_parts (same_preferences one.preferences other.preferences) (kinds one.kind other.kind && (option_eq codes one.code other.code && groupings one.grouping other.grouping)) h in
-      let q = and_parts (kinds one.kind other.kind) (option_eq codes one.code other.code && groupings one.grouping other.grouping) p.1 in
-      let r = and_parts (option_eq codes one.code other.code) (groupings one.grouping other.grouping) q.1 in
+      let p = and_parts (same_preferences one.preferences other.preferences) (same_shapes one.shape other.shape && leniencies one.is_lenient other.is_lenient) h in
+      let q = and_parts (same_shapes one.shape other.shape) (leniencies one.is_lenient other.is_lenient) p.1 in
       let preferences : one.preferences ≡ other.preferences = preferences_are one.preferences other.preferences p.0 in
-      let kind : one.kind ≡ other.kind = kind_is one.kind other.kind q.0 in
-      let code : one.code ≡ other.code = codes_are codes code_is one.code other.code r.0 in
-      let grouping : one.grouping ≡ other.grouping = grouping_is one.grouping other.grouping r.1 in
-      λ i. record { preferences = preferences i; kind = kind i; code = code i; grouping = grouping i }
+      let shape : one.shape ≡ other.shape = shape_is one.shape other.shape q.0 in
+      let leniency : one.is_lenient ≡ other.is_lenient = leniency_is one.is_lenient other.is_lenient q.1 in
+      λ i. record { preferences = preferences i; shape = shape i; is_lenient = leniency i }

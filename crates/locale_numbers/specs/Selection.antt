@@ -20,8 +20,8 @@ use Rattle.locale_numbers_book.specs.Keys.{same_data_locale}
 use Rattle.locale_numbers_book.specs.Units.{UnitsTables}
 use Rattle.locale_numbers.specs.Serving.{unit_locales_in}
 use Rattle.locale_numbers.specs.WithoutUnits.{without_units}
-use Rattle.locale_numbers_requests.specs.declared.Form.{Form}
-use Rattle.locale_numbers_requests.specs.declared.Form.TheVariants.{Plain, Compact, Exact, Read, ReadLenient, Unit as OfUnit, ReadUnit, ReadLenientUnit}
+use Rattle.locale_numbers_formats.specs.declared.NumberUnit.{NumberUnit}
+use Rattle.locale_numbers_formats.specs.declared.NumberUnit.TheVariants as unit
 
 abbrev pub is_among : List DataLocaleMeaning → DataLocaleMeaning → Bool
 is_among locales x = list_any (λ l. same_data_locale l x) locales
@@ -94,18 +94,13 @@ SelectedParentsAreParents = (value : Data) (whole : BookTables) → IsBook value
 
 -- ---- numbers
 
--- whether a form asks for units
-abbrev pub asks_units : Form → Bool
-asks_units Plain = false
-asks_units (Compact length) = false
-asks_units (Exact length) = false
-asks_units Read = false
-asks_units ReadLenient = false
-asks_units (OfUnit unit) = true
-asks_units (ReadUnit unit) = true
-asks_units (ReadLenientUnit unit) = true
+-- whether a request asks for units
+abbrev pub asks_units : NumberUnit → Bool
+asks_units unit.None = false
+asks_units unit.Percent = true
+asks_units (unit.Currency currency) = true
 
--- lines of other forms are answered without them
+-- lines of others are answered without them
 abbrev pub NumbersNeedNoUnits : Type 0
-NumbersNeedNoUnits = (book : BookTables) (line : List ℕ) (asked : Asked) → request_of line ≡ Some asked → asks_units asked.form ≡ false
+NumbersNeedNoUnits = (book : BookTables) (line : List ℕ) (asked : Asked) → request_of line ≡ Some asked → asks_units asked.format.shape.unit ≡ false
     → answer_of (without_units book) line ≡ answer_of book line

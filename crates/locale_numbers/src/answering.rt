@@ -4,25 +4,22 @@ ghost use Rattle.std.specs.Prelude.{◌≡◌, ◌∷◌, ◌++◌, List, Option
 ghost use Rattle.locale_numbers_lines.specs.Growth.{Grows};
 ghost use Rattle.locale_numbers.specs.Answer.{answer_of};
 ghost use Rattle.locale_numbers_answers.specs.AnswerSink.{HasRoom};
-ghost use Rattle.locale_numbers.specs.Front.{FitsForm, HasKeyThat, MayTakeAfter, answer_after, key_after};
+ghost use Rattle.locale_numbers.specs.Front.{FitsKey, HasKeyThat, MayTakeAfter, answer_after, key_after};
 ghost use Rattle.locale_numbers.specs.LineMemory.{MayTakeTag, TakesNone, no_number};
 ghost use Rattle.locale_numbers_requests.specs.Request.{Asked, request_of};
 ghost use Rattle.locale_numbers.specs.declared.formatter_key.FormatterKey.{FormatterKey};
 
 use crate::exact_line::answer_exact;
-use crate::formatter_key::keyed_unit;
 use crate::formatters::Formatters;
 use crate::front::{Front, cut_text, read_front};
 use crate::lenient_line::answer_lenient;
-use crate::lenient_unit_line::answer_lenient_unit;
-use crate::line_formatter::OneFormatter;
 use crate::number_line::answer_number;
+use crate::one_formatter::OneFormatter;
 use crate::read_line::answer_read;
-use crate::unit_line::{answer_read_unit, answer_unit};
 use fixed_decimal::Decimal;
 use locale_numbers_answers::{write_refusal, write_refusal_or_shape};
 use locale_numbers_book::Book;
-use locale_numbers_requests::{Form, Refusal, as_text};
+use locale_numbers_requests::{Refusal, Task, as_text};
 use std::alloc::{AllocError, Global};
 
 // Writes the answer to a text after a front, after what `out` holds. It is tested as UTF-8 only where no number is
@@ -38,7 +35,7 @@ pub(crate) fn answer_after_front<'a, F: Formatters<'a>>(
     out: &mut String,
 ) -> Result<(), AllocError>
     requires ready { F.is_ready formatters.old }
-    requires kind { IfSome front.now FitsForm }
+    requires fits { IfSome front.now (λ front. IfSome front.key (FitsKey front)) }
     requires right { HasKeyThat (F.is_right_for formatters.old) front.now }
     ensures text { OnOk result (string_bytes out.new
         ≡ string_bytes out.old ++ answer_after (F.book formatters.old) front.now text.now) }
@@ -63,56 +60,25 @@ pub(crate) fn answer_after_front<'a, F: Formatters<'a>>(
     let Some(key) = &front.key else {
         return write_refusal_or_shape(out, text, Refusal::Tag);
     };
-    match front.form {
-        Form::Plain | Form::Compact(_) => answer_number(
+    if let Task::Write = front.task {
+        return answer_number(
             value,
             formatters,
             key,
-            front.sign,
-            front.rounding,
+            front.options,
+            front.is_as_it_is,
             text,
             out,
-        ),
-        Form::Exact(length) => {
-            let Some(text) = as_text(text) else {
-                return write_refusal(out, Refusal::Shape);
-            };
-            answer_exact(alloc, formatters, length, key, front.sign, text, out)
-        }
-        Form::Read => {
-            let Some(text) = as_text(text) else {
-                return write_refusal(out, Refusal::Shape);
-            };
-            answer_read(alloc, formatters, key, text, out)
-        }
-        Form::ReadLenient => {
-            let Some(text) = as_text(text) else {
-                return write_refusal(out, Refusal::Shape);
-            };
-            answer_lenient(alloc, formatters, key, text, out)
-        }
-        Form::Unit(_) => answer_unit(
-            value,
-            formatters,
-            key,
-            front.sign,
-            front.rounding,
-            text,
-            out,
-        ),
-        Form::ReadUnit(_) => {
-            let Some(text) = as_text(text) else {
-                return write_refusal(out, Refusal::Shape);
-            };
-            answer_read_unit(alloc, formatters, key, front.rounding, text, out)
-        }
-        Form::ReadLenientUnit(unit) => {
-            let Some(text) = as_text(text) else {
-                return write_refusal(out, Refusal::Shape);
-            };
-            let unit = keyed_unit(&unit);
-            answer_lenient_unit(alloc, formatters, unit, key, text, out)
-        }
+        );
+    }
+    let Some(text) = as_text(text) else {
+        return write_refusal(out, Refusal::Shape);
+    };
+    match front.task {
+        Task::WriteExact => answer_exact(alloc, formatters, key, front.options.sign, text, out),
+        Task::Read => answer_read(alloc, formatters, key, front.options.rounding, text, out),
+        Task::ReadLenient => answer_lenient(alloc, formatters, key, text, out),
+        Task::Write => unreachable!(),
     }
 }
 

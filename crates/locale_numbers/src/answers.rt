@@ -7,10 +7,10 @@ ghost use Rattle.locale_numbers.specs.KeptAnswers.{keeping, makes_after};
 
 use crate::cached_formatters::CachedFormatters;
 use crate::formatter_key::FormatterKey;
+use crate::kept_formatter::FormatterMaker;
 use crate::line_answerer::LineAnswerer;
-use crate::line_formatter::FormatterMaker;
-use crate::tables::Tables;
 use fixed_decimal::Decimal;
+use locale_numbers_book::Tables;
 use locale_numbers_cache::laws::equal_keys_are_one;
 use locale_numbers_cache::{FormatterCache, ReadKeys};
 use locale_numbers_lines::Answerer;

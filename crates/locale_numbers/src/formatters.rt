@@ -3,11 +3,11 @@
 ghost use Rattle.std.specs.Prelude.{◌≡◌, ◌∷◌, ℕ, List, Option, Some, None, IfOk, IsTrue, OnOk, OnErr};
 ghost use Rattle.locale_numbers_book.specs.Book.{BookTables};
 ghost use Rattle.locale_numbers.specs.FormatterKeys.{finds};
-ghost use Rattle.locale_numbers.specs.LineFormatters.{IsMadeFor};
+ghost use Rattle.locale_numbers.specs.KeptFormatters.{IsMadeFor};
 ghost use Rattle.locale_numbers.specs.declared.formatter_key.FormatterKey.{FormatterKey};
 
 use crate::formatter_key::FormatterKey;
-use crate::line_formatter::LineFormatter;
+use crate::kept_formatter::KeptFormatter;
 use locale_numbers_cache::Hashed;
 use std::alloc::AllocError;
 
@@ -49,7 +49,7 @@ pub(crate) trait Formatters<'a> {
         ensures room { OnErr result (may_take_memory self.old key.now) };
 
     /// The formatter of a key. The condition is that it was found last. It does not allocate.
-    fn found(&self, key: &Hashed<FormatterKey>) -> &LineFormatter<'a>
+    fn found(&self, key: &Hashed<FormatterKey>) -> &KeptFormatter<'a>
         requires { holds self.now key.now }
         ensures made { IsMadeFor (book self.now) key.now result.now }
         // To find it again would count nothing.

@@ -2,16 +2,19 @@
 
 ghost use Rattle.std.specs.Prelude.{◌≡◌, ◌++◌, IfOk, OnErr, option_map};
 ghost use Rattle.locale_numbers.specs.FormatterKeys.{key_with};
-ghost use Rattle.locale_numbers.specs.Front.{asked_text, front_of};
+ghost use Rattle.locale_numbers.specs.Front.{adds_none, asked_text, front_of, is_as_it_is, is_plain, keeps_zeros, rounds_none};
 ghost use Rattle.locale_numbers.specs.LineMemory.{MayTakeTag};
 ghost use Rattle.locale_numbers_requests.specs.Request.{request_of};
 
-use crate::formatter_key::{FormatterKey, code_of_form, kind_of_form};
+use crate::formatter_key::{FormatterKey, reads_leniently};
 use icu_decimal::DecimalFormatterPreferences;
-use icu_decimal::options::GroupingStrategy;
 use locale_numbers_book::read_preferences;
 use locale_numbers_cache::{Hashed, KeyReader};
-use locale_numbers_requests::{Form, RoundingAsked, SignAsked, cut_last, read_request};
+use locale_numbers_formats::{
+    LeadingZeros, Notation, NumberFormat, NumberOptions, NumberShape, NumberUnit, Rounding,
+    SignAsked, TrailingZeros, cut_last,
+};
+use locale_numbers_requests::{Task, read_request};
 use std::alloc::{AllocError, Global};
 
 const TAB: u8 = b'\t';
@@ -19,12 +22,12 @@ const TAB: u8 = b'\t';
 // What the front of a line asks, whatever its text.
 #[derive(Clone, Copy)]
 pub(crate) struct Front {
-    /// What is written.
-    pub form: Form,
-    /// Which sign is written.
-    pub sign: SignAsked,
-    /// What is rounded.
-    pub rounding: RoundingAsked,
+    /// What is done with the text.
+    pub task: Task,
+    /// What is made of a number.
+    pub options: NumberOptions,
+    /// Whether it asks for plain numbers, as they are given.
+    pub is_as_it_is: bool,
     /// What its formatter is kept under, hashed once; `None` where its tag is no tag.
     pub key: Option<Hashed<FormatterKey>>,
 }
@@ -39,20 +42,69 @@ pub(crate) fn cut_text(line: &[u8]) -> (&[u8], &[u8])
     cut_last(line, TAB)
 }
 
-// The key of what a tag prefers, a form and a grouping.
+// Whether a shape is that of plain numbers.
+fn is_plain(shape: &NumberShape) -> bool
+    ensures { result ≡ is_plain shape.now.notation shape.now.unit }
+{
+    match shape.notation {
+        Notation::Standard => matches!(shape.unit, NumberUnit::None),
+        Notation::Compact(_) => false,
+    }
+}
+
+// Whether a rounding leaves a number that is no amount as it is.
+fn rounds_none(rounding: Rounding) -> bool
+    ensures { result ≡ rounds_none rounding }
+{
+    match rounding {
+        Rounding::Usual | Rounding::Cash | Rounding::AsGiven => true,
+        Rounding::At(_, _, _) => false,
+    }
+}
+
+// Whether no zero is trimmed.
+fn keeps_zeros(front: LeadingZeros, end: TrailingZeros) -> bool
+    ensures { result ≡ keeps_zeros front end }
+{
+    match front {
+        LeadingZeros::Keep => matches!(end, TrailingZeros::Keep),
+        LeadingZeros::TrimRoundedZero | LeadingZeros::Trim => false,
+    }
+}
+
+// Whether so many digits at least are none that has to be added.
+fn adds_none(digits: i16) -> bool
+    ensures { result ≡ adds_none digits }
+{
+    digits <= 0
+}
+
+// Whether a format is that of plain numbers, which it leaves as they are given.
+fn is_as_it_is(format: &NumberFormat) -> bool
+    ensures { result ≡ is_as_it_is format.now }
+{
+    let options = &format.options;
+    is_plain(&format.shape)
+        && rounds_none(options.rounding)
+        && keeps_zeros(options.leading_zeros, options.zeros)
+        && adds_none(options.integer_digits)
+        && adds_none(options.fraction_digits)
+        && matches!(options.sign, SignAsked::Keep)
+}
+
+// The key of what a tag prefers, a task and a shape.
 fn hashed_key(
     preferences: Option<DecimalFormatterPreferences>,
-    form: &Form,
-    grouping: GroupingStrategy,
+    task: Task,
+    shape: NumberShape,
 ) -> Option<Hashed<FormatterKey>>
-    ensures { result ≡ option_map (key_with form.now grouping) preferences }
+    ensures { result ≡ option_map (key_with task shape) preferences }
 {
     match preferences {
         Some(preferences) => Some(Hashed::new(FormatterKey {
             preferences,
-            kind: kind_of_form(form),
-            code: code_of_form(form),
-            grouping,
+            shape,
+            is_lenient: reads_leniently(task),
         })),
         None => None,
     }
@@ -69,11 +121,14 @@ pub(crate) fn read_front(alloc: Global, bytes: &[u8]) -> Result<Option<Front>, A
         return Ok(None);
     };
     let preferences = read_preferences(alloc, request.tag)?;
-    let key = hashed_key(preferences, &request.form, request.grouping);
+    let format = request.format;
+    let is_as_it_is = is_as_it_is(&format);
+    let NumberFormat { shape, options } = format;
+    let key = hashed_key(preferences, request.task, shape);
     Ok(Some(Front {
-        form: request.form,
-        sign: request.sign,
-        rounding: request.rounding,
+        task: request.task,
+        options,
+        is_as_it_is,
         key,
     }))
 }

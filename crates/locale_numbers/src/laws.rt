@@ -1,8 +1,9 @@
 //! Laws over the definitions that the clauses of this crate cite. Each function is a proof: it
 //! answers nothing.
 
-ghost use Rattle.locale_numbers.specs.Answer.{found_in};
-ghost use Rattle.locale_numbers.specs.CompactAnswer.{found_compact};
+ghost use Rattle.locale_numbers_book.specs.FoundFormats.{found_for};
+ghost use Rattle.locale_numbers_formats.specs.declared.CompactWidth.TheVariants.{Short, Long};
+ghost use Rattle.locale_numbers.specs.AskedFormats.{compact_shape, plain_shape};
 ghost use Rattle.locale_numbers.specs.FormatterKeys.{same_keys};
 ghost use Rattle.locale_numbers.specs.Laws.{AlikeTagsAreAnsweredAlike, NormalTextIsAnsweredAlike, AutoIsAnsweredAsAlways, AreTexts, EachGroupingIsReadLeniently, FoundTablesAreTexts, LinesAskTheirFields, ReadIsReadLeniently, ReadIsWrittenAgain, RoundedIsWrittenAgain, TellsKeys, WrittenIsUtf8, WrittenReadsBack};
 ghost use Rattle.locale_numbers.specs.OldLines.{OldLinesStay};
@@ -11,11 +12,7 @@ ghost use Rattle.locale_numbers.specs.Selection.{NumbersNeedNoUnits, SelectedBoo
 ghost use Rattle.locale_numbers.specs.Serving.{ServedBooksAnswerAlike};
 ghost use Rattle.locale_numbers.specs.LenientUnitLaws.{ReadUnitIsReadLeniently};
 ghost use Rattle.locale_numbers.specs.UnitLaws.{FoundUnitsAreTexts, ReadUnitIsWrittenAgain, WrittenPercentReadsBack, WrittenUnitIsUtf8, WrittenUnitReadsBack};
-ghost use Rattle.locale_numbers_requests.specs.declared.PatternLength.TheVariants.{Short, Long};
 
-use crate::formatter_key::{FormatterKey, Kind};
-use crate::line_formatter::{compact_formatter, plain_formatter};
-use crate::tables::Tables;
 use icu_decimal::laws::compact::{
     held_entries_are_sound, shown_forms_are_answered, shown_values_are_compact,
 };
@@ -25,21 +22,25 @@ use icu_decimal::laws::reading::{
 use icu_decimal::laws::shown::{exact_forms_of_shown_values, tables_show_values};
 use icu_decimal::options::GroupingStrategy;
 use icu_decimal::{DecimalFormatterPreferences, is_readable};
+pub use icu_dimension::laws::lenient::functions_answer_readings;
 use icu_dimension::laws::units::texts_have_one_decimal as unit_texts_have_one_decimal;
 pub use locale_numbers_answers::laws::{
     amounts_have_one_end, compact_texts_have_one_reading, requests_are_at_magnitude,
-    roundings_have_one_end, texts_have_one_reading, unit_texts_have_one_reading,
+    roundings_have_one_end, texts_have_one_reading,
 };
 use locale_numbers_book::laws::{tables_are_sound, units_are_texts};
 pub use locale_numbers_book::laws::{
     chains_end, cycles_are_met, data_locales_are_read, is_one_book, old_books_stay,
     sample_book_is_known, sample_units_book_is_known, tags_are_read,
 };
+use locale_numbers_book::{Tables, find_formatter};
 pub use locale_numbers_cache::laws::{last_used_are_kept, unused_keys_miss};
+use locale_numbers_formats::{CompactWidth, Notation, NumberShape, NumberUnit};
+use locale_numbers_formatter::FormatterKind;
+use locale_numbers_formatter::laws::{compact_is_layered, plain_reads_by_pairs};
 pub use locale_numbers_lines::laws::{
     each_input_splits, lines_are_the_pieces, outputs_join, whole_lines_are_the_pieces,
 };
-use locale_numbers_requests::PatternLength;
 pub use locale_numbers_requests::laws::{old_requests_stay, requests_have_codes};
 
 /// A line is answered as what its fields ask is, where these are UTF-8 and no tab is in them: so each law over
@@ -115,16 +116,23 @@ pub fn found_tables_are_texts<T: Tables>(
     preferences: DecimalFormatterPreferences,
     grouping: GroupingStrategy,
 )
-    ensures { AreTexts (found_in (T.book tables.now) preferences grouping) }
+    ensures { AreTexts (found_for (plain_shape grouping) (T.book tables.now) preferences) }
 {
-    let key = FormatterKey {
-        preferences,
-        kind: Kind::Plain,
-        code: None,
+    let shape = NumberShape {
+        notation: Notation::Standard,
+        unit: NumberUnit::None,
         grouping,
     };
-    if let Ok(formatter) = plain_formatter(tables, key) {
-        let _ = is_readable(&formatter);
+    match find_formatter(tables, preferences, &shape) {
+        Ok(formatter) => match formatter.kind() {
+            FormatterKind::Plain(plain) => {
+                let _ = is_readable(plain);
+            }
+            FormatterKind::Compact(_) | FormatterKind::Percent(_) | FormatterKind::Currency(_) => {
+                ()
+            }
+        },
+        Err(_) => (),
     }
 }
 
@@ -133,6 +141,7 @@ pub fn found_tables_are_texts<T: Tables>(
 pub fn read_is_written_again()
     ensures { ReadIsWrittenAgain }
 {
+    plain_reads_by_pairs();
     plain_reading_is_the_reading();
     both_trips();
 }
@@ -141,14 +150,18 @@ pub fn read_is_written_again()
 /// answer `-987654.321` to both.
 pub fn read_is_read_leniently()
     ensures { ReadIsReadLeniently }
-{}
+{
+    plain_reads_by_pairs();
+}
 
 /// Where the symbols are leniently readable, a text that `read` answers by a number with one grouping, `read-lenient`
 /// answers by the same one with each: with `en`, `1234` has the answer `1234` to `read` with `never`, and to
 /// `read-lenient` with `always`.
 pub fn each_grouping_is_read_leniently()
     ensures { EachGroupingIsReadLeniently }
-{}
+{
+    plain_reads_by_pairs();
+}
 
 /// What is written of a number is UTF-8, as each field of a line is: with `en` that of -987654.321 is `-987,654.321`.
 pub fn written_is_utf8()
@@ -162,6 +175,7 @@ pub fn written_is_utf8()
 pub fn written_reads_back()
     ensures { WrittenReadsBack }
 {
+    plain_reads_by_pairs();
     both_trips();
 }
 
@@ -170,6 +184,7 @@ pub fn written_reads_back()
 pub fn rounded_is_written_again()
     ensures { RoundedIsWrittenAgain }
 {
+    plain_reads_by_pairs();
     plain_reading_is_the_reading();
     texts_have_one_decimal();
 }
@@ -205,7 +220,7 @@ pub fn read_unit_is_written_again()
     ensures { ReadUnitIsWrittenAgain }
 {
     found_units_are_texts();
-    unit_texts_have_one_reading();
+    functions_answer_readings();
     unit_texts_have_one_decimal();
 }
 
@@ -216,7 +231,7 @@ pub fn written_unit_reads_back()
     ensures { WrittenUnitReadsBack }
 {
     found_units_are_texts();
-    unit_texts_have_one_reading();
+    functions_answer_readings();
     unit_texts_have_one_decimal();
 }
 
@@ -227,7 +242,7 @@ pub fn written_percent_reads_back()
     ensures { WrittenPercentReadsBack }
 {
     found_units_are_texts();
-    unit_texts_have_one_reading();
+    functions_answer_readings();
     unit_texts_have_one_decimal();
 }
 
@@ -243,6 +258,7 @@ pub fn keys_are_told_apart()
 pub fn printed_value_is_answered()
     ensures { PrintedIsAnswered }
 {
+    compact_is_layered();
     shown_values_are_compact();
     shown_forms_are_answered();
 }
@@ -253,6 +269,7 @@ pub fn printed_value_is_answered()
 pub fn printed_value_is_written_again()
     ensures { PrintedIsWrittenAgain }
 {
+    compact_is_layered();
     shown_values_are_compact();
     shown_forms_are_answered();
     exact_forms_of_shown_values();
@@ -289,23 +306,26 @@ pub fn found_compact_tables_are_sound()
     tables_are_sound();
 }
 
-// What a compact form finds in tables is sound.
+// What is found of compact numbers in tables is sound.
 fn found_tables_are_sound<T: Tables>(
     tables: &T,
-    length: PatternLength,
+    width: CompactWidth,
     preferences: DecimalFormatterPreferences,
     grouping: GroupingStrategy,
 )
-    ensures { IsSoundWhereFound (found_compact length (T.book tables.now) preferences grouping) }
+    ensures { IsSoundWhereFound (found_for (compact_shape width grouping) (T.book tables.now) preferences) }
 {
-    let key = FormatterKey {
-        preferences,
-        kind: Kind::Compact(length),
-        code: None,
+    let shape = NumberShape {
+        notation: Notation::Compact(width),
+        unit: NumberUnit::None,
         grouping,
     };
-    if let Ok(formatter) = compact_formatter(tables, length, key) {
-        held_entries_are_sound(&formatter);
+    match find_formatter(tables, preferences, &shape) {
+        Ok(formatter) => match formatter.kind() {
+            FormatterKind::Compact(compact) => held_entries_are_sound(compact),
+            FormatterKind::Plain(_) | FormatterKind::Percent(_) | FormatterKind::Currency(_) => (),
+        },
+        Err(_) => (),
     }
 }
 
@@ -316,9 +336,9 @@ pub fn found_short_tables_are_sound<T: Tables>(
     preferences: DecimalFormatterPreferences,
     grouping: GroupingStrategy,
 )
-    ensures { IsSoundWhereFound (found_compact Short (T.book tables.now) preferences grouping) }
+    ensures { IsSoundWhereFound (found_for (compact_shape Short grouping) (T.book tables.now) preferences) }
 {
-    found_tables_are_sound(tables, PatternLength::Short, preferences, grouping);
+    found_tables_are_sound(tables, CompactWidth::Short, preferences, grouping);
 }
 
 /// What the long form finds in tables of one's own is sound: in the sample book with `en` the types 3 and 6. It makes a
@@ -328,7 +348,7 @@ pub fn found_long_tables_are_sound<T: Tables>(
     preferences: DecimalFormatterPreferences,
     grouping: GroupingStrategy,
 )
-    ensures { IsSoundWhereFound (found_compact Long (T.book tables.now) preferences grouping) }
+    ensures { IsSoundWhereFound (found_for (compact_shape Long grouping) (T.book tables.now) preferences) }
 {
-    found_tables_are_sound(tables, PatternLength::Long, preferences, grouping);
+    found_tables_are_sound(tables, CompactWidth::Long, preferences, grouping);
 }

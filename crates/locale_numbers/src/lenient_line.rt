@@ -1,20 +1,56 @@
-//! The form `read-lenient`: the number that was typed, as an answer.
+//! The task that reads what people type: the number that was typed, as an answer.
 
-ghost use Rattle.std.specs.Prelude.{◌≡◌, ◌∷◌, ◌++◌, List, Option, Some, IsOk, OnOk, OnErr, string_bytes};
+ghost use Rattle.std.specs.Prelude.{◌≡◌, ◌⊎◌, true, ◌∷◌, ◌++◌, List, Option, Some, IsOk, OnOk, OnErr, string_bytes};
 ghost use Rattle.locale_numbers_lines.specs.Growth.{Grows};
-ghost use Rattle.locale_numbers.specs.Answer.{found_in, in_latin};
 ghost use Rattle.locale_numbers_answers.specs.AnswerSink.{HasRoom};
-ghost use Rattle.locale_numbers_answers.specs.LenientAnswer.{MayAllocateWith, lenient_with};
+ghost use Rattle.locale_numbers_answers.specs.AnswerMemory.{TypedFoundAllocates};
+ghost use Rattle.locale_numbers_answers.specs.Answers.{typed_found};
+ghost use Rattle.locale_numbers_answers.specs.ReadAnswer.{read_answer};
+ghost use Rattle.locale_numbers_book.specs.FoundFormats.{found_for, in_latin};
+ghost use Rattle.locale_numbers_formatter.specs.FormatText.{HasNoUnit};
+ghost use Rattle.locale_numbers_formatter.specs.FormatTyped.{TypedAllocates, format_typed_reading, typed_of};
+ghost use Rattle.locale_numbers.specs.Front.{FindsUnits};
 ghost use Rattle.locale_numbers.specs.declared.formatter_key.FormatterKey.{FormatterKey};
-ghost use Rattle.locale_numbers.specs.declared.formatter_key.Kind.{Kind};
 
 use crate::formatter_key::FormatterKey;
 use crate::formatters::Formatters;
-use crate::line_formatter::LineFormatter;
+use crate::kept_formatter::KeptFormatter;
 use locale_numbers_answers::{write_lenient_answer, write_refusal};
 use locale_numbers_cache::Hashed;
 use locale_numbers_requests::Refusal;
 use std::alloc::{AllocError, Global};
+
+// Writes the answer to a text that was typed, by a formatter, after what `out` holds. What reads it is put together now,
+// where it is not kept.
+fn read_typed_by_formatter(
+    alloc: Global,
+    kept: &KeptFormatter<'_>,
+    text: &str,
+    out: &mut String,
+) -> Result<(), AllocError>
+    ensures text { OnOk result (string_bytes out.new ≡ string_bytes out.old
+        ++ read_answer (format_typed_reading kept.now.formatter kept.now.latin text.now)) }
+    ensures err { OnErr result (Grows (string_bytes out.old) (string_bytes out.new)) }
+
+    // Where there is room for the answer, only a text that is folded, or one of more than sixteen digits, may be out of
+    // memory, and what is put together of a unit.
+    ensures room { HasRoom out.old
+        (read_answer (format_typed_reading kept.now.formatter kept.now.latin text.now))
+        → HasNoUnit kept.now.formatter ⊎ (kept.now.keeps_typed ≡ true)
+        → ¬ (TypedAllocates (typed_of kept.now.formatter kept.now.latin) text.now) → IsOk result }
+{
+    if let Some(reader) = &kept.lenient {
+        return write_lenient_answer(alloc, reader, text, out);
+    }
+    match kept.formatter.lenient_reader(alloc, kept.latin.as_ref()) {
+        Ok(reader) => {
+            let written = write_lenient_answer(alloc, &reader, text, out);
+            drop(reader);
+            written
+        }
+        Err(refused) => Err(refused),
+    }
+}
 
 // Writes the answer to a text that the formatter of a key reads leniently after what `out` holds.
 //
@@ -28,20 +64,21 @@ pub(crate) fn answer_lenient<'a, F: Formatters<'a>>(
 ) -> Result<(), AllocError>
     requires ready { F.is_ready formatters.old }
     requires right { F.is_right_for formatters.old key.now }
-    requires lenient { key.now.kind ≡ Kind.Lenient }
-    ensures text { OnOk result (string_bytes out.new
-        ≡ string_bytes out.old ++ lenient_with (found_in (F.book formatters.old) key.now.preferences key.now.grouping)
-        (found_in (F.book formatters.old) (in_latin key.now.preferences) key.now.grouping) text.now) }
+    requires lenient { key.now.is_lenient ≡ true }
+    ensures text { OnOk result (string_bytes out.new ≡ string_bytes out.old
+        ++ typed_found (found_for key.now.shape (F.book formatters.old) key.now.preferences)
+        (found_for key.now.shape (F.book formatters.old) (in_latin key.now.preferences)) text.now) }
     ensures err { OnErr result (Grows (string_bytes out.old) (string_bytes out.new)) }
 
     // Where there is room for the answer, and handing out the formatter of the key takes none, only a text that is
-    // folded, or one of more than sixteen digits, may be out of memory.
-    ensures room { HasRoom out.old (lenient_with
-        (found_in (F.book formatters.old) key.now.preferences key.now.grouping)
-        (found_in (F.book formatters.old) (in_latin key.now.preferences) key.now.grouping) text.now)
+    // folded, or one of more than sixteen digits, may be out of memory, and what is put together of a unit.
+    ensures room { HasRoom out.old
+        (typed_found (found_for key.now.shape (F.book formatters.old) key.now.preferences)
+        (found_for key.now.shape (F.book formatters.old) (in_latin key.now.preferences)) text.now)
         → ¬ (F.may_take_memory formatters.old key.now)
-        → ¬ (MayAllocateWith (found_in (F.book formatters.old) key.now.preferences key.now.grouping)
-        (found_in (F.book formatters.old) (in_latin key.now.preferences) key.now.grouping) text.now)
+        → ¬ (TypedFoundAllocates (found_for key.now.shape (F.book formatters.old) key.now.preferences)
+        (found_for key.now.shape (F.book formatters.old) (in_latin key.now.preferences)) text.now)
+        → ¬ (FindsUnits (found_for key.now.shape (F.book formatters.old) key.now.preferences))
         → IsOk result }
     ensures counted { OnOk result ((more : List (Option FormatterKey)) →
         F.counted_over formatters.old (Some key.now ∷ more) ≡ F.counted_over formatters.new more) }
@@ -53,11 +90,5 @@ pub(crate) fn answer_lenient<'a, F: Formatters<'a>>(
     if !found {
         return write_refusal(out, Refusal::Table);
     }
-    match formatters.found(key) {
-        LineFormatter::Lenient(reader) => write_lenient_answer(alloc, reader, text, out),
-        LineFormatter::Plain(_)
-        | LineFormatter::Compact(_)
-        | LineFormatter::Units(_)
-        | LineFormatter::LenientUnits(_) => unreachable!(),
-    }
+    read_typed_by_formatter(alloc, formatters.found(key), text, out)
 }

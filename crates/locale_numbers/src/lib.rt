@@ -21,43 +21,40 @@ mod fault;
 mod formatter_key;
 mod formatters;
 mod front;
+mod kept_formatter;
 pub mod laws;
 mod lenient_line;
-mod lenient_reader;
-mod lenient_unit_formatter;
-mod lenient_unit_line;
 mod line_answerer;
-mod line_formatter;
 mod number_line;
+mod one_formatter;
 pub mod prelude;
 mod program_run;
 mod read_line;
 mod running;
 mod starting;
-mod tables;
-mod unit_formatter;
-mod unit_line;
 mod without_units;
 mod words;
+mod world;
 
 pub use answering::answer;
 pub use answers::Answers;
 pub use fault::ProgramFault;
-pub use locale_numbers_book::{Book, BookError, FormatterError, SAMPLE_BOOK, SAMPLE_UNITS_BOOK};
+pub use locale_numbers_book::{
+    Book, BookError, BookTexts, FormatterError, NumberTexts, SAMPLE_BOOK, SAMPLE_UNITS_BOOK,
+    Tables, UnitTexts, book_text_for, put_book,
+};
+pub use locale_numbers_formats::{
+    CompactWidth, CurrencyUnit, Notation, NumberFormat, NumberOptions, NumberShape, NumberUnit,
+    Rounding, SignAsked,
+};
 pub use locale_numbers_lines::{
     ByteReadFault, ByteReader, ByteWriteFault, ByteWriter, Report, RunError, Tracked,
 };
-pub use locale_numbers_requests::{
-    AmountStyle, Form, PatternLength, RoundingAsked, SignAsked, UnitAsked,
-};
-pub use locale_numbers_world::{
-    BookTexts, NumberTexts, UnitTexts, WORLD_LOCALES, book_text_for, put_book, world_tags,
-    world_text, world_texts,
-};
+pub use locale_numbers_requests::{Request, Task};
+pub use locale_numbers_world::{WORLD_LOCALES, world_tags};
 pub use program_run::program;
 pub use running::run;
 pub use starting::start;
-pub use tables::Tables;
-pub use unit_formatter::amount_options;
 pub use without_units::{NumberTables, WithoutUnits};
 pub use words::{Words, read_words};
+pub use world::{world_text, world_texts};

@@ -1,6 +1,7 @@
 //! What a program needs: a book, the formatters of a tag, numbers, and what is written and read:
 //! `use locale_numbers::prelude::..`.
 
+pub use crate::world::world_text;
 pub use fixed_decimal::{Decimal, Sign};
 pub use icu_decimal::error::{ReadError, WriteFault};
 pub use icu_decimal::options::{
@@ -17,6 +18,6 @@ pub use icu_dimension::{
 };
 pub use icu_locale_core::Locale;
 pub use locale_numbers_book::{Book, BookError, FormatterError, SAMPLE_BOOK, SAMPLE_UNITS_BOOK};
-pub use locale_numbers_requests::PatternLength;
-pub use locale_numbers_world::{WORLD_LOCALES, world_tags, world_text};
+pub use locale_numbers_formats::CompactWidth;
+pub use locale_numbers_world::{WORLD_LOCALES, world_tags};
 pub use writeable::{Affixed, Part, PartsSink, Sink, TextSink, Writeable};

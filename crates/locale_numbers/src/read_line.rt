@@ -1,20 +1,53 @@
-//! The form `read`: the number that a text was written from, as an answer.
+//! The task that reads back: the number that a text was written from, as an answer.
 
-ghost use Rattle.std.specs.Prelude.{◌≡◌, ◌∷◌, ◌++◌, List, Option, Some, IsOk, OnOk, OnErr, string_bytes};
+ghost use Rattle.std.specs.Prelude.{◌≡◌, ◌⊎◌, true, ◌∷◌, ◌++◌, List, Ok, Option, Some, IsOk, OnOk, OnErr, string_bytes};
 ghost use Rattle.locale_numbers_lines.specs.Growth.{Grows};
-ghost use Rattle.locale_numbers.specs.Answer.{found_in};
 ghost use Rattle.locale_numbers_answers.specs.AnswerSink.{HasRoom};
-ghost use Rattle.locale_numbers_answers.specs.ReadAnswer.{HasManyDigitsWith, read_with};
+ghost use Rattle.locale_numbers_answers.specs.AnswerMemory.{ReadAllocates};
+ghost use Rattle.locale_numbers_answers.specs.Answers.{read_found};
+ghost use Rattle.locale_numbers_book.specs.FoundFormats.{found_for};
+ghost use Rattle.locale_numbers_formatter.specs.FormatReading.{ReaderAllocates, reader_of};
+ghost use Rattle.locale_numbers_formatter.specs.FormatText.{HasNoUnit};
+ghost use Rattle.locale_numbers.specs.Front.{FindsUnits};
 ghost use Rattle.locale_numbers.specs.declared.formatter_key.FormatterKey.{FormatterKey};
-ghost use Rattle.locale_numbers.specs.declared.formatter_key.Kind.{Kind};
 
 use crate::formatter_key::FormatterKey;
 use crate::formatters::Formatters;
-use crate::line_formatter::LineFormatter;
+use crate::kept_formatter::KeptFormatter;
 use locale_numbers_answers::{write_read_answer, write_refusal};
 use locale_numbers_cache::Hashed;
+use locale_numbers_formats::Rounding;
 use locale_numbers_requests::Refusal;
 use std::alloc::{AllocError, Global};
+
+// Writes the answer to a text that a formatter reads back after what `out` holds. What reads it is put together now,
+// where it is not kept.
+fn read_by_formatter(
+    alloc: Global,
+    kept: &KeptFormatter<'_>,
+    rounding: Rounding,
+    text: &str,
+    out: &mut String,
+) -> Result<(), AllocError>
+    ensures text { OnOk result (string_bytes out.new
+        ≡ string_bytes out.old ++ read_found (Ok kept.now.formatter) rounding text.now) }
+    ensures err { OnErr result (Grows (string_bytes out.old) (string_bytes out.new)) }
+
+    // Where there is room for the answer, only a text of more than sixteen digits may be out of memory, and the affixes
+    // of a unit that are put together.
+    ensures room { HasRoom out.old (read_found (Ok kept.now.formatter) rounding text.now)
+        → HasNoUnit kept.now.formatter ⊎ (kept.now.keeps_reader ≡ true)
+        → ¬ (ReaderAllocates (reader_of kept.now.formatter) text.now) → IsOk result }
+{
+    let fractions = kept.formatter.fractions();
+    if let Some(reader) = &kept.reader {
+        return write_read_answer(alloc, reader, fractions, rounding, text, out);
+    }
+    match kept.formatter.reader(alloc) {
+        Ok(reader) => write_read_answer(alloc, &reader, fractions, rounding, text, out),
+        Err(refused) => Err(refused),
+    }
+}
 
 // Writes the answer to a text that the formatter of a key reads back after what `out` holds.
 //
@@ -23,23 +56,23 @@ pub(crate) fn answer_read<'a, F: Formatters<'a>>(
     alloc: Global,
     formatters: &mut F,
     key: &Hashed<FormatterKey>,
+    rounding: Rounding,
     text: &str,
     out: &mut String,
 ) -> Result<(), AllocError>
     requires ready { F.is_ready formatters.old }
     requires right { F.is_right_for formatters.old key.now }
-    requires plain { key.now.kind ≡ Kind.Plain }
-    ensures text { OnOk result (string_bytes out.new
-        ≡ string_bytes out.old ++ read_with (found_in (F.book formatters.old) key.now.preferences key.now.grouping)
-        text.now) }
+    ensures text { OnOk result (string_bytes out.new ≡ string_bytes out.old
+        ++ read_found (found_for key.now.shape (F.book formatters.old) key.now.preferences) rounding text.now) }
     ensures err { OnErr result (Grows (string_bytes out.old) (string_bytes out.new)) }
 
     // Where there is room for the answer, and handing out the formatter of the key takes none, only a text of more than
-    // sixteen digits may be out of memory.
-    ensures room { HasRoom out.old (read_with (found_in (F.book formatters.old) key.now.preferences key.now.grouping)
-        text.now)
+    // sixteen digits may be out of memory, and the affixes of a unit that are put together.
+    ensures room { HasRoom out.old
+        (read_found (found_for key.now.shape (F.book formatters.old) key.now.preferences) rounding text.now)
         → ¬ (F.may_take_memory formatters.old key.now)
-        → ¬ (HasManyDigitsWith (found_in (F.book formatters.old) key.now.preferences key.now.grouping) text.now)
+        → ¬ (ReadAllocates (found_for key.now.shape (F.book formatters.old) key.now.preferences) text.now)
+        → ¬ (FindsUnits (found_for key.now.shape (F.book formatters.old) key.now.preferences))
         → IsOk result }
     ensures counted { OnOk result ((more : List (Option FormatterKey)) →
         F.counted_over formatters.old (Some key.now ∷ more) ≡ F.counted_over formatters.new more) }
@@ -51,13 +84,5 @@ pub(crate) fn answer_read<'a, F: Formatters<'a>>(
     if !found {
         return write_refusal(out, Refusal::Table);
     }
-    match formatters.found(key) {
-        LineFormatter::Plain(plain) => {
-            write_read_answer(alloc, &plain.formatter, plain.is_readable, text, out)
-        }
-        LineFormatter::Compact(_)
-        | LineFormatter::Lenient(_)
-        | LineFormatter::Units(_)
-        | LineFormatter::LenientUnits(_) => unreachable!(),
-    }
+    read_by_formatter(alloc, formatters.found(key), rounding, text, out)
 }

@@ -1,6 +1,5 @@
 //! Tables of numbers alone, as those of a book that has no units.
 
-use crate::tables::Tables;
 use icu_decimal::plurals::PluralRules;
 use icu_decimal::provider::{
     CompactPatterns, DataError, DataIdentifier, DataProvider, DecimalCompactLongV1,
@@ -13,7 +12,7 @@ use icu_dimension::provider::{
     CurrencySymbol, CurrencySymbolsV1, PercentEssentialsV1, PercentPattern,
 };
 use icu_locale_core::DataLocale;
-use locale_numbers_book::Book;
+use locale_numbers_book::{Book, Tables};
 
 /// Tables of the five kinds that numbers without a unit are written with, and parents of locales: those of [`Tables`]
 /// without units. [`WithoutUnits`] makes `Tables` of them.

@@ -19,3 +19,6 @@ pub mod SampleUnitsLemmas
 pub mod TextTables
 pub mod FoundTexts
 pub mod FoundUnitTexts
+pub mod ChainLemmas
+pub mod KnownLines
+pub mod SmallBookLemmas

@@ -11,6 +11,10 @@ pub mod Tables
 pub mod Wanted
 pub mod TagFormatters
 pub mod FoundFormats
+-- What a reader must believe: the text of a book that is put together of lines, and which lines the small book of a tag has.
+pub mod BookText
+pub mod EntryFields
+pub mod SelectedText
 -- What private steps follow.
 pub mod Arrays
 pub mod BookAllocation

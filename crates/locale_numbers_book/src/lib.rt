@@ -17,6 +17,7 @@ mod sample_book;
 mod tables;
 mod tag_formatters;
 mod tag_reader;
+mod texts;
 mod unit_formatters;
 mod unit_providers;
 
@@ -27,3 +28,4 @@ pub use locale_numbers_tables::BookError;
 pub use sample_book::{SAMPLE_BOOK, SAMPLE_UNITS_BOOK};
 pub use tables::Tables;
 pub use tag_reader::read_preferences;
+pub use texts::{BookTexts, NumberTexts, UnitTexts, book_text_for, put_book};

@@ -1,6 +1,6 @@
 -- The amount that a rounding to the digits of a currency makes, as a function: the nearest multiple, shown down to the last digit.
 -- Defined in docs/units.md, "Digits of a currency"; a law of `locale_numbers_answers` says that it is the amount which the relation of `icu_dimension_fractions` names.
--- Cited by `NumberOptions::change`, and by `answer` and `run`, through UnitAnswer.antt of `locale_numbers_answers`.
+-- Cited by `NumberOptions::change`, and by `answer` and `run`, through Answers.antt and ReadAnswer.antt of `locale_numbers_answers`.
 use Rattle.fixed_decimal.specs.Number.{Number}
 use Rattle.fixed_decimal.specs.SignedValue.{SignedValue}
 use Rattle.fixed_decimal.specs.declared.UnsignedRoundingMode.TheVariants.{HalfEven}

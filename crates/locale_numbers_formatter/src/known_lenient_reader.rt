@@ -19,16 +19,16 @@ use std::marker::Model;
 // What reads the texts.
 #[derive(Drop)]
 pub(crate) enum TypedReader<'a> {
-    /// Exactly, and else leniently.
+    // Exactly, and else leniently.
     Leniently(LenientUnitReader<'a>),
-    /// Exactly alone, where texts can't be read leniently.
+    // Exactly alone, where texts can't be read leniently.
     Exactly(KnownReader<'a>),
 }
 
-/// A reader of what people type of numbers with a unit that was asked once whether it can be read: that of English, `€`
-/// and `EUR` reads `€1.50`, `1.5` and `EUR 1.5`.
+// A reader of what people type of numbers with a unit that was asked once whether it can be read: that of English, `€`
+// and `EUR` reads `€1.50`, `1.5` and `EUR 1.5`.
 #[derive(Drop)]
-pub struct KnownLenientReader<'a> {
+pub(crate) struct KnownLenientReader<'a> {
     reader: TypedReader<'a>,
 }
 
@@ -42,8 +42,8 @@ impl<'a> Model for KnownLenientReader<'a> {
 }
 
 impl<'a> KnownLenientReader<'a> {
-    /// The reader of typed texts. It does not allocate.
-    pub fn leniently(reader: LenientUnitReader<'a>) -> Self
+    // The reader of typed texts. It does not allocate.
+    pub(crate) fn leniently(reader: LenientUnitReader<'a>) -> Self
         ensures { result ≡ leniently reader.entry }
     {
         KnownLenientReader {
@@ -51,9 +51,9 @@ impl<'a> KnownLenientReader<'a> {
         }
     }
 
-    /// The reader of texts that can't be read leniently: it reads what the formatter writes, and nothing else. It does
-    /// not allocate.
-    pub fn exactly(reader: KnownReader<'a>) -> Self
+    // The reader of texts that can't be read leniently: it reads what the formatter writes, and nothing else. It does
+    // not allocate.
+    pub(crate) fn exactly(reader: KnownReader<'a>) -> Self
         ensures { result ≡ record { reader = reader.entry; folded = None } }
     {
         KnownLenientReader {
@@ -93,13 +93,13 @@ impl<'a> KnownLenientReader<'a> {
         }
     }
 
-    /// The number that was typed: of English, `€` and `EUR` 1.5 of `€1.5`, `1.5` and `1.5 EUR`. Native digits are not
-    /// read.
-    ///
-    /// `Unreadable`: texts can't be read, or not leniently and no number is written so. `NotWritten`: it is a text of no
-    /// number, or of two. `Memory`: out of memory. It allocates where the text has more than sixteen digits, or is folded.
+    // The number that was typed: of English, `€` and `EUR` 1.5 of `€1.5`, `1.5` and `1.5 EUR`. Native digits are not
+    // read.
+    //
+    // `Unreadable`: texts can't be read, or not leniently and no number is written so. `NotWritten`: it is a text of no
+    // number, or of two. `Memory`: out of memory. It allocates where the text has more than sixteen digits, or is folded.
     #[tactic(auto, using(crate::proofs::LenientUnitLemmas::exactly_read, crate::proofs::LenientUnitLemmas::exactly_unread, crate::proofs::LenientUnitLemmas::typed_read, crate::proofs::LenientUnitLemmas::exactly_allocates, crate::proofs::LenientUnitLemmas::typed_allocates))]
-    pub fn read(&self, alloc: Global, text: &str) -> Result<Decimal, ReadError>
+    pub(crate) fn read(&self, alloc: Global, text: &str) -> Result<Decimal, ReadError>
         ensures memory { IsErrOf result ReadError.Memory → MayAllocateTyped self.now text.now }
         ensures reading { IsAnswered result (lenient_unit_reading self.now text.now) }
     {
@@ -169,15 +169,15 @@ impl<'a> KnownLenientReader<'a> {
         }
     }
 
-    /// As `read`, and by another reader, where the text is not what the formatter writes, under any grouping: by the
-    /// reader of `km-u-nu-khmr` and `USD` and that of `km-u-nu-latn`, `1,234.5 USD` is 1234.5, and `1,234 USD` is refused.
-    ///
-    /// `Unreadable`: as `read`, and where no number is written so by this reader and the other one answers so.
-    /// `NotWritten`: it is a text of no number by either, or it is ambiguous: this reader reads one number, the other
-    /// one another. `Memory`: out of memory. It allocates as `read`, and as `read` of the other reader where that is
-    /// asked.
+    // As `read`, and by another reader, where the text is not what the formatter writes, under any grouping: by the
+    // reader of `km-u-nu-khmr` and `USD` and that of `km-u-nu-latn`, `1,234.5 USD` is 1234.5, and `1,234 USD` is refused.
+    //
+    // `Unreadable`: as `read`, and where no number is written so by this reader and the other one answers so.
+    // `NotWritten`: it is a text of no number by either, or it is ambiguous: this reader reads one number, the other
+    // one another. `Memory`: out of memory. It allocates as `read`, and as `read` of the other reader where that is
+    // asked.
     #[tactic(auto, using(crate::proofs::LenientUnitLemmas::read_exactly, crate::proofs::LenientUnitLemmas::unread_exactly, crate::proofs::LenientUnitLemmas::exactly_allocates))]
-    pub fn read_or(
+    pub(crate) fn read_or(
         &self,
         alloc: Global,
         other: &KnownLenientReader<'_>,

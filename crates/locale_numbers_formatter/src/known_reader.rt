@@ -2,20 +2,18 @@
 
 ghost use Rattle.std.specs.Prelude.{◌≡◌, IsErrOf};
 ghost use Rattle.icu_decimal.specs.PlainReading.{IsAnswered};
-ghost use Rattle.icu_dimension_affixes.specs.HeldReaders.{pair_of};
-ghost use Rattle.icu_dimension_affixes.specs.UnitReading.{HasManyBetween, pair_for};
+ghost use Rattle.icu_dimension_affixes.specs.UnitReading.{HasManyBetween};
 ghost use Rattle.icu_dimension_lenient.specs.UnitReadings.{unit_reading};
 
-use fixed_decimal::{Decimal, Sign};
+use fixed_decimal::Decimal;
 use icu_decimal::error::ReadError;
 use icu_dimension_affixes::UnitReader;
-use icu_dimension_affixes::steps::SignAffixes;
 use std::alloc::Global;
 use std::marker::Model;
 
-/// A reader of texts with a unit that was asked once whether they can be read: that of English and `€` reads `€1.50`.
+// A reader of texts with a unit that was asked once whether they can be read: that of English and `€` reads `€1.50`.
 #[derive(Drop)]
-pub struct KnownReader<'a> {
+pub(crate) struct KnownReader<'a> {
     reader: UnitReader<'a>,
     is_readable: bool,
 }
@@ -32,8 +30,8 @@ impl<'a> Model for KnownReader<'a> {
 }
 
 impl<'a> KnownReader<'a> {
-    /// The reader, once it is asked. It does not allocate.
-    pub fn new(reader: UnitReader<'a>) -> Self
+    // The reader, once it is asked. It does not allocate.
+    pub(crate) fn new(reader: UnitReader<'a>) -> Self
         ensures { result ≡ reader.entry }
     {
         let is_readable = reader.is_readable();
@@ -43,19 +41,11 @@ impl<'a> KnownReader<'a> {
         }
     }
 
-    /// The affixes of a sign, with the unit in its place: of English and `€` and a minus `-€` and nothing. It does not
-    /// allocate.
-    pub fn affixes(&self, sign: Sign) -> &SignAffixes
-        ensures { pair_of result.now ≡ pair_for self.now.pairs sign }
-    {
-        self.reader.affixes(sign)
-    }
-
-    /// The number whose text with the unit this is: of English and `€` 1.50 of `€1.50`.
-    ///
-    /// `Unreadable`, `NotWritten`: as `UnitReader::read`. `Memory`: out of memory. It allocates where more than sixteen
-    /// digits are between the affixes of a sign.
-    pub fn read(&self, alloc: Global, text: &str) -> Result<Decimal, ReadError>
+    // The number whose text with the unit this is: of English and `€` 1.50 of `€1.50`.
+    //
+    // `Unreadable`, `NotWritten`: as `UnitReader::read`. `Memory`: out of memory. It allocates where more than sixteen
+    // digits are between the affixes of a sign.
+    pub(crate) fn read(&self, alloc: Global, text: &str) -> Result<Decimal, ReadError>
         ensures memory { IsErrOf result ReadError.Memory → HasManyBetween self.now text.now }
         ensures reading { IsAnswered result (unit_reading self.now text.now) }
     {

@@ -17,10 +17,10 @@ use std::marker::Model;
 
 const ASCII_DIGITS: [char; 10] = ['0', '1', '2', '3', '4', '5', '6', '7', '8', '9'];
 
-/// Whether the digits of tables are those of ASCII: of `en` they are, of `ar-EG` they are not.
-///
-/// It does not allocate.
-pub fn has_ascii_digits(tables: &DecimalTables<'_>) -> bool
+// Whether the digits of tables are those of ASCII: of `en` they are, of `ar-EG` they are not.
+//
+// It does not allocate.
+pub(crate) fn has_ascii_digits(tables: &DecimalTables<'_>) -> bool
     ensures { result ≡ bytes_eq (borrowed_tables tables.now).digits plain_digits }
 {
     *tables.digits() == ASCII_DIGITS
@@ -46,16 +46,6 @@ impl<'a> Model for LenientFormatter<'a> {
 }
 
 impl<'a> LenientFormatter<'a> {
-    // Its symbols are folded for each text.
-    fn new(formatter: DecimalFormatter<'a>) -> Self
-        ensures { result ≡ tables_of formatter.entry }
-    {
-        LenientFormatter {
-            formatter,
-            kept: None,
-        }
-    }
-
     // Its symbols are folded now, where they are leniently readable. Where memory is refused they are folded for each
     // text.
     fn keeping(alloc: Global, formatter: DecimalFormatter<'a>) -> Self
@@ -84,12 +74,12 @@ impl<'a> TableReader for LenientFormatter<'a> {
     }
 }
 
-/// What reads the texts of a form that people type into: by a formatter and, where there is one, by a second one, as that
-/// of `ar-EG-u-nu-latn` beside that of `ar-EG`.
-///
-/// A clause sees the tables of both.
+// What reads the texts of a form that people type into: by a formatter and, where there is one, by a second one, as that
+// of `ar-EG-u-nu-latn` beside that of `ar-EG`.
+//
+// A clause sees the tables of both.
 #[derive(Drop)]
-pub struct LenientReader<'a> {
+pub(crate) struct LenientReader<'a> {
     first: LenientFormatter<'a>,
     second: Option<LenientFormatter<'a>>,
 }
@@ -103,27 +93,11 @@ impl<'a> Model for LenientReader<'a> {
 }
 
 impl<'a> LenientReader<'a> {
-    /// A reader by a formatter and a second one, whose symbols are folded for each text: for one text.
-    ///
-    /// It does not allocate.
-    pub fn new(formatter: DecimalFormatter<'a>, second: Option<DecimalFormatter<'a>>) -> Self
-        ensures first { result.first ≡ tables_of formatter.entry }
-        ensures second { result.second ≡ option_map tables_of second.entry }
-    {
-        LenientReader {
-            first: LenientFormatter::new(formatter),
-            second: match second {
-                Some(second) => Some(LenientFormatter::new(second)),
-                None => None,
-            },
-        }
-    }
-
-    /// A reader by a formatter and a second one, whose symbols are folded once: for a form whose texts are read at each
-    /// key.
-    ///
-    /// Allocates the folded texts of the symbols. Where memory is refused they are folded for each text.
-    pub fn keeping(
+    // A reader by a formatter and a second one, whose symbols are folded once: for a form whose texts are read at each
+    // key.
+    //
+    // Allocates the folded texts of the symbols. Where memory is refused they are folded for each text.
+    pub(crate) fn keeping(
         alloc: Global,
         formatter: DecimalFormatter<'a>,
         second: Option<DecimalFormatter<'a>>,
@@ -140,21 +114,14 @@ impl<'a> LenientReader<'a> {
         }
     }
 
-    /// The formatter that reads first.
-    pub fn formatter(&self) -> &DecimalFormatter<'a>
-        ensures tables { tables_of result.now ≡ self.now.first }
-    {
-        &self.first.formatter
-    }
-
-    /// The decimal that was typed: by the formatter of `en` 1234.5 of `1234.5`, and 0.5 of `.5`; by that of `hi` 123 of
-    /// `१२३`.
-    ///
-    /// Where there is a second formatter, it is asked too where the text is not what the first one writes under any
-    /// grouping. `Unreadable`, `NotWritten`: as `read_lenient` of `icu_decimal` by the first formatter, or, where by this
-    /// the text is no number, by the second one. `NotWritten` also where both read a number, and they differ, as `1,234`
-    /// in `km-u-nu-khmr`. `Memory`: out of memory. Allocates as `read_lenient` by each formatter that is asked.
-    pub fn read(&self, alloc: Global, text: &str) -> Result<Decimal, ReadError>
+    // The decimal that was typed: by the formatter of `en` 1234.5 of `1234.5`, and 0.5 of `.5`; by that of `hi` 123 of
+    // `१२३`.
+    //
+    // Where there is a second formatter, it is asked too where the text is not what the first one writes under any
+    // grouping. `Unreadable`, `NotWritten`: as `read_lenient` of `icu_decimal` by the first formatter, or, where by this
+    // the text is no number, by the second one. `NotWritten` also where both read a number, and they differ, as `1,234`
+    // in `km-u-nu-khmr`. `Memory`: out of memory. Allocates as `read_lenient` by each formatter that is asked.
+    pub(crate) fn read(&self, alloc: Global, text: &str) -> Result<Decimal, ReadError>
         ensures memory { IsErrOf result ReadError.Memory → MayAllocateInTurn self.now text.now }
         ensures reading { IsAnswered result (reading_in_turn self.now text.now) }
     {

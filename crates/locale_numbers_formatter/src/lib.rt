@@ -26,11 +26,7 @@ mod unit_readers_in_turn;
 
 pub use error::ExactError;
 pub use formatted_number::FormattedNumber;
-pub use known_lenient_reader::KnownLenientReader;
-pub use known_reader::KnownReader;
 pub use lenient_number_reader::LenientNumberReader;
-pub use lenient_reader::{LenientReader, has_ascii_digits};
 pub use number_formatter::{FormatterKind, NumberFormatter};
 pub use number_reader::NumberReader;
 pub use own_tables::OwnNumberTables;
-pub use unit_readers_in_turn::UnitReadersInTurn;

@@ -12,10 +12,10 @@ use icu_decimal_lenient::{NativeReader, read_in_native};
 use std::alloc::Global;
 use std::marker::Model;
 
-/// What reads the texts with a unit of a form that people type into: by a reader and, where there is one, by a second one,
-/// as that of `ar-EG-u-nu-latn` beside that of `ar-EG`.
+// What reads the texts with a unit of a form that people type into: by a reader and, where there is one, by a second one,
+// as that of `ar-EG-u-nu-latn` beside that of `ar-EG`.
 #[derive(Drop)]
-pub struct UnitReadersInTurn<'a> {
+pub(crate) struct UnitReadersInTurn<'a> {
     first: KnownLenientReader<'a>,
     second: Option<KnownLenientReader<'a>>,
 }
@@ -29,19 +29,19 @@ impl<'a> Model for UnitReadersInTurn<'a> {
 }
 
 impl<'a> UnitReadersInTurn<'a> {
-    /// A reader and a second one. It does not allocate.
-    pub fn new(first: KnownLenientReader<'a>, second: Option<KnownLenientReader<'a>>) -> Self
+    // A reader and a second one. It does not allocate.
+    pub(crate) fn new(first: KnownLenientReader<'a>, second: Option<KnownLenientReader<'a>>) -> Self
         ensures { result ≡ record { first = first.entry; second = second.entry } }
     {
         UnitReadersInTurn { first, second }
     }
 
-    /// The number that was typed: by the reader of `en` and `EUR` 1234.5 of `€1234.5` and of `€१,२३४.५`, and 5 of `5 EUR`.
-    ///
-    /// `Unreadable`: as `KnownLenientReader::read`, or, where there is a second reader, as `read_or` of these. `NotWritten`:
-    /// so too, and with its native digits in ASCII it is none either. `Memory`: out of memory. It allocates as they do, and
-    /// where the text is no number as it is, and its digits are native.
-    pub fn read(&self, alloc: Global, text: &str) -> Result<Decimal, ReadError>
+    // The number that was typed: by the reader of `en` and `EUR` 1234.5 of `€1234.5` and of `€१,२३४.५`, and 5 of `5 EUR`.
+    //
+    // `Unreadable`: as `KnownLenientReader::read`, or, where there is a second reader, as `read_or` of these. `NotWritten`:
+    // so too, and with its native digits in ASCII it is none either. `Memory`: out of memory. It allocates as they do, and
+    // where the text is no number as it is, and its digits are native.
+    pub(crate) fn read(&self, alloc: Global, text: &str) -> Result<Decimal, ReadError>
         ensures memory { IsErrOf result ReadError.Memory → MayAllocateTypedInTurn self.now text.now }
         ensures reading { IsAnswered result (unit_reading_in_turn self.now text.now) }
     {

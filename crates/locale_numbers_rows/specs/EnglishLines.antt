@@ -4,12 +4,12 @@
 use Rattle.std.specs.Prelude.{◌≡◌, ℕ, List, Some, None, Ok, codes}
 use Rattle.icu_locale_core.specs.TagPreferences.{Preferences}
 use Rattle.locale_numbers.specs.Book.{BookTables}
-use Rattle.locale_numbers.specs.FoundUnit.{found_unit}
+use Rattle.locale_numbers.specs.AskedFormats.{grouping_in, shape_with}
+use Rattle.locale_numbers.specs.FormatText.{UnitFormat, unit_tables}
+use Rattle.locale_numbers.specs.FoundFormats.{found_for}
 use Rattle.locale_numbers.specs.Request.{Asked, request_of}
-use Rattle.locale_numbers.specs.UnitAnswer.{UnitFound}
 use Rattle.locale_numbers.specs.UnitLaws.{FindsUnit}
-use Rattle.locale_numbers.specs.declared.Form.TheVariants as form
-use Rattle.locale_numbers.specs.declared.UnitAsked.{UnitAsked}
+use Rattle.locale_numbers.specs.declared.NumberUnit.{NumberUnit}
 
 -- what `en` prefers
 abbrev pub english : Preferences
@@ -20,6 +20,6 @@ english = record {
 
 -- each line with the tag `en` and a unit, of which the book has the tables, is one that the laws of units are about
 abbrev pub FindsEnglishUnits : BookTables → Type 0
-FindsEnglishUnits book = (line : List ℕ) (asked : Asked) (unit : UnitAsked) (tables : UnitFound)
-    → request_of line ≡ Some asked → asked.tag ≡ codes "en" → asked.form ≡ form.Unit unit
-    → found_unit unit book english asked.grouping ≡ Ok tables → FindsUnit book asked unit tables
+FindsEnglishUnits book = (line : List ℕ) (asked : Asked) (unit : NumberUnit) (tables : UnitFormat)
+    → request_of line ≡ Some asked → asked.tag ≡ codes "en" → asked.format.shape ≡ shape_with unit (grouping_in asked)
+    → found_for (shape_with unit (grouping_in asked)) book english ≡ Ok (unit_tables tables) → FindsUnit book asked unit tables

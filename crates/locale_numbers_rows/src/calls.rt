@@ -4,6 +4,7 @@ use crate::answers::{book_bytes, book_of, put_answer, put_beginnings, put_verdic
 use crate::repeated::repeated;
 use crate::{
     faults, formatters, one_by_one, plain, repeated, runs, sent_back, shouter, starts, tracked,
+    world,
 };
 use locale_numbers::Book;
 use rows::{Stop, Table, unescaped};
@@ -63,6 +64,7 @@ fn answer_by<F: Files>(
         "from_json_beginnings" if passed.len() == 1 => put_beginnings(bytes, out),
         "tracked_read" if passed.is_empty() => tracked::read(out),
         "tracked_write" if passed.len() == 1 => tracked::write(bytes, out),
+        "world_text" if passed.is_empty() => world::put_digest(out),
         "tracked_flush" => tracked::flush(passed, out),
         "answer_sized" => plain::answer_sized(passed, out),
         "check" => plain::check(passed, out),

@@ -2,7 +2,7 @@
 
 use crate::caller::text_for;
 use locale_numbers::prelude::{
-    AbstractFormatter, Book, Decimal, FormatterError, GroupingStrategy, PatternLength,
+    AbstractFormatter, Book, CompactWidth, Decimal, FormatterError, GroupingStrategy,
 };
 use rows::{Stop, put_last, put_last_written};
 
@@ -64,7 +64,7 @@ pub fn answer(
     let put = match call {
         "plain_formatter" => put_by(book.plain_formatter(alloc, tag, never.into()), &number, out),
         "compact_formatter" => {
-            let long = PatternLength::Long;
+            let long = CompactWidth::Long;
             put_by(
                 book.compact_formatter(alloc, tag, long, auto.into()),
                 &number,

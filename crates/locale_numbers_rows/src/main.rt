@@ -26,6 +26,7 @@ mod starts;
 mod taking;
 mod tracked;
 mod unit_caller;
+mod world;
 
 use calls::Calls;
 use rows::print_answers;

@@ -1,22 +1,16 @@
-//! The world's book: tables of all locales of CLDR, as texts, and the tags of these locales.
+//! The world's book, as a text for each of its arrays, and the tags of its locales.
 //!
 //! ```
-//! let text = world_text(alloc)?;
-//! let book = Book::from_json(alloc, text.as_bytes())?;
+//! for entry in world_book::symbols().lines() {              // ["af","","latn","-","","+","",","," ",3,3,1]
+//!     ..
+//! }
 //! ```
 
 #![tactic(auto)]
 
-mod arrays;
-mod chain;
-mod entries;
-mod small_book;
-mod texts;
-mod world;
-mod world_book;
+mod tags;
+pub mod world_book;
 mod world_locales;
 
-pub use small_book::book_text_for;
-pub use texts::{BookTexts, NumberTexts, UnitTexts, put_book};
-pub use world::{world_tags, world_text, world_texts};
+pub use tags::world_tags;
 pub use world_locales::WORLD_LOCALES;

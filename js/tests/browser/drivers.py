@@ -163,7 +163,10 @@ class Firefox:
         self.until("seen.mousedown")
         for place in places[1:]:
             self.screen.point("sleep", 0.05, "mousemove", *place)
-        self.until("seen.dragover")
+        for step in range(100):  # a browser that is slow may begin to drag only after the last step
+            if self.evaluate("Boolean(seen.dragover)"):
+                break
+            self.screen.point("mousemove", places[-1][0] + step % 2, places[-1][1], "sleep", 0.05)
         self.screen.point("mousemove", places[-1][0] + 1, places[-1][1], "sleep", 0.1, "mousemove", *places[-1], "sleep", 0.1, "mouseup", 1)
         self.until("seen.dragend")
 

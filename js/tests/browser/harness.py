@@ -37,7 +37,7 @@ class BrowserCase(unittest.TestCase):
 
     def until(self, expression):
         """Waits until an expression holds."""
-        end = time.monotonic() + 15
+        end = time.monotonic() + 300
         while not self.look(expression):
             self.assertLess(time.monotonic(), end, f"{expression} never holds")
             time.sleep(0.02)

@@ -7,6 +7,8 @@ use crate::{sys, Book, Error};
 /// The answers to many request lines, by the formatters that were used last, as many as the capacity is: who has many lines of few tags
 /// does not open a formatter for each, as `Book::answer` does. They may outlive the book.
 ///
+/// # Examples
+///
 /// ```
 /// use legumeyet::Answers;
 ///
@@ -25,12 +27,20 @@ use crate::{sys, Book, Error};
 pub struct Answers(Owned);
 
 impl Answers {
-    /// Answers by the world's book, which the process opens once and keeps. Refused by `OPTION` of a capacity of 0, `MEMORY`.
+    /// Answers by the world's book, which the process opens once and keeps.
+    ///
+    /// # Errors
+    ///
+    /// [`Error::OPTION`] of a capacity of 0, or [`Error::MEMORY`].
     pub fn new(capacity: usize) -> Result<Answers, Error> {
         with_world(|book| Answers::open(book, capacity))
     }
 
-    /// Answers by a book that is kept. Refused by `UNKEPT` of another, and as `new`.
+    /// Answers by a book that is kept.
+    ///
+    /// # Errors
+    ///
+    /// [`Error::UNKEPT`] where the book is not kept, else as of [`Self::new`].
     pub fn open(book: &Book, capacity: usize) -> Result<Answers, Error> {
         // SAFETY: no other call has the book's handle, and `open` passes a closed one.
         let open = |answers| unsafe { sys::legumeyet_answers_open(book.0.at(), capacity, answers) };
@@ -38,7 +48,10 @@ impl Answers {
     }
 
     /// The answers to the lines, in order, as `Book::answer` has them, each with a line feed. A last line without one is answered too.
-    /// Refused by `MEMORY`.
+    ///
+    /// # Errors
+    ///
+    /// [`Error::MEMORY`].
     pub fn answer(&mut self, lines: &[u8]) -> Result<Vec<u8>, Error> {
         let whole = lines.iter().rposition(|it| *it == b'\n').map_or(0, |at| at + 1);
         let mut out = Vec::new();

@@ -5,6 +5,8 @@ use std::{fmt, iter, ops, slice};
 
 /// The texts of many numbers, one after the other in one string: what `format_all`, `format_doubles` and `format_integers` write.
 ///
+/// # Examples
+///
 /// ```
 /// use legumeyet::{DecimalFormatter, Options};
 ///
@@ -74,6 +76,11 @@ impl Column {
     }
 }
 
+/// The text at a place.
+///
+/// # Panics
+///
+/// Where there is no text at the place: [`Column::get`] tells.
 impl ops::Index<usize> for Column {
     type Output = str;
 
@@ -122,6 +129,8 @@ impl ExactSizeIterator for Texts<'_> {}
 impl iter::FusedIterator for Texts<'_> {}
 
 /// Why a number of many was refused, and the texts of those before it: `at` says which it is, from 0 on.
+///
+/// # Examples
 ///
 /// ```
 /// use legumeyet::{DecimalFormatter, Error, Options};
@@ -207,7 +216,11 @@ impl Lines {
 macro_rules! columns {
     ($type:ident: $doubles:ident, $integers:ident, $texts:ident, |$it:ident| $at:expr) => {
         impl $type {
-            /// The texts of many doubles, as `format` writes each, and sooner. Refused as `format`, by the first number that is.
+            /// The texts of many doubles, as `format` writes each, and sooner.
+            ///
+            /// # Errors
+            ///
+            /// A [`ColumnError`](crate::ColumnError) of the first number that is refused, as of [`Self::format`].
             pub fn format_doubles(&self, numbers: &[f64], options: &crate::Options) -> Result<crate::Column, crate::ColumnError> {
                 let (options, $it) = (options.numbers(), self);
                 crate::Column::written(numbers.len(), |done, out, room, ends, ends_room, count| {
@@ -217,8 +230,11 @@ macro_rules! columns {
                 })
             }
 
-            /// The texts of many integers, each times ten to the power `exponent`: with -2 those of cents in whole units. Refused as
-            /// `format_i64`, by the first number that is.
+            /// The texts of many integers, each times ten to the power `exponent`: with -2 those of cents in whole units.
+            ///
+            /// # Errors
+            ///
+            /// A [`ColumnError`](crate::ColumnError) of the first number that is refused, as of [`Self::format_i64`].
             pub fn format_integers(
                 &self,
                 mantissas: &[i64],
@@ -233,8 +249,11 @@ macro_rules! columns {
                 })
             }
 
-            /// The texts of what can be iterated over: texts, integers or floats, as `format` takes them. Refused as `format`, by the first
-            /// number that is.
+            /// The texts of what can be iterated over: texts, integers or floats, as `format` takes them.
+            ///
+            /// # Errors
+            ///
+            /// A [`ColumnError`](crate::ColumnError) of the first number that is refused, as of [`Self::format`].
             pub fn format_all<'a, N: Into<crate::Number<'a>>>(
                 &self,
                 numbers: impl IntoIterator<Item = N>,

@@ -3,6 +3,8 @@ use std::{fmt, io};
 
 /// Why a call was refused: its number, as legumeyet.h has it. `Display` says it in English.
 ///
+/// # Examples
+///
 /// ```
 /// let error = legumeyet::Book::from_json(b"[]").unwrap_err();
 /// assert_eq!(error, legumeyet::Error::BOOK_SHAPE);

@@ -72,6 +72,8 @@
 //! is_shared::<legumeyet::CurrencyFormatter>();
 //! ```
 
+#![warn(missing_docs, missing_debug_implementations, clippy::missing_errors_doc, clippy::missing_panics_doc)]
+
 mod answers;
 mod column;
 mod error;
@@ -105,46 +107,90 @@ use number::Of;
 use owned::{annotated, written, written_to, Owned};
 use world::with_world;
 
+/// The examples of README.md, which are tried as those here.
+#[cfg(doctest)]
+#[doc = include_str!("../README.md")]
+struct Readme;
+
 /// The parts of a text, by bytes, in order of their beginning.
 pub type Parts = Vec<(Kind, Range<usize>)>;
 
 /// A book of tables.
+///
+/// # Examples
+///
+/// ```
+/// use legumeyet::{Book, DecimalFormatter, Error, Grouping, Options};
+///
+/// let world = Book::world()?;
+/// let german = DecimalFormatter::from_book(&world, "de", Grouping::Never)?;
+/// assert_eq!(german.format(1234.5, &Options::default())?, "1234,5");
+/// assert_eq!(world.answer(b"de\tplain\tauto\tkeep\t-\t1234.5")?, "ok\t1.234,5");
+/// let own = Book::from_json(br#"[[["en","","latn","-","","+","",".",",",3,3,1]],[["latn","0123456789"]],[],[],[]]"#)?;
+/// assert_eq!(own.locales()?, ["en"]);
+/// assert_eq!(DecimalFormatter::from_book(&own, "de", Grouping::Auto).unwrap_err(), Error::TABLE);
+/// # Ok::<(), Error>(())
+/// ```
 #[derive(Debug)]
 pub struct Book(Owned);
 
 impl Book {
-    /// The world's book, which is in the library: `world_locales` lists its locales. Refused by `MEMORY`.
+    /// The world's book, which is in the library: `world_locales` lists its locales.
+    ///
+    /// # Errors
+    ///
+    /// [`Error::MEMORY`].
     pub fn world() -> Result<Book, Error> {
         // SAFETY: `open` passes a closed handle.
         Owned::open(sys::legumeyet_book_close, |book| unsafe { sys::legumeyet_book_open_world(book) }).map(Book)
     }
 
-    /// The book that a file is. Refused where the file cannot be read, and as `from_json`.
+    /// The book that a file is.
+    ///
+    /// # Errors
+    ///
+    /// [`OpenError::File`] where the file cannot be read, else [`OpenError::Book`] as of [`Book::from_json`].
     pub fn open(path: impl AsRef<Path>) -> Result<Book, OpenError> {
         Ok(Book::from_json(&fs::read(path)?)?)
     }
 
-    /// The book that a JSON text is. Refused by one of the `BOOK` errors, or `MEMORY`.
+    /// The book that a JSON text is.
+    ///
+    /// # Errors
+    ///
+    /// One of the errors of a book, 101 to 114, or [`Error::MEMORY`].
     pub fn from_json(json: &[u8]) -> Result<Book, Error> {
         // SAFETY: a slice is memory of its length, and `open` passes a closed handle.
         Owned::open(sys::legumeyet_book_close, |book| unsafe { sys::legumeyet_book_open(json.as_ptr(), json.len(), book) }).map(Book)
     }
 
-    /// Keeps the book for the rest of the program: its memory is never given back, not even where the book is dropped. Formatters that
-    /// are opened from it afterwards borrow its tables: they are opened sooner and hold less memory. Refused by `MEMORY`.
+    /// Keeps the book for the rest of the program: its memory is never given back, not even where the book is dropped. Formatters that are
+    /// opened from it afterwards borrow its tables: they are opened sooner and hold less memory.
+    ///
+    /// # Errors
+    ///
+    /// [`Error::MEMORY`].
     pub fn keep(&self) -> Result<(), Error> {
         // SAFETY: no other call has the handle.
         Error::check(unsafe { sys::legumeyet_book_keep(self.0.at()) })
     }
 
-    /// The answer to a request line, without its line feed: `ok`, a tab and a text, or `err`, a tab and a word. Refused by `MEMORY`.
+    /// The answer to a request line, without its line feed: `ok`, a tab and a text, or `err`, a tab and a word.
+    ///
+    /// # Errors
+    ///
+    /// [`Error::MEMORY`].
     pub fn answer(&self, line: &[u8]) -> Result<String, Error> {
         // SAFETY: a slice is memory of its length, and no other call has the handle.
         written(|out, room, length| unsafe { sys::legumeyet_book_answer(self.0.at(), line.as_ptr(), line.len(), out, room, length) })
     }
 
     /// The tags of the locales that the book has symbols of, in its order. Others have the tables of their parents: of the world's book
-    /// `world_locales` lists all. Refused by `MEMORY`.
+    /// `world_locales` lists all.
+    ///
+    /// # Errors
+    ///
+    /// [`Error::MEMORY`].
     pub fn locales(&self) -> Result<Vec<String>, Error> {
         let mut count = 0;
         // SAFETY: no other call has the handle.
@@ -165,6 +211,20 @@ impl FromStr for Book {
 }
 
 /// The formatter of plain numbers for a locale tag. It may outlive the book.
+///
+/// # Examples
+///
+/// ```
+/// use legumeyet::{DecimalFormatter, Error, Kind, Options};
+///
+/// let (german, as_given) = (DecimalFormatter::new("de")?, Options::default());
+/// assert_eq!(german.format("-1234.50", &as_given)?, "-1.234,50");
+/// assert_eq!(german.format_i64(-123450, -2, &as_given)?, "-1.234,50");
+/// assert_eq!(german.format_parts(-5, &as_given)?, ("-5".into(), vec![(Kind::MinusSign, 0..1), (Kind::Integer, 1..2)]));
+/// assert_eq!(german.read("-1.234,50")?, "-1234.50");
+/// assert_eq!(german.format("1,5", &as_given), Err(Error::NUMBER));
+/// # Ok::<(), Error>(())
+/// ```
 #[derive(Debug)]
 pub struct DecimalFormatter(Owned);
 
@@ -178,17 +238,29 @@ impl FromStr for DecimalFormatter {
 }
 
 impl DecimalFormatter {
-    /// The formatter of a tag, of the world's book, which the process opens once and keeps. Refused by `TAG`, `TABLE`, `MEMORY`.
+    /// The formatter of a tag, of the world's book, which the process opens once and keeps.
+    ///
+    /// # Errors
+    ///
+    /// [`Error::TAG`], [`Error::TABLE`] or [`Error::MEMORY`].
     pub fn new(tag: &str) -> Result<DecimalFormatter, Error> {
         DecimalFormatter::with_grouping(tag, Grouping::Auto)
     }
 
     /// The same with a grouping.
+    ///
+    /// # Errors
+    ///
+    /// As of [`Self::new`].
     pub fn with_grouping(tag: &str, grouping: Grouping) -> Result<DecimalFormatter, Error> {
         with_world(|book| DecimalFormatter::from_book(book, tag, grouping))
     }
 
-    /// The formatter of a book's tag. Refused as `new`.
+    /// The formatter of a book's tag.
+    ///
+    /// # Errors
+    ///
+    /// As of [`Self::new`].
     pub fn from_book(book: &Book, tag: &str, grouping: Grouping) -> Result<DecimalFormatter, Error> {
         // SAFETY: as for `Book::from_json`; no other call has the book's handle.
         let open =
@@ -203,14 +275,21 @@ impl DecimalFormatter {
         SharedDecimalFormatter::of(&self.0)
     }
 
-    /// The text of a number. Refused by `OPTION`, `NUMBER`, `LIMIT`, `MEMORY`.
+    /// The text of a number.
+    ///
+    /// # Errors
+    ///
+    /// [`Error::OPTION`], [`Error::NUMBER`], [`Error::LIMIT`] or [`Error::MEMORY`].
     pub fn format<'a>(&self, number: impl Into<Number<'a>>, options: &Options) -> Result<String, Error> {
         let (number, options) = (number.into(), options.numbers());
         written(|out, room, length| self.call(&number, &options, out, room, length))
     }
 
-    /// Writes the text of `format` into what takes texts, without a text of its own where it has up to 128 bytes. Refused as `format`, and
-    /// where what takes it fails.
+    /// Writes the text of `format` into what takes texts, without a text of its own where it has up to 128 bytes.
+    ///
+    /// # Errors
+    ///
+    /// [`WriteError::Number`] as of [`Self::format`], or [`WriteError::Write`] where what takes the text fails.
     pub fn write_to<'a>(&self, into: &mut impl fmt::Write, number: impl Into<Number<'a>>, options: &Options) -> Result<(), WriteError> {
         let (number, options) = (number.into(), options.numbers());
         written_to(into, |out, room, length| self.call(&number, &options, out, room, length))
@@ -226,8 +305,11 @@ impl DecimalFormatter {
         }
     }
 
-    /// The text of the number `mantissa` times ten to the power `exponent`: 500 and -2 are `5.00`. Refused by `OPTION`, `LIMIT`,
-    /// `MEMORY`.
+    /// The text of the number `mantissa` times ten to the power `exponent`: 500 and -2 are `5.00`.
+    ///
+    /// # Errors
+    ///
+    /// [`Error::OPTION`], [`Error::LIMIT`] or [`Error::MEMORY`].
     pub fn format_i64(&self, mantissa: i64, exponent: i16, options: &Options) -> Result<String, Error> {
         let options = options.numbers();
         // SAFETY: as for `Book::answer`.
@@ -236,7 +318,11 @@ impl DecimalFormatter {
         })
     }
 
-    /// The text of `format` with its parts, by bytes, in order of their beginning. Refused as `format`.
+    /// The text of `format` with its parts, by bytes, in order of their beginning.
+    ///
+    /// # Errors
+    ///
+    /// As of [`Self::format`].
     pub fn format_parts<'a>(&self, number: impl Into<Number<'a>>, options: &Options) -> Result<(String, Parts), Error> {
         let number = number.into();
         let digits = number.digits();
@@ -247,7 +333,11 @@ impl DecimalFormatter {
         })
     }
 
-    /// The number that is written so, as digits: `-1,234.50` is `-1234.50` in English. Refused by `UNREADABLE`, `NOT_WRITTEN`, `MEMORY`.
+    /// The number that is written so, as digits: `-1,234.50` is `-1234.50` in English.
+    ///
+    /// # Errors
+    ///
+    /// [`Error::UNREADABLE`], [`Error::NOT_WRITTEN`] or [`Error::MEMORY`].
     pub fn read(&self, text: &str) -> Result<String, Error> {
         // SAFETY: as for `Book::answer`.
         written(|out, room, length| unsafe {
@@ -256,7 +346,13 @@ impl DecimalFormatter {
     }
 
     /// The number of a text that somebody typed, as digits: what `read` reads, and other texts by folding, without separators, with blanks
-    /// around it, in ASCII digits. A separator is never dropped: digits are grouped wholly, or not at all. Refused as `read`.
+    /// around it, in ASCII digits. A separator is never dropped: digits are grouped wholly, or not at all.
+    ///
+    /// # Errors
+    ///
+    /// As of [`Self::read`].
+    ///
+    /// # Examples
     ///
     /// ```
     /// use legumeyet::{DecimalFormatter, Error};
@@ -281,6 +377,8 @@ columns! {
 
 /// The formatter of compact numbers for a locale tag, short or long. It may outlive the book.
 ///
+/// # Examples
+///
 /// ```
 /// use legumeyet::{CompactDecimalFormatter, Options, Width};
 ///
@@ -295,18 +393,29 @@ columns! {
 pub struct CompactDecimalFormatter(Owned);
 
 impl CompactDecimalFormatter {
-    /// The formatter of a tag, of the world's book, which the process opens once and keeps, with `Grouping::Min2`. Refused by `TAG`,
-    /// `TABLE`, `MEMORY`.
+    /// The formatter of a tag, of the world's book, which the process opens once and keeps, with `Grouping::Min2`.
+    ///
+    /// # Errors
+    ///
+    /// [`Error::TAG`], [`Error::TABLE`] or [`Error::MEMORY`].
     pub fn new(tag: &str, width: Width) -> Result<CompactDecimalFormatter, Error> {
         CompactDecimalFormatter::with_grouping(tag, width, Grouping::Min2)
     }
 
     /// The same with a grouping.
+    ///
+    /// # Errors
+    ///
+    /// As of [`Self::new`].
     pub fn with_grouping(tag: &str, width: Width, grouping: Grouping) -> Result<CompactDecimalFormatter, Error> {
         with_world(|book| CompactDecimalFormatter::from_book(book, tag, width, grouping))
     }
 
-    /// The formatter of a book's tag; compact numbers usually have `Grouping::Min2`. Refused as `new`.
+    /// The formatter of a book's tag; compact numbers usually have `Grouping::Min2`.
+    ///
+    /// # Errors
+    ///
+    /// As of [`Self::new`].
     pub fn from_book(book: &Book, tag: &str, width: Width, grouping: Grouping) -> Result<CompactDecimalFormatter, Error> {
         let (width, grouping) = (width as u32, grouping as u32);
         // SAFETY: as for `Book::from_json`; no other call has the book's handle.
@@ -321,14 +430,21 @@ impl CompactDecimalFormatter {
         SharedCompactDecimalFormatter::of(&self.0)
     }
 
-    /// The text of a number: -1172700 is `-1.2M` in short English. Refused by `OPTION`, `NUMBER`, `LIMIT`, `RANGE`, `MEMORY`.
+    /// The text of a number: -1172700 is `-1.2M` in short English.
+    ///
+    /// # Errors
+    ///
+    /// [`Error::OPTION`], [`Error::NUMBER`], [`Error::LIMIT`], [`Error::RANGE`] or [`Error::MEMORY`].
     pub fn format<'a>(&self, number: impl Into<Number<'a>>, options: &Options) -> Result<String, Error> {
         let (number, options) = (number.into(), options.numbers());
         written(|out, room, length| self.call(&number, &options, out, room, length))
     }
 
-    /// Writes the text of `format` into what takes texts, without a text of its own where it has up to 128 bytes. Refused as `format`, and
-    /// where what takes it fails.
+    /// Writes the text of `format` into what takes texts, without a text of its own where it has up to 128 bytes.
+    ///
+    /// # Errors
+    ///
+    /// [`WriteError::Number`] as of [`Self::format`], or [`WriteError::Write`] where what takes the text fails.
     pub fn write_to<'a>(&self, into: &mut impl fmt::Write, number: impl Into<Number<'a>>, options: &Options) -> Result<(), WriteError> {
         let (number, options) = (number.into(), options.numbers());
         written_to(into, |out, room, length| self.call(&number, &options, out, room, length))
@@ -344,7 +460,11 @@ impl CompactDecimalFormatter {
         }
     }
 
-    /// The text of the number `mantissa` times ten to the power `exponent`. Refused by `OPTION`, `LIMIT`, `RANGE`, `MEMORY`.
+    /// The text of the number `mantissa` times ten to the power `exponent`.
+    ///
+    /// # Errors
+    ///
+    /// [`Error::OPTION`], [`Error::LIMIT`], [`Error::RANGE`] or [`Error::MEMORY`].
     pub fn format_i64(&self, mantissa: i64, exponent: i16, options: &Options) -> Result<String, Error> {
         let options = options.numbers();
         // SAFETY: as for `Book::answer`.
@@ -353,7 +473,11 @@ impl CompactDecimalFormatter {
         })
     }
 
-    /// The text of `format` with its parts, those of its sign, by bytes. Refused as `format`.
+    /// The text of `format` with its parts, those of its sign, by bytes.
+    ///
+    /// # Errors
+    ///
+    /// As of [`Self::format`].
     pub fn format_parts<'a>(&self, number: impl Into<Number<'a>>, options: &Options) -> Result<(String, Parts), Error> {
         let number = number.into();
         let digits = number.digits();
@@ -364,8 +488,11 @@ impl CompactDecimalFormatter {
         })
     }
 
-    /// The value that the text of `format` shows, a significand and, after `c`, an exponent where it is not 0: `-1.2c6`. Refused as
-    /// `format`.
+    /// The value that the text of `format` shows, a significand and, after `c`, an exponent where it is not 0: `-1.2c6`.
+    ///
+    /// # Errors
+    ///
+    /// As of [`Self::format`].
     pub fn shown<'a>(&self, number: impl Into<Number<'a>>, options: &Options) -> Result<String, Error> {
         let (number, options) = (number.into(), options.numbers());
         let digits = number.digits();
@@ -375,8 +502,12 @@ impl CompactDecimalFormatter {
         })
     }
 
-    /// The text of a significand with an exponent, its digits as they are: `-1.20c6` is `-1.20M` in short English. The options change
-    /// the significand. Refused by `OPTION`, `NUMBER`, `LIMIT`, `RANGE`, `EXPONENT`, `MEMORY`.
+    /// The text of a significand with an exponent, its digits as they are: `-1.20c6` is `-1.20M` in short English. The options change the
+    /// significand.
+    ///
+    /// # Errors
+    ///
+    /// [`Error::OPTION`], [`Error::NUMBER`], [`Error::LIMIT`], [`Error::RANGE`], [`Error::EXPONENT`] or [`Error::MEMORY`].
     pub fn format_exact(&self, number: &str, options: &Options) -> Result<String, Error> {
         let options = options.numbers();
         // SAFETY: as for `Book::answer`.

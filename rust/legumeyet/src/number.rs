@@ -4,6 +4,8 @@ use std::borrow::Cow;
 ///
 /// `From` makes it of each of them, so a call takes them as they are:
 ///
+/// # Examples
+///
 /// ```
 /// use legumeyet::{DecimalFormatter, Error, Options};
 ///

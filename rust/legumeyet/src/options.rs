@@ -139,7 +139,9 @@ pub enum Sign {
 #[derive(Clone, Copy, Debug, PartialEq, Eq, Hash)]
 #[non_exhaustive]
 pub enum Kind {
+    /// The minus sign.
     MinusSign,
+    /// The plus sign.
     PlusSign,
     /// The integer digits with their separators.
     Integer,
@@ -151,6 +153,7 @@ pub enum Kind {
     Fraction,
     /// The symbol or the code of a currency, which may be inside a sign.
     Currency,
+    /// The sign of percents, which may be inside a sign.
     PercentSign,
     /// The number of a kind that a later library has.
     Other(u32),
@@ -173,6 +176,8 @@ impl Kind {
 }
 
 /// Which neighbour a number is rounded to.
+///
+/// # Examples
 ///
 /// ```
 /// use legumeyet::Rounding;
@@ -217,7 +222,9 @@ pub enum Increment {
     /// Of one: each digit.
     #[default]
     One = 1,
+    /// Of two.
     Two = 2,
+    /// Of five.
     Five = 5,
     /// Of 25, of which the position is that of the 5.
     TwentyFive = 25,
@@ -238,6 +245,8 @@ pub enum TrailingZeros {
 
 /// What is made of a number before it is written: it is rounded, then trimmed, then padded, and then its sign is chosen. By default it stays
 /// as it is.
+///
+/// # Examples
 ///
 /// ```
 /// use legumeyet::{DecimalFormatter, Increment, Options, Rounding, Sign, TrailingZeros};

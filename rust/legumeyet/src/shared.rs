@@ -53,14 +53,21 @@ macro_rules! shared {
                 }
             }
 
-            /// The text of a number. Refused as by the formatter that was shared.
+            /// The text of a number.
+            ///
+            /// # Errors
+            ///
+            /// As of the formatter that was shared.
             pub fn format<'a>(&self, number: impl Into<Number<'a>>, options: &Options) -> Result<String, Error> {
                 let (number, options) = (number.into(), options.numbers());
                 written(|out, room, length| self.call(&number, &options, out, room, length))
             }
 
-            /// Writes the text of `format` into what takes texts, without a text of its own where it has up to 128 bytes. Refused as
-            /// `format`, and where what takes it fails.
+            /// Writes the text of `format` into what takes texts, without a text of its own where it has up to 128 bytes.
+            ///
+            /// # Errors
+            ///
+            /// [`WriteError::Number`] as of [`Self::format`], or [`WriteError::Write`] where what takes the text fails.
             pub fn write_to<'a>(
                 &self,
                 into: &mut impl fmt::Write,
@@ -71,14 +78,22 @@ macro_rules! shared {
                 written_to(into, |out, room, length| self.call(&number, &options, out, room, length))
             }
 
-            /// The text of the number `mantissa` times ten to the power `exponent`. Refused as `format`, but for `NUMBER`.
+            /// The text of the number `mantissa` times ten to the power `exponent`.
+            ///
+            /// # Errors
+            ///
+            /// As of [`Self::format`], but for [`Error::NUMBER`].
             pub fn format_i64(&self, mantissa: i64, exponent: i16, options: &Options) -> Result<String, Error> {
                 let options = options.numbers();
                 // SAFETY: as for `call`.
                 written(|out, room, length| unsafe { sys::$format_i64(self.at(), mantissa, exponent, &options, out, room, length) })
             }
 
-            /// The text of `format` with its parts, by bytes, in order of their beginning. Refused as `format`.
+            /// The text of `format` with its parts, by bytes, in order of their beginning.
+            ///
+            /// # Errors
+            ///
+            /// As of [`Self::format`].
             pub fn format_parts<'a>(&self, number: impl Into<Number<'a>>, options: &Options) -> Result<(String, Parts), Error> {
                 let number = number.into();
                 let digits = number.digits();
@@ -106,7 +121,10 @@ macro_rules! reads {
 }
 
 shared! {
-    /// A formatter of plain numbers that any number of threads use at once: what `DecimalFormatter::share` makes.
+    /// A formatter of plain numbers that any number of threads use at once: what
+    /// [`DecimalFormatter::share`](crate::DecimalFormatter::share) makes.
+    ///
+    /// # Examples
     ///
     /// ```
     /// use legumeyet::{DecimalFormatter, Error, Options};
@@ -123,23 +141,36 @@ shared! {
 }
 
 reads! {
-    /// The number that is written so, as digits: `-1,234.50` is `-1234.50` in English. Refused by `UNREADABLE`, `NOT_WRITTEN`, `MEMORY`.
+    /// The number that is written so, as digits: `-1,234.50` is `-1234.50` in English.
+    ///
+    /// # Errors
+    ///
+    /// [`Error::UNREADABLE`], [`Error::NOT_WRITTEN`] or [`Error::MEMORY`].
     SharedDecimalFormatter: read, legumeyet_shared_decimal_formatter_read
 }
 
 reads! {
-    /// The number of a text that somebody typed, as digits, by the rule of `DecimalFormatter::read_lenient`. Refused as `read`.
+    /// The number of a text that somebody typed, as digits, by the rule of `DecimalFormatter::read_lenient`.
+    ///
+    /// # Errors
+    ///
+    /// As of [`Self::read`].
     SharedDecimalFormatter: read_lenient, legumeyet_shared_decimal_formatter_read_lenient
 }
 
 shared! {
-    /// A formatter of compact numbers that any number of threads use at once: what `CompactDecimalFormatter::share` makes.
+    /// A formatter of compact numbers that any number of threads use at once: what
+    /// [`CompactDecimalFormatter::share`](crate::CompactDecimalFormatter::share) makes, with its calls.
     SharedCompactDecimalFormatter: legumeyet_compact_formatter_share, legumeyet_shared_compact_formatter_format,
     legumeyet_shared_compact_formatter_format_i64, legumeyet_shared_compact_formatter_format_parts
 }
 
 impl SharedCompactDecimalFormatter {
-    /// The value that the text of `format` shows: `-1.2c6`. Refused as `format`.
+    /// The value that the text of `format` shows: `-1.2c6`.
+    ///
+    /// # Errors
+    ///
+    /// As of [`Self::format`].
     pub fn shown<'a>(&self, number: impl Into<Number<'a>>, options: &Options) -> Result<String, Error> {
         let (number, options) = (number.into(), options.numbers());
         let digits = number.digits();
@@ -149,8 +180,11 @@ impl SharedCompactDecimalFormatter {
         })
     }
 
-    /// The text of a significand with an exponent: `-1.20c6` is `-1.20M` in short English. Refused by `OPTION`, `NUMBER`, `LIMIT`, `RANGE`,
-    /// `EXPONENT`, `MEMORY`.
+    /// The text of a significand with an exponent: `-1.20c6` is `-1.20M` in short English.
+    ///
+    /// # Errors
+    ///
+    /// [`Error::OPTION`], [`Error::NUMBER`], [`Error::LIMIT`], [`Error::RANGE`], [`Error::EXPONENT`] or [`Error::MEMORY`].
     pub fn format_exact(&self, number: &str, options: &Options) -> Result<String, Error> {
         let options = options.numbers();
         // SAFETY: as for `call`.
@@ -161,35 +195,52 @@ impl SharedCompactDecimalFormatter {
 }
 
 shared! {
-    /// A formatter of percents that any number of threads use at once: what `PercentFormatter::share` makes.
+    /// A formatter of percents that any number of threads use at once: what
+    /// [`PercentFormatter::share`](crate::PercentFormatter::share) makes, with its calls.
     SharedPercentFormatter: legumeyet_unit_formatter_share, legumeyet_shared_unit_formatter_format,
     legumeyet_shared_unit_formatter_format_i64, legumeyet_shared_unit_formatter_format_parts
 }
 
 reads! {
-    /// The number that is written so, as digits. Refused by `UNREADABLE`, `NOT_WRITTEN`, `MEMORY`.
+    /// The number that is written so, as digits.
+    ///
+    /// # Errors
+    ///
+    /// [`Error::UNREADABLE`], [`Error::NOT_WRITTEN`] or [`Error::MEMORY`].
     SharedPercentFormatter: read, legumeyet_shared_unit_formatter_read
 }
 
 reads! {
-    /// The number of a text that somebody typed, as digits, by the rule of `PercentFormatter::read_lenient`. Refused as `read`.
+    /// The number of a text that somebody typed, as digits, by the rule of `PercentFormatter::read_lenient`.
+    ///
+    /// # Errors
+    ///
+    /// As of [`Self::read`].
     SharedPercentFormatter: read_lenient, legumeyet_shared_unit_formatter_read_lenient
 }
 
 shared! {
-    /// A formatter of amounts of money that any number of threads use at once: what `CurrencyFormatter::share` makes.
+    /// A formatter of amounts of money that any number of threads use at once: what
+    /// [`CurrencyFormatter::share`](crate::CurrencyFormatter::share) makes, with its calls.
     SharedCurrencyFormatter: legumeyet_unit_formatter_share, legumeyet_shared_unit_formatter_format,
     legumeyet_shared_unit_formatter_format_i64, legumeyet_shared_unit_formatter_format_parts
 }
 
 reads! {
-    /// The number that is written so, as digits. How many digits the currency has is not looked at. Refused by `UNREADABLE`,
-    /// `NOT_WRITTEN`, `MEMORY`.
+    /// The number that is written so, as digits. How many digits the currency has is not looked at.
+    ///
+    /// # Errors
+    ///
+    /// [`Error::UNREADABLE`], [`Error::NOT_WRITTEN`] or [`Error::MEMORY`].
     SharedCurrencyFormatter: read, legumeyet_shared_unit_formatter_read
 }
 
 reads! {
-    /// The number of a text that somebody typed, as digits, by the rule of `CurrencyFormatter::read_lenient`. Refused as `read`.
+    /// The number of a text that somebody typed, as digits, by the rule of `CurrencyFormatter::read_lenient`.
+    ///
+    /// # Errors
+    ///
+    /// As of [`Self::read`].
     SharedCurrencyFormatter: read_lenient, legumeyet_shared_unit_formatter_read_lenient
 }
 

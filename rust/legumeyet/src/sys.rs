@@ -31,6 +31,7 @@ impl SharedHandle {
 
 // SAFETY: what it shows stays for the rest of the program, and the library lets any number of threads read it at once.
 unsafe impl Send for SharedHandle {}
+// SAFETY: the same.
 unsafe impl Sync for SharedHandle {}
 
 #[repr(C)]

@@ -71,14 +71,21 @@ macro_rules! calls_of {
                 $shared::of(&self.0 .0)
             }
 
-            /// The text of a number. Refused by `OPTION`, `NUMBER`, `LIMIT`, `MEMORY`.
+            /// The text of a number.
+            ///
+            /// # Errors
+            ///
+            /// [`Error::OPTION`], [`Error::NUMBER`], [`Error::LIMIT`] or [`Error::MEMORY`].
             pub fn format<'a>(&self, number: impl Into<Number<'a>>, options: &Options) -> Result<String, Error> {
                 let (number, options) = (number.into(), options.numbers());
                 written(|out, room, length| self.0.call(&number, &options, out, room, length))
             }
 
-            /// Writes the text of `format` into what takes texts, without a text of its own where it has up to 128 bytes. Refused as
-            /// `format`, and where what takes it fails.
+            /// Writes the text of `format` into what takes texts, without a text of its own where it has up to 128 bytes.
+            ///
+            /// # Errors
+            ///
+            /// [`WriteError::Number`] as of [`Self::format`], or [`WriteError::Write`] where what takes the text fails.
             pub fn write_to<'a>(
                 &self,
                 into: &mut impl fmt::Write,
@@ -89,12 +96,20 @@ macro_rules! calls_of {
                 written_to(into, |out, room, length| self.0.call(&number, &options, out, room, length))
             }
 
-            /// The text of the number `mantissa` times ten to the power `exponent`. Refused by `OPTION`, `LIMIT`, `MEMORY`.
+            /// The text of the number `mantissa` times ten to the power `exponent`.
+            ///
+            /// # Errors
+            ///
+            /// [`Error::OPTION`], [`Error::LIMIT`] or [`Error::MEMORY`].
             pub fn format_i64(&self, mantissa: i64, exponent: i16, options: &Options) -> Result<String, Error> {
                 self.0.format_i64(mantissa, exponent, options)
             }
 
-            /// The text of `format` with its parts, by bytes, in order of their beginning. Refused as `format`.
+            /// The text of `format` with its parts, by bytes, in order of their beginning.
+            ///
+            /// # Errors
+            ///
+            /// As of [`Self::format`].
             pub fn format_parts<'a>(&self, number: impl Into<Number<'a>>, options: &Options) -> Result<(String, Parts), Error> {
                 self.0.format_parts(&number.into(), options)
             }
@@ -106,6 +121,8 @@ macro_rules! calls_of {
 ///
 /// A percent is written as it is given, so a ratio is multiplied by 100 first. The roundings `Cash` and `None` are of amounts of money alone,
 /// and are refused by `OPTION`.
+///
+/// # Examples
 ///
 /// ```
 /// use legumeyet::{Options, PercentFormatter};
@@ -135,17 +152,29 @@ impl FromStr for PercentFormatter {
 }
 
 impl PercentFormatter {
-    /// The formatter of a tag, of the world's book, which the process opens once and keeps. Refused by `TAG`, `TABLE`, `MEMORY`.
+    /// The formatter of a tag, of the world's book, which the process opens once and keeps.
+    ///
+    /// # Errors
+    ///
+    /// [`Error::TAG`], [`Error::TABLE`] or [`Error::MEMORY`].
     pub fn new(tag: &str) -> Result<PercentFormatter, Error> {
         PercentFormatter::with_grouping(tag, Grouping::Auto)
     }
 
     /// The same with a grouping.
+    ///
+    /// # Errors
+    ///
+    /// As of [`Self::new`].
     pub fn with_grouping(tag: &str, grouping: Grouping) -> Result<PercentFormatter, Error> {
         with_world(|book| PercentFormatter::from_book(book, tag, grouping))
     }
 
-    /// The formatter of a book's tag. Refused as `new`.
+    /// The formatter of a book's tag.
+    ///
+    /// # Errors
+    ///
+    /// As of [`Self::new`].
     pub fn from_book(book: &Book, tag: &str, grouping: Grouping) -> Result<PercentFormatter, Error> {
         // SAFETY: a text is memory of its length, and no other call has the book's handle.
         let open =
@@ -153,12 +182,20 @@ impl PercentFormatter {
         Unit::open(open).map(PercentFormatter)
     }
 
-    /// The number that is written so, as digits: `-12.5%` is `-12.5` in English. Refused by `UNREADABLE`, `NOT_WRITTEN`, `MEMORY`.
+    /// The number that is written so, as digits: `-12.5%` is `-12.5` in English.
+    ///
+    /// # Errors
+    ///
+    /// [`Error::UNREADABLE`], [`Error::NOT_WRITTEN`] or [`Error::MEMORY`].
     pub fn read(&self, text: &str) -> Result<String, Error> {
         self.0.read(text)
     }
 
-    /// The number that somebody typed, with the sign of percents on either side or without it, as digits. Refused as `read`.
+    /// The number that somebody typed, with the sign of percents on either side or without it, as digits.
+    ///
+    /// # Errors
+    ///
+    /// As of [`Self::read`].
     pub fn read_lenient(&self, text: &str) -> Result<String, Error> {
         self.0.read_lenient(text)
     }
@@ -168,6 +205,8 @@ impl PercentFormatter {
 ///
 /// An amount is rounded to the digits of its currency, a tie to the even one, and shown down to them. With `Rounding::Cash` they are those of
 /// the currency in cash, with `Rounding::None` it is written as it is given, and with another rounding it is rounded as any number is.
+///
+/// # Examples
 ///
 /// ```
 /// use legumeyet::{CurrencyFormatter, CurrencyOptions, CurrencyStyle, Error, Options, Rounding};
@@ -193,18 +232,29 @@ columns! {
 }
 
 impl CurrencyFormatter {
-    /// The formatter of a tag and a code, of the world's book, which the process opens once and keeps. Refused by `CODE`, `TAG`, `TABLE`,
-    /// `MEMORY`.
+    /// The formatter of a tag and a code, of the world's book, which the process opens once and keeps.
+    ///
+    /// # Errors
+    ///
+    /// [`Error::CODE`], [`Error::TAG`], [`Error::TABLE`] or [`Error::MEMORY`].
     pub fn new(tag: &str, code: &str) -> Result<CurrencyFormatter, Error> {
         CurrencyFormatter::with_options(tag, code, &CurrencyOptions::default())
     }
 
     /// The same with options.
+    ///
+    /// # Errors
+    ///
+    /// As of [`Self::new`].
     pub fn with_options(tag: &str, code: &str, options: &CurrencyOptions) -> Result<CurrencyFormatter, Error> {
         with_world(|book| CurrencyFormatter::from_book(book, tag, code, options))
     }
 
-    /// The formatter of a book's tag and a code. Refused as `new`.
+    /// The formatter of a book's tag and a code.
+    ///
+    /// # Errors
+    ///
+    /// As of [`Self::new`].
     pub fn from_book(book: &Book, tag: &str, code: &str, options: &CurrencyOptions) -> Result<CurrencyFormatter, Error> {
         let (style, width, grouping) = (options.style as u32, options.width as u32, options.grouping as u32);
         let (tag_at, code_at) = (tag.as_ptr(), code.as_ptr());
@@ -215,13 +265,20 @@ impl CurrencyFormatter {
         Unit::open(open).map(CurrencyFormatter)
     }
 
-    /// The number that is written so, as digits. How many digits the currency has is not looked at. Refused by `UNREADABLE`,
-    /// `NOT_WRITTEN`, `MEMORY`.
+    /// The number that is written so, as digits. How many digits the currency has is not looked at.
+    ///
+    /// # Errors
+    ///
+    /// [`Error::UNREADABLE`], [`Error::NOT_WRITTEN`] or [`Error::MEMORY`].
     pub fn read(&self, text: &str) -> Result<String, Error> {
         self.0.read(text)
     }
 
-    /// The number that somebody typed, with the currency or its code on either side or without it, as digits. Refused as `read`.
+    /// The number that somebody typed, with the currency or its code on either side or without it, as digits.
+    ///
+    /// # Errors
+    ///
+    /// As of [`Self::read`].
     pub fn read_lenient(&self, text: &str) -> Result<String, Error> {
         self.0.read_lenient(text)
     }

@@ -47,6 +47,8 @@ pub(crate) fn with_world<T>(call: impl FnOnce(&Book) -> Result<T, Error>) -> Res
 
 /// The tags of the world's locales, in order.
 ///
+/// # Examples
+///
 /// ```
 /// assert!(legumeyet::world_locales().any(|tag| tag == "de-AT"));
 /// ```
@@ -54,6 +56,7 @@ pub fn world_locales() -> impl Iterator<Item = &'static str> {
     (0..).map_while(|at| {
         // SAFETY: it takes any number, and the text that it returns is never given back.
         let tag = unsafe { sys::legumeyet_world_locale(at).as_ref() }?;
+        // SAFETY: the text ends with a NUL.
         unsafe { CStr::from_ptr(tag) }.to_str().ok()
     })
 }
@@ -61,12 +64,15 @@ pub fn world_locales() -> impl Iterator<Item = &'static str> {
 /// The tag of a locale's name, as `LANG` and `setlocale` give it: codeset and modifier are cut, and each `_` becomes `-`. `C`, `POSIX` and an
 /// empty name are `en`. Whether a formatter can be opened of the tag is not looked at.
 ///
+/// # Examples
+///
 /// ```
 /// use legumeyet::tag_of_locale_name;
 ///
 /// assert_eq!(tag_of_locale_name("de_DE.UTF-8"), "de-DE");
 /// assert_eq!(tag_of_locale_name("C"), "en");
 /// ```
+#[allow(clippy::missing_panics_doc)] // it does not panic: there is room, and the text is UTF-8
 pub fn tag_of_locale_name(name: &str) -> String {
     // no name that C gives has a NUL inside
     let name = CString::new(name.split('\0').next().unwrap_or_default()).unwrap_or_default();

@@ -1,4 +1,6 @@
 //! Each call well and badly.
+// (threads that are collected are all begun before the first is waited for)
+#![allow(clippy::needless_collect)]
 
 use legumeyet::{
     Book, CompactDecimalFormatter, CurrencyFormatter, CurrencyOptions, CurrencyStyle, CurrencyWidth, DecimalFormatter, Error, Grouping,

@@ -1,4 +1,6 @@
 //! Columns, well and badly.
+// (threads that are collected are all begun before the first is waited for)
+#![allow(clippy::needless_collect)]
 
 use legumeyet::{CompactDecimalFormatter, CurrencyFormatter, DecimalFormatter, Error, Options, PercentFormatter, Rounding, Sign, Width};
 use std::thread;

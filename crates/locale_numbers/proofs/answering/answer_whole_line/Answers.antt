@@ -3,12 +3,12 @@ use Rattle.std.specs.Prelude.{string_bytes}
 use Rattle.locale_numbers_answers.specs.AnswerSink.{HasRoom}
 use Rattle.locale_numbers.specs.Front.{MayTakeAfter, answer_after, front_asked}
 use Rattle.locale_numbers.proofs.AnsweringLemmas.{grows_by_none, on_ok_same}
-use Rattle.locale_numbers.proofs.FrontLemmas.{answer_of_line, fits_form, of_each}
+use Rattle.locale_numbers.proofs.FrontLemmas.{answer_of_line, fits_front, of_each}
 use Rattle.locale_numbers.proofs.LineMemoryLemmas.{formatter_after, front_of_request, text_after}
 use Rattle.locale_numbers.proofs.answering.answer_whole_line.Goals as goal
 
 pub answer_after_front-requires : goal.answer_after_front-requires
-answer_after_front-requires g c κs = ((refl, tt {0}), (c.requires.ready, (fits_form c.in_ok-front.front c.cut_text.result.0.now c.in_ok-front.ensures.value, of_each (g.F.Formatters.is_right_for c.args.formatters.now) c.in_ok-front.front c.requires.right)))
+answer_after_front-requires g c κs = ((refl, tt {0}), (c.requires.ready, (fits_front c.in_ok-front.front c.cut_text.result.0.now c.in_ok-front.ensures.value, of_each (g.F.Formatters.is_right_for c.args.formatters.now) c.in_ok-front.front c.requires.right)))
 
 pub returns-clause-text : goal.returns-clause-text
 returns-clause-text g c =

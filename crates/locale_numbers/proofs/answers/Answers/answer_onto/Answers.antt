@@ -1,4 +1,4 @@
-use Rattle.std.proofs.Common.{◌≡◌, ◌∷◌, ◌++◌, ap, refl, sym, ◌∙◌}
+use Rattle.std.proofs.Common.{◌∷◌, ap, refl, sym, ◌∙◌}
 use Rattle.std.specs.Prelude.{string_bytes}
 use Rattle.locale_numbers_book.specs.Book.{BookTables}
 use Rattle.locale_numbers.specs.Answer.{answer_of}

@@ -3,4 +3,4 @@ use Rattle.locale_numbers.proofs.KeptLemmas.{first_key}
 use Rattle.locale_numbers.proofs.cached_formatters.CachedFormattersFormatters.found.Goals as goal
 
 pub returns-clause-again : goal.returns-clause-again
-returns-clause-again g c = (c.latest.ensures.again (finds (g.T.Tables.book c.args.self.now.maker.tables.now)) c.args._key.now (first_key c.args.self.now.formatters _ _ c.requires.first)).ahead
+returns-clause-again g c = (c.latest_of.ensures.again (finds (g.T.Tables.book c.args.self.now.maker.tables.now)) c.args._key.now (first_key c.args.self.now.formatters _ _ c.requires.first)).ahead

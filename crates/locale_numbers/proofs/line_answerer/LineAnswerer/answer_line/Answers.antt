@@ -1,16 +1,16 @@
-use Rattle.std.proofs.Common.{◌≡◌, ◌++◌, map, refl, sym, ap, ◌∙◌, subst}
+use Rattle.std.proofs.Common.{◌≡◌, map, refl, sym, ap, ◌∙◌, subst}
 use Rattle.std.specs.Prelude.{IsTrue, string_bytes}
 use Rattle.std.proofs.lemmas.Bool.{false≢true}
 use Rattle.locale_numbers_answers.specs.AnswerSink.{HasRoom}
 use Rattle.locale_numbers_cache.specs.Cached.{IsLatest, recent_of}
 use Rattle.locale_numbers_cache.specs.Recent.{has}
 use Rattle.locale_numbers.specs.FormatterKeys.{key_of}
-use Rattle.locale_numbers.specs.LineFormatters.{IsKeptFor}
+use Rattle.locale_numbers.specs.KeptFormatters.{IsMadeFor}
 use Rattle.locale_numbers.specs.Front.{answer_after, key_after}
 use Rattle.locale_numbers.specs.LineMemory.{IsRemembered}
 use Rattle.locale_numbers.specs.contracts.formatter_key.FormatterKeyPartialEq.TheImpl as keys
 use Rattle.locale_numbers.proofs.AnsweringLemmas.{grows_by_none, on_ok_by, on_ok_same, one_of}
-use Rattle.locale_numbers.proofs.FrontLemmas.{answer_of_line, fits_form, key_of_line, still_right}
+use Rattle.locale_numbers.proofs.FrontLemmas.{answer_of_line, fits_front, key_of_line, still_right}
 use Rattle.locale_numbers.proofs.LineMemoryLemmas.{formatter_after, front_is_before, front_of_request, text_after}
 use Rattle.locale_numbers.proofs.line_answerer.LineAnswerer.answer_line.Goals as goal
 
@@ -21,8 +21,8 @@ answer_after_front-requires g c κs =
       (
         c.requires.0,
         (
-          fits_form c.latest.result.now c.cut_text.result.0.now (one_of _ _ _ c.latest.ensures c.in_ok-same.ensures.value),
-          still_right (λ key. IsLatest (IsKeptFor book) key c.args.self.now.kept.formatters) c.args.self.now.kept.is_held c.in_ok-same.same c.args.self.now.read c.find.new.self c.latest.result.now
+          fits_front c.latest.result.now c.cut_text.result.0.now (one_of _ _ _ c.latest.ensures c.in_ok-same.ensures.value),
+          still_right (λ key. IsLatest (IsMadeFor book) key c.args.self.now.kept.formatters) c.args.self.now.kept.is_held c.in_ok-same.same c.args.self.now.read c.find.new.self c.latest.result.now
               c.requires.2 c.in_ok-same.ensures.same c.latest.ensures,
         ),
       ),
