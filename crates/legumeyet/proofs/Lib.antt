@@ -1,3 +1,2 @@
 mod LinesLemmas
-mod PartsLemmas
 mod TrimmingLemmas

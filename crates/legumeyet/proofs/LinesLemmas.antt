@@ -7,8 +7,10 @@ use Rattle.std.specs.Io.KnownBytes.{Appends, Keeps}
 use Rattle.std.proofs.KnownBytes.{Appends-trans, Appends-kept}
 use Rattle.std.proofs.lemmas.Bool.Decides.{nat_tests}
 use Rattle.locale_numbers_lines.specs.Lines.{lines_of}
-use Rattle.legumeyet_options.specs.declared.invalid.Invalid.{Invalid}
-use Rattle.legumeyet.specs.Output.{answers_shown, input_shown, is_last, shown, status_said}
+use Rattle.legumeyet_options.specs.Sayings.{saying}
+use Rattle.legumeyet_options.specs.declared.Invalid.{Invalid}
+use Rattle.legumeyet_options.specs.declared.Sayer.{Sayer}
+use Rattle.legumeyet.specs.Output.{input_shown, is_last, shown, status_said, texts_shown}
 use Rattle.legumeyet.specs.Trimming.{is_feed, trimmed}
 
 -- what is before the place of a line feed
@@ -57,35 +59,35 @@ taken_line : (rest : List ℕ) → 0 < length (take_through 10 rest)
 taken_line [] some = absurd (omega arith)
 taken_line (x ∷ xs) some = first_line x xs
 
-module _ (invalid : Invalid) (answer : List ℕ → List ℕ) (front rest text : List ℕ) (status : ℕ) where
+module _ (invalid : Invalid) (parts : Bool) (sayer : Sayer) (rest text : List ℕ) (status : ℕ) where
   -- what is shown of the bytes is what is shown of the first line, and of the others where there is more
   first_shown : (b : Bool) → is_last invalid status ≡ b → 0 < length (take_through 10 rest)
-      → text ≡ trimmed (before_first is_feed (take_through 10 rest)) → status ≡ status_said (answer (front ++ text))
-      → input_shown invalid answer front rest
-      ≡ shown invalid text (answer (front ++ text)) ++ (if b then [] else input_shown invalid answer front (drop_through 10 rest))
+      → text ≡ trimmed (before_first is_feed (take_through 10 rest)) → status ≡ status_said (saying sayer text)
+      → input_shown invalid parts sayer rest
+      ≡ shown invalid parts text (saying sayer text) ++ (if b then [] else input_shown invalid parts sayer (drop_through 10 rest))
   first_shown b last some cut said =
-      ap (λ lines. answers_shown invalid (λ t. answer (front ++ t)) (map trimmed lines)) (taken_line rest some)
-      ∙ ap (λ t. shown invalid t (answer (front ++ t)) ++ (if is_last invalid (status_said (answer (front ++ t))) then []
-      else input_shown invalid answer front (drop_through 10 rest))) (sym cut)
-      ∙ ap (λ s. shown invalid text (answer (front ++ text)) ++ (if is_last invalid s then []
-      else input_shown invalid answer front (drop_through 10 rest))) (sym said)
-      ∙ ap (λ c. shown invalid text (answer (front ++ text)) ++ (if c then []
-      else input_shown invalid answer front (drop_through 10 rest))) last
+      ap (λ lines. texts_shown invalid parts sayer (map trimmed lines)) (taken_line rest some)
+      ∙ ap (λ t. shown invalid parts t (saying sayer t) ++ (if is_last invalid (status_said (saying sayer t)) then []
+      else input_shown invalid parts sayer (drop_through 10 rest))) (sym cut)
+      ∙ ap (λ s. shown invalid parts text (saying sayer text) ++ (if is_last invalid s then []
+      else input_shown invalid parts sayer (drop_through 10 rest))) (sym said)
+      ∙ ap (λ c. shown invalid parts text (saying sayer text) ++ (if c then []
+      else input_shown invalid parts sayer (drop_through 10 rest))) last
 
   -- a line and those after it are written
   pub line_and_more : is_last invalid status ≡ false → 0 < length (take_through 10 rest)
-      → text ≡ trimmed (before_first is_feed (take_through 10 rest)) → status ≡ status_said (answer (front ++ text))
-      → (before mid after end : Option (List ℕ)) → Appends before mid (shown invalid text (answer (front ++ text))) → Keeps mid after
-      → Appends after end (input_shown invalid answer front (drop_through 10 rest)) → Appends before end (input_shown invalid answer front rest)
+      → text ≡ trimmed (before_first is_feed (take_through 10 rest)) → status ≡ status_said (saying sayer text)
+      → (before mid after end : Option (List ℕ)) → Appends before mid (shown invalid parts text (saying sayer text)) → Keeps mid after
+      → Appends after end (input_shown invalid parts sayer (drop_through 10 rest)) → Appends before end (input_shown invalid parts sayer rest)
   line_and_more last some cut said before mid after end wrote kept more =
       rw (first_shown false last some cut said)
-      (Appends-trans before after end (shown invalid text (answer (front ++ text))) (input_shown invalid answer front (drop_through 10 rest))
-      (Appends-kept before mid after (shown invalid text (answer (front ++ text))) wrote kept) more)
+      (Appends-trans before after end (shown invalid parts text (saying sayer text)) (input_shown invalid parts sayer (drop_through 10 rest))
+      (Appends-kept before mid after (shown invalid parts text (saying sayer text)) wrote kept) more)
 
   -- the last line is written
   pub last_line_shown : is_last invalid status ≡ true → 0 < length (take_through 10 rest)
-      → text ≡ trimmed (before_first is_feed (take_through 10 rest)) → status ≡ status_said (answer (front ++ text))
-      → (before end : Option (List ℕ)) → Appends before end (shown invalid text (answer (front ++ text)))
-      → Appends before end (input_shown invalid answer front rest)
+      → text ≡ trimmed (before_first is_feed (take_through 10 rest)) → status ≡ status_said (saying sayer text)
+      → (before end : Option (List ℕ)) → Appends before end (shown invalid parts text (saying sayer text))
+      → Appends before end (input_shown invalid parts sayer rest)
   last_line_shown last some cut said before end wrote =
       rw (first_shown true last some cut said, append-nil) wrote

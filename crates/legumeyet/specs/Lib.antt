@@ -1,5 +1,7 @@
+pub mod Asking
 pub mod CallFaults
 pub mod Messages
 pub mod Output
 pub mod Parts
+pub mod Sayers
 pub mod Trimming

@@ -1,17 +1,15 @@
 //! The numbers of standard input.
 
-ghost use Rattle.std.specs.Prelude.{◌≡◌, ◌<◌, ℕ, List, None, Some, true, false, IfOk, OnOk, length};
+ghost use Rattle.std.specs.Prelude.{◌≡◌, ◌<◌, ℕ, List, Some, true, false, IfOk, OnOk, length};
 ghost use Rattle.std.specs.List.{before_first, position};
 ghost use Rattle.std.specs.Io.BufRead.{drop_through, take_through};
 ghost use Rattle.std.specs.Io.KnownBytes.{Appends, IsAtEnd, Keeps};
 ghost use Rattle.std.specs.Io.Buffered.{reader_remaining};
-ghost use Rattle.locale_numbers.specs.Answer.{answer_of};
 ghost use Rattle.legumeyet.specs.Output.{input_shown};
 ghost use Rattle.legumeyet.specs.Trimming.{is_blank, is_feed, trimmed, without_end, without_front};
 
 use crate::fault::CallFault;
 use crate::numbers::{Asked, is_last, put_number};
-use locale_numbers::{Answers, Book};
 use std::io::{self, BufRead, BufReader, Read, Write};
 
 // Whether a byte is a space, a tab or a carriage return.
@@ -104,15 +102,13 @@ fn flush_if_waiting<R: Read, W: Write>(reader: &BufReader<R>, out: &mut W) -> Re
 // Writes each number that a reader has in a line of its own, and returns the status.
 fn put_lines<R: Read, W: Write>(
     rt: &HostRuntime,
-    answers: &mut Answers<'_, Book>,
     asked: &Asked<'_>,
     reader: &mut BufReader<R>,
     out: &mut W,
 ) -> Result<u8, CallFault>
-    ensures output { asked.now.parts ≡ None → (input : List ℕ) → reader_remaining R.remaining reader.old ≡ Some input
+    ensures output { (input : List ℕ) → reader_remaining R.remaining reader.old ≡ Some input
         → OnOk result (Appends (W.contents out.old) (W.contents out.new)
-        (input_shown asked.now.invalid (answer_of answers.old.book) asked.now.front.now input)) }
-    ensures same { answers.new.book ≡ answers.old.book }
+        (input_shown asked.now.invalid asked.now.has_parts asked.now.sayer.now input)) }
 {
     let mut status = 0u8;
     let mut line = Vec::new(rt.alloc());
@@ -122,7 +118,7 @@ fn put_lines<R: Read, W: Write>(
             return Ok(status);
         }
         let text = trimmed(before_feed(&line));
-        let status_of_line = put_number(rt, answers, asked, text, out)?;
+        let status_of_line = put_number(rt, asked, text, out)?;
         status |= status_of_line;
         if is_last(asked.invalid, status_of_line) {
             return Ok(status);
@@ -135,14 +131,11 @@ fn put_lines<R: Read, W: Write>(
 /// Writes the numbers of standard input, and returns the status: 1 where one is refused.
 pub fn put_input<W: Write>(
     rt: &HostRuntime,
-    answers: &mut Answers<'_, Book>,
     asked: &Asked<'_>,
     out: &mut W,
-) -> Result<u8, CallFault>
-    ensures same { answers.new.book ≡ answers.old.book }
-{
+) -> Result<u8, CallFault> {
     let Ok(mut reader) = BufReader::new(rt.alloc(), rt.stdin()) else {
         return Err(CallFault::MEMORY);
     };
-    put_lines(rt, answers, asked, &mut reader, out)
+    put_lines(rt, asked, &mut reader, out)
 }

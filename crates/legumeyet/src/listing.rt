@@ -7,7 +7,7 @@ ghost use Rattle.locale_numbers_lines.specs.Lines.{ended};
 
 use crate::book_text::{book_of, read_text};
 use crate::fault::CallFault;
-use crate::numbers::put_text;
+use crate::parts::put_text;
 use icu_locale_core::DataLocale;
 use locale_numbers::{Book, WORLD_LOCALES};
 use std::io::Write;

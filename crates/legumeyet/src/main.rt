@@ -3,10 +3,10 @@
 #![tactic(auto)]
 
 mod acting;
+mod asking;
 mod book_text;
 mod environment;
 mod fault;
-mod fronts;
 mod input;
 mod listing;
 mod messages;
@@ -15,6 +15,7 @@ mod parts;
 mod remembering;
 mod report;
 mod request_lines;
+mod sayers;
 mod words;
 
 use acting::act;

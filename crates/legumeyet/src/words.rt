@@ -1,37 +1,33 @@
 //! The numbers and texts of the words, in their order.
 
-ghost use Rattle.std.specs.Prelude.{◌≡◌, ◌≢◌, ◌++◌, None, IfOk, OnOk, codes, map, option_map};
+ghost use Rattle.std.specs.Prelude.{◌≡◌, ◌≢◌, IfOk, OnOk, codes, map};
 ghost use Rattle.std.specs.Io.KnownBytes.{Appends};
-ghost use Rattle.locale_numbers.specs.Answer.{answer_of};
-ghost use Rattle.legumeyet.specs.Output.{ReadNothing, option_shown, shown, status_said, texts_shown};
+ghost use Rattle.legumeyet_options.specs.Sayings.{saying};
+ghost use Rattle.legumeyet.specs.Output.{ReadNothing, shown, status_said, texts_shown};
 
 use crate::fault::CallFault;
 use crate::input::put_input;
-use crate::numbers::{Asked, is_last, put_number, put_texts};
-use locale_numbers::{Answers, Book};
+use crate::numbers::{Asked, is_last, put_number};
 use std::io::Write;
 
 // Writes a number of the words, or where it is `-` those of standard input, of which something else is asked. Returns the
 // status.
 fn put_word<W: Write>(
     rt: &HostRuntime,
-    answers: &mut Answers<'_, Book>,
     asked: &Asked<'_>,
     asked_of_input: &Asked<'_>,
     number: &str,
     out: &mut W,
 ) -> Result<u8, CallFault>
-    ensures output { asked.now.parts ≡ None → number.now ≢ codes "-"
-        → OnOk result (Appends (W.contents out.old) (W.contents out.new)
-        (shown asked.now.invalid number.now (answer_of answers.old.book (asked.now.front.now ++ number.now)))) }
-    ensures status { number.now ≢ codes "-" → IfOk result (λ status.
-        status ≡ status_said (answer_of answers.old.book (asked.now.front.now ++ number.now))) }
-    ensures same { answers.new.book ≡ answers.old.book }
+    ensures output { number.now ≢ codes "-" → OnOk result (Appends (W.contents out.old) (W.contents out.new)
+        (shown asked.now.invalid asked.now.has_parts number.now (saying asked.now.sayer.now number.now))) }
+    ensures status { number.now ≢ codes "-"
+        → IfOk result (λ status. status ≡ status_said (saying asked.now.sayer.now number.now)) }
 {
     if number == "-" {
-        put_input(rt, answers, asked_of_input, out)
+        put_input(rt, asked_of_input, out)
     } else {
-        put_number(rt, answers, asked, number.as_bytes(), out)
+        put_number(rt, asked, number.as_bytes(), out)
     }
 }
 
@@ -39,44 +35,22 @@ fn put_word<W: Write>(
 /// status.
 pub fn put_words<W: Write>(
     rt: &HostRuntime,
-    answers: &mut Answers<'_, Book>,
     asked: &Asked<'_>,
     asked_of_input: &Asked<'_>,
     numbers: &[&str],
     out: &mut W,
 ) -> Result<u8, CallFault>
-    ensures output { asked.now.parts ≡ None
-        → ReadNothing (map (λ number. number.now) numbers.now)
+    ensures output { ReadNothing (map (λ number. number.now) numbers.now)
         → OnOk result (Appends (W.contents out.old) (W.contents out.new)
-        (texts_shown asked.now.invalid (answer_of answers.old.book) asked.now.front.now (map (λ number. number.now) numbers.now))) }
-    ensures same { answers.new.book ≡ answers.old.book }
+        (texts_shown asked.now.invalid asked.now.has_parts asked.now.sayer.now (map (λ number. number.now) numbers.now))) }
 {
     let mut status = 0u8;
     for number in numbers {
-        let status_of_word = put_word(rt, answers, asked, asked_of_input, number, out)?;
+        let status_of_word = put_word(rt, asked, asked_of_input, number, out)?;
         status |= status_of_word;
         if is_last(asked.invalid, status_of_word) {
             return Ok(status);
         }
     }
     Ok(status)
-}
-
-/// Writes the numbers of texts, where an option has them, which are read after a front, and returns the status.
-pub fn put_read<W: Write>(
-    rt: &HostRuntime,
-    answers: &mut Answers<'_, Book>,
-    asked: &Asked<'_>,
-    texts: Option<&[&str]>,
-    out: &mut W,
-) -> Result<u8, CallFault>
-    ensures output { asked.now.parts ≡ None → OnOk result (Appends (W.contents out.old) (W.contents out.new)
-        (option_shown asked.now.invalid (answer_of answers.old.book) asked.now.front.now
-        (option_map (λ texts. map (λ text. text.now) texts.now) texts.entry))) }
-    ensures same { answers.new.book ≡ answers.old.book }
-{
-    match texts {
-        Some(texts) => put_texts(rt, answers, asked, texts, out),
-        None => Ok(0),
-    }
 }

@@ -1,16 +1,14 @@
-use Rattle.std.proofs.Common.{◌≡◌, ℕ, List, Option, None, Some}
+use Rattle.std.proofs.Common.{◌≡◌, ℕ, List, Option, Some}
 use Rattle.std.specs.Io.Buffered.{reader_remaining}
 use Rattle.std.specs.Io.KnownBytes.{Appends}
-use Rattle.locale_numbers.specs.Answer.{answer_of}
 use Rattle.legumeyet.specs.Output.{input_shown}
 use Rattle.legumeyet.proofs.input.put_lines.Given as goal
 
 -- once what is shown of the input that is left is written, that of the whole input is
 abbrev pub invariant-loop-turn : goal.invariant-loop-turn
 invariant-loop-turn g l =
-    (l.asked.parts ≡ None → (input : List ℕ) → reader_remaining g.R.Read.remaining l.initial.reader ≡ Some input
+    (input : List ℕ) → reader_remaining g.R.Read.remaining l.initial.reader ≡ Some input
     → (rest : List ℕ) × (reader_remaining g.R.Read.remaining l.reader ≡ Some rest)
     × ((end : Option (List ℕ))
-    → Appends (g.W.Write.contents l.out) end (input_shown l.asked.invalid (answer_of l.initial.answers.book) l.asked.front.now rest)
-    → Appends (g.W.Write.contents l.initial.out) end (input_shown l.asked.invalid (answer_of l.initial.answers.book) l.asked.front.now input)))
-    × (l.answers.book ≡ l.initial.answers.book)
+    → Appends (g.W.Write.contents l.out) end (input_shown l.asked.invalid l.asked.has_parts l.asked.sayer.now rest)
+    → Appends (g.W.Write.contents l.initial.out) end (input_shown l.asked.invalid l.asked.has_parts l.asked.sayer.now input))
