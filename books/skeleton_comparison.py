@@ -5,7 +5,7 @@ import re
 import tempfile
 import typing
 
-from comparison import LIKELY, NEGATIVE, answers, causes_of, text, with_field
+from comparison import LIKELY, NEGATIVE, answers, causes_of, text
 from look_up import locale_of, read_book
 from peers import NODE, NOT_IN_ICU, NOT_IN_NODE, VERSION, book_of_peer, known, with_tags_cut
 from skeleton_cases import NUMBERS, SKELETONS, WORDS
