@@ -11,11 +11,39 @@ use crate::request_lines::{answer_lines, capacity_of};
 use crate::sayers::sayer_of;
 use crate::words::put_words;
 use clap::ArgMatches;
-use legumeyet_options::{Invalid, NumberWords, NumbersAsked};
+use legumeyet_options::{Invalid, NumberWords, NumbersAsked, Sayer};
 use locale_numbers::{Book, world_text};
 use locale_numbers_requests::Task;
 use std::alloc::AllocError;
 use std::io::Write;
+
+// Writes the numbers of the words by what says them, and returns the status.
+fn put_said_by<W: Write>(
+    rt: &HostRuntime,
+    sayer: &Sayer<'_>,
+    matches: &ArgMatches<'_>,
+    tag: &str,
+    texts: &[&str],
+    out: &mut W,
+) -> Result<u8, CallFault> {
+    let round = word(matches, "round", "-");
+    let has_parts = matches.get_flag("parts");
+    let asked = Asked {
+        tag,
+        round,
+        sayer,
+        has_parts,
+        invalid: invalid_of(matches, Invalid::Skip),
+    };
+    let asked_of_input = Asked {
+        tag,
+        round,
+        sayer,
+        has_parts,
+        invalid: invalid_of(matches, Invalid::Empty),
+    };
+    put_words(rt, &asked, &asked_of_input, texts, out)
+}
 
 // Writes the numbers that are to be written, where there are some, and returns the status.
 fn put_written<W: Write>(
@@ -30,18 +58,7 @@ fn put_written<W: Write>(
         return Ok(0);
     };
     let sayer = sayer_of(rt.alloc(), book, tag, numbers)?;
-    let asked = Asked {
-        tag,
-        round: word(matches, "round", "-"),
-        sayer: &sayer,
-        has_parts: matches.get_flag("parts"),
-        invalid: invalid_of(matches, Invalid::Skip),
-    };
-    let asked_of_input = Asked {
-        invalid: invalid_of(matches, Invalid::Empty),
-        ..asked
-    };
-    put_words(rt, &asked, &asked_of_input, texts, out)
+    put_said_by(rt, &sayer, matches, tag, texts, out)
 }
 
 // Writes the numbers of the texts of an option, where there are some, and returns the status.
