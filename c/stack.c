@@ -12,7 +12,7 @@
 #include <stdlib.h>
 #include <string.h>
 
-enum { STACK = 1 << 20, PROMISED = 52 << 10, PROMISED_DEEP = 160 << 10, MARK = 0xa5, DEEP = 100000, LONG = 32767, PARTS = 1 << 15, STEP = 7 };
+enum { STACK = 1 << 20, PROMISED = 64 << 10, PROMISED_DEEP = 160 << 10, MARK = 0xa5, DEEP = 100000, LONG = 32767, PARTS = 1 << 15, STEP = 7 };
 
 /* Ends the work of a thread where a call returns another number. */
 #define EXPECT(wanted, call) \

@@ -49,7 +49,7 @@
  * of one book; to open a formatter is a call on its book. No call is made in a signal handler, or in a forked child of a process with
  * threads.
  *
- * A call takes at most 52 KiB of stack, and 160 KiB where it opens a book of a JSON that is nested far deeper than a book.
+ * A call takes at most 64 KiB of stack, and 160 KiB where it opens a book of a JSON that is nested far deeper than a book.
  */
 #ifndef LEGUMEYET_H
 #define LEGUMEYET_H
