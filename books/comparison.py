@@ -169,7 +169,8 @@ def causes_of(book, program, peer, lines):
     for line, a, b in lines:
         form = line.split("\t")[1]
         locale, system = locale_and_system(line)
-        sign = book.find("symbols", book.chain(locale), system)[1]
+        symbols = book.find("symbols", book.chain(locale), system)
+        sign = symbols[1] if symbols else ""
         if line in same_there:
             yield CARRY
         elif form == "plain":
