@@ -1,10 +1,11 @@
 pub mod AsBox
-pub mod ColumnWritingLemmas
+pub mod AskedLemmas
+pub mod GroupingLemmas
+pub mod KnownWriting
 pub mod LentSent
 pub mod LentSteps
 pub mod OpeningLemmas
 pub mod PointerValues
+pub mod ReadingLemmas
 pub mod Sent
-pub mod UnitLemmas
-pub mod UnitStrategies
-pub mod WritingLemmas
+pub mod SkeletonLemmas

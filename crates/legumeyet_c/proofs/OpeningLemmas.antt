@@ -1,11 +1,13 @@
 -- Outcomes of calls that open, one by the other.
 use Rattle.std.proofs.Common.{◌≡◌, ℕ, List, Option, Some, None, Result, Ok, Err, refl, sym, subst}
 use Rattle.locale_numbers.specs.Book.{BookTables}
-use Rattle.locale_numbers.specs.declared.FormatterError.{FormatterError}
+use Rattle.locale_numbers_formats.specs.declared.NumberFormat.{NumberFormat}
 use Rattle.legumeyet_c_values.specs.declared.CallError.{CallError}
 use Rattle.legumeyet_c_values.specs.declared.CallError.TheVariants.{Memory}
 use Rattle.legumeyet_c.specs.declared.content.Content.{Content}
-use Rattle.legumeyet_c.specs.Opening.{Finds, IsFindingFault, IsOpening, IsTagFault}
+use Rattle.legumeyet_c.specs.HeldFormats.{HeldFormat}
+use Rattle.legumeyet_c.specs.Kinds.{format_in}
+use Rattle.legumeyet_c.specs.Opening.{FindsFormat, IsFindingFault, IsOpening, IsTagFault, format_found}
 
 -- a call that is refused before it opens
 pub opening_refused : {T : Type 0} (seen : Option Content → Option T) (is_found : T → Type 0) (fault : CallError → Type 0) (handle : Option Content) (error : CallError)
@@ -30,18 +32,15 @@ opening_by seen before after (Err error) text cause opening = record {
 }
 
 -- where something is found, out of memory is a fault
-pub memory_misses : {C T : Type 0} (says : BookTables → C → List ℕ → T → Type 0) (finds : BookTables → C → List ℕ → Result T FormatterError)
-    (book : Option BookTables) (choice : Option C) (tag : List ℕ) (tables : T)
-    → Finds says book choice tag tables → (error : CallError) → error ≡ Memory → IsFindingFault finds book choice tag error
-memory_misses says finds None choice tag tables found error is = absurd found
-memory_misses says finds (Some book) None tag tables found error is = absurd found
-memory_misses says finds (Some book) (Some choice) tag tables found error is =
-    subst (λ (e : CallError). IsTagFault (finds book choice tag) tag e) (sym is) tt
+pub memory_misses : (book : Option BookTables) (asked : Result NumberFormat CallError) (tag : List ℕ) (held : HeldFormat) → FindsFormat book asked tag held
+    → (error : CallError) → error ≡ Memory → IsFindingFault book asked tag error
+memory_misses None asked tag held found error is = absurd found
+memory_misses (Some book) (Err fault) tag held found error is = absurd found
+memory_misses (Some book) (Ok format) tag held found error is = subst (λ (e : CallError). IsTagFault (format_found book format tag) tag e) (sym is) tt
 
--- the same of a choice that is known to be another one
-pub opening_chosen : {C T : Type 0} (seen : Option Content → Option T) (says : BookTables → C → List ℕ → T → Type 0) (finds : BookTables → C → List ℕ → Result T FormatterError) (book : Option BookTables)
-    (choice chosen : Option C) (tag : List ℕ) (before after : Option Content) (outcome : Result (Unit {0}) CallError) → choice ≡ chosen
-    → IsOpening seen (Finds says book choice tag) (IsFindingFault finds book choice tag) before after outcome
-    → IsOpening seen (Finds says book chosen tag) (IsFindingFault finds book chosen tag) before after outcome
-opening_chosen {C} seen says finds book choice chosen tag before after outcome is opening =
-    subst (λ (c : Option C). IsOpening seen (Finds says book c tag) (IsFindingFault finds book c tag) before after outcome) is opening
+-- the same of what is asked, which is known to be another one
+pub opening_asked : (book : Option BookTables) (asked known : Result NumberFormat CallError) (tag : List ℕ) (before after : Option Content) (outcome : Result (Unit {0}) CallError)
+    → asked ≡ known → IsOpening format_in (FindsFormat book asked tag) (IsFindingFault book asked tag) before after outcome
+    → IsOpening format_in (FindsFormat book known tag) (IsFindingFault book known tag) before after outcome
+opening_asked book asked known tag before after outcome is opening =
+    subst (λ (a : Result NumberFormat CallError). IsOpening format_in (FindsFormat book a tag) (IsFindingFault book a tag) before after outcome) is opening

@@ -1,8 +1,8 @@
 pub mod Answering
+pub mod AskedFormats
 pub mod ColumnWriting
-pub mod CompactWriting
-pub mod DecimalWriting
-pub mod HeldUnits
+pub mod Formatted
+pub mod HeldFormats
 pub mod Kinds
 pub mod Lending
 pub mod Lent
@@ -11,11 +11,6 @@ pub mod Locales
 pub mod Opened
 pub mod Opening
 pub mod Owned
-pub mod Places
 pub mod Reading
-pub mod SharedViews
-pub mod UnitOpening
-pub mod UnitReading
-pub mod UnitWriting
 pub mod Views
 pub mod Writing

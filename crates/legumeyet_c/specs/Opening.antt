@@ -1,23 +1,21 @@
 -- What a call that opens, keeps or closes leaves in a handle, and why it is refused.
--- Defined in include/legumeyet.h, docs/c-api.md, "Handles", docs/books.md, "Faults", and docs/formatters.md, "Choosing tables".
+-- Defined in include/legumeyet.h, docs/c-api.md, "Handles", docs/books.md, "Faults", and docs/formatters.md, "One formatter".
 -- Cited by the exports that open, keep and close.
--- The imports are many: what a book has, each kind of tables, the content of a handle, and the errors of a book, of a tag and of a call.
+-- The imports are many: what a book has for a format, the content of a handle, and the errors of a book, of a tag and of a call.
 use Rattle.std.specs.Prelude.{◌≡◌, ◌⊎◌, ℕ, Bool, true, false, List, Option, Some, None, is_some, Result, Ok, Err, IsOk, IfErr, IsUtf8}
-use Rattle.icu_decimal.specs.CompactTables.{CompactTables}
-use Rattle.icu_decimal.specs.PlainText.{Tables}
-use Rattle.icu_decimal.specs.declared.options.GroupingStrategy.{GroupingStrategy}
+use Rattle.std.specs.Result.{result_map_both}
 use Rattle.serde_json.specs.Data.{Data}
 use Rattle.locale_numbers.specs.Book.{BookTables, IsBook}
 use Rattle.locale_numbers.specs.BookRefusal.{IsRefused}
+use Rattle.locale_numbers.specs.FoundFormats.{formats_for}
 use Rattle.locale_numbers.specs.Json.{Reads}
-use Rattle.locale_numbers.specs.TagFormatters.{compact_grouped, plain_for}
 use Rattle.locale_numbers.specs.declared.BookError.{BookError}
 use Rattle.locale_numbers.specs.declared.FormatterError.{FormatterError}
 use Rattle.locale_numbers.specs.declared.FormatterError.TheVariants as formatter
-use Rattle.legumeyet_c_values.specs.Choices.{both_of}
-use Rattle.locale_numbers.specs.declared.CompactWidth.{CompactWidth}
+use Rattle.locale_numbers_formats.specs.declared.NumberFormat.{NumberFormat}
 use Rattle.legumeyet_c_values.specs.declared.CallError.{CallError}
-use Rattle.legumeyet_c_values.specs.declared.CallError.TheVariants.{Memory, Closed, UnknownOption, Tag, Table, Code, Book}
+use Rattle.legumeyet_c_values.specs.declared.CallError.TheVariants.{Memory, Closed, Tag, Table, Code, Book}
+use Rattle.legumeyet_c.specs.HeldFormats.{HeldFormat, held_format}
 use Rattle.legumeyet_c.specs.Kinds.{book_in, is_kept}
 use Rattle.legumeyet_c.specs.declared.content.Content.{Content}
 
@@ -52,53 +50,22 @@ IsTagFault found tag Memory = Unit {0}
 IsTagFault found tag Code = found ≡ Err formatter.Code
 IsTagFault found tag _ = ⊥
 
--- what an open book finds for a known choice and a tag
-abbrev pub Finds : {C T : Type 0} → (BookTables → C → List ℕ → T → Type 0) → Option BookTables → Option C → List ℕ → T → Type 0
-Finds says None choice tag tables = ⊥
-Finds says (Some book) None tag tables = ⊥
-Finds says (Some book) (Some choice) tag tables = says book choice tag tables
+-- what an open book has for a tag and a format
+abbrev pub format_found : BookTables → NumberFormat → List ℕ → Result HeldFormat FormatterError
+format_found book format tag =
+    result_map_both (λ both. held_format both.0 both.1 format.options) (λ error. error) (formats_for book tag format.shape)
 
--- a closed book comes first, then an unknown choice
-abbrev pub IsFindingFault : {C T : Type 0} → (BookTables → C → List ℕ → Result T FormatterError) → Option BookTables → Option C → List ℕ → CallError → Type 0
-IsFindingFault found None choice tag error = error ≡ Closed
-IsFindingFault found (Some book) None tag error = error ≡ UnknownOption
-IsFindingFault found (Some book) (Some choice) tag error = IsTagFault (found book choice tag) tag error
+-- what is found in an open book
+abbrev pub FindsFormat : Option BookTables → Result NumberFormat CallError → List ℕ → HeldFormat → Type 0
+FindsFormat None asked tag held = ⊥
+FindsFormat (Some book) (Err error) tag held = ⊥
+FindsFormat (Some book) (Ok format) tag held = format_found book format tag ≡ Ok held
 
--- ---- of plain numbers
-
--- the tables that a book has for a tag, with the strategy that is asked for
-pub record IsDecimalFor (book : BookTables) (tag : List ℕ) (strategy : GroupingStrategy) (tables : Tables) : Type 0 where
-  pub found : Tables
-  pub is_found : plain_for book tag ≡ Ok found
-  pub is : tables ≡ record found { strategy = strategy }
-
-abbrev pub FindsDecimal : Option BookTables → Option GroupingStrategy → List ℕ → Tables → Type 0
-FindsDecimal book strategy tag tables = Finds (λ book strategy tag tables. IsDecimalFor book tag strategy tables) book strategy tag tables
-
-abbrev pub IsDecimalFault : Option BookTables → Option GroupingStrategy → List ℕ → CallError → Type 0
-IsDecimalFault book strategy tag error = IsFindingFault (λ book strategy tag. plain_for book tag) book strategy tag error
-
--- ---- of compact numbers
-
--- what a book has for a tag in a width
-abbrev pub compact_for_width : CompactWidth → BookTables → List ℕ → Result CompactTables FormatterError
-compact_for_width width book tag = compact_grouped width book tag (Some GroupingStrategy.Min2)
-
--- tables with another strategy
-abbrev pub regrouped : GroupingStrategy → CompactTables → CompactTables
-regrouped strategy t = record t { plain = record t.plain { strategy = strategy } }
-
--- the tables that a book has for a tag in a width, with the strategy that is asked for
-pub record IsCompactFor (book : BookTables) (tag : List ℕ) (width : CompactWidth) (strategy : GroupingStrategy) (tables : CompactTables) : Type 0 where
-  pub found : CompactTables
-  pub is_found : compact_for_width width book tag ≡ Ok found
-  pub is : tables ≡ regrouped strategy found
-
-abbrev pub FindsCompact : Option BookTables → Option CompactWidth → Option GroupingStrategy → List ℕ → CompactTables → Type 0
-FindsCompact book width strategy tag tables = Finds (λ book choice tag tables. IsCompactFor book tag choice.0 choice.1 tables) book (both_of width strategy) tag tables
-
-abbrev pub IsCompactFault : Option BookTables → Option CompactWidth → Option GroupingStrategy → List ℕ → CallError → Type 0
-IsCompactFault book width strategy tag error = IsFindingFault (λ book choice tag. compact_for_width choice.0 book tag) book (both_of width strategy) tag error
+-- a closed book comes first, then what is wrong with what is asked
+abbrev pub IsFindingFault : Option BookTables → Result NumberFormat CallError → List ℕ → CallError → Type 0
+IsFindingFault None asked tag error = error ≡ Closed
+IsFindingFault (Some book) (Err fault) tag error = error ≡ fault
+IsFindingFault (Some book) (Ok format) tag error = IsTagFault (format_found book format tag) tag error
 
 -- ---- closing
 

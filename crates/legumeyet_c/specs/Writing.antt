@@ -1,76 +1,86 @@
--- What the formatter of a handle writes for a value, a text or one with its parts, or why it writes nothing.
+-- What the formatter of a handle writes for a number, or for an exact form, changed as options say, or why it writes nothing.
 -- Defined in include/legumeyet.h.
--- Cited by the exports that write numbers; DecimalWriting.antt and CompactWriting.antt have what they say.
+-- Cited by the exports that write numbers; Formatted.antt has what is written of a changed number.
 use Rattle.std.specs.Prelude.{◌≡◌, ◌⊎◌, ℕ, ℤ, List, Option, Some, None, Result, Ok, Err}
-use Rattle.std.specs.Float.Ieee.{Float}
+use Rattle.fixed_decimal.specs.CompactText.{CompactValue}
 use Rattle.fixed_decimal.specs.Number.{Number}
-use Rattle.fixed_decimal.specs.SignedText.{ReadsSigned}
 use Rattle.fixed_decimal.specs.SignedValue.{SignedValue}
-use Rattle.legumeyet_c_values.specs.Choices.{choices_of}
-use Rattle.legumeyet_c_values.specs.Numbers.{Gives, IsChangeFault, IsDoubleFault, IsNumberFault, IsOfDouble, IsScaled, IsScaledFault}
-use Rattle.legumeyet_c_values.specs.declared.Options.{Options}
+use Rattle.locale_numbers_formats.specs.declared.NumberOptions.{NumberOptions}
+use Rattle.locale_numbers_formatter.specs.FormatText.{FormatTables, fractions_in}
+use Rattle.legumeyet_c_values.specs.Numbers.{Given, Gives, GivesCompact, IsChangeFault, IsCompactChangeFault, IsGiven, IsGivenFault}
+use Rattle.legumeyet_c_values.specs.Words.{options_of}
 use Rattle.legumeyet_c_values.specs.declared.CallError.{CallError}
-use Rattle.legumeyet_c_values.specs.declared.CallError.TheVariants.{Closed}
+use Rattle.legumeyet_c_values.specs.declared.CallError.TheVariants.{Closed, UnknownOption}
+use Rattle.legumeyet_c.specs.Formatted.{IsExactFault, IsExactText}
+use Rattle.legumeyet_c.specs.HeldFormats.{HeldFormat}
 
--- ---- of the value that a call is given
+-- ---- what is asked
 
--- what the tables say of the value that is given
-pub record SaysGiven {T N X : Type 0} (says : T → N → X → Type 0) (tables : T) (is_given : N → Type 0) (text : X) : Type 0 where
+-- what numbers are written with, and what is made of each
+pub record Asked : Type 0 where
+  pub tables : FormatTables
+  pub options : NumberOptions
+
+abbrev pub asked_by : FormatTables → Option NumberOptions → Result Asked CallError
+asked_by tables None = Err UnknownOption
+asked_by tables (Some options) = Ok (record { tables = tables; options = options })
+
+-- a closed handle comes first, then unknown options; without words they are the formatter's own
+abbrev pub asked_of : Option HeldFormat → List ℤ → Result Asked CallError
+asked_of None words = Err Closed
+asked_of (Some held) words = asked_by held.tables (options_of words held.options)
+
+-- ---- a value that is given
+
+-- what tables say of the value that is given
+pub record SaysGiven {N X : Type 0} (says : FormatTables → N → X → Type 0) (is_given : N → Type 0) (tables : FormatTables) (text : X) : Type 0 where
   pub value : N
   pub given : is_given value
   pub said : says tables value text
 
--- a closed handle says nothing
-abbrev pub Writes : {T N X : Type 0} → (T → N → X → Type 0) → Option T → (N → Type 0) → X → Type 0
-Writes says None is_given text = ⊥
-Writes says (Some tables) is_given text = SaysGiven says tables is_given text
+-- nothing is said where the handle is closed, or the options are unknown
+abbrev pub Writes : {N X : Type 0} → (FormatTables → N → X → Type 0) → (Asked → N → Type 0) → Result Asked CallError → X → Type 0
+Writes says gives (Err cause) text = ⊥
+Writes says gives (Ok asked) text = SaysGiven says (gives asked) asked.tables text
 
--- why the tables say nothing of the value that is given
-pub record FailsGiven {T N : Type 0} (fails : T → N → CallError → Type 0) (tables : T) (is_given : N → Type 0) (error : CallError) : Type 0 where
+-- why tables say nothing of the value that is given
+pub record FailsGiven {N : Type 0} (fails : FormatTables → N → CallError → Type 0) (is_given : N → Type 0) (tables : FormatTables) (error : CallError) : Type 0 where
   pub value : N
   pub given : is_given value
   pub failed : fails tables value error
 
--- a closed handle comes first, then why no value is given, then why the one that is given is not written
-abbrev pub IsWritingFault : {T N : Type 0} → (T → N → CallError → Type 0) → Option T → (N → Type 0) → (CallError → Type 0) → CallError → Type 0
-IsWritingFault fails None is_given fault error = error ≡ Closed
-IsWritingFault fails (Some tables) is_given fault error = fault error ⊎ FailsGiven fails tables is_given error
+-- what is asked comes first, then why no value is given, then why the one that is given is not written
+abbrev pub IsWritingFault : {N : Type 0} → (FormatTables → N → CallError → Type 0) → (Asked → N → Type 0) → (Asked → CallError → Type 0) → Result Asked CallError → CallError → Type 0
+IsWritingFault fails gives fault (Err cause) error = error ≡ cause
+IsWritingFault fails gives fault (Ok asked) error = fault asked error ⊎ FailsGiven fails (gives asked) asked.tables error
 
--- ---- of a number that a text spells, changed as options say
+-- ---- of numbers
 
-abbrev pub WritesNumber : {T X : Type 0} → (T → SignedValue Number → X → Type 0) → Option T → Options → List ℕ → X → Type 0
-WritesNumber says tables options number text = Writes says tables (Gives (choices_of options) (ReadsSigned number)) text
+-- the number that is given, changed as is asked: an amount by the digits of its currency
+abbrev pub GivesNumber : Given → Asked → SignedValue Number → Type 0
+GivesNumber number asked value = Gives asked.options (fractions_in asked.tables) (IsGiven number) value
 
-abbrev pub IsNumberWritingFault : {T : Type 0} → (T → SignedValue Number → CallError → Type 0) → Option T → Options → List ℕ → CallError → Type 0
-IsNumberWritingFault fails tables options number error =
-    IsWritingFault fails tables (Gives (choices_of options) (ReadsSigned number)) (IsChangeFault (choices_of options) (ReadsSigned number) (IsNumberFault number)) error
+-- why there is none
+abbrev pub IsNumberRefused : Given → Asked → CallError → Type 0
+IsNumberRefused number asked error = IsChangeFault asked.options (fractions_in asked.tables) (IsGiven number) (IsGivenFault number) error
 
--- ---- of an integer times a power of ten, changed as options say
+abbrev pub WritesNumber : {X : Type 0} → (FormatTables → SignedValue Number → X → Type 0) → Option HeldFormat → List ℤ → Given → X → Type 0
+WritesNumber says held words number text = Writes says (GivesNumber number) (asked_of held words) text
 
-abbrev pub WritesScaled : {T X : Type 0} → (T → SignedValue Number → X → Type 0) → Option T → Options → ℤ → ℤ → X → Type 0
-WritesScaled says tables options mantissa exponent text = Writes says tables (Gives (choices_of options) (IsScaled mantissa exponent)) text
+abbrev pub IsNumberWritingFault : (FormatTables → SignedValue Number → CallError → Type 0) → Option HeldFormat → List ℤ → Given → CallError → Type 0
+IsNumberWritingFault fails held words number error = IsWritingFault fails (GivesNumber number) (IsNumberRefused number) (asked_of held words) error
 
-abbrev pub IsScaledWritingFault : {T : Type 0} → (T → SignedValue Number → CallError → Type 0) → Option T → Options → ℤ → ℤ → CallError → Type 0
-IsScaledWritingFault fails tables options mantissa exponent error =
-    IsWritingFault fails tables (Gives (choices_of options) (IsScaled mantissa exponent)) (IsChangeFault (choices_of options) (IsScaled mantissa exponent) (IsScaledFault mantissa exponent)) error
+-- ---- of exact forms
 
--- ---- of a double, changed as options say
+-- the form that a text spells, its significand changed as is asked
+abbrev pub GivesForm : List ℕ → Asked → CompactValue → Type 0
+GivesForm spelled asked form = GivesCompact asked.options (fractions_in asked.tables) spelled form
 
-abbrev pub WritesDouble : {T X : Type 0} → (T → SignedValue Number → X → Type 0) → Option T → Options → Float → X → Type 0
-WritesDouble says tables options number text = Writes says tables (Gives (choices_of options) (IsOfDouble number)) text
+abbrev pub IsFormRefused : List ℕ → Asked → CallError → Type 0
+IsFormRefused spelled asked error = IsCompactChangeFault asked.options (fractions_in asked.tables) spelled error
 
-abbrev pub IsDoubleWritingFault : {T : Type 0} → (T → SignedValue Number → CallError → Type 0) → Option T → Options → Float → CallError → Type 0
-IsDoubleWritingFault fails tables options number error =
-    IsWritingFault fails tables (Gives (choices_of options) (IsOfDouble number)) (IsChangeFault (choices_of options) (IsOfDouble number) (IsDoubleFault number)) error
+abbrev pub WritesForm : Option HeldFormat → List ℤ → List ℕ → List ℕ → Type 0
+WritesForm held words spelled text = Writes IsExactText (GivesForm spelled) (asked_of held words) text
 
--- ---- of a value that is there, or of why there is none
-
-abbrev pub WritesValue : {T N X : Type 0} → (T → N → X → Type 0) → Option T → Result N CallError → X → Type 0
-WritesValue says None value text = ⊥
-WritesValue says (Some tables) (Err error) text = ⊥
-WritesValue says (Some tables) (Ok value) text = says tables value text
-
-abbrev pub IsValueFault : {T N : Type 0} → (T → N → CallError → Type 0) → Option T → Result N CallError → CallError → Type 0
-IsValueFault fails None value error = error ≡ Closed
-IsValueFault fails (Some tables) (Err cause) error = error ≡ cause
-IsValueFault fails (Some tables) (Ok value) error = fails tables value error
+abbrev pub IsFormWritingFault : Option HeldFormat → List ℤ → List ℕ → CallError → Type 0
+IsFormWritingFault held words spelled error = IsWritingFault IsExactFault (GivesForm spelled) (IsFormRefused spelled) (asked_of held words) error

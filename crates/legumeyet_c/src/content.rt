@@ -1,27 +1,22 @@
 //! What an open handle has.
 
 ghost use Rattle.std.specs.Prelude.{◌≡◌, IfSome, Some, None, false, is_some, option_map, refl};
-ghost use Rattle.legumeyet_c.specs.Kinds.{answers_in, book_in, compact_in, decimal_in, is_kept, unit_in};
+ghost use Rattle.legumeyet_c.specs.Kinds.{answers_in, book_in, format_in, is_kept};
+ghost use Rattle.legumeyet_c.specs.Opened.{opened};
 
-use crate::compact_tables::HeldCompactTables;
-use crate::decimal_tables::HeldDecimalTables;
 use crate::held_answers::HeldAnswers;
-use crate::held_units::HeldUnits;
+use crate::held_formatter::HeldFormatter;
 use locale_numbers::Book;
 
-/// What an open handle has: a book, the tables of a formatter, or what answers lines.
+/// What an open handle has: a book, what numbers are written with, or what answers lines.
 #[derive(Drop)]
 pub enum Content {
     /// A book.
     Book(Book),
     /// A book that is kept for the rest of the run.
     Kept(&'static Book),
-    /// What plain numbers are written with.
-    Decimal(HeldDecimalTables),
-    /// What compact numbers are written with.
-    Compact(HeldCompactTables),
-    /// What percents or amounts are written with.
-    Unit(HeldUnits),
+    /// What numbers are written with.
+    Formatter(HeldFormatter),
     /// What answers lines.
     Answers(HeldAnswers),
     /// Nothing yet: no handle has it open.
@@ -56,12 +51,7 @@ pub(crate) fn kept_in(content: &Content) -> Option<&'static Book>
 {
     match content {
         Content::Kept(book) => Some(*book),
-        Content::Book(_)
-        | Content::Decimal(_)
-        | Content::Compact(_)
-        | Content::Unit(_)
-        | Content::Answers(_)
-        | Content::Nothing => None,
+        Content::Book(_) | Content::Formatter(_) | Content::Answers(_) | Content::Nothing => None,
     }
 }
 
@@ -72,11 +62,7 @@ impl ContentKind for Book {
         match content {
             Content::Book(book) => Some(book),
             Content::Kept(book) => Some(*book),
-            Content::Decimal(_)
-            | Content::Compact(_)
-            | Content::Unit(_)
-            | Content::Answers(_)
-            | Content::Nothing => None,
+            Content::Formatter(_) | Content::Answers(_) | Content::Nothing => None,
         }
     }
 
@@ -87,67 +73,18 @@ impl ContentKind for Book {
     ghost closed = { refl };
 }
 
-impl ContentKind for HeldDecimalTables {
-    ghost open_in = { decimal_in };
+impl ContentKind for HeldFormatter {
+    ghost open_in = { format_in };
 
-    fn of_content(content: &Content) -> Option<&HeldDecimalTables> {
+    fn of_content(content: &Content) -> Option<&HeldFormatter> {
         match content {
-            Content::Decimal(tables) => Some(tables),
-            Content::Book(_)
-            | Content::Kept(_)
-            | Content::Compact(_)
-            | Content::Unit(_)
-            | Content::Answers(_)
-            | Content::Nothing => None,
+            Content::Formatter(held) => Some(held),
+            Content::Book(_) | Content::Kept(_) | Content::Answers(_) | Content::Nothing => None,
         }
     }
 
     fn into_content(self) -> Content {
-        Content::Decimal(self)
-    }
-
-    ghost closed = { refl };
-}
-
-impl ContentKind for HeldCompactTables {
-    ghost open_in = { compact_in };
-
-    fn of_content(content: &Content) -> Option<&HeldCompactTables> {
-        match content {
-            Content::Compact(tables) => Some(tables),
-            Content::Book(_)
-            | Content::Kept(_)
-            | Content::Decimal(_)
-            | Content::Unit(_)
-            | Content::Answers(_)
-            | Content::Nothing => None,
-        }
-    }
-
-    fn into_content(self) -> Content {
-        Content::Compact(self)
-    }
-
-    ghost closed = { refl };
-}
-
-impl ContentKind for HeldUnits {
-    ghost open_in = { unit_in };
-
-    fn of_content(content: &Content) -> Option<&HeldUnits> {
-        match content {
-            Content::Unit(units) => Some(units),
-            Content::Book(_)
-            | Content::Kept(_)
-            | Content::Decimal(_)
-            | Content::Compact(_)
-            | Content::Answers(_)
-            | Content::Nothing => None,
-        }
-    }
-
-    fn into_content(self) -> Content {
-        Content::Unit(self)
+        Content::Formatter(self)
     }
 
     ghost closed = { refl };
@@ -159,12 +96,7 @@ impl ContentKind for HeldAnswers {
     fn of_content(content: &Content) -> Option<&HeldAnswers> {
         match content {
             Content::Answers(answers) => Some(answers),
-            Content::Book(_)
-            | Content::Kept(_)
-            | Content::Decimal(_)
-            | Content::Compact(_)
-            | Content::Unit(_)
-            | Content::Nothing => None,
+            Content::Book(_) | Content::Kept(_) | Content::Formatter(_) | Content::Nothing => None,
         }
     }
 
@@ -173,4 +105,11 @@ impl ContentKind for HeldAnswers {
     }
 
     ghost closed = { refl };
+}
+
+// What numbers are written with, where a handle has it open.
+pub(crate) fn formatter_in(content: Option<&Content>) -> Option<&HeldFormatter>
+    ensures { option_map (λ held. held.now) result ≡ format_in (opened content.entry) }
+{
+    HeldFormatter::of_content(content?)
 }

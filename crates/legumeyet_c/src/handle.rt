@@ -130,7 +130,7 @@ impl Handle {
             pointer: Pointer::to(Unboxed::open(content)),
             is_open: true,
         };
-        let _ = content_of(std::mem::replace(self, opened), alloc);
+        drop(content_of(std::mem::replace(self, opened), alloc));
     }
 }
 

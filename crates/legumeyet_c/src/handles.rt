@@ -10,30 +10,16 @@ pub struct BookHandle {
     pub handle: Handle,
 }
 
+/// A formatter of numbers in any format, or a closed handle: `legumeyet_formatter`.
+#[repr(C)]
+pub struct FormatterHandle {
+    /// What is after it.
+    pub handle: Handle,
+}
+
 /// Answers to request lines, or a closed handle: `legumeyet_answers`.
 #[repr(C)]
 pub struct AnswersHandle {
-    /// What is after it.
-    pub handle: Handle,
-}
-
-/// A formatter of plain numbers, or a closed handle: `legumeyet_decimal_formatter`.
-#[repr(C)]
-pub struct DecimalHandle {
-    /// What is after it.
-    pub handle: Handle,
-}
-
-/// A formatter of compact numbers, or a closed handle: `legumeyet_compact_formatter`.
-#[repr(C)]
-pub struct CompactHandle {
-    /// What is after it.
-    pub handle: Handle,
-}
-
-/// A formatter of percents or of amounts of money, or a closed handle: `legumeyet_unit_formatter`.
-#[repr(C)]
-pub struct UnitHandle {
     /// What is after it.
     pub handle: Handle,
 }

@@ -7,10 +7,10 @@ ghost use Rattle.legumeyet_c_values.specs.Putting.{Answers, IsPut};
 use legumeyet_c_values::{CallError, answer, error_of, put};
 
 /// The version of the header: another one would break programs, while calls and numbers that are added leave it.
-pub const VERSION: u32 = 1;
+pub const VERSION: u32 = 2;
 
 /// The minor version of the header, which rises when a call or a number is added.
-pub const MINOR: u32 = 4;
+pub const MINOR: u32 = 0;
 
 /// Writes what a number of a call means, in English: of 5 `no locale tag`.
 ///
@@ -29,7 +29,7 @@ pub extern "C" fn legumeyet_error_text(error: i32, out: &mut [u8], length: &mut 
 /// The version of the library: that of the header that it was built with.
 #[unsafe(no_mangle)]
 pub extern "C" fn legumeyet_version() -> u32
-    ensures { result ≡ 1 }
+    ensures { result ≡ 2 }
 {
     VERSION
 }
@@ -37,7 +37,7 @@ pub extern "C" fn legumeyet_version() -> u32
 /// The minor version of the library: that of the header that it was built with.
 #[unsafe(no_mangle)]
 pub extern "C" fn legumeyet_minor() -> u32
-    ensures { result ≡ 4 }
+    ensures { result ≡ 0 }
 {
     MINOR
 }

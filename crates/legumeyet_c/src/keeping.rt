@@ -21,11 +21,9 @@ fn keep(alloc: Global, content: Box<Content>) -> (Box<Content>, Result<(), CallE
     match &*content {
         Content::Kept(_) => return (content, Ok(())),
         Content::Book(_) => (),
-        Content::Decimal(_)
-        | Content::Compact(_)
-        | Content::Unit(_)
-        | Content::Answers(_)
-        | Content::Nothing => return (content, Err(CallError::Closed)),
+        Content::Formatter(_) | Content::Answers(_) | Content::Nothing => {
+            return (content, Err(CallError::Closed));
+        }
     }
     match Box::new(alloc, Content::Nothing) {
         Ok(mut block) => {

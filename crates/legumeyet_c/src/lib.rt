@@ -4,31 +4,27 @@
 //!
 //! ```c
 //! legumeyet_book_open(json, json_length, &book);
-//! legumeyet_decimal_formatter_open(&book, (const uint8_t *)"en", 2, LEGUMEYET_GROUPING_AUTO, &english);
-//! legumeyet_decimal_formatter_format(&english, (const uint8_t *)"-987654.321", 11, &options, out, sizeof out, &length);
+//! legumeyet_formatter_open(&book, (const uint8_t *)"en", 2, NULL, 0, NULL, 0, &english);
+//! legumeyet_formatter_format(&english, (const uint8_t *)"-987654.321", 11, NULL, 0, out, sizeof out, &length);
 //! ```
 
 #![tactic(auto)]
 
 pub mod answering;
-mod asked_units;
+mod asking;
 pub mod book;
 mod column_writing;
-pub mod compact_columns;
-pub mod compact_formatter;
-pub mod compact_parts;
-mod compact_tables;
-pub mod compact_writing;
+pub mod columns;
 mod content;
 pub mod crossing;
-pub mod decimal_columns;
-pub mod decimal_formatter;
-mod decimal_tables;
-pub mod doubles;
+pub mod exact;
+mod format_opening;
+pub mod formatter;
+mod formatting;
 mod handle;
 mod handles;
 mod held_answers;
-mod held_units;
+mod held_formatter;
 pub mod information;
 pub mod keeping;
 mod lent;
@@ -37,18 +33,12 @@ pub mod locales;
 mod opening;
 pub mod parts;
 pub mod reading;
-pub mod shared_compact;
-pub mod shared_decimal;
+pub mod shared_columns;
+pub mod shared_formatter;
 mod shared_handles;
-pub mod shared_unit;
+pub mod shared_reading;
+pub mod shared_writing;
 mod sharing;
+pub mod skeletons;
 mod unboxed;
-pub mod unit_columns;
-pub mod unit_formatter;
-mod unit_opening;
-pub mod unit_parts;
-pub mod unit_reading;
-mod unit_tables;
-pub mod unit_writing;
-pub mod unsigned;
-mod writing;
+pub mod writing;

@@ -140,12 +140,9 @@ fn answer_held(
 {
     match content {
         Content::Answers(held) => held.answer(lines, out, read, written, needs),
-        Content::Book(_)
-        | Content::Kept(_)
-        | Content::Decimal(_)
-        | Content::Compact(_)
-        | Content::Unit(_)
-        | Content::Nothing => answer_none(read, written, needs),
+        Content::Book(_) | Content::Kept(_) | Content::Formatter(_) | Content::Nothing => {
+            answer_none(read, written, needs)
+        }
     }
 }
 

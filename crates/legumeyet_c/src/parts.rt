@@ -1,129 +1,112 @@
-//! Numbers written with their parts: `legumeyet_decimal_formatter_format_parts`.
+//! Numbers written with their parts: `legumeyet_formatter_format_parts`.
 
-ghost use Rattle.std.specs.Prelude.{◌≡◌, ◌≢◌, IfOk, IfErr};
+ghost use Rattle.std.specs.Prelude.{◌≡◌, Ok, IfOk, IfErr};
+ghost use Rattle.legumeyet_c_values.specs.Numbers.{given_of, spelled};
 ghost use Rattle.legumeyet_c_values.specs.Parts.{IsPutInParts, given, held_text};
 ghost use Rattle.legumeyet_c_values.specs.Putting.{Answers};
-ghost use Rattle.legumeyet_c.specs.DecimalWriting.{IsDecimalAnnotated, WantsMemory};
+ghost use Rattle.legumeyet_c.specs.Formatted.{IsFormatInParts, IsPartsFault};
+ghost use Rattle.legumeyet_c.specs.Kinds.{format_in};
 ghost use Rattle.legumeyet_c.specs.Opened.{opened};
-ghost use Rattle.legumeyet_c.specs.Views.{decimal_content, decimal_open};
-ghost use Rattle.legumeyet_c.specs.Writing.{IsNumberWritingFault, IsValueFault, WritesNumber, WritesValue};
+ghost use Rattle.legumeyet_c.specs.Views.{format_content, format_open};
+ghost use Rattle.legumeyet_c.specs.Writing.{GivesNumber, IsNumberRefused, IsNumberWritingFault, IsWritingFault, Writes, WritesNumber};
 
-use crate::content::{Content, ContentKind};
-use crate::decimal_tables::HeldDecimalTables;
-use crate::handles::DecimalHandle;
-use fixed_decimal::Decimal;
-use icu_decimal::laws::text::parts_law;
-use legumeyet_c_values::{CallError, Interval, Options, answer, number_of_text, put_parts};
+use crate::asking::{AskedFormatter, asked};
+use crate::content::Content;
+use crate::formatting::number_in_parts;
+use crate::handles::FormatterHandle;
+use legumeyet_c_values::{CallError, GivenNumber, Interval, answer, put_parts};
 use std::alloc::Global;
-use writeable::{PartsSink, Writeable};
+use writeable::PartsSink;
 
-// Tables whose texts of numbers have parts.
-pub(crate) trait Annotates: ContentKind {
-    ghost use Rattle.legumeyet_c_values.specs.declared.CallError.{CallError};
-    ghost use Rattle.fixed_decimal.specs.Number.{Number};
-    ghost use Rattle.fixed_decimal.specs.SignedValue.{SignedValue};
-    ghost use Rattle.writeable.specs.AnnotatedText.{AnnotatedText};
-
-    // the text of a number with its parts
-    ghost says: { Self → SignedValue Number → AnnotatedText → Type 0 };
-
-    // why there is none
-    ghost fails: { Self → SignedValue Number → CallError → Type 0 };
-
-    /// The text of a number with its parts. `Memory`: out of memory.
-    fn annotated(&self, alloc: Global, value: &Decimal) -> Result<PartsSink, CallError>
-        ensures value { IfOk result (λ sink. says self.now value.now (held_text sink)) }
-        ensures fault { IfErr result (λ error. fails self.now value.now error) };
-
-    // not that room lacks
-    ghost other: { (tables : Self) (value : SignedValue Number) (error : CallError) → fails tables value error
-        → error ≢ CallError.TooSmall };
-}
-
-impl Annotates for HeldDecimalTables {
-    ghost use Rattle.legumeyet_c.specs.DecimalWriting.{memory_other};
-
-    ghost says = { IsDecimalAnnotated };
-
-    ghost fails = { WantsMemory };
-
-    fn annotated(&self, alloc: Global, value: &Decimal) -> Result<PartsSink, CallError> {
-        parts_law();
-        let mut sink = PartsSink::new(alloc);
-        match self.formatter().format(value).write_to(&mut sink) {
-            Ok(()) => Ok(sink),
-            Err(_) => Err(CallError::Memory),
-        }
-    }
-
-    ghost other = { memory_other };
-}
-
-// The text, with its parts, of a number, where there is one, with what is open.
-fn annotated_opened<T: Annotates>(
+// The text of a number with its parts, as is asked.
+fn asked_in_parts(
     alloc: Global,
-    content: Option<&Content>,
-    number: &Result<Decimal, CallError>,
+    asked: &AskedFormatter<'_>,
+    number: GivenNumber<'_>,
 ) -> Result<PartsSink, CallError>
     ensures value { IfOk result
-        (λ sink. WritesValue T.says (T.open_in (opened content.entry)) number.now (held_text sink)) }
-    ensures fault { IfErr result (λ error. IsValueFault T.fails (T.open_in (opened content.entry)) number.now error) }
+        (λ sink. Writes IsFormatInParts (GivesNumber (given_of number.entry)) (Ok asked.now) (held_text sink)) }
+    ensures fault { IfErr result
+        (λ error. IsWritingFault IsPartsFault (GivesNumber (given_of number.entry))
+        (IsNumberRefused (given_of number.entry)) (Ok asked.now) error) }
 {
-    let Some(content) = content else {
-        return Err(CallError::Closed);
-    };
-    match (T::of_content(content), number) {
-        (Some(tables), Ok(value)) => tables.annotated(alloc, value),
-        (Some(_), Err(error)) => Err(*error),
-        (None, _) => Err(CallError::Closed),
-    }
-}
-
-// Writes a number, where there is one, and its parts, with what is open.
-pub(crate) fn write_parts<T: Annotates>(
-    alloc: Global,
-    content: Option<&Content>,
-    number: &Result<Decimal, CallError>,
-    out: &mut [u8],
-    length: &mut usize,
-    intervals: &mut [Interval],
-    count: &mut usize,
-) -> Result<(), CallError>
-    requires { IfErr number.now (λ error. error ≢ CallError.TooSmall) }
-    ensures { IsPutInParts (WritesValue T.says (T.open_in (opened content.entry)) number.now)
-        (IsValueFault T.fails (T.open_in (opened content.entry)) number.now)
-        (given out.old length.old intervals.old count.old) (given out.new length.new intervals.new count.new) result }
-{
-    match annotated_opened::<T>(alloc, content, number) {
-        Ok(sink) => put_parts(&sink, out, length, intervals, count),
+    let lent = asked.held.lent();
+    let formatter = lent.get();
+    match number.changed(alloc, asked.options, formatter.fractions()) {
+        Ok(value) => number_in_parts(alloc, formatter, &value),
         Err(error) => Err(error),
     }
 }
 
-/// Writes a decimal number that is given as text, and lists the parts of its text in order of their beginning: of
-/// `-1,234.5` the minus sign at 0 to 1, the integer at 1 to 6, the group at 2 to 3, the decimal at 6 to 7 and the
-/// fraction at 7 to 8. `count` is how many.
-///
-/// Returns as `legumeyet_decimal_formatter_format`; 1 of any number; 3 also where the list needs more room.
-#[unsafe(no_mangle)]
-pub extern "C" fn legumeyet_decimal_formatter_format_parts(
+// The same with what is open.
+fn opened_in_parts(
     alloc: Global,
-    formatter: &mut DecimalHandle,
+    content: Option<&Content>,
     number: &[u8],
-    options: &Options,
+    words: &[i32],
+) -> Result<PartsSink, CallError>
+    ensures value { IfOk result
+        (λ sink. WritesNumber IsFormatInParts (format_in (opened content.entry)) words.now (spelled number.now)
+        (held_text sink)) }
+    ensures fault { IfErr result
+        (λ error. IsNumberWritingFault IsPartsFault (format_in (opened content.entry)) words.now (spelled number.now)
+        error) }
+{
+    match asked(content, words) {
+        Ok(asked) => asked_in_parts(alloc, &asked, GivenNumber::Text(number)),
+        Err(error) => Err(error),
+    }
+}
+
+// Answers a call that writes a number and its parts with what is open.
+pub(crate) fn answer_parts(
+    alloc: Global,
+    content: Option<&Content>,
+    number: &[u8],
+    words: &[i32],
     out: &mut [u8],
     length: &mut usize,
     intervals: &mut [Interval],
     count: &mut usize,
 ) -> i32
-    ensures same { decimal_content formatter.new ≡ decimal_content formatter.old }
-    ensures told { Answers
-        (IsPutInParts (WritesNumber IsDecimalAnnotated (decimal_open formatter.old) options.now number.now)
-        (IsNumberWritingFault WantsMemory (decimal_open formatter.old) options.now number.now)
+    ensures { Answers
+        (IsPutInParts
+        (WritesNumber IsFormatInParts (format_in (opened content.entry)) words.now (spelled number.now))
+        (IsNumberWritingFault IsPartsFault (format_in (opened content.entry)) words.now (spelled number.now))
         (given out.old length.old intervals.old count.old) (given out.new length.new intervals.new count.new))
         result }
 {
-    let number = number_of_text(alloc, number, options);
+    match opened_in_parts(alloc, content, number, words) {
+        Ok(sink) => answer(put_parts(&sink, out, length, intervals, count)),
+        Err(error) => error.number(),
+    }
+}
+
+/// Writes a decimal number that is given as text, and lists the parts of its text in order of their beginning: of
+/// `-€1,234.50` the minus sign at 0 to 1, the currency at 1 to 4, the integer at 4 to 9, the group at 5 to 6, the decimal
+/// at 9 to 10 and the fraction at 10 to 12; of compact text those of its sign alone. `count` is how many.
+///
+/// Returns as `legumeyet_formatter_format`; 1 of any number; 3 also where the list needs more room.
+#[unsafe(no_mangle)]
+pub extern "C" fn legumeyet_formatter_format_parts(
+    alloc: Global,
+    formatter: &mut FormatterHandle,
+    number: &[u8],
+    options: &[i32],
+    out: &mut [u8],
+    length: &mut usize,
+    intervals: &mut [Interval],
+    count: &mut usize,
+) -> i32
+    ensures same { format_content formatter.new ≡ format_content formatter.old }
+    ensures told { Answers
+        (IsPutInParts (WritesNumber IsFormatInParts (format_open formatter.old) options.now (spelled number.now))
+        (IsNumberWritingFault IsPartsFault (format_open formatter.old) options.now (spelled number.now))
+        (given out.old length.old intervals.old count.old) (given out.new length.new intervals.new count.new))
+        result }
+{
     let content = formatter.handle.content();
-    answer(write_parts::<HeldDecimalTables>(alloc, content, &number, out, length, intervals, count))
+    answer_parts(
+        alloc, content, number, options, out, length, intervals, count,
+    )
 }

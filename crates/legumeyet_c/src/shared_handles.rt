@@ -1,30 +1,12 @@
-//! Shared handles of one kind of content each, as C has them.
+//! The shared handle, as C has it.
 
 use crate::lent::SharedHandle;
 
-/// A formatter of plain numbers that any number of threads use at once, or a closed handle:
-/// `legumeyet_shared_decimal_formatter`.
+/// A formatter of numbers in any format that any number of threads use at once, or a closed handle:
+/// `legumeyet_shared_formatter`.
 #[repr(C)]
 #[derive(Drop)]
-pub struct SharedDecimalHandle {
-    /// What it shows.
-    pub handle: SharedHandle,
-}
-
-/// A formatter of compact numbers that any number of threads use at once, or a closed handle:
-/// `legumeyet_shared_compact_formatter`.
-#[repr(C)]
-#[derive(Drop)]
-pub struct SharedCompactHandle {
-    /// What it shows.
-    pub handle: SharedHandle,
-}
-
-/// A formatter of percents or of amounts of money that any number of threads use at once, or a closed handle:
-/// `legumeyet_shared_unit_formatter`.
-#[repr(C)]
-#[derive(Drop)]
-pub struct SharedUnitHandle {
+pub struct SharedFormatterHandle {
     /// What it shows.
     pub handle: SharedHandle,
 }

@@ -14,16 +14,11 @@ fn prepare(alloc: Global, content: &mut Content)
     ensures { content.new ≡ content.old }
 {
     match content {
-        Content::Decimal(tables) => tables.keep_folds(alloc),
-        Content::Unit(units) => {
-            units.keep_exact_reader(alloc);
-            units.keep_typed_reader(alloc)
+        Content::Formatter(held) => {
+            held.keep_exact_reader(alloc);
+            held.keep_typed_reader(alloc)
         }
-        Content::Book(_)
-        | Content::Kept(_)
-        | Content::Compact(_)
-        | Content::Answers(_)
-        | Content::Nothing => (),
+        Content::Book(_) | Content::Kept(_) | Content::Answers(_) | Content::Nothing => (),
     }
 }
 

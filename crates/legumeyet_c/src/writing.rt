@@ -1,75 +1,157 @@
-//! Numbers written with what is open.
+//! Numbers written: `legumeyet_formatter_format`, `_format_i64`, `_format_u64` and `_format_double`.
 
-ghost use Rattle.std.specs.Prelude.{◌≡◌, ◌≢◌, Some, IfErr};
-ghost use Rattle.legumeyet_c_values.specs.Putting.{IsPut};
+ghost use Rattle.std.specs.Prelude.{◌≡◌, Ok, pos};
+ghost use Rattle.legumeyet_c_values.specs.Numbers.{double, given_of, scaled, spelled};
+ghost use Rattle.legumeyet_c_values.specs.Putting.{Answers, IsPut};
+ghost use Rattle.legumeyet_c.specs.Formatted.{IsFormatFault, IsFormatText};
+ghost use Rattle.legumeyet_c.specs.Kinds.{format_in};
 ghost use Rattle.legumeyet_c.specs.Opened.{opened};
-ghost use Rattle.legumeyet_c.specs.Writing.{IsValueFault, WritesValue};
+ghost use Rattle.legumeyet_c.specs.Views.{format_content, format_open};
+ghost use Rattle.legumeyet_c.specs.Writing.{GivesNumber, IsNumberRefused, IsNumberWritingFault, IsWritingFault, Writes, WritesNumber};
 
-use crate::content::{Content, ContentKind};
-use legumeyet_c_values::CallError;
+use crate::asking::{AskedFormatter, asked};
+use crate::content::Content;
+use crate::formatting::put_number;
+use crate::handles::FormatterHandle;
+use legumeyet_c_values::{CallError, GivenNumber, answer};
+use std::alloc::Global;
 
-// What is written of a number: its text, or another one. A type that holds nothing stands for it.
-pub(crate) trait NumberForm {
-    ghost use Rattle.std.specs.Prelude.{List, ℕ};
-    ghost use Rattle.legumeyet_c_values.specs.declared.CallError.{CallError};
-
-    /// The kind of content that it is written with.
-    type Kind: ContentKind;
-
-    /// The number.
-    type Number;
-
-    // what is written
-    ghost says: { Self.Kind → Self.Number → List ℕ → Type 0 };
-
-    // why nothing is
-    ghost fails: { Self.Kind → Self.Number → CallError → Type 0 };
-
-    /// Writes it to the front of the bytes, and tells its length. `TooSmall`: it is longer than the bytes.
-    fn write(
-        tables: &Self::Kind,
-        value: &Self::Number,
-        out: &mut [u8],
-        length: &mut usize,
-    ) -> Result<(), CallError>
-        ensures { IsPut (says tables.now value.now) (fails tables.now value.now)
-            out.old out.new length.old length.new result };
-}
-
-// Writes a number, where there is one, by tables.
-pub(crate) fn write_value<F: NumberForm>(
-    tables: &F::Kind,
-    number: &Result<F::Number, CallError>,
+// Writes a number as is asked.
+fn write_asked(
+    alloc: Global,
+    asked: &AskedFormatter<'_>,
+    number: GivenNumber<'_>,
     out: &mut [u8],
     length: &mut usize,
 ) -> Result<(), CallError>
-    requires { IfErr number.now (λ error. error ≢ CallError.TooSmall) }
-    ensures { IsPut (WritesValue F.says (Some tables.now) number.now)
-        (IsValueFault F.fails (Some tables.now) number.now) out.old out.new length.old length.new result }
+    ensures { IsPut (Writes IsFormatText (GivesNumber (given_of number.entry)) (Ok asked.now))
+        (IsWritingFault IsFormatFault (GivesNumber (given_of number.entry)) (IsNumberRefused (given_of number.entry))
+        (Ok asked.now)) out.old out.new length.old length.new result }
 {
-    match number {
-        Ok(value) => F::write(tables, value, out, length),
-        Err(error) => Err(*error),
+    let lent = asked.held.lent();
+    let formatter = lent.get();
+    match number.changed(alloc, asked.options, formatter.fractions()) {
+        Ok(value) => put_number(formatter, &value, out, length),
+        Err(error) => Err(error),
     }
 }
 
-// Writes a number, where there is one, with what is open.
-pub(crate) fn write_opened<F: NumberForm>(
+// Answers a call that writes a number with what is open.
+pub(crate) fn answer_number(
+    alloc: Global,
     content: Option<&Content>,
-    number: &Result<F::Number, CallError>,
+    number: GivenNumber<'_>,
+    words: &[i32],
     out: &mut [u8],
     length: &mut usize,
-) -> Result<(), CallError>
-    requires { IfErr number.now (λ error. error ≢ CallError.TooSmall) }
-    ensures { IsPut (WritesValue F.says (F.Kind.open_in (opened content.entry)) number.now)
-        (IsValueFault F.fails (F.Kind.open_in (opened content.entry)) number.now) out.old out.new length.old length.new
-        result }
+) -> i32
+    ensures { Answers
+        (IsPut (WritesNumber IsFormatText (format_in (opened content.entry)) words.now (given_of number.entry))
+        (IsNumberWritingFault IsFormatFault (format_in (opened content.entry)) words.now (given_of number.entry))
+        out.old out.new length.old length.new) result }
 {
-    let Some(content) = content else {
-        return Err(CallError::Closed);
-    };
-    match F::Kind::of_content(content) {
-        Some(tables) => write_value::<F>(tables, number, out, length),
-        None => Err(CallError::Closed),
+    match asked(content, words) {
+        Ok(asked) => answer(write_asked(alloc, &asked, number, out, length)),
+        Err(error) => error.number(),
     }
+}
+
+/// Writes a decimal number that is given as text: `-987654.321` in English as `-987,654.321`, as `-988K`, as
+/// `-987,654.321%`, or with euros as `-€987,654.32`.
+///
+/// Returns 0; 2, the handle is closed; 4, an option is unknown; 7, the text is no decimal number; 8, one with a digit
+/// beyond the magnitudes -32768 to 32767; 9, what compact text shows reaches ten to the power 32768; 1, out of memory,
+/// which a number of sixteen digits at most takes only where it is rounded to multiples of 25; 3, the text needs more
+/// room.
+#[unsafe(no_mangle)]
+pub extern "C" fn legumeyet_formatter_format(
+    alloc: Global,
+    formatter: &mut FormatterHandle,
+    number: &[u8],
+    options: &[i32],
+    out: &mut [u8],
+    length: &mut usize,
+) -> i32
+    ensures same { format_content formatter.new ≡ format_content formatter.old }
+    ensures told { Answers
+        (IsPut (WritesNumber IsFormatText (format_open formatter.old) options.now (spelled number.now))
+        (IsNumberWritingFault IsFormatFault (format_open formatter.old) options.now (spelled number.now))
+        out.old out.new length.old length.new) result }
+{
+    let number = GivenNumber::Text(number);
+    let content = formatter.handle.content();
+    answer_number(alloc, content, number, options, out, length)
+}
+
+/// Writes the number `mantissa` times ten to the power `exponent`: -123456 and -2 in English as `-1,234.56`, and 500 and
+/// -2 as `5.00`.
+///
+/// Returns as `legumeyet_formatter_format`, but for 7; 8, where the first digit would be above magnitude 32767.
+#[unsafe(no_mangle)]
+pub extern "C" fn legumeyet_formatter_format_i64(
+    alloc: Global,
+    formatter: &mut FormatterHandle,
+    mantissa: i64,
+    exponent: i16,
+    options: &[i32],
+    out: &mut [u8],
+    length: &mut usize,
+) -> i32
+    ensures same { format_content formatter.new ≡ format_content formatter.old }
+    ensures told { Answers
+        (IsPut (WritesNumber IsFormatText (format_open formatter.old) options.now (scaled mantissa exponent))
+        (IsNumberWritingFault IsFormatFault (format_open formatter.old) options.now (scaled mantissa exponent))
+        out.old out.new length.old length.new) result }
+{
+    let number = GivenNumber::Scaled(mantissa, exponent);
+    let content = formatter.handle.content();
+    answer_number(alloc, content, number, options, out, length)
+}
+
+/// Writes the number `mantissa` times ten to the power `exponent`: 18446744073709551615 and -2 in English as
+/// `184,467,440,737,095,516.15`.
+///
+/// Returns as `legumeyet_formatter_format_i64`.
+#[unsafe(no_mangle)]
+pub extern "C" fn legumeyet_formatter_format_u64(
+    alloc: Global,
+    formatter: &mut FormatterHandle,
+    mantissa: u64,
+    exponent: i16,
+    options: &[i32],
+    out: &mut [u8],
+    length: &mut usize,
+) -> i32
+    ensures same { format_content formatter.new ≡ format_content formatter.old }
+    ensures told { Answers
+        (IsPut (WritesNumber IsFormatText (format_open formatter.old) options.now (scaled (pos mantissa) exponent))
+        (IsNumberWritingFault IsFormatFault (format_open formatter.old) options.now (scaled (pos mantissa) exponent))
+        out.old out.new length.old length.new) result }
+{
+    let number = GivenNumber::ScaledUnsigned(mantissa, exponent);
+    let content = formatter.handle.content();
+    answer_number(alloc, content, number, options, out, length)
+}
+
+/// Writes a double, by the shortest digits that give it back: 0.1 in English as `0.1`, 5.0 as `5`, and -0.0 as `-0`.
+///
+/// Returns as `legumeyet_formatter_format`, but for 8; 7 of what is not finite.
+#[unsafe(no_mangle)]
+pub extern "C" fn legumeyet_formatter_format_double(
+    alloc: Global,
+    formatter: &mut FormatterHandle,
+    number: f64,
+    options: &[i32],
+    out: &mut [u8],
+    length: &mut usize,
+) -> i32
+    ensures same { format_content formatter.new ≡ format_content formatter.old }
+    ensures told { Answers
+        (IsPut (WritesNumber IsFormatText (format_open formatter.old) options.now (double number))
+        (IsNumberWritingFault IsFormatFault (format_open formatter.old) options.now (double number)) out.old out.new
+        length.old length.new) result }
+{
+    let number = GivenNumber::Double(number);
+    let content = formatter.handle.content();
+    answer_number(alloc, content, number, options, out, length)
 }

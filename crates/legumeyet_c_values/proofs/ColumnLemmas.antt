@@ -8,11 +8,12 @@ use Rattle.fixed_decimal.specs.SignedValue.{SignedValue}
 use Rattle.locale_numbers_lines.specs.Lines.{HasNoFeed, lines_of}
 use Rattle.locale_numbers_lines.specs.Progress.{FirstLine}
 use Rattle.locale_numbers_lines.proofs.LinesLemmas.{lines_of-ended, lines_of-none}
-use Rattle.legumeyet_c_values.specs.Columns.{EachSays, Given, IsGiven, IsGivenFault, IsWrittenColumn, OfFirst, Reaches, Room, double, ends_from, room, scaled, spelled, spelled_lines}
-use Rattle.legumeyet_c_values.specs.Numbers.{IsDoubleFault, IsNumberFault, IsScaledFault}
+use Rattle.legumeyet_c_values.specs.Columns.{EachSays, IsWrittenColumn, OfFirst, Reaches, Room, ends_from, room, spelled_lines}
+use Rattle.legumeyet_c_values.specs.Numbers.{Given, IsGiven, IsGivenFault, spelled}
 use Rattle.legumeyet_c_values.specs.Putting.{IsCut, IsPut, IsWhole}
 use Rattle.legumeyet_c_values.specs.declared.call_error.CallError.{CallError}
 use Rattle.legumeyet_c_values.specs.declared.call_error.CallError.TheVariants.{TooSmall}
+use Rattle.legumeyet_c_values.proofs.NumbersLemmas.{given_other}
 use Rattle.legumeyet_c_values.proofs.PuttingLemmas.{put_refused}
 
 -- ---- the first number
@@ -28,11 +29,6 @@ map_rest give [] = refl
 map_rest give (x ∷ xs) = ap (λ (l : _). map give l) (take_rest (x ∷ xs) 1)
 
 -- what is given first gives no number
-given_other : (given : Given) (error : CallError) → IsGivenFault given error → error ≢ TooSmall
-given_other (double number) error caused = λ same. subst (λ (e : CallError). IsDoubleFault number e) same caused
-given_other (scaled mantissa exponent) error caused = λ same. subst (λ (e : CallError). IsScaledFault mantissa exponent e) same caused
-given_other (spelled text) error caused = λ same. subst (λ (e : CallError). IsNumberFault text e) same caused
-
 pub first_refused : (says : Given → List ℕ → Type 0) (fails : Given → CallError → Type 0) (numbers : List Given) (out : List ℕ) (told : ℕ) (error : CallError)
     → ((given : Given) → IsGivenFault given error → fails given error) → OfFirst (λ given. IsGivenFault given error) numbers
     → OfFirst (λ given. IsPut (says given) (fails given) out out told told (Err error)) numbers

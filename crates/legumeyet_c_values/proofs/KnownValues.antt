@@ -1,28 +1,34 @@
 -- Values from outside that a wrong definition of numbers does not survive: the enums of include/legumeyet.h.
-use Rattle.std.proofs.Common.{arith, lit≤, ◌≡◌, ◌*◌, ◌^◌, ℕ, List, [], ◌∷◌, Some, None, Ok, Err, refl}
+use Rattle.std.proofs.Common.{◌≡◌, ℕ, List, [], ◌∷◌, Some, None, Ok, Err, refl}
 use Rattle.std.specs.Prelude.{codes, pos, negsuc}
 use Rattle.std.specs.List.{concat}
-use Rattle.std.proofs.lemmas.Bool.{false≢true}
-use Rattle.std.proofs.Math.Nat.{mul-mod_left, one-le-pow}
-use Rattle.fixed_decimal.specs.declared.RoundingIncrement.TheVariants.{MultiplesOf1, MultiplesOf25}
-use Rattle.fixed_decimal.specs.Number.{Number}
-use Rattle.fixed_decimal.specs.SignedValue.{SignedValue}
-use Rattle.fixed_decimal.specs.declared.Sign.TheVariants as sign
+use Rattle.fixed_decimal.specs.declared.RoundingIncrement.TheVariants.{MultiplesOf1, MultiplesOf2, MultiplesOf5, MultiplesOf25}
 use Rattle.fixed_decimal.specs.declared.SignDisplay.TheVariants as display
-use Rattle.fixed_decimal.specs.declared.SignedRoundingMode.TheVariants.{Unsigned, HalfFloor}
-use Rattle.fixed_decimal.specs.declared.UnsignedRoundingMode.TheVariants.{Expand, HalfEven}
+use Rattle.fixed_decimal.specs.declared.SignedRoundingMode.TheVariants.{Unsigned, Ceil, Floor, HalfCeil, HalfFloor}
+use Rattle.fixed_decimal.specs.declared.UnsignedRoundingMode.TheVariants.{Expand, Trunc, HalfExpand, HalfTrunc, HalfEven}
 use Rattle.icu_decimal_symbols.specs.declared.options.GroupingStrategy.TheVariants as grouping
-use Rattle.icu_dimension_fractions.specs.declared.CurrencyUsage.TheVariants.{Cash, Standard}
+use Rattle.icu_dimension_fractions.specs.declared.CurrencyStyle.{CurrencyStyle}
+use Rattle.icu_dimension_fractions.specs.declared.CurrencyStyle.TheVariants as style
+use Rattle.icu_dimension_fractions.specs.declared.CurrencyWidth.{CurrencyWidth}
+use Rattle.icu_dimension_fractions.specs.declared.CurrencyWidth.TheVariants as currency_width
 use Rattle.locale_numbers_faults.specs.declared.BookError.TheVariants as book
+use Rattle.locale_numbers_formats.specs.declared.CompactWidth.TheVariants.{Short, Long}
+use Rattle.locale_numbers_formats.specs.declared.LeadingZeros.TheVariants.{TrimRoundedZero}
+use Rattle.locale_numbers_formats.specs.declared.Notation.TheVariants.{Standard, Compact}
+use Rattle.locale_numbers_formats.specs.declared.NumberOptions.{NumberOptions}
+use Rattle.locale_numbers_formats.specs.declared.NumberShape.{NumberShape}
+use Rattle.locale_numbers_formats.specs.declared.NumberUnit.TheVariants as beside
+use Rattle.locale_numbers_formats.specs.declared.Rounding.{Rounding}
+use Rattle.locale_numbers_formats.specs.declared.Rounding.TheVariants.{Usual, Cash, AsGiven, At}
+use Rattle.locale_numbers_formats.specs.declared.SignAsked.TheVariants.{Keep as KeepSign, Show}
+use Rattle.locale_numbers_formats.specs.declared.SkeletonError.TheVariants as skeleton
+use Rattle.locale_numbers_formats.specs.declared.TrailingZeros.TheVariants.{Keep, Trim, TrimWhole}
 use Rattle.legumeyet_c_values.specs.CallErrors.{answer_of}
-use Rattle.legumeyet_c_values.specs.Choices.{PadsEndTo, PadsStartTo, ShowsZeroAs, TrimsAs, choice_of, choices_of, count_of, grouping_of, increment_of, mode_of, no_change, sign_of, trimming_of}
-use Rattle.legumeyet_c_values.specs.Columns.{column_fault, ends_from, spelled, spelled_lines}
+use Rattle.legumeyet_c_values.specs.Columns.{column_fault, ends_from, spelled_lines}
+use Rattle.legumeyet_c_values.specs.Numbers.{spelled}
 use Rattle.legumeyet_c_values.specs.Parts.{kind_of}
-use Rattle.legumeyet_c_values.specs.Units.{amount_choices_of, unit_choices_of}
+use Rattle.legumeyet_c_values.specs.Words.{number_options_of, options_of, shape_of, usual}
 use Rattle.legumeyet_c_values.specs.declared.call_error.CallError.TheVariants as call
-use Rattle.legumeyet_c_values.specs.declared.choices.Options.{Options}
-use Rattle.legumeyet_c_values.specs.declared.choices.TrailingZeros.TheVariants.{Keep, Trim, TrimWhole}
-use Rattle.locale_numbers_formats.specs.declared.CompactWidth.TheVariants.{Long}
 
 -- ---- what a call returns
 
@@ -50,6 +56,12 @@ returns_json = refl
 returns_cycle : answer_of (Err (call.Book book.Cycle)) ≡ pos 111
 returns_cycle = refl
 
+returns_unknown_word : answer_of (Err (call.Skeleton (skeleton.Unknown 8))) ≡ pos 201
+returns_unknown_word = refl
+
+returns_unsupported : answer_of (Err (call.Skeleton (skeleton.Unsupported 0))) ≡ pos 207
+returns_unsupported = refl
+
 -- out of memory has one number, whatever it was wanted for
 returns_memory : answer_of (Err (call.Book book.Memory)) ≡ answer_of (Err call.Memory)
 returns_memory = refl
@@ -62,164 +74,238 @@ part_of_currency = refl
 part_of_percent : kind_of (codes "percentSign") ≡ 8
 part_of_percent = refl
 
--- ---- options
+-- ---- what is made of a number
 
-sign_kept : sign_of 0 ≡ Some None
-sign_kept = refl
+abbrev asks : Rounding → NumberOptions
+asks rounding = record usual { rounding = rounding }
 
-sign_negative : sign_of 5 ≡ Some (Some display.Negative)
+-- no words and words that are 0 ask for the digits of a currency, and for nothing else
+no_words : number_options_of [] ≡ Some usual
+no_words = refl
+
+zeroed : number_options_of (pos 0 ∷ pos 0 ∷ pos 0 ∷ pos 0 ∷ pos 0 ∷ pos 0 ∷ pos 0 ∷ []) ≡ Some usual
+zeroed = refl
+
+usual_is : usual ≡ record { rounding = Usual; leading_zeros = TrimRoundedZero; zeros = Keep; integer_digits = pos 0; fraction_digits = pos 0; sign = KeepSign }
+usual_is = refl
+
+-- a word past the known ones is 0
+known_past : number_options_of (pos 0 ∷ pos 0 ∷ pos 0 ∷ pos 0 ∷ pos 0 ∷ pos 0 ∷ pos 0 ∷ pos 0 ∷ []) ≡ Some usual
+known_past = refl
+
+unknown_past : number_options_of (pos 0 ∷ pos 0 ∷ pos 0 ∷ pos 0 ∷ pos 0 ∷ pos 0 ∷ pos 0 ∷ pos 1 ∷ []) ≡ None
+unknown_past = refl
+
+negative_past : number_options_of (pos 0 ∷ pos 0 ∷ pos 0 ∷ pos 0 ∷ pos 0 ∷ pos 0 ∷ pos 0 ∷ negsuc 0 ∷ []) ≡ None
+negative_past = refl
+
+-- every word at once: with no sign, half to even to 25 thousandths, no zeros where all are, 3 integer digits and 2 of the fraction
+all_words : number_options_of (pos 2 ∷ pos 9 ∷ negsuc 2 ∷ pos 25 ∷ pos 2 ∷ pos 3 ∷ pos 2 ∷ [])
+    ≡ Some (record {
+      rounding = At (negsuc 2) (Unsigned HalfEven) MultiplesOf25;
+      leading_zeros = TrimRoundedZero;
+      zeros = TrimWhole;
+      integer_digits = pos 3;
+      fraction_digits = pos 2;
+      sign = Show display.Never;
+    })
+all_words = refl
+
+-- the signs
+sign_auto : number_options_of (pos 1 ∷ []) ≡ Some (record usual { sign = Show display.Auto })
+sign_auto = refl
+
+sign_always : number_options_of (pos 3 ∷ []) ≡ Some (record usual { sign = Show display.Always })
+sign_always = refl
+
+sign_except_zero : number_options_of (pos 4 ∷ []) ≡ Some (record usual { sign = Show display.ExceptZero })
+sign_except_zero = refl
+
+sign_negative : number_options_of (pos 5 ∷ []) ≡ Some (record usual { sign = Show display.Negative })
 sign_negative = refl
 
-sign_unknown : sign_of 6 ≡ None
+sign_unknown : number_options_of (pos 6 ∷ []) ≡ None
 sign_unknown = refl
 
-not_rounded : mode_of 0 ≡ Some None
-not_rounded = refl
+sign_below : number_options_of (negsuc 0 ∷ []) ≡ None
+sign_below = refl
 
-rounded_away : mode_of 1 ≡ Some (Some (Unsigned Expand))
+-- the roundings, at the ones
+rounded_away : number_options_of (pos 0 ∷ pos 1 ∷ []) ≡ Some (asks (At (pos 0) (Unsigned Expand) MultiplesOf1))
 rounded_away = refl
 
-rounded_half_down : mode_of 8 ≡ Some (Some HalfFloor)
+cut_off : number_options_of (pos 0 ∷ pos 2 ∷ []) ≡ Some (asks (At (pos 0) (Unsigned Trunc) MultiplesOf1))
+cut_off = refl
+
+rounded_up : number_options_of (pos 0 ∷ pos 3 ∷ []) ≡ Some (asks (At (pos 0) Ceil MultiplesOf1))
+rounded_up = refl
+
+rounded_down : number_options_of (pos 0 ∷ pos 4 ∷ []) ≡ Some (asks (At (pos 0) Floor MultiplesOf1))
+rounded_down = refl
+
+rounded_half_away : number_options_of (pos 0 ∷ pos 5 ∷ []) ≡ Some (asks (At (pos 0) (Unsigned HalfExpand) MultiplesOf1))
+rounded_half_away = refl
+
+cut_off_half : number_options_of (pos 0 ∷ pos 6 ∷ []) ≡ Some (asks (At (pos 0) (Unsigned HalfTrunc) MultiplesOf1))
+cut_off_half = refl
+
+rounded_half_up : number_options_of (pos 0 ∷ pos 7 ∷ []) ≡ Some (asks (At (pos 0) HalfCeil MultiplesOf1))
+rounded_half_up = refl
+
+rounded_half_down : number_options_of (pos 0 ∷ pos 8 ∷ []) ≡ Some (asks (At (pos 0) HalfFloor MultiplesOf1))
 rounded_half_down = refl
 
-rounded_half_even : mode_of 9 ≡ Some (Some (Unsigned HalfEven))
+rounded_half_even : number_options_of (pos 0 ∷ pos 9 ∷ []) ≡ Some (asks (At (pos 0) (Unsigned HalfEven) MultiplesOf1))
 rounded_half_even = refl
 
-mode_unknown : mode_of 10 ≡ None
-mode_unknown = refl
+cash : number_options_of (pos 0 ∷ pos 10 ∷ []) ≡ Some (asks Cash)
+cash = refl
 
-grouped_by_two : grouping_of 3 ≡ Some grouping.Min2
-grouped_by_two = refl
+as_given : number_options_of (pos 0 ∷ pos 11 ∷ []) ≡ Some (asks AsGiven)
+as_given = refl
 
-grouping_unknown : grouping_of 4 ≡ None
-grouping_unknown = refl
+rounding_unknown : number_options_of (pos 0 ∷ pos 12 ∷ []) ≡ None
+rounding_unknown = refl
 
-long_never_grouped : choice_of 1 1 ≡ Some (Long, grouping.Never)
-long_never_grouped = refl
+-- positions and increments, which are looked at also where nothing is rounded at one
+lowest_position : number_options_of (pos 0 ∷ pos 9 ∷ negsuc 32767 ∷ []) ≡ Some (asks (At (negsuc 32767) (Unsigned HalfEven) MultiplesOf1))
+lowest_position = refl
 
-width_unknown : choice_of 2 0 ≡ None
-width_unknown = refl
+highest_position : number_options_of (pos 0 ∷ pos 9 ∷ pos 32767 ∷ []) ≡ Some (asks (At (pos 32767) (Unsigned HalfEven) MultiplesOf1))
+highest_position = refl
 
-increment_zero_is_one : increment_of 0 ≡ Some MultiplesOf1
-increment_zero_is_one = refl
+position_too_high : number_options_of (pos 0 ∷ pos 9 ∷ pos 40000 ∷ []) ≡ None
+position_too_high = refl
 
-increment_twenty_five : increment_of 25 ≡ Some MultiplesOf25
-increment_twenty_five = refl
+position_too_low : number_options_of (pos 0 ∷ pos 9 ∷ negsuc 32768 ∷ []) ≡ None
+position_too_low = refl
 
-increment_unknown : increment_of 3 ≡ None
+position_alone : number_options_of (pos 0 ∷ pos 0 ∷ pos 32768 ∷ []) ≡ None
+position_alone = refl
+
+increment_one : number_options_of (pos 0 ∷ pos 9 ∷ pos 0 ∷ pos 1 ∷ []) ≡ Some (asks (At (pos 0) (Unsigned HalfEven) MultiplesOf1))
+increment_one = refl
+
+increment_two : number_options_of (pos 0 ∷ pos 9 ∷ pos 0 ∷ pos 2 ∷ []) ≡ Some (asks (At (pos 0) (Unsigned HalfEven) MultiplesOf2))
+increment_two = refl
+
+increment_five : number_options_of (pos 0 ∷ pos 9 ∷ pos 0 ∷ pos 5 ∷ []) ≡ Some (asks (At (pos 0) (Unsigned HalfEven) MultiplesOf5))
+increment_five = refl
+
+increment_unknown : number_options_of (pos 0 ∷ pos 9 ∷ pos 0 ∷ pos 3 ∷ []) ≡ None
 increment_unknown = refl
 
-zeros_kept : trimming_of 0 ≡ Some Keep
-zeros_kept = refl
+increment_alone : number_options_of (pos 0 ∷ pos 0 ∷ pos 0 ∷ pos 3 ∷ []) ≡ None
+increment_alone = refl
 
-zeros_trimmed : trimming_of 1 ≡ Some Trim
+-- zeros and least counts of digits
+zeros_trimmed : number_options_of (pos 0 ∷ pos 0 ∷ pos 0 ∷ pos 0 ∷ pos 1 ∷ []) ≡ Some (record usual { zeros = Trim })
 zeros_trimmed = refl
 
-zeros_trimmed_whole : trimming_of 2 ≡ Some TrimWhole
-zeros_trimmed_whole = refl
-
-zeros_unknown : trimming_of 3 ≡ None
+zeros_unknown : number_options_of (pos 0 ∷ pos 0 ∷ pos 0 ∷ pos 0 ∷ pos 3 ∷ []) ≡ None
 zeros_unknown = refl
 
-most_digits : count_of 32767 ≡ Some (pos 32767)
+most_digits : number_options_of (pos 0 ∷ pos 0 ∷ pos 0 ∷ pos 0 ∷ pos 0 ∷ pos 32767 ∷ pos 32767 ∷ [])
+    ≡ Some (record usual { integer_digits = pos 32767; fraction_digits = pos 32767 })
 most_digits = refl
 
-too_many_digits : count_of 32768 ≡ None
-too_many_digits = refl
+too_many_integer_digits : number_options_of (pos 0 ∷ pos 0 ∷ pos 0 ∷ pos 0 ∷ pos 0 ∷ pos 32768 ∷ []) ≡ None
+too_many_integer_digits = refl
 
--- ---- all of them
+too_many_fraction_digits : number_options_of (pos 0 ∷ pos 0 ∷ pos 0 ∷ pos 0 ∷ pos 0 ∷ pos 0 ∷ pos 32768 ∷ []) ≡ None
+too_many_fraction_digits = refl
 
-abbrev zeroed : Options
-zeroed = record {
-  sign = 0;
-  rounding = 0;
-  position = pos 0;
-  trailing_zeros = 0;
-  increment = 0;
-  minimum_integer_digits = 0;
-  minimum_fraction_digits = 0;
-  reserved = 0 ∷ 0 ∷ [];
-}
+digits_below : number_options_of (pos 0 ∷ pos 0 ∷ pos 0 ∷ pos 0 ∷ pos 0 ∷ negsuc 0 ∷ []) ≡ None
+digits_below = refl
 
--- zeroed options change nothing
-zeroed_keeps : choices_of zeroed ≡ Some (record { sign = None; mode = None; position = pos 0; increment = MultiplesOf1; zeros = Keep; start = pos 0; end = pos 0 })
-zeroed_keeps = refl
+-- a formatter's own options stay where there is no word, and none of them where there is one
+own_stay : options_of [] (asks Cash) ≡ Some (asks Cash)
+own_stay = refl
 
--- three integer digits and two fraction digits at least
-counted : choices_of (record zeroed { minimum_integer_digits = 3; minimum_fraction_digits = 2 })
-    ≡ Some (record { sign = None; mode = None; position = pos 0; increment = MultiplesOf1; zeros = Keep; start = pos 3; end = negsuc 1 })
-counted = refl
+own_replaced : options_of (pos 0 ∷ []) (asks Cash) ≡ Some usual
+own_replaced = refl
 
-reserved_is_refused : choices_of (record zeroed { reserved = 0 ∷ 1 ∷ [] }) ≡ None
-reserved_is_refused = refl
+own_unknown : options_of (pos 6 ∷ []) (asks Cash) ≡ None
+own_unknown = refl
 
--- an amount has the digits of its currency, unless another rounding is asked for
-zeroed_fits : amount_choices_of zeroed ≡ Some (record { usage = Some Standard; choices = no_change (pos 0) })
-zeroed_fits = refl
+-- ---- how numbers are written
 
-cash_fits : amount_choices_of (record zeroed { rounding = 10 }) ≡ Some (record { usage = Some Cash; choices = no_change (pos 0) })
-cash_fits = refl
+abbrev plain : NumberShape
+plain = record { notation = Standard; unit = beside.None; grouping = grouping.Auto }
 
-as_given_stays : amount_choices_of (record zeroed { rounding = 11 }) ≡ Some (record { usage = None; choices = no_change (pos 0) })
-as_given_stays = refl
+abbrev euros : CurrencyStyle → CurrencyWidth → NumberShape
+euros style width = record plain { unit = beside.Currency (record { code = codes "EUR"; style = style; width = width }) }
 
-amount_mode_unknown : amount_choices_of (record zeroed { rounding = 12 }) ≡ None
-amount_mode_unknown = refl
+no_format_words : shape_of [] [] ≡ Ok plain
+no_format_words = refl
 
--- a percent has no digits of its own, nor cash
-percent_stays : unit_choices_of None zeroed ≡ Some (record { usage = None; choices = no_change (pos 0) })
-percent_stays = refl
+zeroed_format : shape_of (pos 0 ∷ pos 0 ∷ pos 0 ∷ pos 0 ∷ pos 0 ∷ pos 0 ∷ []) [] ≡ Ok plain
+zeroed_format = refl
 
-percent_has_no_cash : unit_choices_of None (record zeroed { rounding = 10 }) ≡ None
-percent_has_no_cash = refl
+known_past_format : shape_of (pos 0 ∷ pos 0 ∷ pos 0 ∷ pos 0 ∷ pos 0 ∷ pos 0 ∷ pos 0 ∷ []) [] ≡ Ok plain
+known_past_format = refl
 
--- ---- padding
+unknown_past_format : shape_of (pos 0 ∷ pos 0 ∷ pos 0 ∷ pos 0 ∷ pos 0 ∷ pos 0 ∷ pos 1 ∷ []) [] ≡ Err call.UnknownOption
+unknown_past_format = refl
 
--- 7.5 has its digits at the places 32767 and 32768: padded to three integer digits and two fraction digits it is 007.50
-padded_in_front : PadsStartTo (pos 3) (record { count = 75 * 10 ^ 32767; low = 32767; high = 32768 }) (record { count = 75 * 10 ^ 32767; low = 32767; high = 32770 })
-padded_in_front = record { count = refl; low = refl; high = λ _. refl; same = λ under. absurd (omega arith) }
+compact_short : shape_of (pos 1 ∷ []) [] ≡ Ok (record plain { notation = Compact Short })
+compact_short = refl
 
-padded_at_the_end : PadsEndTo (negsuc 1) (record { count = 75 * 10 ^ 32767; low = 32767; high = 32770 }) (record { count = 75 * 10 ^ 32767; low = 32766; high = 32770 })
-padded_at_the_end = record { count = refl; high = refl; low = λ _. refl; same = λ above. absurd (omega arith) }
+compact_long_never_grouped : shape_of (pos 1 ∷ pos 1 ∷ pos 0 ∷ pos 0 ∷ pos 0 ∷ pos 1 ∷ []) [] ≡ Ok (record plain { notation = Compact Long; grouping = grouping.Never })
+compact_long_never_grouped = refl
 
--- a number that shows more digits keeps them
-longer_stays : PadsEndTo (negsuc 1) (record { count = 0; low = 32764; high = 32768 }) (record { count = 0; low = 32764; high = 32768 })
-longer_stays = record { count = refl; high = refl; low = λ _. refl; same = λ above. absurd (omega arith) }
+-- a width counts for nothing beside the standard notation, and is looked at
+long_counts_for_nothing : shape_of (pos 0 ∷ pos 1 ∷ []) [] ≡ Ok plain
+long_counts_for_nothing = refl
 
--- ---- zero after a rounding
+width_unknown : shape_of (pos 0 ∷ pos 7 ∷ []) [] ≡ Err call.UnknownOption
+width_unknown = refl
 
--- zero that is shown down to the ones, and up to a place
-abbrev zero_up_to : ℕ → SignedValue Number
-zero_up_to high = record { sign = sign.None; absolute = record { count = 0; low = 32768; high = high } }
+notation_unknown : shape_of (pos 2 ∷ []) [] ≡ Err call.UnknownOption
+notation_unknown = refl
 
--- 400 to thousands is 000, which is shown as 0
-hundreds_are_one_zero : ShowsZeroAs (Some (Unsigned HalfEven)) (pos 3) (zero_up_to 32770) (zero_up_to 32768)
-hundreds_are_one_zero = record {
-  zero = λ rounded above is. record {
-    sign = refl;
-    absolute = record {
-      count = refl;
-      low = refl;
-      high = record { keeps = omega arith; position = omega arith; holds = one-le-pow 32769 10 (lit≤ tt); lowest = λ h least place below. least };
-    };
-  };
-  same = λ other. absurd (other (refl, omega arith, refl));
-}
+notation_below : shape_of (negsuc 0 ∷ []) [] ≡ Err call.UnknownOption
+notation_below = refl
 
--- at the ones, and of a number that is not rounded, all zeros stay
-ones_stay : ShowsZeroAs (Some (Unsigned HalfEven)) (pos 0) (zero_up_to 32770) (zero_up_to 32770)
-ones_stay = record { zero = λ rounded above is. absurd (omega arith); same = λ other. refl }
+percents : shape_of (pos 0 ∷ pos 0 ∷ pos 1 ∷ []) [] ≡ Ok (record plain { unit = beside.Percent })
+percents = refl
 
-given_zeros_stay : ShowsZeroAs None (pos 3) (zero_up_to 32770) (zero_up_to 32770)
-given_zeros_stay = record { zero = λ rounded. absurd (false≢true rounded); same = λ other. refl }
+in_euros : shape_of (pos 0 ∷ pos 0 ∷ pos 2 ∷ []) (codes "EUR") ≡ Ok (euros style.Standard currency_width.Short)
+in_euros = refl
 
--- 5.00 dollars lose their zeros, and 5.50 dollars keep them
-whole_is_trimmed : TrimsAs TrimWhole (record { sign = sign.None; absolute = record { count = 5 * 10 ^ 32768; low = 32766; high = 32768 } })
-    (record { sign = sign.None; absolute = record { count = 5 * 10 ^ 32768; low = 32768; high = 32768 } })
-whole_is_trimmed = record {
-  sign = refl;
-  absolute = record { whole = λ none. refl; fraction = λ some. absurd (some (mul-mod_left 5 (10 ^ 32768))) };
-}
+in_accounting_by_code : shape_of (pos 0 ∷ pos 0 ∷ pos 2 ∷ pos 1 ∷ pos 1 ∷ []) (codes "EUR") ≡ Ok (euros style.Accounting currency_width.IsoCode)
+in_accounting_by_code = refl
+
+small_code : shape_of (pos 0 ∷ pos 0 ∷ pos 2 ∷ []) (codes "eur") ≡ Err call.Code
+small_code = refl
+
+no_code : shape_of (pos 0 ∷ pos 0 ∷ pos 2 ∷ []) [] ≡ Err call.Code
+no_code = refl
+
+code_of_plain_numbers : shape_of [] (codes "EUR") ≡ Err call.Code
+code_of_plain_numbers = refl
+
+code_of_percents : shape_of (pos 0 ∷ pos 0 ∷ pos 1 ∷ []) (codes "EUR") ≡ Err call.Code
+code_of_percents = refl
+
+unit_unknown : shape_of (pos 0 ∷ pos 0 ∷ pos 3 ∷ []) [] ≡ Err call.UnknownOption
+unit_unknown = refl
+
+style_unknown : shape_of (pos 0 ∷ pos 0 ∷ pos 0 ∷ pos 2 ∷ []) [] ≡ Err call.UnknownOption
+style_unknown = refl
+
+currency_width_unknown : shape_of (pos 0 ∷ pos 0 ∷ pos 0 ∷ pos 0 ∷ pos 2 ∷ []) [] ≡ Err call.UnknownOption
+currency_width_unknown = refl
+
+-- an unknown word comes before a text that is no code
+word_before_code : shape_of (pos 0 ∷ pos 0 ∷ pos 2 ∷ pos 0 ∷ pos 0 ∷ pos 4 ∷ []) (codes "euro") ≡ Err call.UnknownOption
+word_before_code = refl
+
+grouped_always : shape_of (pos 0 ∷ pos 0 ∷ pos 0 ∷ pos 0 ∷ pos 0 ∷ pos 2 ∷ []) [] ≡ Ok (record plain { grouping = grouping.Always })
+grouped_always = refl
+
+grouped_by_two : shape_of (pos 0 ∷ pos 0 ∷ pos 0 ∷ pos 0 ∷ pos 0 ∷ pos 3 ∷ []) [] ≡ Ok (record plain { grouping = grouping.Min2 })
+grouped_by_two = refl
 
 -- ---- columns
 

@@ -1,10 +1,9 @@
-pub mod ChangeLawsLemmas
 pub mod ColumnLemmas
 pub mod DoublesLemmas
 mod KnownValues
 pub mod LineBuffersLemmas
 pub mod ListingLemmas
 pub mod NumbersLemmas
-pub mod PaddingLemmas
 pub mod PartsLemmas
 pub mod PuttingLemmas
+pub mod WordLemmas

@@ -5,15 +5,18 @@ use Rattle.std.specs.Prelude.{ℕ, ℤ, pos, ◌+◌, List, codes, Result, Ok, E
 use Rattle.locale_numbers_faults.specs.BookError.{number_of as book_number}
 use Rattle.locale_numbers_faults.specs.declared.BookError.{BookError}
 use Rattle.locale_numbers_faults.specs.declared.BookError.TheVariants as book
+use Rattle.locale_numbers_formats.specs.SkeletonErrors.{number_of as skeleton_number}
+use Rattle.locale_numbers_formats.specs.declared.SkeletonError.{SkeletonError}
+use Rattle.locale_numbers_formats.specs.declared.SkeletonError.TheVariants as skeleton
 use Rattle.legumeyet_c_values.specs.declared.call_error.CallError.{CallError}
-use Rattle.legumeyet_c_values.specs.declared.call_error.CallError.TheVariants.{Memory, Closed, TooSmall, UnknownOption, Tag, Table, Number, Limit, Range, NoUtf8, Unreadable, NotWritten, Exponent, Code, Unkept, Book}
+use Rattle.legumeyet_c_values.specs.declared.call_error.CallError.TheVariants.{Memory, Closed, TooSmall, UnknownOption, Tag, Table, Number, Limit, Range, NoUtf8, Unreadable, NotWritten, Exponent, Code, Unkept, Book, Skeleton}
 
 -- a book's number and 100; out of memory is told as one number, whatever it was wanted for
 abbrev pub book_answer : BookError → ℤ
 book_answer book.Memory = pos 1
 book_answer error = pos (100 + book_number error)
 
--- 1 to 99 of calls, 100 and more of books
+-- 1 to 99 of calls, from 101 on of books, and from 201 on of skeletons
 abbrev pub number_of : CallError → ℤ
 number_of Memory = pos 1
 number_of Closed = pos 2
@@ -31,6 +34,7 @@ number_of Exponent = pos 13
 number_of Code = pos 14
 number_of Unkept = pos 15
 number_of (Book error) = book_answer error
+number_of (Skeleton error) = pos (200 + skeleton_number error)
 
 -- 0 of a call that was not refused
 abbrev pub answer_of : Result (Unit {0}) CallError → ℤ
@@ -53,6 +57,15 @@ book_text book.Memory = codes "out of memory"
 book_text book.Unit = codes "no book: a pattern without one place for its unit"
 book_text book.Code = codes "no book: the code of a currency"
 
+abbrev pub skeleton_text : SkeletonError → List ℕ
+skeleton_text (skeleton.Unknown place) = codes "no skeleton: an unknown word"
+skeleton_text (skeleton.Twice place) = codes "no skeleton: a word that sets what another has set"
+skeleton_text (skeleton.Code place) = codes "no skeleton: no code of a currency"
+skeleton_text (skeleton.Pair place) = codes "no skeleton: a word for amounts, without a currency"
+skeleton_text (skeleton.System place) = codes "no skeleton: a numbering system, which the tag has"
+skeleton_text (skeleton.Later place) = codes "no skeleton: a word that is not written yet"
+skeleton_text (skeleton.Unsupported place) = codes "no skeleton: a word that is not written"
+
 -- what an error means, in English
 abbrev pub text_of : CallError → List ℕ
 text_of Memory = codes "out of memory"
@@ -71,3 +84,4 @@ text_of Exponent = codes "numbers of this magnitude have another exponent"
 text_of Code = codes "no code of a currency"
 text_of Unkept = codes "the book is not kept"
 text_of (Book error) = book_text error
+text_of (Skeleton error) = skeleton_text error

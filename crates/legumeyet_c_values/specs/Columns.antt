@@ -4,11 +4,8 @@
 use Rattle.std.specs.Prelude.{◌≡◌, ◌≢◌, ◌⊎◌, ℕ, ℤ, ◌+◌, ◌≤◌, List, [], ◌∷◌, ◌++◌, length, take, drop, map, Option, Some, None, Result, Err, IsOk, IfErr, IsErrOf}
 use Rattle.std.specs.Float.Ieee.{Float}
 use Rattle.std.specs.List.{concat}
-use Rattle.fixed_decimal.specs.Number.{Number}
-use Rattle.fixed_decimal.specs.SignedText.{ReadsSigned}
-use Rattle.fixed_decimal.specs.SignedValue.{SignedValue}
 use Rattle.locale_numbers_lines.specs.Lines.{lines_of}
-use Rattle.legumeyet_c_values.specs.Numbers.{IsDoubleFault, IsNumberFault, IsOfDouble, IsScaled, IsScaledFault}
+use Rattle.legumeyet_c_values.specs.Numbers.{Given, double, scaled, spelled}
 use Rattle.legumeyet_c_values.specs.Putting.{IsCut}
 use Rattle.legumeyet_c_values.specs.declared.call_error.CallError.{CallError}
 use Rattle.legumeyet_c_values.specs.declared.call_error.CallError.TheVariants.{Closed, TooSmall, UnknownOption}
@@ -16,24 +13,6 @@ use Rattle.legumeyet_c_values.specs.declared.columns.Column.{Column}
 use Rattle.legumeyet_c_values.specs.declared.columns.Column.TheVariants as column
 
 -- ---- the numbers of a column
-
--- a number as a call is given it
-pub data Given : Type 0 where
-  double : Float → Given
-  scaled : ℤ → ℤ → Given
-  spelled : List ℕ → Given
-
--- the number of what is given
-abbrev pub IsGiven : Given → SignedValue Number → Type 0
-IsGiven (double number) value = IsOfDouble number value
-IsGiven (scaled mantissa exponent) value = IsScaled mantissa exponent value
-IsGiven (spelled text) value = ReadsSigned text value
-
--- why it has none
-abbrev pub IsGivenFault : Given → CallError → Type 0
-IsGivenFault (double number) error = IsDoubleFault number error
-IsGivenFault (scaled mantissa exponent) error = IsScaledFault mantissa exponent error
-IsGivenFault (spelled text) error = IsNumberFault text error
 
 abbrev pub doubles : List Float → List Given
 doubles given = map (λ number. double number) given

@@ -1,10 +1,9 @@
 pub mod CallErrors
-pub mod ChangeLaws
-pub mod Choices
 pub mod Columns
 pub mod Information
 pub mod LineBuffers
 pub mod Numbers
 pub mod Parts
 pub mod Putting
-pub mod Units
+pub mod WordLaws
+pub mod Words

@@ -1,7 +1,7 @@
--- The number that a call is given, changed as its options say, or why there is none.
+-- The number that a call is given, changed as options say, or why there is none.
 -- Defined in include/legumeyet.h, and docs/numbers.md, "The text".
 -- Cited by the exports that write numbers.
-use Rattle.std.specs.Prelude.{◌≡◌, ◌⊎◌, ℕ, ℤ, List, Option, Some, None, IsUtf8, IsTrue, IsFalse}
+use Rattle.std.specs.Prelude.{◌≡◌, ◌⊎◌, ℕ, ℤ, pos, List, Option, Some, IsUtf8, IsTrue, IsFalse}
 use Rattle.std.specs.Float.{binary64, float_is_finite}
 use Rattle.std.specs.Float.Ieee.{Float}
 use Rattle.ryu.specs.Parse.{parse_float}
@@ -12,20 +12,15 @@ use Rattle.fixed_decimal.specs.Shifts.{IsShifted, KeepsPlaces, TrimsEnd}
 use Rattle.fixed_decimal.specs.SignedText.{IsBeyondSigned, IsNoSignedText, ReadsLongSigned, ReadsSigned}
 use Rattle.fixed_decimal.specs.SignedValue.{SignedValue, OnAbsolute}
 use Rattle.fixed_decimal.specs.WholeNumbers.{IsSignedWhole, size_of}
-use Rattle.legumeyet_c_values.specs.Choices.{Changes, IsChangeRefused}
-use Rattle.legumeyet_c_values.specs.declared.choices.Choices.{Choices}
+use Rattle.icu_dimension_fractions.specs.declared.FractionInfo.{FractionInfo}
 use Rattle.legumeyet_c_values.specs.declared.call_error.CallError.{CallError}
-use Rattle.legumeyet_c_values.specs.declared.call_error.CallError.TheVariants.{Memory, Number as NoNumber, Limit, UnknownOption}
+use Rattle.legumeyet_c_values.specs.declared.call_error.CallError.TheVariants.{Memory, Number as NoNumber, Limit}
+use Rattle.legumeyet_c_values.specs.declared.numbers.GivenNumber.{GivenNumber}
+use Rattle.legumeyet_c_values.specs.declared.numbers.GivenNumber.TheVariants.{Text, Scaled, ScaledUnsigned, Double}
+use Rattle.locale_numbers_formats.specs.Changed.{MayGrowBy, changed}
+use Rattle.locale_numbers_formats.specs.declared.NumberOptions.{NumberOptions}
 
--- the number that was given, and what is made of it
-pub record IsChanged (choices : Choices) (is_given : SignedValue Number → Type 0) (value : SignedValue Number) : Type 0 where
-  pub given : SignedValue Number
-  pub given_is : is_given given
-  pub changes : Changes choices given value
-
-abbrev pub Gives : Option Choices → (SignedValue Number → Type 0) → SignedValue Number → Type 0
-Gives None is_given value = ⊥
-Gives (Some choices) is_given value = IsChanged choices is_given value
+-- ---- texts
 
 -- why a text gives no number; memory is wanted only for more than sixteen digits
 abbrev pub IsNumberFault : List ℕ → CallError → Type 0
@@ -34,16 +29,7 @@ IsNumberFault text Limit = IsBeyondSigned text
 IsNumberFault text Memory = ReadsLongSigned text
 IsNumberFault text _ = ⊥
 
--- the number that was given is not changed
-pub record IsRefusedOf (choices : Choices) (is_given : SignedValue Number → Type 0) (error : CallError) : Type 0 where
-  pub given : SignedValue Number
-  pub given_is : is_given given
-  pub refused : IsChangeRefused choices given error
-
--- unknown options come first, then what is wrong with the number
-abbrev pub IsChangeFault : Option Choices → (SignedValue Number → Type 0) → (CallError → Type 0) → CallError → Type 0
-IsChangeFault None is_given fault error = error ≡ UnknownOption
-IsChangeFault (Some choices) is_given fault error = fault error ⊎ IsRefusedOf choices is_given error
+-- ---- integers
 
 -- an integer times a power of ten, its digits shown with it
 pub record IsScaled (mantissa exponent : ℤ) (value : SignedValue Number) : Type 0 where
@@ -95,22 +81,63 @@ IsDoubleFault number NoNumber = IsFalse (float_is_finite number)
 IsDoubleFault number Memory = IsLongDouble number
 IsDoubleFault number _ = ⊥
 
+-- ---- the number that is given
+
+-- a number as a call is given it
+pub data Given : Type 0 where
+  double : Float → Given
+  scaled : ℤ → ℤ → Given
+  spelled : List ℕ → Given
+
+abbrev pub given_of : GivenNumber → Given
+given_of (Text text) = spelled text.now
+given_of (Scaled mantissa exponent) = scaled mantissa exponent
+given_of (ScaledUnsigned mantissa exponent) = scaled (pos mantissa) exponent
+given_of (Double number) = double number
+
+-- the number of what is given
+abbrev pub IsGiven : Given → SignedValue Number → Type 0
+IsGiven (double number) value = IsOfDouble number value
+IsGiven (scaled mantissa exponent) value = IsScaled mantissa exponent value
+IsGiven (spelled text) value = ReadsSigned text value
+
+-- why it has none
+abbrev pub IsGivenFault : Given → CallError → Type 0
+IsGivenFault (double number) error = IsDoubleFault number error
+IsGivenFault (scaled mantissa exponent) error = IsScaledFault mantissa exponent error
+IsGivenFault (spelled text) error = IsNumberFault text error
+
+-- ---- what is made of it
+
+-- the number that was given, changed as the options say
+pub record Gives (options : NumberOptions) (fractions : Option FractionInfo) (is_given : SignedValue Number → Type 0) (value : SignedValue Number) : Type 0 where
+  pub given : SignedValue Number
+  pub given_is : is_given given
+  pub changes : value ≡ changed options fractions given
+
+-- it gets more digits than it has room for, and is not changed: only some roundings to multiples of 25 do that
+pub record IsChangeRefused (options : NumberOptions) (fractions : Option FractionInfo) (is_given : SignedValue Number → Type 0) (error : CallError) : Type 0 where
+  pub given : SignedValue Number
+  pub given_is : is_given given
+  pub is_memory : error ≡ Memory
+  pub grows : MayGrowBy options.rounding fractions given
+
+-- what is wrong with the number comes first
+abbrev pub IsChangeFault : NumberOptions → Option FractionInfo → (SignedValue Number → Type 0) → (CallError → Type 0) → CallError → Type 0
+IsChangeFault options fractions is_given fault error = fault error ⊎ IsChangeRefused options fractions is_given error
+
 -- ---- compact numbers
 
 -- the number that a text spells, its significand changed
-pub record IsCompactChanged (choices : Choices) (text : List ℕ) (value : CompactValue) : Type 0 where
+pub record GivesCompact (options : NumberOptions) (fractions : Option FractionInfo) (text : List ℕ) (value : CompactValue) : Type 0 where
   pub given : CompactValue
   pub reads : ReadsCompact text given
-  pub changes : Changes choices given.significand value.significand
+  pub changes : value.significand ≡ changed options fractions given.significand
   pub exponent : value.exponent ≡ given.exponent
 
 -- the significand that a text spells
 abbrev pub IsSignificand : List ℕ → SignedValue Number → Type 0
 IsSignificand text significand = (value : CompactValue) × ReadsCompact text value × (value.significand ≡ significand)
-
-abbrev pub GivesCompact : Option Choices → List ℕ → CompactValue → Type 0
-GivesCompact None text value = ⊥
-GivesCompact (Some choices) text value = IsCompactChanged choices text value
 
 -- why a text gives no compact number; memory is wanted only for more than sixteen digits
 abbrev pub IsCompactNumberFault : List ℕ → CallError → Type 0
@@ -118,3 +145,6 @@ IsCompactNumberFault text NoNumber = ¬ (IsUtf8 text) ⊎ IsNoCompactText text
 IsCompactNumberFault text Limit = IsBeyondCompact text
 IsCompactNumberFault text Memory = ReadsLongCompact text
 IsCompactNumberFault text _ = ⊥
+
+abbrev pub IsCompactChangeFault : NumberOptions → Option FractionInfo → List ℕ → CallError → Type 0
+IsCompactChangeFault options fractions text error = IsChangeFault options fractions (IsSignificand text) (IsCompactNumberFault text) error

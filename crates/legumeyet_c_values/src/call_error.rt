@@ -1,10 +1,11 @@
 //! What calls return.
 
 ghost use Rattle.std.specs.Prelude.{◌≡◌, IfSome, IsNone};
-ghost use Rattle.legumeyet_c_values.specs.CallErrors.{answer_of, book_answer, book_text, number_of, text_of};
+ghost use Rattle.legumeyet_c_values.specs.CallErrors.{answer_of, book_answer, book_text, number_of, skeleton_text, text_of};
 ghost use Rattle.legumeyet_c_values.specs.Information.{IsNoError};
 
 use locale_numbers_faults::BookError;
+use locale_numbers_formats::SkeletonError;
 
 /// Why a call was refused: `Tag` of `e` as a locale tag. The header says when each comes.
 #[derive(Clone, Copy, Drop)]
@@ -35,12 +36,14 @@ pub enum CallError {
     NotWritten,
     /// Numbers of this magnitude have another exponent.
     Exponent,
-    /// The text is no code of a currency.
+    /// The text is no code of a currency, or a text is given where there is none.
     Code,
     /// The book is not kept.
     Unkept,
     /// The bytes are no book.
     Book(BookError),
+    /// The text is no skeleton.
+    Skeleton(SkeletonError),
 }
 
 // The number of a book's error: 100 and its own, or 1 for out of memory.
@@ -87,6 +90,21 @@ fn book_text(error: BookError) -> &'static str
     }
 }
 
+// What is wrong with a skeleton.
+fn skeleton_text(error: SkeletonError) -> &'static str
+    ensures { result.now ≡ skeleton_text error }
+{
+    match error {
+        SkeletonError::Unknown(_) => "no skeleton: an unknown word",
+        SkeletonError::Twice(_) => "no skeleton: a word that sets what another has set",
+        SkeletonError::Code(_) => "no skeleton: no code of a currency",
+        SkeletonError::Pair(_) => "no skeleton: a word for amounts, without a currency",
+        SkeletonError::System(_) => "no skeleton: a numbering system, which the tag has",
+        SkeletonError::Later(_) => "no skeleton: a word that is not written yet",
+        SkeletonError::Unsupported(_) => "no skeleton: a word that is not written",
+    }
+}
+
 impl CallError {
     /// The number of the error, as the header has it: 5 of `Tag`.
     pub fn number(self) -> i32
@@ -109,6 +127,7 @@ impl CallError {
             CallError::Code => 14,
             CallError::Unkept => 15,
             CallError::Book(error) => book_number(error),
+            CallError::Skeleton(error) => 200 + error.number() as i32,
         }
     }
 
@@ -133,6 +152,7 @@ impl CallError {
             CallError::Code => "no code of a currency",
             CallError::Unkept => "the book is not kept",
             CallError::Book(error) => book_text(error),
+            CallError::Skeleton(error) => skeleton_text(error),
         }
     }
 }
@@ -147,7 +167,7 @@ pub fn answer(outcome: Result<(), CallError>) -> i32
     }
 }
 
-/// The error that has this number: `Tag` of 5, and none of 16.
+/// The error that has this number: `Tag` of 5, and none of 16. One of a skeleton is at 0.
 pub fn error_of(number: i32) -> Option<CallError>
     ensures value { IfSome result (λ error. number ≡ number_of error) }
     ensures none { IsNone result → IsNoError number }
@@ -181,6 +201,13 @@ pub fn error_of(number: i32) -> Option<CallError>
         111 => Some(CallError::Book(BookError::Cycle)),
         113 => Some(CallError::Book(BookError::Unit)),
         114 => Some(CallError::Book(BookError::Code)),
+        201 => Some(CallError::Skeleton(SkeletonError::Unknown(0))),
+        202 => Some(CallError::Skeleton(SkeletonError::Twice(0))),
+        203 => Some(CallError::Skeleton(SkeletonError::Code(0))),
+        204 => Some(CallError::Skeleton(SkeletonError::Pair(0))),
+        205 => Some(CallError::Skeleton(SkeletonError::System(0))),
+        206 => Some(CallError::Skeleton(SkeletonError::Later(0))),
+        207 => Some(CallError::Skeleton(SkeletonError::Unsupported(0))),
         _ => None,
     }
 }

@@ -3,7 +3,8 @@
 ghost use Rattle.std.specs.Prelude.{◌≡◌, ◌≢◌, ◌∷◌, [], MatchOption, drop, true, false, IfErr, OnOk};
 ghost use Rattle.locale_numbers_lines.specs.Lines.{HasNoFeed};
 ghost use Rattle.locale_numbers_lines.specs.Progress.{FirstLine};
-ghost use Rattle.legumeyet_c_values.specs.Columns.{IsGiven, IsGivenFault, IsWrittenColumn, OfFirst, given_in, integers, room, spelled, spelled_lines};
+ghost use Rattle.legumeyet_c_values.specs.Columns.{IsWrittenColumn, OfFirst, given_in, integers, room, spelled_lines};
+ghost use Rattle.legumeyet_c_values.specs.Numbers.{IsGiven, IsGivenFault, spelled};
 ghost use Rattle.legumeyet_c_values.specs.Putting.{IsPut};
 
 use crate::call_error::CallError;
@@ -102,7 +103,7 @@ impl<'a> Column<'a> {
 /// What writes a number to bytes: a formatter with options.
 pub trait NumberWriter {
     ghost use Rattle.std.specs.Prelude.{List, ℕ};
-    ghost use Rattle.legumeyet_c_values.specs.Columns.{Given, IsGivenFault};
+    ghost use Rattle.legumeyet_c_values.specs.Numbers.{Given, IsGivenFault};
     ghost use Rattle.legumeyet_c_values.specs.declared.call_error.CallError.{CallError};
 
     // what is written of what is given

@@ -1,9 +1,10 @@
-//! Laws of what is made of numbers, beside the clauses of the calls. Each function is a proof: it answers nothing.
+//! Laws of the words of calls. Each function is a proof: it answers nothing.
 
-ghost use Rattle.legumeyet_c_values.specs.ChangeLaws.{CallsChangeAsFormats};
+ghost use Rattle.legumeyet_c_values.specs.WordLaws.{OlderOptionsStay, OlderShapesStay};
 
-/// What the options of a call make of a number is what `locale_numbers_formats` makes of it by the options that they stand
-/// for: 400 rounded to thousands is `0`, with one digit, and 9.75 to tenths with the sign 3 is `+9.8`.
-pub fn calls_change_as_formats()
-    ensures { CallsChangeAsFormats }
+/// One more word that is 0 changes nothing, so that a program that was compiled for fewer words is understood as it was: `3,
+/// 9` as `3, 9, 0`.
+pub fn older_words_stay()
+    ensures options { OlderOptionsStay }
+    ensures shapes { OlderShapesStay }
 {}

@@ -1,33 +1,21 @@
 //! The numbers that calls are given.
 
-ghost use Rattle.std.specs.Prelude.{◌≡◌, ◌+◌, ◌<◌, ◌≤◌, pos, Some, None, true, false, IfOk, IfErr, OnOk, IsTrue};
+ghost use Rattle.std.specs.Prelude.{◌≡◌, ◌+◌, ◌<◌, ◌≤◌, pos, true, false, IfOk, IfErr, OnOk, IsTrue};
 ghost use Rattle.std.specs.Float.{float_is_finite};
 ghost use Rattle.fixed_decimal.specs.CompactText.{ReadsCompact};
 ghost use Rattle.fixed_decimal.specs.Number.{place};
 ghost use Rattle.fixed_decimal.specs.Shifts.{IsShifted, KeepsPlaces, fall, rise};
 ghost use Rattle.fixed_decimal.specs.SignedText.{ReadsSigned};
 ghost use Rattle.fixed_decimal.specs.SignedValue.{OnAbsolute};
-ghost use Rattle.legumeyet_c_values.specs.Choices.{choices_of};
-ghost use Rattle.legumeyet_c_values.specs.Numbers.{Gives, GivesCompact, IsChangeFault, IsCompactNumberFault, IsDoubleFault, IsNumberFault, IsOfDouble, IsScaled, IsScaledFault, IsSignificand, ReadsSome, SpellsDouble};
+ghost use Rattle.legumeyet_c_values.specs.Numbers.{Gives, GivesCompact, IsChangeFault, IsCompactChangeFault, IsCompactNumberFault, IsDoubleFault, IsGiven, IsGivenFault, IsNumberFault, IsOfDouble, IsScaled, IsScaledFault, ReadsSome, SpellsDouble, given_of};
+ghost use Rattle.locale_numbers_formats.specs.Changed.{MayGrowBy, changed};
 
 use crate::call_error::CallError;
-use crate::choices::{Choices, Options};
 use fixed_decimal::{CompactDecimal, Decimal, ParseError, UnsignedDecimal};
+use icu_dimension_fractions::FractionInfo;
+use locale_numbers_formats::NumberOptions;
 use ryu::Buffer;
 use std::alloc::Global;
-
-/// The number that a text spells: 1.5 of `1.5`.
-pub fn read_number(alloc: Global, text: &[u8]) -> Result<Decimal, CallError>
-    ensures value { IfOk result (λ value. ReadsSigned text.now value) }
-    ensures fault { IfErr result (λ error. IsNumberFault text.now error) }
-{
-    match Decimal::try_from_utf8(alloc, text) {
-        Ok(value) => Ok(value),
-        Err(ParseError::Syntax) => Err(CallError::Number),
-        Err(ParseError::Limit) => Err(CallError::Limit),
-        Err(ParseError::Memory) => Err(CallError::Memory),
-    }
-}
 
 // Replaces a number by the one that a text spells.
 pub(crate) fn assign_text(number: &mut Decimal, text: &[u8]) -> Result<(), CallError>
@@ -56,14 +44,6 @@ fn read_compact(alloc: Global, text: &[u8]) -> Result<CompactDecimal, CallError>
         Err(ParseError::Limit) => Err(CallError::Limit),
         Err(ParseError::Memory) => Err(CallError::Memory),
     }
-}
-
-// What the options stand for.
-fn known(options: &Options) -> Result<Choices, CallError>
-    ensures value { IfOk result (λ choices. choices_of options.now ≡ Some choices) }
-    ensures fault { IfErr result (λ error. (error ≡ CallError.UnknownOption) × (choices_of options.now ≡ None)) }
-{
-    options.choices().ok_or(CallError::UnknownOption)
 }
 
 // Whether a magnitude is not below the lowest one when it is moved by an exponent.
@@ -112,20 +92,6 @@ fn move_by(whole: &mut Decimal, exponent: i16) -> Result<(), CallError>
     }
 }
 
-/// An integer times a power of ten: 1.5 of 15 and -1.
-pub fn scaled(alloc: Global, mantissa: i64, exponent: i16) -> Result<Decimal, CallError>
-    ensures value { IfOk result (λ value. IsScaled mantissa exponent value) }
-    ensures fault { IfErr result (λ error. IsScaledFault mantissa exponent error) }
-{
-    let Ok(mut whole) = Decimal::from_i64(alloc, mantissa) else {
-        return Err(CallError::Memory);
-    };
-    match move_by(&mut whole, exponent) {
-        Ok(()) => Ok(whole),
-        Err(error) => Err(error),
-    }
-}
-
 // Replaces a number by an integer times a power of ten.
 pub(crate) fn assign_scaled(
     alloc: Global,
@@ -143,18 +109,21 @@ pub(crate) fn assign_scaled(
     move_by(number, exponent)
 }
 
-/// An integer without a sign times a power of ten: 1.5 of 15 and -1.
-pub fn scaled_unsigned(alloc: Global, mantissa: u64, exponent: i16) -> Result<Decimal, CallError>
-    ensures value { IfOk result (λ value. IsScaled (pos mantissa) exponent value) }
+// Replaces a number by an integer without a sign times a power of ten.
+fn assign_unsigned(
+    alloc: Global,
+    number: &mut Decimal,
+    mantissa: u64,
+    exponent: i16,
+) -> Result<(), CallError>
+    ensures value { OnOk result (IsScaled (pos mantissa) exponent number.new) }
     ensures fault { IfErr result (λ error. IsScaledFault (pos mantissa) exponent error) }
 {
-    let Ok(mut whole) = Decimal::from_u64(alloc, mantissa) else {
+    let Ok(whole) = Decimal::from_u64(alloc, mantissa) else {
         return Err(CallError::Memory);
     };
-    match move_by(&mut whole, exponent) {
-        Ok(()) => Ok(whole),
-        Err(error) => Err(error),
-    }
+    *number = whole;
+    move_by(number, exponent)
 }
 
 // The digits of a finite double, which give it back.
@@ -191,103 +160,98 @@ pub(crate) fn assign_double(number: &mut Decimal, double: f64) -> Result<(), Cal
     }
 }
 
-/// The number of a double's digits, without the zero after the point of a whole one: 5 of 5.0. `Number`: it is not
-/// finite.
-pub fn read_double(alloc: Global, number: f64) -> Result<Decimal, CallError>
-    ensures value { IfOk result (λ value. IsOfDouble number value) }
-    ensures fault { IfErr result (λ error. IsDoubleFault number error) }
-{
-    let mut value = Decimal::zero(alloc);
-    match assign_double(&mut value, number) {
-        Ok(()) => Ok(value),
-        Err(error) => Err(error),
-    }
+/// A number, as a call is given it.
+#[derive(Clone, Copy, Drop)]
+pub enum GivenNumber<'a> {
+    /// A text: `1.5`.
+    Text(&'a [u8]),
+    /// An integer times ten to a power: 15 and -1 are 1.5.
+    Scaled(i64, i16),
+    /// An integer without a sign times ten to a power.
+    ScaledUnsigned(u64, i16),
+    /// A double, which is the shortest number that gives it back: 0.1 of 0.1, 5 of 5.0, and -0 of -0.0.
+    Double(f64),
 }
 
-/// The number that a text spells, changed as the options ask for.
-pub fn number_of_text(alloc: Global, text: &[u8], options: &Options) -> Result<Decimal, CallError>
-    ensures value { IfOk result (λ value. Gives (choices_of options.now) (ReadsSigned text.now) value) }
-    ensures fault { IfErr result (λ error. IsChangeFault (choices_of options.now) (ReadsSigned text.now) (IsNumberFault text.now) error) }
-{
-    if options.is_zeroed() {
-        return read_number(alloc, text);
-    }
-    let choices = known(options)?;
-    let value = read_number(alloc, text)?;
-    choices.changed(value)
-}
-
-/// An integer times a power of ten, changed as the options ask for.
-pub fn number_of_i64(
-    alloc: Global,
-    mantissa: i64,
-    exponent: i16,
-    options: &Options,
-) -> Result<Decimal, CallError>
-    ensures value { IfOk result (λ value. Gives (choices_of options.now) (IsScaled mantissa exponent) value) }
-    ensures fault { IfErr result
-        (λ error. IsChangeFault (choices_of options.now) (IsScaled mantissa exponent) (IsScaledFault mantissa exponent)
-        error) }
-{
-    if options.is_zeroed() {
-        return scaled(alloc, mantissa, exponent);
-    }
-    let choices = known(options)?;
-    let value = scaled(alloc, mantissa, exponent)?;
-    choices.changed(value)
-}
-
-/// An integer without a sign times a power of ten, changed as the options ask for.
-pub fn number_of_u64(
-    alloc: Global,
-    mantissa: u64,
-    exponent: i16,
-    options: &Options,
-) -> Result<Decimal, CallError>
-    ensures value { IfOk result
-        (λ value. Gives (choices_of options.now) (IsScaled (pos mantissa) exponent) value) }
-    ensures fault { IfErr result
-        (λ error. IsChangeFault (choices_of options.now) (IsScaled (pos mantissa) exponent)
-        (IsScaledFault (pos mantissa) exponent) error) }
-{
-    if options.is_zeroed() {
-        return scaled_unsigned(alloc, mantissa, exponent);
-    }
-    let choices = known(options)?;
-    let value = scaled_unsigned(alloc, mantissa, exponent)?;
-    choices.changed(value)
-}
-
-/// The shortest number that gives a double back, changed as the options ask for: 0.1 of 0.1, 5 of 5.0, -0 of -0.0.
+/// Changes a number as options ask for, `fractions` being the digits of its currency, where it is an amount of money. At
+/// -1 to the even one, with the sign always, 9.75 becomes `+9.8`.
 ///
-/// `Number`: it is not finite.
-pub fn number_of_f64(alloc: Global, number: f64, options: &Options) -> Result<Decimal, CallError>
-    ensures value { IfOk result (λ value. Gives (choices_of options.now) (IsOfDouble number) value) }
+/// `Memory`: out of memory, which only multiples of 25 take; the number is then as it was.
+pub fn change(
+    number: &mut Decimal,
+    options: NumberOptions,
+    fractions: Option<FractionInfo>,
+) -> Result<(), CallError>
+    ensures value { OnOk result (number.new ≡ changed options fractions number.old) }
     ensures fault { IfErr result
-        (λ error. IsChangeFault (choices_of options.now) (IsOfDouble number) (IsDoubleFault number) error) }
+        (λ error. (error ≡ CallError.Memory) × MayGrowBy options.rounding fractions number.old) }
 {
-    if options.is_zeroed() {
-        return read_double(alloc, number);
+    match options.change(fractions, number) {
+        Ok(()) => Ok(()),
+        Err(_) => Err(CallError::Memory),
     }
-    let choices = known(options)?;
-    let value = read_double(alloc, number)?;
-    choices.changed(value)
 }
 
-/// The compact number that a text spells, its significand changed as the options ask for.
+impl<'a> GivenNumber<'a> {
+    // Replaces a number by this one.
+    fn assign(self, alloc: Global, number: &mut Decimal) -> Result<(), CallError>
+        ensures value { OnOk result (IsGiven (given_of self.entry) number.new) }
+        ensures fault { IfErr result (λ error. IsGivenFault (given_of self.entry) error) }
+    {
+        match self {
+            GivenNumber::Text(text) => assign_text(number, text),
+            GivenNumber::Scaled(mantissa, exponent) => {
+                assign_scaled(alloc, number, mantissa, exponent)
+            }
+            GivenNumber::ScaledUnsigned(mantissa, exponent) => {
+                assign_unsigned(alloc, number, mantissa, exponent)
+            }
+            GivenNumber::Double(double) => assign_double(number, double),
+        }
+    }
+
+    /// The number, changed as options ask for, `fractions` being the digits of its currency, where it is an amount of
+    /// money: the text `9.75`, at -1 to the even one, with the sign always, is 9.8 with a plus.
+    ///
+    /// `Number`: a text is no decimal number, or a double is not finite. `Limit`: a digit would be beyond the magnitudes
+    /// -32768 to 32767. `Memory`: out of memory, which a number of sixteen digits at most takes only by multiples of 25.
+    pub fn changed(
+        self,
+        alloc: Global,
+        options: NumberOptions,
+        fractions: Option<FractionInfo>,
+    ) -> Result<Decimal, CallError>
+        ensures value { IfOk result
+            (λ value. Gives options fractions (IsGiven (given_of self.entry)) value) }
+        ensures fault { IfErr result
+            (λ error. IsChangeFault options fractions (IsGiven (given_of self.entry))
+            (IsGivenFault (given_of self.entry)) error) }
+    {
+        let mut value = Decimal::zero(alloc);
+        self.assign(alloc, &mut value)?;
+        match change(&mut value, options, fractions) {
+            Ok(()) => Ok(value),
+            Err(error) => Err(error),
+        }
+    }
+}
+
+/// The compact number that a text spells, its significand changed as options ask for: `1.25c3` to tenths is `1.2c3`. The
+/// errors are those of `GivenNumber::changed`.
 pub fn compact_of_text(
     alloc: Global,
     text: &[u8],
-    options: &Options,
+    options: NumberOptions,
+    fractions: Option<FractionInfo>,
 ) -> Result<CompactDecimal, CallError>
-    ensures value { IfOk result (λ value. GivesCompact (choices_of options.now) text.now value) }
-    ensures fault { IfErr result
-        (λ error. IsChangeFault (choices_of options.now) (IsSignificand text.now) (IsCompactNumberFault text.now)
-        error) }
+    ensures value { IfOk result (λ value. GivesCompact options fractions text.now value) }
+    ensures fault { IfErr result (λ error. IsCompactChangeFault options fractions text.now error) }
 {
-    let choices = known(options)?;
     let value = read_compact(alloc, text)?;
     let exponent = value.exponent();
-    let significand = choices.changed(value.into_significand())?;
-    Ok(CompactDecimal::from_significand_and_exponent(significand, exponent))
+    let mut significand = value.into_significand();
+    match change(&mut significand, options, fractions) {
+        Ok(()) => Ok(CompactDecimal::from_significand_and_exponent(significand, exponent)),
+        Err(error) => Err(error),
+    }
 }

@@ -336,7 +336,7 @@ fn all_args<'a>(alloc: Global) -> Result<Vec<Arg<'a>>, AllocError> {
 // The command before its options.
 fn empty<'a>(alloc: Global) -> Result<Command<'a>, AllocError> {
     Command::new(alloc, "legumeyet")
-        .version("1.4 (CLDR 48)")
+        .version("2.0 (CLDR 48)")
         .about("Writes numbers as the readers of a locale write them, and reads what they type")
         .after_help(AFTER_HELP)
         .after_long_help(AFTER_LONG_HELP)

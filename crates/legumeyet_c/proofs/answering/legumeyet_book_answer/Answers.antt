@@ -6,7 +6,7 @@ use Rattle.legumeyet_c_values.proofs.PuttingLemmas.{put_by, put_refused}
 use Rattle.legumeyet_c.specs.Answering.{IsAnswerFault, SaysAnswer}
 use Rattle.legumeyet_c.specs.Kinds.{book_in}
 use Rattle.legumeyet_c.specs.Opened.{opened}
-use Rattle.legumeyet_c.proofs.WritingLemmas.{answer_fault_other}
+use Rattle.legumeyet_c.proofs.ReadingLemmas.{answer_fault_other}
 use Rattle.legumeyet_c.proofs.answering.legumeyet_book_answer.Goals as goal
 
 pub returns-in-Ok-clause-told : goal.returns-in-Ok-clause-told

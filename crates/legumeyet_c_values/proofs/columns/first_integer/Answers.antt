@@ -2,7 +2,8 @@ use Rattle.std.proofs.Common.{ℤ, List, ◌-◌, length, take, drop, get_or, If
 use Rattle.std.proofs.lemmas.Int.{to_z-of_z}
 use Rattle.std.specs.Prelude.{pos}
 use mir.Val.{SFits}
-use Rattle.legumeyet_c_values.specs.Columns.{IsGiven, IsGivenFault, integers, scaled}
+use Rattle.legumeyet_c_values.specs.Columns.{integers}
+use Rattle.legumeyet_c_values.specs.Numbers.{IsGiven, IsGivenFault, scaled}
 use Rattle.legumeyet_c_values.proofs.ColumnLemmas.{map_rest, of_first}
 use Rattle.legumeyet_c_values.proofs.columns.first_integer.Goals as goal
 

@@ -1,7 +1,8 @@
 use Rattle.std.proofs.Common.{◌≡◌, ◌+◌, ◌-◌, ◌++◌, List, ℕ, Err, length, take, drop, set, arith, refl, sym, subst}
 use Rattle.std.proofs.lemmas.List.{take_rest}
 use Rattle.std.proofs.lemmas.Result.{err_from_is_err_and}
-use Rattle.legumeyet_c_values.specs.Columns.{Given, IsWrittenColumn, Reaches, given_in, room}
+use Rattle.legumeyet_c_values.specs.Columns.{IsWrittenColumn, Reaches, given_in, room}
+use Rattle.legumeyet_c_values.specs.Numbers.{Given}
 use Rattle.legumeyet_c_values.proofs.ColumnLemmas.{column_done, column_stops, column_unplaced, put_to_end, reaches_more, reaches_none}
 use Rattle.legumeyet_c_values.proofs.columns.write_column.Goals as goal
 

@@ -1,5 +1,6 @@
 use Rattle.std.proofs.Common.{Result, OnOk, IfErr, subst}
-use Rattle.legumeyet_c_values.specs.Columns.{IsGiven, IsGivenFault, OfFirst, given_in}
+use Rattle.legumeyet_c_values.specs.Columns.{OfFirst, given_in}
+use Rattle.legumeyet_c_values.specs.Numbers.{IsGiven, IsGivenFault}
 use Rattle.legumeyet_c_values.specs.declared.call_error.CallError.{CallError}
 use Rattle.legumeyet_c_values.proofs.ColumnLemmas.{first_put, first_refused}
 use Rattle.legumeyet_c_values.proofs.columns.write_first.Goals as goal

@@ -1,0 +1,7 @@
+use Rattle.std.proofs.Common.{Ok, ap, sym, ◌∙◌}
+use Rattle.legumeyet_c.proofs.GroupingLemmas.{found_held}
+use Rattle.legumeyet_c.proofs.format_opening.find_kept.Goals as goal
+
+pub returns-clause-value : goal.returns-clause-value
+returns-clause-value c =
+    found_held c.args.book.now c.args.format.now c.args.tag.now c.in_ok-formatter.formatter c.in_ok-formatter.latin c.in_ok-formatter.ensures.value ∙ ap Ok (sym c.kept.ensures)

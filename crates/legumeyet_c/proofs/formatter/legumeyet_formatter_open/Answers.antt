@@ -1,0 +1,17 @@
+use Rattle.std.proofs.Common.{rules, w32, ◌∙◌}
+use Rattle.std.proofs.lemmas.Int.{to_z-of_z}
+use mir.Val.{SFits}
+use Rattle.legumeyet_c.specs.AskedFormats.{format_by_words}
+use Rattle.legumeyet_c.specs.Views.{book_open, format_content}
+use Rattle.legumeyet_c.proofs.OpeningLemmas.{opening_asked}
+use Rattle.legumeyet_c.proofs.formatter.legumeyet_formatter_open.Goals as goal
+
+pub returns-clause-told : goal.returns-clause-told
+returns-clause-told c =
+    let fits : SFits w32 c.answer.result = search rules in
+    record {
+      outcome = c.open.result;
+      number = to_z-of_z w32 c.answer.result fits ∙ c.answer.ensures;
+      held = opening_asked (book_open c.args.book.now) c.format_by_words-asked.result (format_by_words c.args.format.now c.args.unit.now) c.args.tag.now
+          (format_content c.args.formatter.now) _ c.open.result c.format_by_words-asked.ensures c.open.ensures.told;
+    }

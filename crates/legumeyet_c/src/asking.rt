@@ -1,0 +1,44 @@
+//! What a call that writes numbers asks for: the formatter that is open, and what is made of each number.
+
+ghost use Rattle.std.specs.Prelude.{◌≡◌};
+ghost use Rattle.legumeyet_c.specs.Kinds.{format_in};
+ghost use Rattle.legumeyet_c.specs.Opened.{opened};
+ghost use Rattle.legumeyet_c.specs.Writing.{asked_of};
+
+use crate::content::{Content, formatter_in};
+use crate::held_formatter::HeldFormatter;
+use legumeyet_c_values::{CallError, options_asked};
+use locale_numbers_formats::NumberOptions;
+use std::marker::Model;
+
+// A formatter that is open, and what is made of each number before it is written.
+#[derive(Drop)]
+pub(crate) struct AskedFormatter<'l> {
+    pub(crate) held: &'l HeldFormatter,
+    pub(crate) options: NumberOptions,
+}
+
+impl<'l> Model for AskedFormatter<'l> {
+    ghost use Rattle.legumeyet_c.specs.Writing.{Asked};
+
+    ghost Value = { Asked };
+
+    ghost view = { λ a. record { tables = a.held.now.tables; options = a.options } };
+}
+
+// The formatter of what is open, with the options that words ask for, or its own without words. `Closed`; `UnknownOption`:
+// a word is none of its numbers.
+pub(crate) fn asked<'l>(
+    content: Option<&'l Content>,
+    words: &[i32],
+) -> Result<AskedFormatter<'l>, CallError>
+    ensures { result ≡ asked_of (format_in (opened content.entry)) words.now }
+{
+    let Some(held) = formatter_in(content) else {
+        return Err(CallError::Closed);
+    };
+    match options_asked(words, held.options()) {
+        Some(options) => Ok(AskedFormatter { held, options }),
+        None => Err(CallError::UnknownOption),
+    }
+}

@@ -1,0 +1,148 @@
+//! Exact forms, and the values that texts show: `legumeyet_formatter_format_exact` and `_shown`.
+
+ghost use Rattle.std.specs.Prelude.{◌≡◌, Ok};
+ghost use Rattle.legumeyet_c_values.specs.Numbers.{given_of, spelled};
+ghost use Rattle.legumeyet_c_values.specs.Putting.{Answers, IsPut};
+ghost use Rattle.legumeyet_c.specs.Formatted.{IsExactFault, IsExactText, IsShownFault, IsShownText};
+ghost use Rattle.legumeyet_c.specs.Kinds.{format_in};
+ghost use Rattle.legumeyet_c.specs.Opened.{opened};
+ghost use Rattle.legumeyet_c.specs.Views.{format_content, format_open};
+ghost use Rattle.legumeyet_c.specs.Writing.{GivesForm, GivesNumber, IsFormRefused, IsFormWritingFault, IsNumberRefused, IsNumberWritingFault, IsWritingFault, Writes, WritesForm, WritesNumber};
+
+use crate::asking::{AskedFormatter, asked};
+use crate::content::Content;
+use crate::formatting::{put_form, put_shown};
+use crate::handles::FormatterHandle;
+use legumeyet_c_values::{CallError, GivenNumber, answer, compact_of_text};
+use std::alloc::Global;
+
+// Writes an exact form as is asked.
+fn write_form(
+    alloc: Global,
+    asked: &AskedFormatter<'_>,
+    number: &[u8],
+    out: &mut [u8],
+    length: &mut usize,
+) -> Result<(), CallError>
+    ensures { IsPut (Writes IsExactText (GivesForm number.now) (Ok asked.now))
+        (IsWritingFault IsExactFault (GivesForm number.now) (IsFormRefused number.now) (Ok asked.now)) out.old out.new
+        length.old length.new result }
+{
+    let lent = asked.held.lent();
+    let formatter = lent.get();
+    match compact_of_text(alloc, number, asked.options, formatter.fractions()) {
+        Ok(form) => put_form(formatter, &form, out, length),
+        Err(error) => Err(error),
+    }
+}
+
+// Writes the value that the text of a number shows, as is asked.
+fn write_shown(
+    alloc: Global,
+    asked: &AskedFormatter<'_>,
+    number: GivenNumber<'_>,
+    out: &mut [u8],
+    length: &mut usize,
+) -> Result<(), CallError>
+    ensures { IsPut (Writes IsShownText (GivesNumber (given_of number.entry)) (Ok asked.now))
+        (IsWritingFault IsShownFault (GivesNumber (given_of number.entry)) (IsNumberRefused (given_of number.entry))
+        (Ok asked.now)) out.old out.new length.old length.new result }
+{
+    let lent = asked.held.lent();
+    let formatter = lent.get();
+    match number.changed(alloc, asked.options, formatter.fractions()) {
+        Ok(value) => put_shown(formatter, &value, out, length),
+        Err(error) => Err(error),
+    }
+}
+
+// Answers a call that writes an exact form with what is open.
+pub(crate) fn answer_form(
+    alloc: Global,
+    content: Option<&Content>,
+    number: &[u8],
+    words: &[i32],
+    out: &mut [u8],
+    length: &mut usize,
+) -> i32
+    ensures { Answers
+        (IsPut (WritesForm (format_in (opened content.entry)) words.now number.now)
+        (IsFormWritingFault (format_in (opened content.entry)) words.now number.now) out.old out.new length.old
+        length.new) result }
+{
+    match asked(content, words) {
+        Ok(asked) => answer(write_form(alloc, &asked, number, out, length)),
+        Err(error) => error.number(),
+    }
+}
+
+// Answers a call that writes the value that the text of a number shows with what is open.
+pub(crate) fn answer_shown(
+    alloc: Global,
+    content: Option<&Content>,
+    number: &[u8],
+    words: &[i32],
+    out: &mut [u8],
+    length: &mut usize,
+) -> i32
+    ensures { Answers
+        (IsPut (WritesNumber IsShownText (format_in (opened content.entry)) words.now (spelled number.now))
+        (IsNumberWritingFault IsShownFault (format_in (opened content.entry)) words.now (spelled number.now)) out.old
+        out.new length.old length.new) result }
+{
+    match asked(content, words) {
+        Ok(asked) => answer(write_shown(alloc, &asked, GivenNumber::Text(number), out, length)),
+        Err(error) => error.number(),
+    }
+}
+
+/// Writes a significand with an exponent, its digits as they are: `-1.20c6` in short English as `-1.20M`, and without
+/// compact patterns, where the exponent is 0, `-1.20` as `-1.20`. The options change the significand.
+///
+/// Returns 0; 2, the handle is closed; 4, an option is unknown; 7, the text is no compact number, as `1.2e6`; 8, its
+/// significand has a digit beyond the magnitudes -32768 to 32767, or its exponent is above 255; 1, out of memory, which
+/// a significand of sixteen digits at most takes only where it is rounded to multiples of 25; 9, the magnitude of both
+/// together is above 32767 in a compact format; 13, the formatter has another exponent for this magnitude, as for
+/// `1.2c5`; 3, the text needs more room.
+#[unsafe(no_mangle)]
+pub extern "C" fn legumeyet_formatter_format_exact(
+    alloc: Global,
+    formatter: &mut FormatterHandle,
+    number: &[u8],
+    options: &[i32],
+    out: &mut [u8],
+    length: &mut usize,
+) -> i32
+    ensures same { format_content formatter.new ≡ format_content formatter.old }
+    ensures told { Answers
+        (IsPut (WritesForm (format_open formatter.old) options.now number.now)
+        (IsFormWritingFault (format_open formatter.old) options.now number.now) out.old out.new length.old length.new)
+        result }
+{
+    let content = formatter.handle.content();
+    answer_form(alloc, content, number, options, out, length)
+}
+
+/// Writes the value that the text of a number shows: of `-1172700` in short English `-1.2c6`, which is -1.2 times ten to
+/// the power 6, and without compact patterns the number after its options.
+///
+/// Returns as `legumeyet_formatter_format`; 1 also where the number, or what is shown for it, has more than sixteen
+/// digits.
+#[unsafe(no_mangle)]
+pub extern "C" fn legumeyet_formatter_shown(
+    alloc: Global,
+    formatter: &mut FormatterHandle,
+    number: &[u8],
+    options: &[i32],
+    out: &mut [u8],
+    length: &mut usize,
+) -> i32
+    ensures same { format_content formatter.new ≡ format_content formatter.old }
+    ensures told { Answers
+        (IsPut (WritesNumber IsShownText (format_open formatter.old) options.now (spelled number.now))
+        (IsNumberWritingFault IsShownFault (format_open formatter.old) options.now (spelled number.now)) out.old
+        out.new length.old length.new) result }
+{
+    let content = formatter.handle.content();
+    answer_shown(alloc, content, number, options, out, length)
+}

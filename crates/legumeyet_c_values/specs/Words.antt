@@ -1,0 +1,181 @@
+-- What the words of a call ask for: how numbers are written, and what is made of a number before. A word names the entry of its list at that place, from 0 on; a word that is not given is 0.
+-- Defined in include/legumeyet.h, docs/units.md, "Digits of a currency", and docs/requests.md, "Rounding and sign".
+-- Cited by the exports that open formatters, and those that write numbers.
+-- The imports are many: each enum that a word stands for, and its cases.
+use Rattle.std.specs.Prelude.{ℕ, ℤ, pos, negsuc, ◌==◌, nat_lt, Bool, false, List, [], ◌∷◌, ◌++◌, map, drop, Option, Some, None, unwrap_or, Result, Ok, Err, slice_get, slice_index_or, if◌then◌else◌}
+use Rattle.std.specs.List.{list_all}
+use Rattle.fixed_decimal.specs.declared.RoundingIncrement.{RoundingIncrement}
+use Rattle.fixed_decimal.specs.declared.RoundingIncrement.TheVariants.{MultiplesOf1, MultiplesOf2, MultiplesOf5, MultiplesOf25}
+use Rattle.fixed_decimal.specs.declared.SignDisplay.TheVariants as display
+use Rattle.fixed_decimal.specs.declared.SignedRoundingMode.{SignedRoundingMode}
+use Rattle.fixed_decimal.specs.declared.SignedRoundingMode.TheVariants.{Unsigned, Ceil, Floor, HalfCeil, HalfFloor}
+use Rattle.fixed_decimal.specs.declared.UnsignedRoundingMode.TheVariants.{Expand, Trunc, HalfExpand, HalfTrunc, HalfEven}
+use Rattle.icu_decimal_symbols.specs.declared.options.GroupingStrategy.{GroupingStrategy}
+use Rattle.icu_decimal_symbols.specs.declared.options.GroupingStrategy.TheVariants as grouping
+use Rattle.icu_dimension_fractions.specs.CurrencyCodes.{is_currency_code}
+use Rattle.icu_dimension_fractions.specs.declared.CurrencyStyle.{CurrencyStyle}
+use Rattle.icu_dimension_fractions.specs.declared.CurrencyStyle.TheVariants as style
+use Rattle.icu_dimension_fractions.specs.declared.CurrencyWidth.{CurrencyWidth}
+use Rattle.icu_dimension_fractions.specs.declared.CurrencyWidth.TheVariants as currency_width
+use Rattle.legumeyet_c_values.specs.declared.call_error.CallError.{CallError}
+use Rattle.legumeyet_c_values.specs.declared.call_error.CallError.TheVariants.{Code, UnknownOption}
+use Rattle.locale_numbers_formats.specs.declared.CompactWidth.{CompactWidth}
+use Rattle.locale_numbers_formats.specs.declared.CompactWidth.TheVariants.{Short, Long}
+use Rattle.locale_numbers_formats.specs.declared.LeadingZeros.TheVariants.{TrimRoundedZero}
+use Rattle.locale_numbers_formats.specs.declared.Notation.{Notation}
+use Rattle.locale_numbers_formats.specs.declared.Notation.TheVariants.{Standard, Compact}
+use Rattle.locale_numbers_formats.specs.declared.NumberOptions.{NumberOptions}
+use Rattle.locale_numbers_formats.specs.declared.NumberShape.{NumberShape}
+use Rattle.locale_numbers_formats.specs.declared.NumberUnit.{NumberUnit}
+use Rattle.locale_numbers_formats.specs.declared.NumberUnit.TheVariants as beside
+use Rattle.locale_numbers_formats.specs.declared.Rounding.{Rounding}
+use Rattle.locale_numbers_formats.specs.declared.Rounding.TheVariants.{Usual, Cash, AsGiven, At}
+use Rattle.locale_numbers_formats.specs.declared.SignAsked.{SignAsked}
+use Rattle.locale_numbers_formats.specs.declared.SignAsked.TheVariants.{Keep as KeepSign, Show}
+use Rattle.locale_numbers_formats.specs.declared.TrailingZeros.{TrailingZeros}
+use Rattle.locale_numbers_formats.specs.declared.TrailingZeros.TheVariants.{Keep, Trim, TrimWhole}
+
+-- ---- words
+
+abbrev pub word_at : List ℤ → ℕ → ℤ
+word_at words place = slice_index_or words place (pos 0)
+
+abbrev pub is_zero : ℤ → Bool
+is_zero (pos number) = number == 0
+is_zero (negsuc number) = false
+
+-- the words past those that are known are 0
+abbrev pub is_known : ℕ → List ℤ → Bool
+is_known count words = list_all is_zero (drop count words)
+
+-- the entry that a word names
+abbrev pub named : {T : Type 0} → List T → ℤ → Option T
+named entries (pos place) = slice_get entries place
+named entries (negsuc place) = None
+
+-- ---- what is made of a number
+
+-- the first keeps the sign as it is
+abbrev pub signs : List SignAsked
+signs = KeepSign ∷ Show display.Auto ∷ Show display.Never ∷ Show display.Always ∷ Show display.ExceptZero ∷ Show display.Negative ∷ []
+
+abbrev pub modes : List SignedRoundingMode
+modes = Unsigned Expand ∷ Unsigned Trunc ∷ Ceil ∷ Floor ∷ Unsigned HalfExpand ∷ Unsigned HalfTrunc ∷ HalfCeil ∷ HalfFloor ∷ Unsigned HalfEven ∷ []
+
+-- the first and the last two are those of an amount: to the digits of its currency, to those in cash, and none
+abbrev pub roundings : ℤ → RoundingIncrement → List Rounding
+roundings position increment = Usual ∷ map (λ mode. At position mode increment) modes ++ Cash ∷ AsGiven ∷ []
+
+abbrev pub trimmings : List TrailingZeros
+trimmings = Keep ∷ Trim ∷ TrimWhole ∷ []
+
+-- an increment is its number, and 0 is that of 1
+abbrev pub increment_of : ℤ → Option RoundingIncrement
+increment_of (pos number) =
+    if number == 0 then Some MultiplesOf1
+    else if number == 1 then Some MultiplesOf1
+    else if number == 2 then Some MultiplesOf2
+    else if number == 5 then Some MultiplesOf5
+    else if number == 25 then Some MultiplesOf25
+    else None
+increment_of (negsuc number) = None
+
+-- -32768 to 32767
+abbrev pub position_of : ℤ → Option ℤ
+position_of (pos number) = if nat_lt number 32768 then Some (pos number) else None
+position_of (negsuc number) = if nat_lt number 32768 then Some (negsuc number) else None
+
+-- a least count of digits
+abbrev pub count_of : ℤ → Option ℤ
+count_of (pos number) = if nat_lt number 32768 then Some (pos number) else None
+count_of (negsuc number) = None
+
+abbrev pub rounding_with : Option ℤ → Option RoundingIncrement → ℤ → Option Rounding
+rounding_with None increment word = None
+rounding_with (Some position) None word = None
+rounding_with (Some position) (Some increment) word = named (roundings position increment) word
+
+abbrev pub rounding_of : List ℤ → Option Rounding
+rounding_of words = rounding_with (position_of (word_at words 2)) (increment_of (word_at words 3)) (word_at words 1)
+
+-- what each word stands for, where each is known
+abbrev pub options_with : Option SignAsked → Option Rounding → Option TrailingZeros → Option ℤ → Option ℤ → Option NumberOptions
+options_with None rounding zeros whole fraction = None
+options_with (Some sign) None zeros whole fraction = None
+options_with (Some sign) (Some rounding) None whole fraction = None
+options_with (Some sign) (Some rounding) (Some zeros) None fraction = None
+options_with (Some sign) (Some rounding) (Some zeros) (Some whole) None = None
+options_with (Some sign) (Some rounding) (Some zeros) (Some whole) (Some fraction) =
+    Some (record { rounding = rounding; leading_zeros = TrimRoundedZero; zeros = zeros; integer_digits = whole; fraction_digits = fraction; sign = sign })
+
+-- seven words: the sign, the rounding with its position and increment, the zeros at the end, and the least counts of digits
+abbrev pub number_options_of : List ℤ → Option NumberOptions
+number_options_of words =
+    if is_known 7 words
+    then options_with (named signs (word_at words 0)) (rounding_of words) (named trimmings (word_at words 4)) (count_of (word_at words 5)) (count_of (word_at words 6))
+    else None
+
+-- those of no words: an amount has the digits of its currency, and another number stays as it is
+abbrev pub usual : NumberOptions
+usual = record { rounding = Usual; leading_zeros = TrimRoundedZero; zeros = Keep; integer_digits = pos 0; fraction_digits = pos 0; sign = KeepSign }
+
+-- a formatter's own, where no words are given
+abbrev pub options_of : List ℤ → NumberOptions → Option NumberOptions
+options_of [] own = Some own
+options_of (word ∷ words) own = number_options_of (word ∷ words)
+
+-- ---- how numbers are written
+
+abbrev pub widths : List CompactWidth
+widths = Short ∷ Long ∷ []
+
+-- a compact one has a width
+abbrev pub notations : CompactWidth → List Notation
+notations width = Standard ∷ Compact width ∷ []
+
+abbrev pub groupings : List GroupingStrategy
+groupings = grouping.Auto ∷ grouping.Never ∷ grouping.Always ∷ grouping.Min2 ∷ []
+
+abbrev pub styles : List CurrencyStyle
+styles = style.Standard ∷ style.Accounting ∷ []
+
+abbrev pub currency_widths : List CurrencyWidth
+currency_widths = currency_width.Short ∷ currency_width.IsoCode ∷ []
+
+-- a unit that is no currency has no text
+abbrev pub unit_alone : NumberUnit → List ℕ → Result NumberUnit CallError
+unit_alone unit [] = Ok unit
+unit_alone unit (byte ∷ text) = Err Code
+
+-- the text of a currency is its code
+abbrev pub currency_by : CurrencyStyle → CurrencyWidth → List ℕ → Result NumberUnit CallError
+currency_by style width text = if is_currency_code text then Ok (beside.Currency (record { code = text; style = style; width = width })) else Err Code
+
+abbrev pub units : CurrencyStyle → CurrencyWidth → List ℕ → List (Result NumberUnit CallError)
+units style width text = unit_alone beside.None text ∷ unit_alone beside.Percent text ∷ currency_by style width text ∷ []
+
+abbrev pub unit_with : Option CurrencyStyle → Option CurrencyWidth → ℤ → List ℕ → Result NumberUnit CallError
+unit_with None width word text = Err UnknownOption
+unit_with (Some style) None word text = Err UnknownOption
+unit_with (Some style) (Some width) word text = unwrap_or (named (units style width text) word) (Err UnknownOption)
+
+abbrev pub unit_of : List ℤ → List ℕ → Result NumberUnit CallError
+unit_of words text = unit_with (named styles (word_at words 3)) (named currency_widths (word_at words 4)) (word_at words 2) text
+
+abbrev pub notation_with : Option CompactWidth → ℤ → Option Notation
+notation_with None word = None
+notation_with (Some width) word = named (notations width) word
+
+abbrev pub notation_of : List ℤ → Option Notation
+notation_of words = notation_with (named widths (word_at words 1)) (word_at words 0)
+
+-- unknown words come before what is wrong with the text
+abbrev pub shape_with : Option Notation → Option GroupingStrategy → Result NumberUnit CallError → Result NumberShape CallError
+shape_with None grouping unit = Err UnknownOption
+shape_with (Some notation) None unit = Err UnknownOption
+shape_with (Some notation) (Some grouping) (Err error) = Err error
+shape_with (Some notation) (Some grouping) (Ok unit) = Ok (record { notation = notation; unit = unit; grouping = grouping })
+
+-- six words: the notation and its width, the unit, the style and the width of a currency, and where separators are
+abbrev pub shape_of : List ℤ → List ℕ → Result NumberShape CallError
+shape_of words text = if is_known 6 words then shape_with (notation_of words) (named groupings (word_at words 5)) (unit_of words text) else Err UnknownOption

@@ -1,0 +1,153 @@
+//! What is made of a number before it is written, by words: `legumeyet_options`.
+
+ghost use Rattle.std.specs.Prelude.{◌≡◌, [], Some};
+ghost use Rattle.legumeyet_c_values.specs.Words.{count_of, increment_of, named, number_options_of, options_of, position_of, rounding_of, roundings, signs, trimmings, usual};
+
+use crate::words::{are_zeros, is_known, word_at};
+use fixed_decimal::{RoundingIncrement, SignDisplay, SignedRoundingMode, UnsignedRoundingMode};
+use locale_numbers_formats::{LeadingZeros, NumberOptions, Rounding, SignAsked, TrailingZeros};
+
+// The sign of a word.
+fn sign_by(word: i32) -> Option<SignAsked>
+    ensures { result ≡ named signs word }
+{
+    match word {
+        0 => Some(SignAsked::Keep),
+        1 => Some(SignAsked::Show(SignDisplay::Auto)),
+        2 => Some(SignAsked::Show(SignDisplay::Never)),
+        3 => Some(SignAsked::Show(SignDisplay::Always)),
+        4 => Some(SignAsked::Show(SignDisplay::ExceptZero)),
+        5 => Some(SignAsked::Show(SignDisplay::Negative)),
+        _ => None,
+    }
+}
+
+// The rounding of a word, at a position to multiples of an increment where it is at one.
+fn rounding_named(word: i32, position: i16, increment: RoundingIncrement) -> Option<Rounding>
+    ensures { result ≡ named (roundings position increment) word }
+{
+    let mode = match word {
+        0 => return Some(Rounding::Usual),
+        1 => SignedRoundingMode::Unsigned(UnsignedRoundingMode::Expand),
+        2 => SignedRoundingMode::Unsigned(UnsignedRoundingMode::Trunc),
+        3 => SignedRoundingMode::Ceil,
+        4 => SignedRoundingMode::Floor,
+        5 => SignedRoundingMode::Unsigned(UnsignedRoundingMode::HalfExpand),
+        6 => SignedRoundingMode::Unsigned(UnsignedRoundingMode::HalfTrunc),
+        7 => SignedRoundingMode::HalfCeil,
+        8 => SignedRoundingMode::HalfFloor,
+        9 => SignedRoundingMode::Unsigned(UnsignedRoundingMode::HalfEven),
+        10 => return Some(Rounding::Cash),
+        11 => return Some(Rounding::AsGiven),
+        _ => return None,
+    };
+    Some(Rounding::At(position, mode, increment))
+}
+
+// The increment of a word.
+fn increment_by(word: i32) -> Option<RoundingIncrement>
+    ensures { result ≡ increment_of word }
+{
+    match word {
+        0 | 1 => Some(RoundingIncrement::MultiplesOf1),
+        2 => Some(RoundingIncrement::MultiplesOf2),
+        5 => Some(RoundingIncrement::MultiplesOf5),
+        25 => Some(RoundingIncrement::MultiplesOf25),
+        _ => None,
+    }
+}
+
+// What becomes of the zeros at the end of the fraction, by a word.
+fn zeros_by(word: i32) -> Option<TrailingZeros>
+    ensures { result ≡ named trimmings word }
+{
+    match word {
+        0 => Some(TrailingZeros::Keep),
+        1 => Some(TrailingZeros::Trim),
+        2 => Some(TrailingZeros::TrimWhole),
+        _ => None,
+    }
+}
+
+// A position of a word.
+fn position_by(word: i32) -> Option<i16>
+    ensures { result ≡ position_of word }
+{
+    if -32768 <= word && word <= 32767 {
+        Some(word as i16)
+    } else {
+        None
+    }
+}
+
+// A least count of digits of a word.
+fn count_by(word: i32) -> Option<i16>
+    ensures { result ≡ count_of word }
+{
+    if 0 <= word && word <= 32767 {
+        Some(word as i16)
+    } else {
+        None
+    }
+}
+
+// The rounding that words ask for.
+fn rounding_by(words: &[i32]) -> Option<Rounding>
+    ensures { result ≡ rounding_of words.now }
+{
+    let position = position_by(word_at(words, 2))?;
+    let increment = increment_by(word_at(words, 3))?;
+    rounding_named(word_at(words, 1), position, increment)
+}
+
+/// The options of no words: an amount of money is rounded to the digits of its currency, and nothing else changes.
+pub fn usual_options() -> NumberOptions
+    ensures value { result ≡ usual }
+    ensures words { number_options_of [] ≡ Some result }
+{
+    NumberOptions {
+        rounding: Rounding::Usual,
+        leading_zeros: LeadingZeros::TrimRoundedZero,
+        zeros: TrailingZeros::Keep,
+        integer_digits: 0,
+        fraction_digits: 0,
+        sign: SignAsked::Keep,
+    }
+}
+
+/// What the words of `legumeyet_options` ask for, where each is known: of `3, 9, -1` the sign always, to the nearest
+/// tenth. A word that is not given counts as 0, and one past the seven that are known must be 0.
+pub fn number_options_by(words: &[i32]) -> Option<NumberOptions>
+    ensures { result ≡ number_options_of words.now }
+{
+    if are_zeros(words) {
+        return Some(usual_options());
+    }
+    if !is_known(7, words) {
+        return None;
+    }
+    let sign = sign_by(word_at(words, 0))?;
+    let rounding = rounding_by(words)?;
+    let zeros = zeros_by(word_at(words, 4))?;
+    let integer_digits = count_by(word_at(words, 5))?;
+    let fraction_digits = count_by(word_at(words, 6))?;
+    Some(NumberOptions {
+        rounding,
+        leading_zeros: LeadingZeros::TrimRoundedZero,
+        zeros,
+        integer_digits,
+        fraction_digits,
+        sign,
+    })
+}
+
+/// What the words ask for, as `number_options_by` has it, and a formatter's own options where there is no word.
+pub fn options_asked(words: &[i32], own: NumberOptions) -> Option<NumberOptions>
+    ensures { result ≡ options_of words.now own }
+{
+    if words.is_empty() {
+        Some(own)
+    } else {
+        number_options_by(words)
+    }
+}

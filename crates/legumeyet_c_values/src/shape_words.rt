@@ -1,0 +1,138 @@
+//! How numbers are written, by words: `legumeyet_format`.
+
+ghost use Rattle.std.specs.Prelude.{◌≡◌};
+ghost use Rattle.legumeyet_c_values.specs.Words.{currency_by, currency_widths, groupings, named, notation_of, shape_of, styles, unit_alone, unit_of, widths};
+
+use crate::call_error::CallError;
+use crate::words::{is_known, word_at};
+use icu_decimal_symbols::options::GroupingStrategy;
+use icu_dimension_fractions::{CurrencyCode, CurrencyStyle, CurrencyWidth};
+use locale_numbers_formats::{CompactWidth, CurrencyUnit, Notation, NumberShape, NumberUnit};
+
+// The patterns of a word.
+fn width_by(word: i32) -> Option<CompactWidth>
+    ensures { result ≡ named widths word }
+{
+    match word {
+        0 => Some(CompactWidth::Short),
+        1 => Some(CompactWidth::Long),
+        _ => None,
+    }
+}
+
+// The strategy of a word.
+fn grouping_by(word: i32) -> Option<GroupingStrategy>
+    ensures { result ≡ named groupings word }
+{
+    match word {
+        0 => Some(GroupingStrategy::Auto),
+        1 => Some(GroupingStrategy::Never),
+        2 => Some(GroupingStrategy::Always),
+        3 => Some(GroupingStrategy::Min2),
+        _ => None,
+    }
+}
+
+// The style of a word.
+fn style_by(word: i32) -> Option<CurrencyStyle>
+    ensures { result ≡ named styles word }
+{
+    match word {
+        0 => Some(CurrencyStyle::Standard),
+        1 => Some(CurrencyStyle::Accounting),
+        _ => None,
+    }
+}
+
+// By what a currency is written, by a word.
+fn currency_width_by(word: i32) -> Option<CurrencyWidth>
+    ensures { result ≡ named currency_widths word }
+{
+    match word {
+        0 => Some(CurrencyWidth::Short),
+        1 => Some(CurrencyWidth::IsoCode),
+        _ => None,
+    }
+}
+
+// How the digits are written.
+fn notation_by(words: &[i32]) -> Option<Notation>
+    ensures { result ≡ notation_of words.now }
+{
+    let width = width_by(word_at(words, 1))?;
+    match word_at(words, 0) {
+        0 => Some(Notation::Standard),
+        1 => Some(Notation::Compact(width)),
+        _ => None,
+    }
+}
+
+// A unit that is no currency. `Code`: it has a text.
+fn unit_alone(unit: NumberUnit, text: &[u8]) -> Result<NumberUnit, CallError>
+    ensures { result ≡ unit_alone unit text.now }
+{
+    if text.is_empty() {
+        Ok(unit)
+    } else {
+        Err(CallError::Code)
+    }
+}
+
+// A currency. `Code`: the text is no code.
+fn currency_by(
+    style: CurrencyStyle,
+    width: CurrencyWidth,
+    text: &[u8],
+) -> Result<NumberUnit, CallError>
+    ensures { result ≡ currency_by style width text.now }
+{
+    match CurrencyCode::try_from_utf8(text) {
+        Ok(code) => Ok(NumberUnit::Currency(CurrencyUnit { code, style, width })),
+        Err(_) => Err(CallError::Code),
+    }
+}
+
+// What is beside the digits, with its text. `UnknownOption`: a word is unknown. `Code`: the text is none of the unit.
+fn unit_by(words: &[i32], text: &[u8]) -> Result<NumberUnit, CallError>
+    ensures { result ≡ unit_of words.now text.now }
+{
+    let Some(style) = style_by(word_at(words, 3)) else {
+        return Err(CallError::UnknownOption);
+    };
+    let Some(width) = currency_width_by(word_at(words, 4)) else {
+        return Err(CallError::UnknownOption);
+    };
+    match word_at(words, 2) {
+        0 => unit_alone(NumberUnit::None, text),
+        1 => unit_alone(NumberUnit::Percent, text),
+        2 => currency_by(style, width, text),
+        _ => Err(CallError::UnknownOption),
+    }
+}
+
+/// What the tables are found by that the words of `legumeyet_format` ask for: of `0, 0, 2` and `EUR` amounts in euros. A
+/// word that is not given counts as 0, and one past the six that are known must be 0.
+///
+/// `UnknownOption`: a word is unknown. `Code`: the text is not the code of the currency, or it is one where there is no
+/// currency.
+pub fn shape_by(words: &[i32], unit: &[u8]) -> Result<NumberShape, CallError>
+    ensures { result ≡ shape_of words.now unit.now }
+{
+    if !is_known(6, words) {
+        return Err(CallError::UnknownOption);
+    }
+    let Some(notation) = notation_by(words) else {
+        return Err(CallError::UnknownOption);
+    };
+    let Some(grouping) = grouping_by(word_at(words, 5)) else {
+        return Err(CallError::UnknownOption);
+    };
+    match unit_by(words, unit) {
+        Ok(unit) => Ok(NumberShape {
+            notation,
+            unit,
+            grouping,
+        }),
+        Err(error) => Err(error),
+    }
+}
