@@ -3,14 +3,13 @@
 #include <stdio.h>
 
 static int32_t print_number(legumeyet_book *book, const char *tag, const char *number) {
-    legumeyet_decimal_formatter formatter = {0};
-    legumeyet_options as_given = {0};
+    legumeyet_formatter formatter = {0};
     uint8_t text[64];
     size_t length = 0;
-    int32_t error = legumeyet_decimal_formatter_open(book, LEGUMEYET_TEXT(tag), LEGUMEYET_GROUPING_AUTO, &formatter);
-    if (error == 0) error = legumeyet_decimal_formatter_format(&formatter, LEGUMEYET_TEXT(number), &as_given, text, sizeof text, &length);
+    int32_t error = legumeyet_formatter_open(book, LEGUMEYET_TEXT(tag), NULL, 0, NULL, 0, &formatter);
+    if (error == 0) error = legumeyet_formatter_format(&formatter, LEGUMEYET_TEXT(number), NULL, 0, text, sizeof text, &length);
     if (error == 0) printf("%.*s\n", (int)length, (const char *)text);
-    legumeyet_decimal_formatter_close(&formatter);
+    legumeyet_formatter_close(&formatter);
     return error;
 }
 

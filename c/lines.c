@@ -23,8 +23,6 @@ typedef struct {
 
 /* The words of fields, in the order of their numbers. */
 static const char *const GROUPINGS[] = {"auto", "never", "always", "min2", NULL};
-static const char *const SHOWN_FORMS[] = {"short", "long", NULL};
-static const char *const EXACT_FORMS[] = {"exact-short", "exact-long", NULL};
 static const char *const SIGNS[] = {"keep", "auto", "never", "always", "except-zero", "negative", NULL};
 static const char *const MODES[] = {"",           "expand",    "trunc",      "ceil",      "floor", "half-expand",
                                     "half-trunc", "half-ceil", "half-floor", "half-even", NULL};
@@ -63,60 +61,116 @@ static request request_of(piece line) {
 /* The options that a request's fields name; the field of a rounding is `-` or as `-2,half-even,1`. Whether there are such options. */
 static int are_options(const request *asked, legumeyet_options *options) {
     piece rest = asked->rounding, position = cut(&rest, ','), mode = cut(&rest, ',');
-    options->sign = number_of(asked->sign, SIGNS);
-    options->rounding = number_of(mode, MODES);
-    options->position = (int16_t)strtol((const char *)position.at, NULL, 10);
-    return mode.length == 0 || is_word(rest, "1");
+    options->sign = (int32_t)number_of(asked->sign, SIGNS);
+    options->rounding = (int32_t)number_of(mode, MODES);
+    options->position = (int32_t)strtol((const char *)position.at, NULL, 10);
+    options->increment = mode.length == 0 ? 0 : (int32_t)strtol((const char *)rest.at, NULL, 10);
+    return mode.length == 0 ? is_word(asked->rounding, "-") : MODES[options->rounding] != NULL;
 }
 
-/* The text for a request by the calls of a formatter of plain numbers. */
-static int32_t by_plain(legumeyet_book *book, const request *asked, const legumeyet_options *options, uint8_t *out, size_t *length) {
-    legumeyet_decimal_formatter plain = {0};
-    piece tag = asked->tag, number = asked->number;
-    int32_t error = legumeyet_decimal_formatter_open(book, tag.at, tag.length, number_of(asked->grouping, GROUPINGS), &plain);
-    if (error == 0 && is_word(asked->form, "read"))
-        error = legumeyet_decimal_formatter_read(&plain, number.at, number.length, out, ROOM, length);
-    else if (error == 0)
-        error = legumeyet_decimal_formatter_format(&plain, number.at, number.length, options, out, ROOM, length);
-    legumeyet_decimal_formatter_close(&plain);
-    return error;
+/* What is asked of a formatter. */
+typedef enum { WRITE, SHOW, EXACT, READ, READ_AMOUNT, READ_LENIENT } task;
+
+/* The forms of texts, and their formats; those of amounts end with the code of the currency. */
+static const struct {
+    const char *word;
+    legumeyet_format words;
+} FORMS[] = {
+    {"plain", {0}},
+    {"short", {.notation = LEGUMEYET_NOTATION_COMPACT}},
+    {"long", {.notation = LEGUMEYET_NOTATION_COMPACT, .width = LEGUMEYET_WIDTH_LONG}},
+    {"percent", {.unit = LEGUMEYET_UNIT_PERCENT}},
+    {"currency-", {.unit = LEGUMEYET_UNIT_CURRENCY}},
+    {"accounting-", {.unit = LEGUMEYET_UNIT_CURRENCY, .currency_style = LEGUMEYET_STYLE_ACCOUNTING}},
+    {"code-", {.unit = LEGUMEYET_UNIT_CURRENCY, .currency_width = LEGUMEYET_CURRENCY_CODE}},
+};
+
+/* What comes before a form, the longest first. */
+static const struct {
+    const char *word;
+    task what;
+} TASKS[] = {{"read-lenient-", READ_LENIENT}, {"read-", READ}, {"exact-", EXACT}};
+
+/* Cuts a word off the front of a text. Returns whether it is there. */
+static int is_cut(piece *text, const char *word) {
+    const size_t front = strlen(word);
+    if (text->length < front || memcmp(text->at, word, front) != 0) return 0;
+    text->at += front;
+    text->length -= front;
+    return 1;
 }
 
-/* The text for a number in compact form, and the value that it shows after a tab. */
-static int32_t write_shown(legumeyet_compact_formatter *compact, piece number, const legumeyet_options *options, uint8_t *out, size_t *length) {
+/* Finds what a form asks for: the task, the format and the code of the currency. Returns whether a formatter does it. */
+static int is_form(piece text, task *what, legumeyet_format *words, piece *code) {
+    size_t row;
+    int is_plain = is_word(text, "read") || is_word(text, "read-lenient");
+    *what = is_word(text, "read") ? READ : is_word(text, "read-lenient") ? READ_LENIENT : WRITE;
+    *words = FORMS[0].words;
+    *code = (piece){NULL, 0};
+    if (is_plain) return 1;
+    for (row = 0; row < sizeof TASKS / sizeof *TASKS && *what == WRITE; row++)
+        if (is_cut(&text, TASKS[row].word)) *what = TASKS[row].what;
+    for (row = 0; row < sizeof FORMS / sizeof *FORMS; row++) {
+        const int is_compact = FORMS[row].words.notation != 0, is_amount = FORMS[row].words.unit == LEGUMEYET_UNIT_CURRENCY;
+        if (!is_cut(&text, FORMS[row].word) || text.length != (is_amount ? 3 : 0)) continue;
+        *words = FORMS[row].words;
+        if (is_amount) *code = text;
+        if (is_amount && *what == READ) *what = READ_AMOUNT;
+        if (is_compact && *what == WRITE) *what = SHOW;
+        return is_compact ? *what == SHOW || *what == EXACT : *what == WRITE || (*what != EXACT && row > 0);
+    }
+    return 0;
+}
+
+/* The text for a number, and the value that it shows after a tab. */
+static int32_t write_shown(legumeyet_formatter *it, piece number, const legumeyet_options *options, uint8_t *out, size_t *length) {
     size_t value_length = 0;
-    int32_t error = legumeyet_compact_formatter_format(compact, number.at, number.length, options, out, ROOM, length);
+    int32_t error = legumeyet_formatter_format(it, number.at, number.length, LEGUMEYET_WORDS(*options), out, ROOM, length);
     if (error != 0) return error;
     out[*length] = '\t';
     *length += 1;
-    error = legumeyet_compact_formatter_shown(compact, number.at, number.length, options, out + *length, ROOM - *length, &value_length);
+    error = legumeyet_formatter_shown(it, number.at, number.length, LEGUMEYET_WORDS(*options), out + *length, ROOM - *length, &value_length);
     *length += value_length;
     return error;
 }
 
-/* The text for a request by the calls of a formatter of compact numbers of a width. */
-static int32_t by_compact(legumeyet_book *book, const request *asked, uint32_t width, const legumeyet_options *options, uint8_t *out,
-                          size_t *length) {
-    legumeyet_compact_formatter compact = {0};
-    piece tag = asked->tag, number = asked->number;
-    int32_t error = legumeyet_compact_formatter_open(book, tag.at, tag.length, width, number_of(asked->grouping, GROUPINGS), &compact);
-    if (error == 0 && SHOWN_FORMS[number_of(asked->form, SHOWN_FORMS)] != NULL)
-        error = write_shown(&compact, number, options, out, length);
-    else if (error == 0)
-        error = legumeyet_compact_formatter_format_exact(&compact, number.at, number.length, options, out, ROOM, length);
-    legumeyet_compact_formatter_close(&compact);
+/* The number of an amount's text. A line takes only an amount that is its own rounding, and a formatter any digits. */
+static int32_t read_amount(legumeyet_formatter *it, piece text, uint8_t *out, size_t *length) {
+    static uint8_t again[ROOM];
+    size_t again_length = 0;
+    int32_t error = legumeyet_formatter_read(it, text.at, text.length, out, ROOM, length);
+    if (error == 0) error = legumeyet_formatter_format(it, out, *length, NULL, 0, again, ROOM, &again_length);
+    if (error == 0 && (again_length != text.length || memcmp(again, text.at, text.length) != 0)) return LEGUMEYET_NOT_WRITTEN;
     return error;
+}
+
+/* Does what a form asks for. */
+static int32_t by_task(legumeyet_formatter *it, task what, piece number, const legumeyet_options *options, uint8_t *out, size_t *length) {
+    switch (what) {
+    case WRITE: return legumeyet_formatter_format(it, number.at, number.length, LEGUMEYET_WORDS(*options), out, ROOM, length);
+    case SHOW: return write_shown(it, number, options, out, length);
+    case EXACT: return legumeyet_formatter_format_exact(it, number.at, number.length, LEGUMEYET_WORDS(*options), out, ROOM, length);
+    case READ: return legumeyet_formatter_read(it, number.at, number.length, out, ROOM, length);
+    case READ_AMOUNT: return read_amount(it, number, out, length);
+    case READ_LENIENT: return legumeyet_formatter_read_lenient(it, number.at, number.length, out, ROOM, length);
+    default: return NO_CALL;
+    }
 }
 
 /* The text for a request by the calls of a formatter: an error of theirs, or NO_CALL where they can't say what is asked. */
 static int32_t by_formatter(legumeyet_book *book, const request *asked, uint8_t *out, size_t *length) {
+    legumeyet_formatter it = {0};
     legumeyet_options options = {0};
-    uint32_t shown = number_of(asked->form, SHOWN_FORMS), exact = number_of(asked->form, EXACT_FORMS);
-    if (!are_options(asked, &options)) return NO_CALL;
-    if (is_word(asked->form, "plain") || is_word(asked->form, "read")) return by_plain(book, asked, &options, out, length);
-    if (SHOWN_FORMS[shown] != NULL) return by_compact(book, asked, shown, &options, out, length);
-    if (EXACT_FORMS[exact] != NULL) return by_compact(book, asked, exact, &options, out, length);
-    return NO_CALL;
+    legumeyet_format words;
+    piece code;
+    task what;
+    int32_t error;
+    if (!is_form(asked->form, &what, &words, &code) || !are_options(asked, &options)) return NO_CALL;
+    words.grouping = (int32_t)number_of(asked->grouping, GROUPINGS);
+    error = legumeyet_formatter_open(book, asked->tag.at, asked->tag.length, LEGUMEYET_WORDS(words), code.at, code.length, &it);
+    if (error == 0) error = by_task(&it, what, asked->number, &options, out, length);
+    legumeyet_formatter_close(&it);
+    return error;
 }
 
 /* The word of an answer that an error stands for. */

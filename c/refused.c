@@ -12,16 +12,22 @@
 #include <stdlib.h>
 #include <string.h>
 
-#define TEXT(text) (const uint8_t *)(text), strlen(text)
+#define TEXT(text) LEGUMEYET_TEXT(text)
 #define TWICE(call) (is_refused(call) ? expect_well(call) : (void)0)
+#define TAG "en-a-aa-b-bb-u-ca-gregory-nu-latn-x-y"
+#define DIGITS "-98765432109876543210.5"
 
-static const char BOOK[] = "[[[[\"en\",\"\",\"latn\",\"-\",\"\",\"+\",\"\",\".\",\",\",3,3,1]],[[\"latn\",\"0123456789\"]],"
+static const char BOOK[] = "[[[[\"ar\",\"\",\"arab\",\"-\",\"\",\"+\",\"\",\"\\u066b\",\"\\u066c\",3,3,1],"
+                           "[\"ar\",\"latn\",\"latn\",\"-\",\"\",\"+\",\"\",\".\",\",\",3,3,1],[\"en\",\"\",\"latn\",\"-\",\"\",\"+\",\"\",\".\",\",\",3,3,1]],"
+                           "[[\"arab\",\"\\u0660\\u0661\\u0662\\u0663\\u0664\\u0665\\u0666\\u0667\\u0668\\u0669\"],[\"latn\",\"0123456789\"]],"
                            "[[\"en\",[[\"one\",\"i = 1\"]]]],[[\"en\",\"\",[[3,3,[[\"one\",[\"\",\" k\"]],[\"other\",[\"\",\" ks\"]]]]],null]],[]],"
                            "[[[\"en\",\"\",\"%\",null,[\"\",\"\\u00a4\"]]],[[\"en\",\"\",null,[\"\\u00a4\",\"\"],null]],"
                            "[[\"en\",\"\",null,[\"\\u00a4\",\"\",\"(\\u00a4\",\")\",\"+\\u00a4\",\"\"],null]],[[\"en\",\"USD\",\"$\",0]],"
                            "[[\"USD\",2,1,2,25]]]]";
 
 static int refused, wrong;
+static uint8_t out[64];
+static size_t length;
 
 static int is_refused(int32_t error) {
     if (error != LEGUMEYET_OK && error != LEGUMEYET_MEMORY) wrong = 1;
@@ -31,92 +37,87 @@ static int is_refused(int32_t error) {
 
 static void expect_well(int32_t error) { wrong = wrong || error != LEGUMEYET_OK; }
 
-static void expect_text(const uint8_t *out, size_t length, const char *text) {
+static void expect_text(const char *text) {
     if (length == strlen(text) && memcmp(out, text, length) == 0) return;
     printf("%.*s, and not %s\n", (int)length, (const char *)out, text);
     wrong = 1;
 }
 
-/* Formatters of percents and of amounts, with tables of their own: they are opened, and the book is closed before they write and read. */
-static void call_units(void) {
-    static const char TAG[] = "en-a-aa-b-bb-u-ca-gregory-nu-latn-x-y";
-    static const legumeyet_options CASH = {.rounding = LEGUMEYET_ROUND_CASH};
-    legumeyet_book book = {0};
-    legumeyet_unit_formatter percents = {0}, dollars = {0};
-    uint8_t out[64];
+/* A number in a format, with its text by the options, and the count of its parts; then a text that is read, and one that was typed. */
+static const struct {
+    const char *tag, *skeleton, *number;
+    legumeyet_options options;
+    const char *text;
+    size_t parts;
+    const char *read, *typed, *typed_number;
+} ROWS[] = {
+    {TAG, "", DIGITS, {.rounding = LEGUMEYET_ROUND_HALF_EVEN}, "-98,765,432,109,876,543,210", 8, "-123,456,789.50", " -123456789.50", "-123456789.50"},
+    {TAG, "", "1234567.8", {.rounding = LEGUMEYET_ROUND_HALF_EVEN, .position = -2, .increment = 25}, "1,234,567.75", 5, NULL, NULL, NULL},
+    {TAG, "compact-short", DIGITS, {.rounding = LEGUMEYET_ROUND_HALF_EVEN}, "-98,765,432,109,876,543 ks", 1, NULL, NULL, NULL},
+    {TAG, "percent", DIGITS, {0}, "-98,765,432,109,876,543,210.5%", 11, "-98,765,432,109.5%", "-98765432109.5", "-98765432109.5"},
+    {TAG, "currency/USD sign-accounting", "-12345.5", {.rounding = LEGUMEYET_ROUND_CASH}, "($12,345.50)", 7, "($123,456,789.50)", "USD -123456789.50", "-123456789.50"},
+    {"ar", ".00", "-5", {0}, "-\xd9\xa5", 2, "-\xd9\xa5", "-5.", "-5"},
+};
+
+/* A row, by a formatter that has tables of its own, or borrows those of a kept book. */
+static void call_row(legumeyet_book *book, size_t row) {
+    legumeyet_formatter it = {0};
     legumeyet_interval parts[16];
-    size_t length = 0, count = 0;
-    TWICE(legumeyet_book_open(TEXT(BOOK), &book));
-    TWICE(legumeyet_percent_formatter_open(&book, TEXT(TAG), 0, &percents));
-    TWICE(legumeyet_currency_formatter_open(&book, TEXT(TAG), TEXT("USD"), LEGUMEYET_STYLE_ACCOUNTING, 0, 0, &dollars));
-    expect_well(legumeyet_book_close(&book));
-    TWICE(legumeyet_unit_formatter_format(&percents, TEXT("-98765432109876543210.5"), &(legumeyet_options){0}, out, sizeof out, &length));
-    expect_text(out, length, "-98,765,432,109,876,543,210.5%");
-    TWICE(legumeyet_unit_formatter_format(&dollars, TEXT("1234567.8"), &CASH, out, sizeof out, &length));
-    expect_text(out, length, "$1,234,567.75");
-    TWICE(legumeyet_unit_formatter_format_parts(&dollars, TEXT("-12345.5"), &CASH, out, sizeof out, &length, parts, 16, &count));
-    expect_text(out, length, "($12,345.50)");
-    wrong = wrong || count != 7;
-    TWICE(legumeyet_unit_formatter_read(&percents, TEXT("-98,765,432,109.5%"), out, sizeof out, &length));
-    expect_text(out, length, "-98765432109.5");
-    TWICE(legumeyet_unit_formatter_read_lenient(&dollars, TEXT("USD -1234567890.5"), out, sizeof out, &length));
-    expect_text(out, length, "-1234567890.5");
-    expect_well(legumeyet_unit_formatter_close(&percents));
-    expect_well(legumeyet_unit_formatter_close(&dollars));
+    size_t count = 0, place = 0;
+    TWICE(legumeyet_formatter_open_skeleton(book, TEXT(ROWS[row].tag), TEXT(ROWS[row].skeleton), &place, &it));
+    TWICE(legumeyet_formatter_format(&it, TEXT(ROWS[row].number), LEGUMEYET_WORDS(ROWS[row].options), out, sizeof out, &length));
+    expect_text(ROWS[row].text);
+    TWICE(legumeyet_formatter_format_parts(&it, TEXT(ROWS[row].number), LEGUMEYET_WORDS(ROWS[row].options), out, sizeof out, &length, parts, 16, &count));
+    expect_text(ROWS[row].text);
+    wrong = wrong || count != ROWS[row].parts;
+    if (ROWS[row].read != NULL) {
+        TWICE(legumeyet_formatter_read(&it, TEXT(ROWS[row].read), out, sizeof out, &length));
+        wrong = wrong || length == 0 || out[0] != '-';
+        TWICE(legumeyet_formatter_read_lenient(&it, TEXT(ROWS[row].typed), out, sizeof out, &length));
+        expect_text(ROWS[row].typed_number);
+    }
+    expect_well(legumeyet_formatter_close(&it));
+}
+
+/* The other calls, of a plain formatter and a compact one, whose book is closed before they write. */
+static void call_others(legumeyet_book *book) {
+    static const legumeyet_format COMPACT = {.notation = LEGUMEYET_NOTATION_COMPACT, .grouping = LEGUMEYET_GROUPING_MIN2};
+    static const legumeyet_options ROUNDED = {.sign = LEGUMEYET_SIGN_AUTO, .rounding = LEGUMEYET_ROUND_HALF_EVEN};
+    static const char *const TEXTS[2][3] = {{"-123,456,789,012,346", "12,345,678,901,234,568", "-123,456,789"},
+                                            {"-123,456,789,012 ks", "12,345,678,901,235 ks", "-123,457 ks"}};
+    legumeyet_formatter formatters[2] = {{0}, {0}};
+    int at;
+    TWICE(legumeyet_formatter_open(book, TEXT(TAG), NULL, 0, NULL, 0, &formatters[0]));
+    TWICE(legumeyet_formatter_open(book, TEXT(TAG), LEGUMEYET_WORDS(COMPACT), NULL, 0, &formatters[1]));
+    expect_well(legumeyet_book_close(book));
+    for (at = 0; at < 2; at++) {
+        TWICE(legumeyet_formatter_format_i64(&formatters[at], -123456789012345678, -3, LEGUMEYET_WORDS(ROUNDED), out, sizeof out, &length));
+        expect_text(TEXTS[at][0]);
+        TWICE(legumeyet_formatter_format_u64(&formatters[at], 12345678901234567890U, -3, LEGUMEYET_WORDS(ROUNDED), out, sizeof out, &length));
+        expect_text(TEXTS[at][1]);
+        TWICE(legumeyet_formatter_format_double(&formatters[at], -123456789.25, LEGUMEYET_WORDS(ROUNDED), out, sizeof out, &length));
+        expect_text(TEXTS[at][2]);
+    }
+    TWICE(legumeyet_formatter_shown(&formatters[0], TEXT(DIGITS), LEGUMEYET_WORDS(ROUNDED), out, sizeof out, &length));
+    expect_text("-98765432109876543210");
+    TWICE(legumeyet_formatter_format_exact(&formatters[0], TEXT(DIGITS), NULL, 0, out, sizeof out, &length));
+    expect_text("-98,765,432,109,876,543,210.5");
+    TWICE(legumeyet_formatter_shown(&formatters[1], TEXT(DIGITS), LEGUMEYET_WORDS(ROUNDED), out, sizeof out, &length));
+    expect_text("-98765432109876543c3");
+    TWICE(legumeyet_formatter_format_exact(&formatters[1], TEXT("-1234567890.5c3"), LEGUMEYET_WORDS(ROUNDED), out, sizeof out, &length));
+    expect_text("-1,234,567,890 ks");
+    for (at = 0; at < 2; at++) expect_well(legumeyet_formatter_close(&formatters[at]));
 }
 
 static void call_all(const char *path) {
-    static const char DIGITS[] = "-98765432109876543210.5";
-    static const char LINE[] = "en-a-aa-b-bb-u-ca-gregory-nu-latn-x-y\tplain\tauto\tkeep\t-\t-98765432109876543210.5";
-    static const legumeyet_options ROUNDED = {.sign = LEGUMEYET_SIGN_AUTO, .rounding = LEGUMEYET_ROUND_HALF_EVEN};
-    legumeyet_options quarters = {.rounding = LEGUMEYET_ROUND_HALF_EVEN, .position = -2, .increment = 25};
     legumeyet_book book = {0};
-    legumeyet_decimal_formatter plain = {0};
-    legumeyet_compact_formatter compact = {0};
-    uint8_t out[64];
-    legumeyet_interval parts[16];
-    size_t length = 0, count = 0;
+    size_t row;
     TWICE(legumeyet_book_open_file(path, &book));
     TWICE(legumeyet_book_open(TEXT(BOOK), &book));
-    TWICE(legumeyet_book_answer(&book, TEXT(LINE), out, sizeof out, &length));
-    expect_text(out, length, "ok\t-98,765,432,109,876,543,210.5");
-    TWICE(legumeyet_decimal_formatter_open(&book, TEXT("en-a-aa-b-bb-u-ca-gregory-nu-latn-x-y"), 0, &plain));
-    TWICE(legumeyet_decimal_formatter_format(&plain, TEXT(DIGITS), &ROUNDED, out, sizeof out, &length));
-    expect_text(out, length, "-98,765,432,109,876,543,210");
-    TWICE(legumeyet_decimal_formatter_format_i64(&plain, -123456789012345678, -3, &ROUNDED, out, sizeof out, &length));
-    expect_text(out, length, "-123,456,789,012,346");
-    TWICE(legumeyet_decimal_formatter_format(&plain, TEXT("1234567.8"), &quarters, out, sizeof out, &length));
-    expect_text(out, length, "1,234,567.75");
-    TWICE(legumeyet_decimal_formatter_format_u64(&plain, 12345678901234567890U, -3, &ROUNDED, out, sizeof out, &length));
-    expect_text(out, length, "12,345,678,901,234,568");
-    TWICE(legumeyet_decimal_formatter_format_double(&plain, -123456789.25, &ROUNDED, out, sizeof out, &length));
-    expect_text(out, length, "-123,456,789");
-    TWICE(legumeyet_decimal_formatter_format_parts(&plain, TEXT(DIGITS), &ROUNDED, out, sizeof out, &length, parts, 16, &count));
-    expect_text(out, length, "-98,765,432,109,876,543,210");
-    wrong = wrong || count != 8 || parts[7].start != 23;
-    TWICE(legumeyet_decimal_formatter_read(&plain, TEXT("-123,456,789.50"), out, sizeof out, &length));
-    expect_text(out, length, "-123456789.50");
-    TWICE(legumeyet_decimal_formatter_read_lenient(&plain, TEXT(" -123456789.50"), out, sizeof out, &length));
-    expect_text(out, length, "-123456789.50");
-    TWICE(legumeyet_compact_formatter_open(&book, TEXT("en-a-aa-b-bb-u-ca-gregory-nu-latn-x-y"), LEGUMEYET_WIDTH_SHORT, 3, &compact));
-    TWICE(legumeyet_compact_formatter_format(&compact, TEXT(DIGITS), &ROUNDED, out, sizeof out, &length));
-    expect_text(out, length, "-98,765,432,109,876,543 ks");
-    TWICE(legumeyet_compact_formatter_format_i64(&compact, -123456789012345678, -3, &ROUNDED, out, sizeof out, &length));
-    expect_text(out, length, "-123,456,789,012 ks");
-    TWICE(legumeyet_compact_formatter_format_u64(&compact, 12345678901234567890U, -3, &ROUNDED, out, sizeof out, &length));
-    expect_text(out, length, "12,345,678,901,235 ks");
-    TWICE(legumeyet_compact_formatter_format_double(&compact, -123456789.25, &ROUNDED, out, sizeof out, &length));
-    expect_text(out, length, "-123,457 ks");
-    TWICE(legumeyet_compact_formatter_format_parts(&compact, TEXT(DIGITS), &ROUNDED, out, sizeof out, &length, parts, 16, &count));
-    expect_text(out, length, "-98,765,432,109,876,543 ks");
-    wrong = wrong || count != 1 || parts[0].end != 1;
-    TWICE(legumeyet_compact_formatter_shown(&compact, TEXT(DIGITS), &ROUNDED, out, sizeof out, &length));
-    expect_text(out, length, "-98765432109876543c3");
-    TWICE(legumeyet_compact_formatter_format_exact(&compact, TEXT("-1234567890.5c3"), &ROUNDED, out, sizeof out, &length));
-    expect_text(out, length, "-1,234,567,890 ks");
-    expect_well(legumeyet_compact_formatter_close(&compact));
-    expect_well(legumeyet_decimal_formatter_close(&plain));
-    expect_well(legumeyet_book_close(&book));
+    TWICE(legumeyet_book_answer(&book, TEXT(TAG "\tplain\tauto\tkeep\t-\t" DIGITS), out, sizeof out, &length));
+    expect_text("ok\t-98,765,432,109,876,543,210.5");
+    for (row = 0; row < sizeof ROWS / sizeof *ROWS; row++) call_row(&book, row);
+    call_others(&book);
 }
 
 int main(int count, char **words) {
@@ -127,7 +128,6 @@ int main(int count, char **words) {
     before = mallinfo2().uordblks;
     if (count != 2) return 1;
     call_all(words[1]);
-    call_units();
     after = mallinfo2().uordblks;
     if (after != before) printf("%zu bytes are lost\n", after - before);
     if (wrong) printf("a call answered otherwise\n");

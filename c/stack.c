@@ -18,9 +18,9 @@ enum { STACK = 1 << 20, PROMISED = 64 << 10, PROMISED_DEEP = 160 << 10, MARK = 0
 #define EXPECT(wanted, call) \
     if ((call) != (wanted)) return fprintf(stderr, "%s:%d: %s\n", __FILE__, __LINE__, #call), (void *)NULL
 #define WELL(call) EXPECT(LEGUMEYET_OK, call)
+#define NOT_MEMORY(call) EXPECT(true, (call) != LEGUMEYET_MEMORY)
 
 static const char *path;
-static const legumeyet_options AS_GIVEN = {0};
 static const legumeyet_options ROUNDED = {.sign = LEGUMEYET_SIGN_ALWAYS, .rounding = LEGUMEYET_ROUND_HALF_EVEN, .position = -1};
 static const legumeyet_options PADDED = {.rounding = LEGUMEYET_ROUND_EXPAND, .position = 3, .increment = 25, .trailing_zeros = LEGUMEYET_TRAILING_ZEROS_TRIM,
                                          .minimum_integer_digits = 9, .minimum_fraction_digits = 9};
@@ -63,103 +63,71 @@ static void *deep(void *given) {
     return given;
 }
 
-/* Each way to write a number by a formatter, by the calls of its kind: a short number and one of as many digits as there may be, and columns. */
-#define WRITE_ALL(it, calls) \
+/* Each call of a formatter: a short number and one of as many digits as there may be, columns, and what is read and typed. What a format does
+   not have is refused, and memory never. */
+#define CALL_ALL(it, calls) \
     do { \
         static const double DOUBLES[] = {1234.5, -7, 1e300}; \
         static const int64_t INTEGERS[] = {123456, -7, INT64_MIN}; \
-        WELL(calls##_format_i64(it, -123456789, -2, &ROUNDED, out, sizeof out, &length)); \
-        WELL(calls##_format_u64(it, 12345678901234567890U, -2, &AS_GIVEN, out, sizeof out, &length)); \
-        WELL(calls##_format_double(it, -123456789.25, &PADDED, out, sizeof out, &length)); \
-        WELL(calls##_format_double(it, 5e-324, &ROUNDED, out, sizeof out, &length)); \
-        WELL(calls##_format(it, digits, LONG - 1, &PADDED, out, sizeof out, &length)); \
-        WELL(calls##_format_parts(it, digits, LONG, &ROUNDED, out, sizeof out, &length, parts, PARTS, &count)); \
-        WELL(calls##_format(it, digits, LONG, &ROUNDED, out, sizeof out, &length)); \
-        EXPECT(LEGUMEYET_NUMBER, calls##_format(it, LEGUMEYET_TEXT("x"), &AS_GIVEN, out, sizeof out, &length)); \
-        WELL(calls##_format_doubles(it, DOUBLES, 3, &ROUNDED, out, sizeof out, ends, 4, &count)); \
-        WELL(calls##_format_integers(it, INTEGERS, 3, -2, &PADDED, out, sizeof out, ends, 4, &count)); \
-        WELL(calls##_format_texts(it, LEGUMEYET_TEXT("1234.5\n-7\n1e9"), &ROUNDED, out, sizeof out, ends, 4, &count)); \
-    } while (0)
-
-/* Each way to read what it writes, and what people type. */
-#define READ_ALL(it, calls) \
-    do { \
         uint8_t *said = out + sizeof out / 2; \
-        WELL(calls##_format(it, digits, LONG, &AS_GIVEN, out, sizeof out / 2, &length)); \
-        WELL(calls##_read(it, out, length, said, sizeof out / 2, &count)); \
-        WELL(calls##_read_lenient(it, out, length, said, sizeof out / 2, &count)); \
-        WELL(calls##_read_lenient(it, digits, LONG, said, sizeof out / 2, &count)); \
-        EXPECT(LEGUMEYET_NOT_WRITTEN, calls##_read(it, LEGUMEYET_TEXT("x"), said, sizeof out / 2, &count)); \
-        EXPECT(LEGUMEYET_NOT_WRITTEN, calls##_read_lenient(it, LEGUMEYET_TEXT(" 1x "), said, sizeof out / 2, &count)); \
+        WELL(calls##_format_i64(it, -123456789, -2, LEGUMEYET_WORDS(ROUNDED), out, sizeof out, &length)); \
+        WELL(calls##_format_u64(it, 12345678901234567890U, -2, NULL, 0, out, sizeof out, &length)); \
+        WELL(calls##_format_double(it, -123456789.25, LEGUMEYET_WORDS(PADDED), out, sizeof out, &length)); \
+        WELL(calls##_format_double(it, 5e-324, LEGUMEYET_WORDS(ROUNDED), out, sizeof out, &length)); \
+        WELL(calls##_format(it, digits, LONG - 1, LEGUMEYET_WORDS(PADDED), out, sizeof out, &length)); \
+        WELL(calls##_format_parts(it, digits, LONG, LEGUMEYET_WORDS(ROUNDED), out, sizeof out, &length, parts, PARTS, &count)); \
+        WELL(calls##_format(it, digits, LONG, LEGUMEYET_WORDS(ROUNDED), out, sizeof out, &length)); \
+        WELL(calls##_format(it, digits, LONG, LEGUMEYET_WORDS(CASH), out, sizeof out, &length)); \
+        EXPECT(LEGUMEYET_NUMBER, calls##_format(it, LEGUMEYET_TEXT("x"), NULL, 0, out, sizeof out, &length)); \
+        WELL(calls##_format_doubles(it, DOUBLES, 3, LEGUMEYET_WORDS(ROUNDED), out, sizeof out, ends, 4, &count)); \
+        WELL(calls##_format_integers(it, INTEGERS, 3, -2, LEGUMEYET_WORDS(PADDED), out, sizeof out, ends, 4, &count)); \
+        WELL(calls##_format_texts(it, LEGUMEYET_TEXT("1234.5\n-7\n1e9"), LEGUMEYET_WORDS(ROUNDED), out, sizeof out, ends, 4, &count)); \
+        WELL(calls##_shown(it, digits, LONG, LEGUMEYET_WORDS(ROUNDED), out, sizeof out, &length)); \
+        NOT_MEMORY(calls##_format_exact(it, digits, LONG, LEGUMEYET_WORDS(ROUNDED), out, sizeof out, &length)); \
+        NOT_MEMORY(calls##_format_exact(it, LEGUMEYET_TEXT("1.20c6"), NULL, 0, out, sizeof out, &length)); \
+        WELL(calls##_format(it, digits, LONG, NULL, 0, out, sizeof out / 2, &length)); \
+        NOT_MEMORY(calls##_read(it, out, length, said, sizeof out / 2, &count)); \
+        NOT_MEMORY(calls##_read_lenient(it, out, length, said, sizeof out / 2, &count)); \
+        NOT_MEMORY(calls##_read_lenient(it, digits, LONG, said, sizeof out / 2, &count)); \
+        NOT_MEMORY(calls##_read(it, LEGUMEYET_TEXT("x"), said, sizeof out / 2, &count)); \
+        NOT_MEMORY(calls##_read_lenient(it, LEGUMEYET_TEXT(" 1x "), said, sizeof out / 2, &count)); \
+        NOT_MEMORY(calls##_read_lenient(it, LEGUMEYET_TEXT("1,234.5"), said, sizeof out / 2, &count)); \
     } while (0)
 
-/* What formatters of compact numbers write beside. */
-#define SHOW_ALL(it, calls) \
-    do { \
-        int32_t error; \
-        WELL(calls##_shown(it, digits, LONG, &ROUNDED, out, sizeof out, &length)); \
-        error = calls##_format_exact(it, digits, LONG, &ROUNDED, out, sizeof out, &length); \
-        EXPECT(true, error != LEGUMEYET_MEMORY); \
-        error = calls##_format_exact(it, LEGUMEYET_TEXT("1.20c6"), &ROUNDED, out, sizeof out, &length); \
-        EXPECT(true, error != LEGUMEYET_MEMORY); \
-    } while (0)
+/* The formats: of words, and of skeletons. */
+static const struct {
+    legumeyet_format words;
+    const char *unit, *skeleton;
+} FORMATS[] = {
+    {{0}, "", NULL},
+    {{.notation = LEGUMEYET_NOTATION_COMPACT, .width = LEGUMEYET_WIDTH_LONG, .grouping = LEGUMEYET_GROUPING_MIN2}, "", NULL},
+    {{.unit = LEGUMEYET_UNIT_PERCENT}, "", NULL},
+    {{.unit = LEGUMEYET_UNIT_CURRENCY, .currency_style = LEGUMEYET_STYLE_ACCOUNTING}, "USD", NULL},
+    {{0}, "", "currency/CHF precision-currency-cash sign-accounting-except-zero unit-width-iso-code group-min2 integer-width/*000"},
+    {{0}, "", "compact-short sign-always"},
+};
 
-/* Formatters of plain and of compact numbers for some of the world's locales, by a book, and the same shared. */
+/* Formatters for some of the world's locales, by a book, and some of them shared. */
 static void *formatters_of(legumeyet_book *book, void *given) {
-    size_t at;
+    legumeyet_formatter it = {0};
+    legumeyet_shared_formatter shared = {0};
+    size_t at, row, place = 0;
     const char *tag;
     for (at = 0; (tag = legumeyet_world_locale(at)) != NULL; at += STEP) {
-        legumeyet_decimal_formatter plain = {0};
-        legumeyet_compact_formatter compact = {0};
-        legumeyet_shared_decimal_formatter plain_shared = {0};
-        legumeyet_shared_compact_formatter compact_shared = {0};
-        WELL(legumeyet_decimal_formatter_open(book, LEGUMEYET_TEXT(tag), LEGUMEYET_GROUPING_AUTO, &plain));
-        WELL(legumeyet_compact_formatter_open(book, LEGUMEYET_TEXT(tag), LEGUMEYET_WIDTH_LONG, LEGUMEYET_GROUPING_MIN2, &compact));
-        WRITE_ALL(&plain, legumeyet_decimal_formatter);
-        READ_ALL(&plain, legumeyet_decimal_formatter);
-        WRITE_ALL(&compact, legumeyet_compact_formatter);
-        SHOW_ALL(&compact, legumeyet_compact_formatter);
-        if (at % (8 * STEP) == 0) { /* what is shared stays */
-            WELL(legumeyet_decimal_formatter_share(&plain, &plain_shared));
-            WELL(legumeyet_compact_formatter_share(&compact, &compact_shared));
-            WRITE_ALL(&plain_shared, legumeyet_shared_decimal_formatter);
-            READ_ALL(&plain_shared, legumeyet_shared_decimal_formatter);
-            WRITE_ALL(&compact_shared, legumeyet_shared_compact_formatter);
-            SHOW_ALL(&compact_shared, legumeyet_shared_compact_formatter);
-            WELL(legumeyet_shared_decimal_formatter_close(&plain_shared));
-            WELL(legumeyet_shared_compact_formatter_close(&compact_shared));
-        } else {
-            WELL(legumeyet_decimal_formatter_close(&plain));
-            WELL(legumeyet_compact_formatter_close(&compact));
+        for (row = 0; row < sizeof FORMATS / sizeof *FORMATS; row++) {
+            if (FORMATS[row].skeleton != NULL) {
+                WELL(legumeyet_formatter_open_skeleton(book, LEGUMEYET_TEXT(tag), LEGUMEYET_TEXT(FORMATS[row].skeleton), &place, &it));
+            } else {
+                WELL(legumeyet_formatter_open(book, LEGUMEYET_TEXT(tag), LEGUMEYET_WORDS(FORMATS[row].words), LEGUMEYET_TEXT(FORMATS[row].unit), &it));
+            }
+            CALL_ALL(&it, legumeyet_formatter);
+            if (at % (8 * STEP) != 0) continue; /* what is shared stays */
+            WELL(legumeyet_formatter_share(&it, &shared));
+            CALL_ALL(&shared, legumeyet_shared_formatter);
+            WELL(legumeyet_shared_formatter_close(&shared));
         }
     }
-    return given;
-}
-
-/* Formatters of percents and of amounts alike. */
-static void *units_of(legumeyet_book *book, void *given) {
-    size_t at;
-    const char *tag;
-    for (at = 0; (tag = legumeyet_world_locale(at)) != NULL; at += STEP) {
-        legumeyet_unit_formatter it = {0};
-        legumeyet_shared_unit_formatter shared = {0};
-        WELL(legumeyet_percent_formatter_open(book, LEGUMEYET_TEXT(tag), LEGUMEYET_GROUPING_AUTO, &it));
-        WRITE_ALL(&it, legumeyet_unit_formatter);
-        READ_ALL(&it, legumeyet_unit_formatter);
-        WELL(legumeyet_currency_formatter_open(book, LEGUMEYET_TEXT(tag), LEGUMEYET_TEXT("USD"), LEGUMEYET_STYLE_ACCOUNTING, LEGUMEYET_CURRENCY_SYMBOL,
-                                               LEGUMEYET_GROUPING_AUTO, &it));
-        WRITE_ALL(&it, legumeyet_unit_formatter);
-        READ_ALL(&it, legumeyet_unit_formatter);
-        WELL(legumeyet_unit_formatter_format(&it, digits, LONG, &CASH, out, sizeof out, &length));
-        if (at % (8 * STEP) == 0) {
-            WELL(legumeyet_unit_formatter_share(&it, &shared));
-            WRITE_ALL(&shared, legumeyet_shared_unit_formatter);
-            READ_ALL(&shared, legumeyet_shared_unit_formatter);
-            WELL(legumeyet_shared_unit_formatter_close(&shared));
-        } else {
-            WELL(legumeyet_unit_formatter_close(&it));
-        }
-    }
+    EXPECT(true, legumeyet_formatter_close(&it) != LEGUMEYET_MEMORY);
     return given;
 }
 
@@ -167,7 +135,7 @@ static void *units_of(legumeyet_book *book, void *given) {
 static void *with_own_tables(void *given) {
     legumeyet_book book = {0};
     WELL(legumeyet_book_open_world(&book));
-    if (formatters_of(&book, given) == NULL || units_of(&book, given) == NULL) return NULL;
+    if (formatters_of(&book, given) == NULL) return NULL;
     WELL(legumeyet_book_keep(&book));
     WELL(legumeyet_book_close(&book));
     return given;
@@ -175,7 +143,22 @@ static void *with_own_tables(void *given) {
 
 static void *formatters(void *given) { return formatters_of(&world, given); }
 
-static void *units(void *given) { return units_of(&world, given); }
+/* Skeletons with a word of each kind, and with faults. */
+static void *skeletons(void *given) {
+    static const char *const TEXTS[] = {"currency/CHF precision-currency-cash sign-accounting-except-zero unit-width-iso-code group-min2 integer-width/*000",
+                                        "percent .00##", "KK ,_ +! 000", ".00 rounding-mode-half-ceiling", "", "foo", "percent percent", "permille"};
+    static uint8_t wide[STACK];
+    legumeyet_formatter it = {0};
+    size_t row, place = 0;
+    for (row = 0; row < sizeof TEXTS / sizeof *TEXTS; row++) {
+        NOT_MEMORY(legumeyet_skeleton_normal(LEGUMEYET_TEXT(TEXTS[row]), &place, out, sizeof out, &length));
+        NOT_MEMORY(legumeyet_formatter_open_skeleton(&world, LEGUMEYET_TEXT("ar-EG"), LEGUMEYET_TEXT(TEXTS[row]), &place, &it));
+    }
+    memset(wide, ' ', sizeof wide);
+    WELL(legumeyet_formatter_open_skeleton(&world, LEGUMEYET_TEXT("ar-EG"), wide, sizeof wide, &place, &it));
+    WELL(legumeyet_formatter_close(&it));
+    return given;
+}
 
 /* The forms of request lines, and texts that they take. */
 static const struct {
@@ -243,7 +226,7 @@ int main(int words_count, char **words) {
         const char *name;
         void *(*work)(void *);
         size_t promised;
-    } ROWS[] = {{"books", books, PROMISED}, {"deep JSON", deep, PROMISED_DEEP}, {"formatters", formatters, PROMISED}, {"units", units, PROMISED},
+    } ROWS[] = {{"books", books, PROMISED}, {"deep JSON", deep, PROMISED_DEEP}, {"formatters", formatters, PROMISED}, {"skeletons", skeletons, PROMISED},
                 {"with own tables", with_own_tables, PROMISED}, {"lines", lines, PROMISED}, {"long lines", long_lines, PROMISED}};
     size_t own, row;
     int wrong = words_count != 2;

@@ -1,22 +1,19 @@
 /*
- * Calls each function of legumeyet.h well and badly, and prints what it answers otherwise than it should. The status is 1 where
- * something does.
+ * Calls each function of legumeyet.h well and badly, but for the columns and the world's book, and prints what it answers otherwise than it
+ * should. The status is 1 where something does.
+ *
+ * usage: test [shared]
+ *
+ * With the word all of it is done again by shared formatters, and by those of a kept book. What these have is never given back, so no tool
+ * may look for lost memory then.
  */
-#include "expect.h"
-#include <legumeyet.h>
-#include <stdio.h>
+#include "calls.h"
+#include <math.h>
 #include <stdlib.h>
-#include <string.h>
 
-#define TEXT(text) (const uint8_t *)(text), strlen(text)
-#define NOTHING NULL, 0
+#define WELL LEGUMEYET_OK
 
-enum { ROOM = 64, LONG = 40000 };
-
-static const char BOOK[] =
-    "[[[\"en\",\"\",\"latn\",\"-\",\"\",\"+\",\"\",\".\",\",\",3,3,1],[\"bad\",\"\",\"latn\",\"\",\"\",\"+\",\"\",\".\",\",\",3,3,1]],"
-    "[[\"latn\",\"0123456789\"]],[[\"en\",[]]],[[\"en\",\"\",[[3,3,[[\"other\",[\"\",\"K\"]]]],[6,6,[[\"other\",[\"\",\"M\"]]]]],null]],"
-    "[[\"en\",\"\",[[3,3,[[\"other\",[\"\",\" thousand\"]]]]],null]]]";
+enum { MANY = 40000 };
 
 /* A book for each of its errors; the first is of bytes that are no text. */
 static const struct {
@@ -36,6 +33,8 @@ static const struct {
     {LEGUMEYET_BOOK_EXPONENTS, "[[],[],[],[],[[\"en\",\"\",[[3,3,[[\"other\",[\"\",\"K\"]]]],[6,2,[[\"other\",[\"\",\"M\"]]]]],null]]]"},
     {LEGUMEYET_BOOK_DUPLICATE, "[[],[],[[\"en\",[]],[\"EN\",[]]],[],[]]"},
     {LEGUMEYET_BOOK_CYCLE, "[[],[],[],[],[],[[\"en\",\"en\"]]]"},
+    {LEGUMEYET_BOOK_UNIT, "[[[],[],[],[],[]],[[[\"en\",\"\",\"%\",null,[\"\",\"\"]]],[],[],[],[]]]"},
+    {LEGUMEYET_BOOK_CODE, "[[[],[],[],[],[]],[[],[],[],[],[[\"eur\",2,1,2,1]]]]"},
 };
 
 /* A book with U+0000 and U+202F in its symbols. */
@@ -43,440 +42,565 @@ static const char WITH_NUL[] =
     "[[[\"en\",\"\",\"latn\",\"-\",\"\",\"+\",\"\",\"\\u0000\",\"\\u202f\",3,3,1]],[[\"latn\",\"0123456789\"]],[],[],[]]";
 
 static legumeyet_book book, closed_book;
-static legumeyet_decimal_formatter english, unreadable, closed;
-static legumeyet_compact_formatter short_english, long_english, closed_compact;
-static const legumeyet_options AS_GIVEN = {0};
-static uint8_t out[ROOM];
-static size_t length;
+static legumeyet_formatter formatters[FORMATS], closed;
+static legumeyet_shared_formatter shared[FORMATS], closed_shared;
 
-/* The call was well and wrote this text, and nothing after it. */
-static void expect_text(const char *what, int32_t error, const char *text) {
-    size_t wanted = strlen(text);
-    expect(what, error, LEGUMEYET_OK);
-    expect(what, (int64_t)length, (int64_t)wanted);
-    expect(text, memcmp(out, text, wanted), 0);
-    expect("the byte after it", out[wanted], '.');
-    memset(out, '.', sizeof out);
-    length = 77;
-}
-
-/* The call was refused and wrote nothing. */
-static void expect_error(const char *what, int32_t error, int32_t wanted) {
-    expect(what, error, wanted);
-    expect("the length of a refused call", (int64_t)length, 77);
-    expect("the bytes of a refused call", out[0], '.');
-}
-
-static int32_t format(const char *number, legumeyet_options options) {
-    return legumeyet_decimal_formatter_format(&english, TEXT(number), &options, out, sizeof out, &length);
-}
-
-static int32_t format_u64(uint64_t mantissa, int16_t exponent) {
-    return legumeyet_decimal_formatter_format_u64(&english, mantissa, exponent, &AS_GIVEN, out, sizeof out, &length);
-}
-
-static int32_t format_double(double number, legumeyet_options options) {
-    return legumeyet_decimal_formatter_format_double(&english, number, &options, out, sizeof out, &length);
-}
-
-static int32_t read_lenient(legumeyet_decimal_formatter *formatter, const char *text) {
-    return legumeyet_decimal_formatter_read_lenient(formatter, TEXT(text), out, sizeof out, &length);
-}
-
-static int32_t read_back(legumeyet_decimal_formatter *formatter, const char *text) {
-    return legumeyet_decimal_formatter_read(formatter, TEXT(text), out, sizeof out, &length);
-}
-
-static int32_t format_short(const char *number, legumeyet_options options) {
-    return legumeyet_compact_formatter_format(&short_english, TEXT(number), &options, out, sizeof out, &length);
-}
-
-static int32_t format_short_i64(int64_t mantissa, int16_t exponent) {
-    return legumeyet_compact_formatter_format_i64(&short_english, mantissa, exponent, &AS_GIVEN, out, sizeof out, &length);
-}
-
-static int32_t format_short_u64(uint64_t mantissa, int16_t exponent) {
-    return legumeyet_compact_formatter_format_u64(&short_english, mantissa, exponent, &AS_GIVEN, out, sizeof out, &length);
-}
-
-static int32_t format_short_double(double number, legumeyet_options options) {
-    return legumeyet_compact_formatter_format_double(&short_english, number, &options, out, sizeof out, &length);
-}
-
-static int32_t shown(const char *number, legumeyet_options options) {
-    return legumeyet_compact_formatter_shown(&short_english, TEXT(number), &options, out, sizeof out, &length);
-}
-
-static int32_t format_exact(const char *number, legumeyet_options options) {
-    return legumeyet_compact_formatter_format_exact(&short_english, TEXT(number), &options, out, sizeof out, &length);
-}
-
-static int32_t answer(const char *line) { return legumeyet_book_answer(&book, TEXT(line), out, sizeof out, &length); }
-
-static int32_t format_i64(int64_t mantissa, int16_t exponent) {
-    return legumeyet_decimal_formatter_format_i64(&english, mantissa, exponent, &AS_GIVEN, out, sizeof out, &length);
-}
-
-static legumeyet_options options_of(uint32_t sign, uint32_t rounding, int16_t position) {
-    legumeyet_options options = {0};
-    options.sign = sign;
-    options.rounding = rounding;
-    options.position = position;
-    return options;
-}
+/* Whom the calls are made by. */
+static caller by[FORMATS];
 
 static void books(void) {
     size_t row;
-    for (row = 0; row < sizeof REFUSED / sizeof REFUSED[0]; row++) {
+    for (row = 0; row < COUNT(REFUSED); row++) {
         expect(REFUSED[row].json, legumeyet_book_open(TEXT(REFUSED[row].json), &closed_book), REFUSED[row].error);
         expect("a refused book stays closed", legumeyet_book_close(&closed_book), LEGUMEYET_CLOSED);
     }
-    expect("a book", legumeyet_book_open(TEXT(BOOK), &book), LEGUMEYET_OK);
-    expect("over an open book", legumeyet_book_open(TEXT(BOOK), &book), LEGUMEYET_OK);
+    expect("a book", legumeyet_book_open(TEXT(BOOK), &book), WELL);
+    expect("over an open book", legumeyet_book_open(TEXT(BOOK), &book), WELL);
     expect("a refused one over it", legumeyet_book_open(TEXT("[]"), &book), LEGUMEYET_BOOK_SHAPE);
 }
 
+static void locales(void) {
+    static const char *const TAGS[] = {"ar", "bad", "de-CH", "en", "tr"};
+    size_t count = 77, at;
+    expect("a closed book", legumeyet_book_locale_count(&closed_book, &count), LEGUMEYET_CLOSED);
+    expect("the count", (int64_t)count, 77);
+    expect_error("a closed book", legumeyet_book_locale(&closed_book, 9, out, ROOM, &length), LEGUMEYET_CLOSED);
+    expect("the count", legumeyet_book_locale_count(&book, &count), WELL);
+    expect("the count", (int64_t)count, COUNT(TAGS));
+    for (at = 0; at < COUNT(TAGS); at++) expect_text("a locale", legumeyet_book_locale(&book, at, out, ROOM, &length), TAGS[at]);
+    expect_error("no more", legumeyet_book_locale(&book, count, out, ROOM, &length), LEGUMEYET_OPTION);
+    expect_error("no more", legumeyet_book_locale(&book, SIZE_MAX, out, ROOM, &length), LEGUMEYET_OPTION);
+}
+
+/* Formats that are refused: the words before the code, that before the tag, and that before the tables. */
+static const struct {
+    int32_t error;
+    asked it;
+} NO_FORMATS[] = {
+    {LEGUMEYET_TAG, {"e", {0}, "", NULL}},
+    {LEGUMEYET_TAG, {"", {0}, "", NULL}},
+    {LEGUMEYET_TAG, {"\xff\xfe", {0}, "", NULL}},
+    {LEGUMEYET_TAG, {"e", {.notation = LEGUMEYET_NOTATION_COMPACT}, "", NULL}},
+    {LEGUMEYET_TAG, {"e", {.unit = LEGUMEYET_UNIT_CURRENCY}, "EUR", NULL}},
+    {LEGUMEYET_TABLE, {"xx", {0}, "", NULL}},
+    {LEGUMEYET_TABLE, {"bad", {.notation = LEGUMEYET_NOTATION_COMPACT}, "", NULL}},
+    {LEGUMEYET_TABLE, {"de-CH", {.unit = LEGUMEYET_UNIT_PERCENT}, "", NULL}},
+    {LEGUMEYET_TABLE, {"tr", {.unit = LEGUMEYET_UNIT_CURRENCY}, "EUR", NULL}},
+    {LEGUMEYET_TABLE, {"en", {.notation = LEGUMEYET_NOTATION_COMPACT, .unit = LEGUMEYET_UNIT_PERCENT}, "", NULL}},
+    {LEGUMEYET_TABLE, {"en", {.notation = LEGUMEYET_NOTATION_COMPACT, .unit = LEGUMEYET_UNIT_CURRENCY}, "EUR", NULL}},
+    {LEGUMEYET_CODE, {"e", {.unit = LEGUMEYET_UNIT_CURRENCY}, "eur", NULL}},
+    {LEGUMEYET_CODE, {"e", {.unit = LEGUMEYET_UNIT_CURRENCY}, "EURO", NULL}},
+    {LEGUMEYET_CODE, {"e", {.unit = LEGUMEYET_UNIT_CURRENCY}, "", NULL}},
+    {LEGUMEYET_CODE, {"e", {0}, "EUR", NULL}},
+    {LEGUMEYET_CODE, {"e", {.unit = LEGUMEYET_UNIT_PERCENT}, "EUR", NULL}},
+    {LEGUMEYET_CODE, {"e", {.notation = LEGUMEYET_NOTATION_COMPACT, .unit = LEGUMEYET_UNIT_CURRENCY}, "eur", NULL}},
+    {LEGUMEYET_OPTION, {"e", {.notation = 2}, "EUR", NULL}},
+    {LEGUMEYET_OPTION, {"e", {.notation = -1}, "", NULL}},
+    {LEGUMEYET_OPTION, {"e", {.width = 2}, "", NULL}},
+    {LEGUMEYET_OPTION, {"e", {.unit = 3}, "EUR", NULL}},
+    {LEGUMEYET_OPTION, {"e", {.currency_style = 2}, "", NULL}},
+    {LEGUMEYET_OPTION, {"e", {.unit = LEGUMEYET_UNIT_CURRENCY, .currency_style = 2}, "eur", NULL}},
+    {LEGUMEYET_OPTION, {"e", {.currency_width = 2}, "", NULL}},
+    {LEGUMEYET_OPTION, {"e", {.grouping = 4}, "", NULL}},
+    {LEGUMEYET_OPTION, {"e", {.grouping = INT32_MIN}, "", NULL}},
+};
+
 static void opens(void) {
-    char long_tag[LONG];
+    static char long_tag[MANY];
+    legumeyet_formatter it = {0};
+    size_t row;
     memset(long_tag, 'a', sizeof long_tag);
-    expect("a tag", legumeyet_decimal_formatter_open(&book, TEXT("e"), 0, &english), LEGUMEYET_TAG);
-    expect("no tag", legumeyet_decimal_formatter_open(&book, TEXT(""), 0, &english), LEGUMEYET_TAG);
-    expect("bytes", legumeyet_decimal_formatter_open(&book, TEXT("\xff\xfe"), 0, &english), LEGUMEYET_TAG);
-    expect("a long tag", legumeyet_decimal_formatter_open(&book, (uint8_t *)long_tag, LONG, 0, &english), LEGUMEYET_TAG);
-    expect("no table", legumeyet_decimal_formatter_open(&book, TEXT("xx"), 0, &english), LEGUMEYET_TABLE);
-    expect("grouping 4", legumeyet_decimal_formatter_open(&book, TEXT("en"), 4, &english), LEGUMEYET_OPTION);
-    expect("of a closed book", legumeyet_decimal_formatter_open(&closed_book, TEXT("en"), 0, &english), LEGUMEYET_CLOSED);
-    expect("it stayed closed", legumeyet_decimal_formatter_close(&english), LEGUMEYET_CLOSED);
-    expect("plain", legumeyet_decimal_formatter_open(&book, TEXT("en"), 0, &english), LEGUMEYET_OK);
-    expect("over an open one", legumeyet_decimal_formatter_open(&book, TEXT("en"), 0, &english), LEGUMEYET_OK);
+    for (row = 0; row < COUNT(NO_FORMATS); row++) {
+        expect("of a closed book", open_asked(&closed_book, &NO_FORMATS[row].it, &it), LEGUMEYET_CLOSED);
+        expect("a refused format", open_asked(&book, &NO_FORMATS[row].it, &it), NO_FORMATS[row].error);
+        expect("it stayed closed", legumeyet_formatter_close(&it), LEGUMEYET_CLOSED);
+    }
+    expect("a long tag", legumeyet_formatter_open(&book, (uint8_t *)long_tag, MANY, NOTHING, NOTHING, &it), LEGUMEYET_TAG);
+    for (row = 0; row < FORMATS; row++) expect("a format", open_asked(&book, &ASKED[row], &it), WELL);
+    for (row = 0; row < COUNT(NO_FORMATS); row++)
+        expect("a refused one over it", open_asked(&book, &NO_FORMATS[row].it, &it), NO_FORMATS[row].error);
+    expect("it stayed open", legumeyet_formatter_close(&it), WELL);
+    expect("twice", legumeyet_formatter_close(&it), LEGUMEYET_CLOSED);
 }
 
-static int32_t open_compact(legumeyet_book *from, const char *tag, uint32_t width, uint32_t grouping, legumeyet_compact_formatter *formatter) {
-    return legumeyet_compact_formatter_open(from, TEXT(tag), width, grouping, formatter);
+/* Words in a block of their own, so that a tool sees what is read behind them. */
+static int32_t *block_of(const int32_t *words, size_t count) {
+    int32_t *block = malloc(count == 0 ? 1 : count * sizeof *block);
+    if (block == NULL) exit(1);
+    memcpy(block, words, count * sizeof *block);
+    return block;
 }
 
-static void opens_compact(void) {
-    const uint32_t grouping = LEGUMEYET_GROUPING_MIN2;
-    expect("a tag", open_compact(&book, "e", 0, grouping, &short_english), LEGUMEYET_TAG);
-    expect("bytes", open_compact(&book, "\xff\xfe", 0, grouping, &short_english), LEGUMEYET_TAG);
-    expect("no table", open_compact(&book, "xx", 0, grouping, &short_english), LEGUMEYET_TABLE);
-    expect("no patterns", open_compact(&book, "bad", 0, grouping, &short_english), LEGUMEYET_TABLE);
-    expect("width 2", open_compact(&book, "en", 2, grouping, &short_english), LEGUMEYET_OPTION);
-    expect("grouping 4", open_compact(&book, "en", 0, 4, &short_english), LEGUMEYET_OPTION);
-    expect("of a closed book", open_compact(&closed_book, "en", 0, grouping, &short_english), LEGUMEYET_CLOSED);
-    expect("it stayed closed", legumeyet_compact_formatter_close(&short_english), LEGUMEYET_CLOSED);
-    expect("short", open_compact(&book, "en", LEGUMEYET_WIDTH_SHORT, LEGUMEYET_GROUPING_NEVER, &short_english), LEGUMEYET_OK);
-    expect("over an open one", open_compact(&book, "en", LEGUMEYET_WIDTH_SHORT, grouping, &short_english), LEGUMEYET_OK);
-    expect("long", open_compact(&book, "en", LEGUMEYET_WIDTH_LONG, grouping, &long_english), LEGUMEYET_OK);
-    expect("a refused one over it", open_compact(&book, "e", LEGUMEYET_WIDTH_LONG, grouping, &long_english), LEGUMEYET_TAG);
+/* Opens plain English by the first words, and writes with it by the first options. */
+static int32_t by_words(const int32_t *format_words, size_t format_count, const int32_t *option_words, size_t option_count) {
+    int32_t *format_block = block_of(format_words, format_count), *option_block = block_of(option_words, option_count);
+    legumeyet_formatter it = {0};
+    int32_t error = legumeyet_formatter_open(&book, TEXT("en"), (void *)format_block, format_count, NOTHING, &it);
+    if (error == WELL) error = legumeyet_formatter_format(&it, TEXT("-1234.56"), (void *)option_block, option_count, out, ROOM, &length);
+    legumeyet_formatter_close(&it);
+    free(format_block);
+    free(option_block);
+    return error;
 }
 
-static void formats(void) {
-    static char digits[LONG];
-    static uint8_t wide[2 * LONG];
-    size_t needed = 0;
-    memset(digits, '9', sizeof digits);
-    expect_text("plain", format("-987654.321", AS_GIVEN), "-987,654.321");
-    expect_text("rounded", format("9.65", options_of(LEGUMEYET_SIGN_ALWAYS, LEGUMEYET_ROUND_HALF_EVEN, -1)), "+9.6");
-    expect_text("integer", format_i64(-123456, -2), "-1,234.56");
-    expect_text("integer", format_i64(5, 3), "5,000");
-    expect_text("the least integer", format_i64(INT64_MIN, 0), "-9,223,372,036,854,775,808");
-    expect_text("zero", format_i64(0, 0), "0");
-    expect_text("zero of thousands", format_i64(0, 3), "0,000");
-    expect_text("zero of hundredths", format_i64(0, -2), "0.00");
-    expect_text("zero as text", format("0e3", AS_GIVEN), "0");
-    expect_text("zero as text", format("0e-2", AS_GIVEN), "0");
-    expect_error("no number", format("5.", AS_GIVEN), LEGUMEYET_NUMBER);
-    expect_error("no text", format("\xff", AS_GIVEN), LEGUMEYET_NUMBER);
-    expect_error("empty", format("", AS_GIVEN), LEGUMEYET_NUMBER);
-    expect_error("sign 6", format("1", options_of(6, 0, 0)), LEGUMEYET_OPTION);
-    expect_error("rounding 10", format("1", options_of(0, 10, 0)), LEGUMEYET_OPTION);
-    expect_error("an exponent", format("1e40000", AS_GIVEN), LEGUMEYET_LIMIT);
-    expect_error("an exponent of an integer", format_i64(10, INT16_MAX), LEGUMEYET_LIMIT);
-    expect("40,000 digits", legumeyet_decimal_formatter_format(&english, (uint8_t *)digits, LONG, &AS_GIVEN, wide, sizeof wide, &needed),
-           LEGUMEYET_LIMIT);
-    expect("30,000 digits", legumeyet_decimal_formatter_format(&english, (uint8_t *)digits, 30000, &AS_GIVEN, wide, sizeof wide, &needed),
-           LEGUMEYET_OK);
-    expect("30,000 digits", (int64_t)needed, 39999);
+/* Fewer words than there are, as those of an older header, and more, which a newer one has. */
+static void words(void) {
+    static const int32_t PERCENTS[12] = {0, 0, LEGUMEYET_UNIT_PERCENT, 0, 0, LEGUMEYET_GROUPING_NEVER};
+    static const int32_t ROUNDED[12] = {LEGUMEYET_SIGN_NEVER, LEGUMEYET_ROUND_HALF_EVEN, -1, 5, LEGUMEYET_TRAILING_ZEROS_TRIM, 6, 2};
+    static const char *const TEXTS[] = {"-1,234.56%", "1,234.56%", "1,235%", "1,234.6%", "1,234.5%", "1,234.5%", "001,234.5%", "001,234.50%"};
+    int32_t more[12];
+    size_t count;
+    for (count = 1; count < 6; count++)
+        expect_text("words of a format", by_words(PERCENTS, count, ROUNDED, 0), count < 3 ? "-1,234.56" : "-1,234.56%");
+    for (count = 6; count <= 12; count++) expect_text("more words", by_words(PERCENTS, count, ROUNDED, 0), "-1234.56%");
+    for (count = 0; count <= 12; count++) expect_text("options", by_words(PERCENTS, 3, ROUNDED, count), TEXTS[count < 7 ? count : 7]);
+    for (count = 6; count < 12; count++) {
+        memcpy(more, PERCENTS, sizeof more);
+        more[count] = count % 2 == 0 ? 1 : INT32_MIN;
+        expect_error("a word that is not known", by_words(more, 12, ROUNDED, 0), LEGUMEYET_OPTION);
+        expect_text("it is not among them", by_words(more, count, ROUNDED, 0), "-1234.56%");
+    }
+    for (count = 7; count < 12; count++) {
+        memcpy(more, ROUNDED, sizeof more);
+        more[count] = 1;
+        expect_error("a word that is not known", by_words(PERCENTS, 3, more, 12), LEGUMEYET_OPTION);
+        expect_text("it is not among them", by_words(PERCENTS, 3, more, count), TEXTS[7]);
+    }
+    expect("the words of a format", (int64_t)(sizeof(legumeyet_format) / sizeof(int32_t)), 6);
+    expect("the words of options", (int64_t)(sizeof(legumeyet_options) / sizeof(int32_t)), 7);
 }
 
-/* The options beside sign, rounding and position. */
-static legumeyet_options increments_of(uint32_t increment) {
-    legumeyet_options options = options_of(0, LEGUMEYET_ROUND_HALF_EVEN, -2);
-    options.increment = increment;
-    return options;
+/* What is made of a number, as the rows have it. */
+#define AT(where, ...) {.rounding = LEGUMEYET_ROUND_HALF_EVEN, .position = (where), __VA_ARGS__}
+#define SIGNED(which) {.sign = (which)}
+#define ZEROS(which) {.trailing_zeros = LEGUMEYET_TRAILING_ZEROS_##which}
+#define LEAST(integer, fraction) {.minimum_integer_digits = (integer), .minimum_fraction_digits = (fraction)}
+#define ROUND(which) {.rounding = LEGUMEYET_ROUND_##which, .position = -1}
+
+/* Numbers that are given as text, with what is written, or why not. */
+static const struct {
+    int format;
+    const char *number;
+    legumeyet_options options;
+    int32_t error;
+    const char *text;
+} WRITTEN[] = {
+    {PLAIN, "-987654.321", {0}, WELL, "-987,654.321"},
+    {PLAIN, "0e3", {0}, WELL, "0"},
+    {PLAIN, "0e-2", {0}, WELL, "0"},
+    {PLAIN, "1.5e3", {0}, WELL, "1,500"},
+    {PLAIN, "9.65", AT(-1, .sign = LEGUMEYET_SIGN_ALWAYS), WELL, "+9.6"},
+    {PLAIN, "+5", {0}, WELL, "+5"},
+    {PLAIN, "+5", SIGNED(LEGUMEYET_SIGN_AUTO), WELL, "5"},
+    {PLAIN, "-5", SIGNED(LEGUMEYET_SIGN_NEVER), WELL, "5"},
+    {PLAIN, "0", SIGNED(LEGUMEYET_SIGN_EXCEPT_ZERO), WELL, "0"},
+    {PLAIN, "-0", SIGNED(LEGUMEYET_SIGN_NEGATIVE), WELL, "0"},
+    {SHORT, "-1172700", {0}, WELL, "-1.2M"},
+    {SHORT, "999500", {0}, WELL, "1M"},
+    {SHORT, "950", SIGNED(LEGUMEYET_SIGN_ALWAYS), WELL, "+950"},
+    {SHORT, "12345678901", {0}, WELL, "12,346M"},
+    {SHORT, "-1172700", AT(6, 0), WELL, "-1M"},
+    {LONG, "1650", {0}, WELL, "1.6 thousand"},
+    {PERCENT, "-12.50", {0}, WELL, "-12.50%"},
+    {EUROS, "-1234.5", {0}, WELL, "-" EURO "1,234.50"},
+    {EUROS, "0.125", {0}, WELL, EURO "0.12"},
+    {EUROS, "-0.001", {0}, WELL, "-" EURO "0.00"},
+    {EUROS, "-0.001", SIGNED(LEGUMEYET_SIGN_NEGATIVE), WELL, EURO "0.00"},
+    {ACCOUNTS, "-5", {0}, WELL, "(" EURO "5.00)"},
+    {FRANCS, "-5", {0}, WELL, "CHF-5.00"},
+    {FRANCS, "2.345", {0}, WELL, "CHF" SPACE "2.34"},
+    {ARABIC, "1234.5", {0}, WELL, ARABIC_NUMBER},
+    /* roundings: that of cash, and none, round nothing where there is no currency */
+    {PLAIN, "9.65", ROUND(USUAL), WELL, "9.65"},
+    {PLAIN, "9.65", ROUND(EXPAND), WELL, "9.7"},
+    {PLAIN, "9.65", ROUND(TRUNC), WELL, "9.6"},
+    {PLAIN, "-9.65", ROUND(CEIL), WELL, "-9.6"},
+    {PLAIN, "-9.65", ROUND(FLOOR), WELL, "-9.7"},
+    {PLAIN, "9.65", ROUND(HALF_EXPAND), WELL, "9.7"},
+    {PLAIN, "9.65", ROUND(HALF_TRUNC), WELL, "9.6"},
+    {PLAIN, "-9.65", ROUND(HALF_CEIL), WELL, "-9.6"},
+    {PLAIN, "-9.65", ROUND(HALF_FLOOR), WELL, "-9.7"},
+    {PLAIN, "9.65", ROUND(HALF_EVEN), WELL, "9.6"},
+    {PLAIN, "9.65", ROUND(CASH), WELL, "9.65"},
+    {PLAIN, "9.65", ROUND(NONE), WELL, "9.65"},
+    {SHORT, "1650", ROUND(CASH), WELL, "1.6K"},
+    {PERCENT, "12.55", ROUND(CASH), WELL, "12.55%"},
+    {PERCENT, "12.55", ROUND(NONE), WELL, "12.55%"},
+    {PERCENT, "12.55", ROUND(HALF_EVEN), WELL, "12.6%"},
+    {EUROS, "5", ROUND(NONE), WELL, EURO "5"},
+    {EUROS, "5.06", ROUND(EXPAND), WELL, EURO "5.1"},
+    {FRANCS, "2.345", ROUND(CASH), WELL, "CHF" SPACE "2.35"},
+    {PLAIN, "1", {.rounding = 12}, LEGUMEYET_OPTION, NULL},
+    {EUROS, "x", {.rounding = -1}, LEGUMEYET_OPTION, NULL},
+    {PLAIN, "1", {.position = 32768}, LEGUMEYET_OPTION, NULL},
+    {PLAIN, "1", {.position = -32769}, LEGUMEYET_OPTION, NULL},
+    {PLAIN, "1", {.sign = 6}, LEGUMEYET_OPTION, NULL},
+    {SHORT, "x", {.sign = -1}, LEGUMEYET_OPTION, NULL},
+    /* increments */
+    {PLAIN, "1.235", AT(-2, .increment = 0), WELL, "1.24"},
+    {PLAIN, "1.235", AT(-2, .increment = 1), WELL, "1.24"},
+    {PLAIN, "1.23", AT(-2, .increment = 2), WELL, "1.24"},
+    {PLAIN, "1.23", AT(-2, .increment = 5), WELL, "1.25"},
+    {PLAIN, "-1.37", AT(-2, .increment = 25), WELL, "-1.25"},
+    {PLAIN, "1234567.88", AT(-2, .increment = 25), WELL, "1,234,568.00"},
+    {PLAIN, "1234567.8", AT(-2, .increment = 25), WELL, "1,234,567.75"},
+    {PLAIN, "1.235", {.increment = 25}, WELL, "1.235"},
+    {SHORT, "1370", AT(-2, .increment = 5), WELL, "1.4K"},
+    {PLAIN, "1", AT(-2, .increment = 3), LEGUMEYET_OPTION, NULL},
+    {PLAIN, "1", {.increment = 3}, LEGUMEYET_OPTION, NULL},
+    {SHORT, "1", AT(-2, .increment = 26), LEGUMEYET_OPTION, NULL},
+    /* zeros at the end */
+    {PLAIN, "1.5000", ZEROS(TRIM), WELL, "1.5"},
+    {PLAIN, "-200.00", ZEROS(TRIM), WELL, "-200"},
+    {PLAIN, "-200.00", ZEROS(TRIM_WHOLE), WELL, "-200"},
+    {PLAIN, "1.50", ZEROS(TRIM_WHOLE), WELL, "1.50"},
+    {EUROS, "5", ZEROS(TRIM), WELL, EURO "5"},
+    {EUROS, "5", ZEROS(TRIM_WHOLE), WELL, EURO "5"},
+    {EUROS, "5.5", ZEROS(TRIM_WHOLE), WELL, EURO "5.50"},
+    {PLAIN, "1.995", AT(-2, .trailing_zeros = LEGUMEYET_TRAILING_ZEROS_TRIM), WELL, "2"},
+    {PLAIN, "1.5", AT(-2, .trailing_zeros = LEGUMEYET_TRAILING_ZEROS_TRIM), WELL, "1.5"},
+    {PLAIN, "1.255", AT(-2, .trailing_zeros = LEGUMEYET_TRAILING_ZEROS_TRIM), WELL, "1.26"},
+    {PLAIN, "1.995", AT(-2, .trailing_zeros = LEGUMEYET_TRAILING_ZEROS_TRIM, .minimum_fraction_digits = 1), WELL, "2.0"},
+    {PLAIN, "1", {.trailing_zeros = 3}, LEGUMEYET_OPTION, NULL},
+    /* a zero that a rounding above the ones leaves is one digit; all others show as many as they have */
+    {PLAIN, "400", AT(3, 0), WELL, "0"},
+    {PLAIN, "-400", AT(3, 0), WELL, "-0"},
+    {PLAIN, "600", AT(3, 0), WELL, "1,000"},
+    {PLAIN, "0", AT(3, 0), WELL, "0"},
+    {PLAIN, "0.5", AT(3, 0), WELL, "0"},
+    {PLAIN, "400", AT(3, .minimum_integer_digits = 4), WELL, "0,000"},
+    {PLAIN, "499.99", {.rounding = LEGUMEYET_ROUND_TRUNC, .position = 2, .increment = 5}, WELL, "0"},
+    {PLAIN, "500", {.rounding = LEGUMEYET_ROUND_TRUNC, .position = 2, .increment = 5}, WELL, "500"},
+    {PLAIN, "000", AT(0, 0), WELL, "000"},
+    {PLAIN, "000", {0}, WELL, "000"},
+    {SHORT, "400", AT(3, 0), WELL, "0"},
+    {EUROS, "400", AT(3, 0), WELL, EURO "0"},
+    /* least counts of digits */
+    {PLAIN, "7.5", LEAST(3, 2), WELL, "007.50"},
+    {PLAIN, "-0", LEAST(3, 2), WELL, "-000.00"},
+    {PLAIN, "-1234.5678", LEAST(3, 2), WELL, "-1,234.5678"},
+    {PLAIN, "0007.5000", LEAST(3, 2), WELL, "0,007.5000"},
+    {PLAIN, "7", LEAST(5, 0), WELL, "00,007"},
+    {PLAIN, "-0.9", {.sign = LEGUMEYET_SIGN_NEGATIVE, .rounding = LEGUMEYET_ROUND_TRUNC, .minimum_fraction_digits = 2}, WELL, "0.00"},
+    {SHORT, "1650", LEAST(0, 5), WELL, "1.6K"},
+    {PLAIN, "1", LEAST(32768, 0), LEGUMEYET_OPTION, NULL},
+    {PLAIN, "1", LEAST(0, 32768), LEGUMEYET_OPTION, NULL},
+    {PLAIN, "1", LEAST(-1, 0), LEGUMEYET_OPTION, NULL},
+    /* no numbers */
+    {PLAIN, "5.", {0}, LEGUMEYET_NUMBER, NULL},
+    {PLAIN, "\xff", {0}, LEGUMEYET_NUMBER, NULL},
+    {PLAIN, "", {0}, LEGUMEYET_NUMBER, NULL},
+    {SHORT, "5.", {0}, LEGUMEYET_NUMBER, NULL},
+    {EUROS, "1,5", {0}, LEGUMEYET_NUMBER, NULL},
+    {PLAIN, "1e40000", {0}, LEGUMEYET_LIMIT, NULL},
+    {SHORT, "1e40000", {0}, LEGUMEYET_LIMIT, NULL},
+    {EUROS, "1e40000", {0}, LEGUMEYET_LIMIT, NULL},
+};
+
+static void writes(void) {
+    size_t row;
+    for (row = 0; row < COUNT(WRITTEN); row++)
+        expect_answer(WRITTEN[row].number, format(by[WRITTEN[row].format], WRITTEN[row].number, WRITTEN[row].options), WRITTEN[row].error,
+                      WRITTEN[row].text);
 }
 
-static legumeyet_options digits_of(uint16_t integer, uint16_t fraction) {
-    legumeyet_options options = {0};
-    options.minimum_integer_digits = integer;
-    options.minimum_fraction_digits = fraction;
-    return options;
+/* A mantissa times a power of ten; with a sign or without. */
+static const struct {
+    int format;
+    bool is_signed;
+    uint64_t mantissa;
+    int16_t exponent;
+    legumeyet_options options;
+    int32_t error;
+    const char *text;
+} INTEGERS[] = {
+    {PLAIN, true, (uint64_t)-123456, -2, {0}, WELL, "-1,234.56"},
+    {PLAIN, true, 5, 3, {0}, WELL, "5,000"},
+    {PLAIN, true, (uint64_t)INT64_MIN, 0, {0}, WELL, "-9,223,372,036,854,775,808"},
+    {PLAIN, true, 0, 0, {0}, WELL, "0"},
+    {PLAIN, true, 0, 3, {0}, WELL, "0,000"},
+    {PLAIN, true, 0, -2, {0}, WELL, "0.00"},
+    {PLAIN, true, 4, 2, AT(3, 0), WELL, "0"},
+    {PLAIN, true, 10, INT16_MAX, {0}, LEGUMEYET_LIMIT, NULL},
+    {PLAIN, false, UINT64_MAX, 0, {0}, WELL, "18,446,744,073,709,551,615"},
+    {PLAIN, false, UINT64_MAX, -2, {0}, WELL, "184,467,440,737,095,516.15"},
+    {PLAIN, false, 0, -2, {0}, WELL, "0.00"},
+    {PLAIN, false, 10, INT16_MAX, {0}, LEGUMEYET_LIMIT, NULL},
+    {SHORT, true, (uint64_t)-11727, 2, {0}, WELL, "-1.2M"},
+    {SHORT, false, UINT64_MAX, -9, {0}, WELL, "18,447M"},
+    {SHORT, true, 10, INT16_MAX, {0}, LEGUMEYET_LIMIT, NULL},
+    {SHORT, false, 10, INT16_MAX, {0}, LEGUMEYET_LIMIT, NULL},
+    {EUROS, true, (uint64_t)-12345, -1, {0}, WELL, "-" EURO "1,234.50"},
+    {EUROS, false, UINT64_MAX, -2, {0}, WELL, EURO "184,467,440,737,095,516.15"},
+    {EUROS, true, 1, 0, {.sign = 6}, LEGUMEYET_OPTION, NULL},
+    {PERCENT, false, 125, -1, {0}, WELL, "12.5%"},
+};
+
+static void integers(void) {
+    size_t row;
+    for (row = 0; row < COUNT(INTEGERS); row++) {
+        const caller it = by[INTEGERS[row].format];
+        const legumeyet_options options = INTEGERS[row].options;
+        const uint64_t mantissa = INTEGERS[row].mantissa;
+        const int16_t exponent = INTEGERS[row].exponent;
+        const int32_t error = INTEGERS[row].is_signed ? CALL(it, format_i64, (int64_t)mantissa, exponent, LEGUMEYET_WORDS(options), out, ROOM, &length)
+                                                      : CALL(it, format_u64, mantissa, exponent, LEGUMEYET_WORDS(options), out, ROOM, &length);
+        expect_answer("an integer", error, INTEGERS[row].error, INTEGERS[row].text);
+    }
 }
 
-static void increments(void) {
-    legumeyet_options kept = {0}, third = increments_of(3);
-    kept.increment = 25;
-    expect_text("an increment of 0", format("1.235", increments_of(0)), "1.24");
-    expect_text("of 1", format("1.235", increments_of(1)), "1.24");
-    expect_text("of 2", format("1.23", increments_of(2)), "1.24");
-    expect_text("of 5", format("1.23", increments_of(5)), "1.25");
-    expect_text("of 25", format("-1.37", increments_of(25)), "-1.25");
-    expect_text("of 25", format("1234567.88", increments_of(25)), "1,234,568.00");
-    expect_text("one more digit", format("1234567.8", increments_of(25)), "1,234,567.75");
-    expect_text("not rounded", format("1.235", kept), "1.235");
-    expect_text("of a compact number", format_short("1370", increments_of(5)), "1.4K");
-    expect_error("of 3", format("1", third), LEGUMEYET_OPTION);
-    third.rounding = LEGUMEYET_ROUND_KEEP;
-    expect_error("of 3, not rounded", format("1", third), LEGUMEYET_OPTION);
-    expect_error("of 26", format_short("1", increments_of(26)), LEGUMEYET_OPTION);
-}
-
-static void zeros(void) {
-    legumeyet_options few = options_of(0, LEGUMEYET_ROUND_HALF_EVEN, -2), trimmed = {0};
-    few.trailing_zeros = trimmed.trailing_zeros = LEGUMEYET_TRAILING_ZEROS_TRIM;
-    expect_text("trimmed", format("1.5000", trimmed), "1.5");
-    expect_text("trimmed", format("-200.00", trimmed), "-200");
-    expect_text("at most two fraction digits", format("1.995", few), "2");
-    expect_text("at most two fraction digits", format("1.5", few), "1.5");
-    expect_text("at most two fraction digits", format("1.255", few), "1.26");
-    few.minimum_fraction_digits = 1;
-    expect_text("and one at least", format("1.995", few), "2.0");
-    trimmed.trailing_zeros = LEGUMEYET_TRAILING_ZEROS_TRIM_WHOLE;
-    expect_text("trimmed of a whole number", format("-200.00", trimmed), "-200");
-    expect_text("no whole number", format("1.50", trimmed), "1.50");
-    trimmed.trailing_zeros = 3;
-    expect_error("zeros 3", format("1", trimmed), LEGUMEYET_OPTION);
-}
-
-/* A zero that a rounding above the ones leaves is one digit; all others show as many as they have. */
-static void rounded_to_zero(void) {
-    const legumeyet_options thousands = options_of(0, LEGUMEYET_ROUND_HALF_EVEN, 3), ones = options_of(0, LEGUMEYET_ROUND_HALF_EVEN, 0);
-    legumeyet_options padded = thousands, half = options_of(0, LEGUMEYET_ROUND_TRUNC, 2);
-    padded.minimum_integer_digits = 4;
-    half.increment = 5;
-    expect_text("400", format("400", thousands), "0");
-    expect_text("-400", format("-400", thousands), "-0");
-    expect_text("600", format("600", thousands), "1,000");
-    expect_text("0", format("0", thousands), "0");
-    expect_text("0.5", format("0.5", thousands), "0");
-    expect_text("padded", format("400", padded), "0,000");
-    expect_text("an increment", format("499.99", half), "0");
-    expect_text("an increment", format("500", half), "500");
-    expect_text("at the ones", format("000", ones), "000");
-    expect_text("not rounded", format("000", (legumeyet_options){0}), "000");
-    expect_text("of a compact number", format_short("400", thousands), "0");
-    expect_text("of an integer", legumeyet_decimal_formatter_format_i64(&english, 4, 2, &thousands, out, sizeof out, &length), "0");
-    expect_text("of a double", legumeyet_decimal_formatter_format_double(&english, 400, &thousands, out, sizeof out, &length), "0");
-}
-
-static void least_digits(void) {
-    static uint8_t wide[2 * LONG];
-    legumeyet_options most = digits_of(32767, 32767), negative = digits_of(1, 2), reserved = {0};
-    size_t needed = 0;
-    negative.sign = LEGUMEYET_SIGN_NEGATIVE;
-    negative.rounding = LEGUMEYET_ROUND_TRUNC;
-    expect_text("padded", format("7.5", digits_of(3, 2)), "007.50");
-    expect_text("padded", format("-0", digits_of(3, 2)), "-000.00");
-    expect_text("long enough", format("-1234.5678", digits_of(3, 2)), "-1,234.5678");
-    expect_text("zeros that are there", format("0007.5000", digits_of(3, 2)), "0,007.5000");
-    expect_text("groups", format("7", digits_of(5, 0)), "00,007");
-    expect_text("rounded, padded, and then its sign", format("-0.9", negative), "0.00");
-    expect_text("of a compact number", format_short("1650", digits_of(0, 5)), "1.6K");
-    expect_text("of an exact form", format_exact("1.5c3", digits_of(0, 2)), "1.50K");
-    expect("most digits", legumeyet_decimal_formatter_format(&english, TEXT("1"), &most, wide, sizeof wide, &needed), LEGUMEYET_OK);
-    expect("most digits", (int64_t)needed, 2 * 32767 + 10922 + 1);
-    expect_error("32768 integer digits", format("1", digits_of(32768, 0)), LEGUMEYET_OPTION);
-    expect_error("32768 fraction digits", format("1", digits_of(0, 32768)), LEGUMEYET_OPTION);
-    reserved.reserved[0] = 1;
-    expect_error("a reserved number", format("1", reserved), LEGUMEYET_OPTION);
-    reserved.reserved[0] = 0;
-    reserved.reserved[1] = 1;
-    expect_error("a reserved number", format("1", reserved), LEGUMEYET_OPTION);
-}
-
-static void unsigned_integers(void) {
-    expect_text("the greatest", format_u64(UINT64_MAX, 0), "18,446,744,073,709,551,615");
-    expect_text("a fraction", format_u64(UINT64_MAX, -2), "184,467,440,737,095,516.15");
-    expect_text("zero of hundredths", format_u64(0, -2), "0.00");
-    expect_text("compact", format_short_u64(UINT64_MAX, -9), "18,447M");
-    expect_error("an exponent", format_u64(10, INT16_MAX), LEGUMEYET_LIMIT);
-    expect_error("compact", format_short_u64(10, INT16_MAX), LEGUMEYET_LIMIT);
-}
+static const struct {
+    int format;
+    double number;
+    legumeyet_options options;
+    int32_t error;
+    const char *text;
+} DOUBLES[] = {
+    {PLAIN, 0.1, {0}, WELL, "0.1"},
+    {PLAIN, 0.1 + 0.2, {0}, WELL, "0.30000000000000004"},
+    {PLAIN, -1234.5, {0}, WELL, "-1,234.5"},
+    {PLAIN, 5.0, {0}, WELL, "5"},
+    {PLAIN, 0.0, {0}, WELL, "0"},
+    {PLAIN, -0.0, {0}, WELL, "-0"},
+    {PLAIN, 9007199254740992.0, {0}, WELL, "9,007,199,254,740,992"},
+    {PLAIN, 1e21, {0}, WELL, "1,000,000,000,000,000,000,000"},
+    {PLAIN, -1.5e-7, {0}, WELL, "-0.00000015"},
+    {PLAIN, 9.75, AT(-1, .sign = LEGUMEYET_SIGN_ALWAYS), WELL, "+9.8"},
+    {PLAIN, 5.0, LEAST(0, 2), WELL, "5.00"},
+    {PLAIN, 400, AT(3, 0), WELL, "0"},
+    {SHORT, -1172700.0, {0}, WELL, "-1.2M"},
+    {EUROS, 2.675, {0}, WELL, EURO "2.68"},
+    {PLAIN, NAN, {0}, LEGUMEYET_NUMBER, NULL},
+    {PLAIN, INFINITY, {0}, LEGUMEYET_NUMBER, NULL},
+    {SHORT, -INFINITY, {0}, LEGUMEYET_NUMBER, NULL},
+    {EUROS, NAN, {0}, LEGUMEYET_NUMBER, NULL},
+    {PLAIN, NAN, {.sign = 6}, LEGUMEYET_OPTION, NULL},
+};
 
 static void doubles(void) {
-    static uint8_t wide[LONG];
-    const double infinite = strtod("inf", NULL), none = strtod("nan", NULL);
-    size_t needed = 0;
-    expect_text("a tenth", format_double(0.1, AS_GIVEN), "0.1");
-    expect_text("a sum", format_double(0.1 + 0.2, AS_GIVEN), "0.30000000000000004");
-    expect_text("groups", format_double(-1234.5, AS_GIVEN), "-1,234.5");
-    expect_text("whole", format_double(5.0, AS_GIVEN), "5");
-    expect_text("zero", format_double(0.0, AS_GIVEN), "0");
-    expect_text("minus zero", format_double(-0.0, AS_GIVEN), "-0");
-    expect_text("2 to the power 53", format_double(9007199254740992.0, AS_GIVEN), "9,007,199,254,740,992");
-    expect_text("great", format_double(1e21, AS_GIVEN), "1,000,000,000,000,000,000,000");
-    expect_text("small", format_double(-1.5e-7, AS_GIVEN), "-0.00000015");
-    expect_text("rounded", format_double(9.75, options_of(LEGUMEYET_SIGN_ALWAYS, LEGUMEYET_ROUND_HALF_EVEN, -1)), "+9.8");
-    expect_text("padded", format_double(5.0, digits_of(0, 2)), "5.00");
-    expect_text("compact", format_short_double(-1172700.0, AS_GIVEN), "-1.2M");
-    expect_error("no number", format_double(none, AS_GIVEN), LEGUMEYET_NUMBER);
-    expect_error("infinite", format_double(infinite, AS_GIVEN), LEGUMEYET_NUMBER);
-    expect_error("infinite", format_short_double(-infinite, AS_GIVEN), LEGUMEYET_NUMBER);
-    expect_error("sign 6", format_double(none, options_of(6, 0, 0)), LEGUMEYET_OPTION);
-    expect("the greatest", legumeyet_decimal_formatter_format_double(&english, 1.7976931348623157e308, &AS_GIVEN, wide, sizeof wide, &needed),
-           LEGUMEYET_OK);
-    expect("the greatest", (int64_t)needed, 309 + 102);
-    expect("the least", legumeyet_decimal_formatter_format_double(&english, 5e-324, &AS_GIVEN, wide, sizeof wide, &needed), LEGUMEYET_OK);
-    expect("the least", (int64_t)needed, 2 + 324);
+    size_t row;
+    for (row = 0; row < COUNT(DOUBLES); row++) {
+        const legumeyet_options options = DOUBLES[row].options;
+        expect_answer("a double", CALL(by[DOUBLES[row].format], format_double, DOUBLES[row].number, LEGUMEYET_WORDS(options), out, ROOM, &length),
+                      DOUBLES[row].error, DOUBLES[row].text);
+    }
 }
 
-static void compacts(void) {
-    static char digits[LONG];
-    static uint8_t wide[LONG];
-    size_t needed = 0;
+/* What is shown of a number; and exact forms with their texts. */
+static const struct {
+    bool is_exact;
+    int format;
+    const char *number;
+    legumeyet_options options;
+    int32_t error;
+    const char *text;
+} SHOWN[] = {
+    {false, SHORT, "-1172700", {0}, WELL, "-1.2c6"},
+    {false, SHORT, "950", {0}, WELL, "950"},
+    {false, SHORT, "999500", SIGNED(LEGUMEYET_SIGN_ALWAYS), WELL, "+1c6"},
+    {false, SHORT, "-1172700", AT(6, 0), WELL, "-1c6"},
+    {false, SHORT, "\xff", {0}, LEGUMEYET_NUMBER, NULL},
+    {false, SHORT, "1", {.sign = 6}, LEGUMEYET_OPTION, NULL},
+    {false, PLAIN, "-1234.50", {0}, WELL, "-1234.50"},
+    {false, PLAIN, "9.65", AT(-1, .sign = LEGUMEYET_SIGN_ALWAYS), WELL, "+9.6"},
+    {false, PLAIN, "1e40000", {0}, LEGUMEYET_LIMIT, NULL},
+    {false, PERCENT, "12.5", LEAST(3, 2), WELL, "012.50"},
+    {false, EUROS, "1.005", {0}, WELL, "1.00"},
+    {false, EUROS, "5", ZEROS(TRIM), WELL, "5"},
+    {false, FRANCS, "-2.345", ROUND(CASH), WELL, "-2.35"},
+    {false, ARABIC, "1234.5", {0}, WELL, "1234.5"},
+    {false, EUROS, "x", {0}, LEGUMEYET_NUMBER, NULL},
+    {true, SHORT, "-1.20c6", {0}, WELL, "-1.20M"},
+    {true, SHORT, "0c6", {0}, WELL, "0M"},
+    {true, SHORT, "1.20c6", AT(-1, .sign = LEGUMEYET_SIGN_ALWAYS), WELL, "+1.2M"},
+    {true, SHORT, "1.5c3", LEAST(0, 2), WELL, "1.50K"},
+    {true, SHORT, "1.5c3", ROUND(CASH), WELL, "1.5K"},
+    {true, SHORT, "1.2e6", {0}, LEGUMEYET_NUMBER, NULL},
+    {true, SHORT, "1c3\xff", {0}, LEGUMEYET_NUMBER, NULL},
+    {true, SHORT, "", {0}, LEGUMEYET_NUMBER, NULL},
+    {true, SHORT, "1c256", {0}, LEGUMEYET_LIMIT, NULL},
+    {true, SHORT, "1.2c5", {0}, LEGUMEYET_EXPONENT, NULL},
+    {true, SHORT, "1200", {0}, LEGUMEYET_EXPONENT, NULL},
+    {true, SHORT, "1c3", {.rounding = 12}, LEGUMEYET_OPTION, NULL},
+    {true, PLAIN, "-1234.50", {0}, WELL, "-1,234.50"},
+    {true, PLAIN, "1.25", AT(-1, .sign = LEGUMEYET_SIGN_ALWAYS), WELL, "+1.2"},
+    {true, PLAIN, "1.2c3", {0}, LEGUMEYET_EXPONENT, NULL},
+    {true, PLAIN, "1.2e3", {0}, LEGUMEYET_NUMBER, NULL},
+    {true, PERCENT, "1.20", {0}, WELL, "1.20%"},
+    {true, PERCENT, "1c3", {0}, LEGUMEYET_EXPONENT, NULL},
+    {true, EUROS, "1.2", {0}, WELL, EURO "1.20"},
+    {true, EUROS, "1.2", ROUND(NONE), WELL, EURO "1.2"},
+    {true, FRANCS, "-2.345", ROUND(CASH), WELL, "CHF-2.35"},
+    {true, EUROS, "1c6", {0}, LEGUMEYET_EXPONENT, NULL},
+    {true, EUROS, "1c256", {0}, LEGUMEYET_LIMIT, NULL},
+};
+
+static void shows(void) {
+    size_t row;
+    for (row = 0; row < COUNT(SHOWN); row++) {
+        const caller it = by[SHOWN[row].format];
+        const legumeyet_options options = SHOWN[row].options;
+        const char *number = SHOWN[row].number;
+        const int32_t error = SHOWN[row].is_exact ? CALL(it, format_exact, TEXT(number), LEGUMEYET_WORDS(options), out, ROOM, &length)
+                                                  : CALL(it, shown, TEXT(number), LEGUMEYET_WORDS(options), out, ROOM, &length);
+        expect_answer(number, error, SHOWN[row].error, SHOWN[row].text);
+    }
+}
+
+/* What is read of a text that the formatter writes, and of one that is typed: the number, or why there is none. */
+static const struct {
+    int format;
+    const char *text;
+    int32_t error, typed_error;
+    const char *number, *typed;
+} READ[] = {
+    {PLAIN, "-1,234.50", WELL, WELL, "-1234.50", "-1234.50"},
+    {PLAIN, "+5", WELL, WELL, "+5", "+5"},
+    {PLAIN, "987,654,321.0", WELL, WELL, "987654321.0", "987654321.0"},
+    {PLAIN, "98,7654", LEGUMEYET_NOT_WRITTEN, LEGUMEYET_NOT_WRITTEN, NULL, NULL},
+    {PLAIN, "", LEGUMEYET_NOT_WRITTEN, LEGUMEYET_NOT_WRITTEN, NULL, NULL},
+    {PLAIN, "\xff", LEGUMEYET_UTF8, LEGUMEYET_UTF8, NULL, NULL},
+    {PLAIN, "1234.5", LEGUMEYET_NOT_WRITTEN, WELL, NULL, "1234.5"},
+    {PLAIN, " 1,234.5 ", LEGUMEYET_NOT_WRITTEN, WELL, NULL, "1234.5"},
+    {PLAIN, ".5", LEGUMEYET_NOT_WRITTEN, WELL, NULL, "0.5"},
+    {PLAIN, "5.", LEGUMEYET_NOT_WRITTEN, WELL, NULL, "5"},
+    {PLAIN, "\xe2\x88\x92" "5", LEGUMEYET_NOT_WRITTEN, WELL, NULL, "-5"},
+    {PLAIN, "\xef\xbc\x91\xef\xbc\x92", LEGUMEYET_NOT_WRITTEN, WELL, NULL, "12"},
+    {PLAIN, "1,23", LEGUMEYET_NOT_WRITTEN, LEGUMEYET_NOT_WRITTEN, NULL, NULL},
+    {PLAIN, "1,234,5", LEGUMEYET_NOT_WRITTEN, LEGUMEYET_NOT_WRITTEN, NULL, NULL},
+    {PLAIN, "1 234", LEGUMEYET_NOT_WRITTEN, LEGUMEYET_NOT_WRITTEN, NULL, NULL},
+    {BAD, "1", LEGUMEYET_UNREADABLE, LEGUMEYET_UNREADABLE, NULL, NULL},
+    {BAD, "\xff", LEGUMEYET_UTF8, LEGUMEYET_UTF8, NULL, NULL},
+    {SHORT, "1.6K", LEGUMEYET_UNREADABLE, LEGUMEYET_UNREADABLE, NULL, NULL},
+    {SHORT, "950", LEGUMEYET_UNREADABLE, LEGUMEYET_UNREADABLE, NULL, NULL},
+    {LONG, "\xff", LEGUMEYET_UTF8, LEGUMEYET_UTF8, NULL, NULL},
+    {PERCENT, "-12.50%", WELL, WELL, "-12.50", "-12.50"},
+    {PERCENT, "12.5 %", LEGUMEYET_NOT_WRITTEN, WELL, NULL, "12.5"},
+    {PERCENT, "-12.5", LEGUMEYET_NOT_WRITTEN, WELL, NULL, "-12.5"},
+    {EUROS, "-" EURO "1,234.50", WELL, WELL, "-1234.50", "-1234.50"},
+    {EUROS, EURO "1.5", WELL, WELL, "1.5", "1.5"},
+    {EUROS, "$1.00", LEGUMEYET_NOT_WRITTEN, LEGUMEYET_NOT_WRITTEN, NULL, NULL},
+    {EUROS, EURO "1234.50", LEGUMEYET_NOT_WRITTEN, WELL, NULL, "1234.50"},
+    {EUROS, " 1234.5 ", LEGUMEYET_NOT_WRITTEN, WELL, NULL, "1234.5"},
+    {EUROS, "1,234.5 " EURO, LEGUMEYET_NOT_WRITTEN, WELL, NULL, "1234.5"},
+    {EUROS, "5 EUR", LEGUMEYET_NOT_WRITTEN, WELL, NULL, "5"},
+    {EUROS, "-EUR 5", LEGUMEYET_NOT_WRITTEN, WELL, NULL, "-5"},
+    {EUROS, "987654321.5 EUR", LEGUMEYET_NOT_WRITTEN, WELL, NULL, "987654321.5"},
+    {EUROS, EURO "1,23", LEGUMEYET_NOT_WRITTEN, LEGUMEYET_NOT_WRITTEN, NULL, NULL},
+    {EUROS, "", LEGUMEYET_NOT_WRITTEN, LEGUMEYET_NOT_WRITTEN, NULL, NULL},
+    {EUROS, "\xff", LEGUMEYET_UTF8, LEGUMEYET_UTF8, NULL, NULL},
+    {ACCOUNTS, "(" EURO "5.00)", WELL, WELL, "-5.00", "-5.00"},
+    {ACCOUNTS, "(" EURO "5)", WELL, WELL, "-5", "-5"},
+    {FRANCS, "CHF-5.00", WELL, WELL, "-5.00", "-5.00"},
+    /* second tables: of digits that are not those of ASCII, by those of `latn` too */
+    {ARABIC, ARABIC_NUMBER, WELL, WELL, "1234.5", "1234.5"},
+    {ARABIC, "1,234.5", LEGUMEYET_NOT_WRITTEN, WELL, NULL, "1234.5"},
+    {ARABIC, "1234.5", LEGUMEYET_NOT_WRITTEN, WELL, NULL, "1234.5"},
+    {ARABIC, "1,23", LEGUMEYET_NOT_WRITTEN, LEGUMEYET_NOT_WRITTEN, NULL, NULL},
+    {ARABIC_PERCENT, ARABIC_NUMBER "\xd9\xaa", WELL, WELL, "1234.5", "1234.5"},
+    {ARABIC_PERCENT, "1,234.5%", LEGUMEYET_NOT_WRITTEN, WELL, NULL, "1234.5"},
+};
+
+static void reads(void) {
+    size_t row;
+    for (row = 0; row < COUNT(READ); row++) {
+        const caller it = by[READ[row].format];
+        expect_answer(READ[row].text, CALL(it, read, TEXT(READ[row].text), out, ROOM, &length), READ[row].error, READ[row].number);
+        expect_answer(READ[row].text, CALL(it, read_lenient, TEXT(READ[row].text), out, ROOM, &length), READ[row].typed_error, READ[row].typed);
+    }
+}
+
+/* As many digits as there may be, and more. */
+static void many_digits(void) {
+    static char digits[MANY];
+    static uint8_t wide[3 * MANY], back[3 * MANY];
+    const legumeyet_options most = LEAST(32767, 32767);
+    size_t needed = 0, read = 0;
     memset(digits, '9', sizeof digits);
-    expect_text("short", format_short("-1172700", AS_GIVEN), "-1.2M");
-    expect_text("a carry", format_short("999500", AS_GIVEN), "1M");
-    expect_text("no entry", format_short("950", options_of(LEGUMEYET_SIGN_ALWAYS, 0, 0)), "+950");
-    expect_text("rounded", format_short("-1172700", options_of(0, LEGUMEYET_ROUND_HALF_EVEN, 6)), "-1M");
-    expect_text("groups", format_short("12345678901", AS_GIVEN), "12,346M");
-    expect_text("an integer", format_short_i64(-11727, 2), "-1.2M");
-    expect_text("long", legumeyet_compact_formatter_format(&long_english, TEXT("1650"), &AS_GIVEN, out, sizeof out, &length), "1.6 thousand");
-    expect_text("the value shown", shown("-1172700", AS_GIVEN), "-1.2c6");
-    expect_text("the value shown", shown("950", AS_GIVEN), "950");
-    expect_text("the value shown", shown("999500", options_of(LEGUMEYET_SIGN_ALWAYS, 0, 0)), "+1c6");
-    expect_text("an exact form", format_exact("-1.20c6", AS_GIVEN), "-1.20M");
-    expect_text("an exact form", format_exact("0c6", AS_GIVEN), "0M");
-    expect_text("an exact form", format_exact("1.20c6", options_of(LEGUMEYET_SIGN_ALWAYS, LEGUMEYET_ROUND_HALF_EVEN, -1)), "+1.2M");
-    expect_error("no number", format_short("5.", AS_GIVEN), LEGUMEYET_NUMBER);
-    expect_error("no number", shown("\xff", AS_GIVEN), LEGUMEYET_NUMBER);
-    expect_error("an exponent", format_short("1e40000", AS_GIVEN), LEGUMEYET_LIMIT);
-    expect_error("an exponent of an integer", format_short_i64(10, INT16_MAX), LEGUMEYET_LIMIT);
-    expect_error("sign 6", shown("1", options_of(6, 0, 0)), LEGUMEYET_OPTION);
-    expect_error("another mark", format_exact("1.2e6", AS_GIVEN), LEGUMEYET_NUMBER);
-    expect_error("bytes", format_exact("1c3\xff", AS_GIVEN), LEGUMEYET_NUMBER);
-    expect_error("no text", format_exact("", AS_GIVEN), LEGUMEYET_NUMBER);
-    expect_error("an exponent above 255", format_exact("1c256", AS_GIVEN), LEGUMEYET_LIMIT);
-    expect_error("another exponent", format_exact("1.2c5", AS_GIVEN), LEGUMEYET_EXPONENT);
-    expect_error("no exponent", format_exact("1200", AS_GIVEN), LEGUMEYET_EXPONENT);
-    expect_error("rounding 10", format_exact("1c3", options_of(0, 10, 0)), LEGUMEYET_OPTION);
-    expect_error("what is shown", legumeyet_compact_formatter_format(&short_english, (uint8_t *)digits, 32768, &AS_GIVEN, out, ROOM, &length),
-                 LEGUMEYET_RANGE);
-    expect_error("the value shown", legumeyet_compact_formatter_shown(&short_english, (uint8_t *)digits, 32768, &AS_GIVEN, out, ROOM, &length),
-                 LEGUMEYET_RANGE);
+    expect_error("40,000 digits", CALL(by[PLAIN], format, (uint8_t *)digits, MANY, NOTHING, out, ROOM, &length), LEGUMEYET_LIMIT);
+    expect("30,000 digits", CALL(by[PLAIN], format, (uint8_t *)digits, 30000, NOTHING, wide, sizeof wide, &needed), WELL);
+    expect("30,000 digits", (int64_t)needed, 39999);
+    expect("30,000 digits", CALL(by[PLAIN], read, wide, needed, back, sizeof back, &read), WELL);
+    expect("30,000 digits", (int64_t)read, 30000);
+    expect_error("40,000 digits", CALL(by[PLAIN], read, (uint8_t *)digits, MANY, out, ROOM, &length), LEGUMEYET_NOT_WRITTEN);
+    expect("most digits", CALL(by[PLAIN], format, TEXT("1"), LEGUMEYET_WORDS(most), wide, sizeof wide, &needed), WELL);
+    expect("most digits", (int64_t)needed, 2 * 32767 + 10922 + 1);
+    expect("the greatest double", CALL(by[PLAIN], format_double, 1.7976931348623157e308, NOTHING, wide, sizeof wide, &needed), WELL);
+    expect("the greatest double", (int64_t)needed, 309 + 102);
+    expect("the least double", CALL(by[PLAIN], format_double, 5e-324, NOTHING, wide, sizeof wide, &needed), WELL);
+    expect("the least double", (int64_t)needed, 2 + 324);
+    expect_error("what is shown", CALL(by[SHORT], format, (uint8_t *)digits, 32768, NOTHING, out, ROOM, &length), LEGUMEYET_RANGE);
+    expect_error("the value shown", CALL(by[SHORT], shown, (uint8_t *)digits, 32768, NOTHING, out, ROOM, &length), LEGUMEYET_RANGE);
+    expect("no compact number", CALL(by[EUROS], shown, (uint8_t *)digits, 32768, NOTHING, wide, sizeof wide, &needed), WELL);
+    expect("no compact number", (int64_t)needed, 32768 + 3);
     memset(digits + 1, '0', 32767);
     memcpy(digits + 32768, "c6", 2);
-    expect_error("an exact form", legumeyet_compact_formatter_format_exact(&short_english, (uint8_t *)digits, 32770, &AS_GIVEN, out, ROOM, &length),
-                 LEGUMEYET_RANGE);
-    expect("30,000 digits", legumeyet_compact_formatter_format(&short_english, (uint8_t *)digits, 30000, &AS_GIVEN, wide, sizeof wide, &needed),
-           LEGUMEYET_OK);
+    expect_error("an exact form", CALL(by[SHORT], format_exact, (uint8_t *)digits, 32770, NOTHING, out, ROOM, &length), LEGUMEYET_RANGE);
+    expect("30,000 digits", CALL(by[SHORT], format, (uint8_t *)digits, 30000, NOTHING, wide, sizeof wide, &needed), WELL);
     expect("30,000 digits", (int64_t)needed, 29994 + 9997 + 1);
 }
 
-static void reads(void) {
-    static uint8_t wide[2 * LONG], digits[2 * LONG];
-    size_t needed = 0;
-    expect_text("a text", read_back(&english, "-1,234.50"), "-1234.50");
-    expect_text("a plus", read_back(&english, "+5"), "+5");
-    expect_text("nine digits", read_back(&english, "987,654,321.0"), "987654321.0");
-    expect_error("another group", read_back(&english, "98,7654"), LEGUMEYET_NOT_WRITTEN);
-    expect_error("no text", read_back(&english, ""), LEGUMEYET_NOT_WRITTEN);
-    expect_error("bytes", read_back(&english, "\xff"), LEGUMEYET_UTF8);
-    expect("symbols alike", legumeyet_decimal_formatter_open(&book, TEXT("bad"), 0, &unreadable), LEGUMEYET_OK);
-    expect_error("symbols alike", read_back(&unreadable, "1"), LEGUMEYET_UNREADABLE);
-    expect_error("symbols alike, bytes", read_back(&unreadable, "\xff"), LEGUMEYET_UTF8);
-    expect("symbols alike", legumeyet_decimal_formatter_close(&unreadable), LEGUMEYET_OK);
-    memset(wide, '9', sizeof wide);
-    expect("40,000 digits", legumeyet_decimal_formatter_read(&english, wide, LONG, digits, sizeof digits, &needed), LEGUMEYET_NOT_WRITTEN);
-    expect("30,000 digits", legumeyet_decimal_formatter_format(&english, wide, 30000, &AS_GIVEN, digits, sizeof digits, &needed),
-           LEGUMEYET_OK);
-    expect("30,000 digits", legumeyet_decimal_formatter_read(&english, digits, needed, wide, sizeof wide, &needed), LEGUMEYET_OK);
-    expect("30,000 digits", (int64_t)needed, 30000);
-}
-
-static void reads_leniently(void) {
-    expect_text("the formatter's own", read_lenient(&english, "-1,234.50"), "-1234.50");
-    expect_text("without groups", read_lenient(&english, "1234.5"), "1234.5");
-    expect_text("blanks", read_lenient(&english, " 1,234.5 "), "1234.5");
-    expect_text("no whole digit", read_lenient(&english, ".5"), "0.5");
-    expect_text("no fraction digit", read_lenient(&english, "5."), "5");
-    expect_text("another minus", read_lenient(&english, "\xe2\x88\x92" "5"), "-5");
-    expect_text("wide digits", read_lenient(&english, "\xef\xbc\x91\xef\xbc\x92"), "12");
-    expect_text("nine digits", read_lenient(&english, "987654321.0"), "987654321.0");
-    expect_error("a group of two", read_lenient(&english, "1,23"), LEGUMEYET_NOT_WRITTEN);
-    expect_error("a comma for a point", read_lenient(&english, "1,234,5"), LEGUMEYET_NOT_WRITTEN);
-    expect_error("a blank inside", read_lenient(&english, "1 234"), LEGUMEYET_NOT_WRITTEN);
-    expect_error("no text", read_lenient(&english, ""), LEGUMEYET_NOT_WRITTEN);
-    expect_error("bytes", read_lenient(&english, "\xff"), LEGUMEYET_UTF8);
-    expect("symbols alike", legumeyet_decimal_formatter_open(&book, TEXT("bad"), 0, &unreadable), LEGUMEYET_OK);
-    expect_error("symbols alike", read_lenient(&unreadable, "1"), LEGUMEYET_UNREADABLE);
-    expect("symbols alike", legumeyet_decimal_formatter_close(&unreadable), LEGUMEYET_OK);
-}
-
-static int32_t format_parts(const char *number, legumeyet_interval *intervals, size_t room, size_t *count) {
-    return legumeyet_decimal_formatter_format_parts(&english, TEXT(number), &AS_GIVEN, out, sizeof out, &length, intervals, room, count);
-}
+/* Texts with their parts. */
+static const struct {
+    int format;
+    const char *number, *text;
+    size_t count;
+    legumeyet_interval parts[7];
+} PARTS[] = {
+    {PLAIN, "-1234.5", "-1,234.5", 5, {{0, 1, LEGUMEYET_PART_MINUS_SIGN}, {1, 6, LEGUMEYET_PART_INTEGER}, {2, 3, LEGUMEYET_PART_GROUP},
+                                       {6, 7, LEGUMEYET_PART_DECIMAL}, {7, 8, LEGUMEYET_PART_FRACTION}}},
+    {PLAIN, "+5", "+5", 2, {{0, 1, LEGUMEYET_PART_PLUS_SIGN}, {1, 2, LEGUMEYET_PART_INTEGER}}},
+    {SHORT, "-1650", "-1.6K", 1, {{0, 1, LEGUMEYET_PART_MINUS_SIGN}}},
+    {SHORT, "950", "950", 0, {{0, 0, 0}}},
+    {PERCENT, "5", "5%", 2, {{0, 1, LEGUMEYET_PART_INTEGER}, {1, 2, LEGUMEYET_PART_PERCENT_SIGN}}},
+    {EUROS, "-1234.5", "-" EURO "1,234.50", 6, {{0, 1, LEGUMEYET_PART_MINUS_SIGN}, {1, 4, LEGUMEYET_PART_CURRENCY}, {4, 9, LEGUMEYET_PART_INTEGER},
+                                               {5, 6, LEGUMEYET_PART_GROUP}, {9, 10, LEGUMEYET_PART_DECIMAL}, {10, 12, LEGUMEYET_PART_FRACTION}}},
+};
 
 static int is_same(const legumeyet_interval *one, const legumeyet_interval *other) {
     return one->start == other->start && one->end == other->end && one->kind == other->kind;
 }
 
-static void parts(void) {
-    static const legumeyet_interval WANTED[] = {
-        {0, 1, LEGUMEYET_PART_MINUS_SIGN}, {1, 6, LEGUMEYET_PART_INTEGER},  {2, 3, LEGUMEYET_PART_GROUP},
-        {6, 7, LEGUMEYET_PART_DECIMAL},    {7, 8, LEGUMEYET_PART_FRACTION},
-    };
-    legumeyet_interval found[7];
+/* A row with each room for its parts. */
+static void parts_of(size_t row) {
+    const size_t all = PARTS[row].count;
+    legumeyet_interval found[9];
     size_t room, at, count = 77;
-    for (room = 0; room <= 6; room++) {
-        size_t listed = room < 5 ? room : 5;
+    for (room = 0; room <= all + 1; room++) {
+        const size_t listed = room < all ? room : all;
         memset(found, 7, sizeof found);
-        expect("the room for parts", format_parts("-1234.5", found, room, &count), room < 5 ? LEGUMEYET_TOO_SMALL : LEGUMEYET_OK);
-        expect("the parts", (int64_t)count, 5);
-        expect_text("the text with its parts", LEGUMEYET_OK, "-1,234.5");
-        for (at = 0; at < listed; at++)
-            expect("a part", is_same(&found[at], &WANTED[at]), 1);
+        expect("the room for parts", CALL(by[PARTS[row].format], format_parts, TEXT(PARTS[row].number), NOTHING, out, ROOM, &length, found, room, &count),
+               room < all ? LEGUMEYET_TOO_SMALL : WELL);
+        expect("the parts", (int64_t)count, (int64_t)all);
+        expect_text("the text with its parts", WELL, PARTS[row].text);
+        for (at = 0; at < listed; at++) expect("a part", is_same(&found[at], &PARTS[row].parts[at]), 1);
         expect("the part after them", (int64_t)found[listed].kind, 0x07070707);
     }
-    count = 77;
-    at = 3;
-    expect("no room", legumeyet_decimal_formatter_format_parts(&english, TEXT("-1234.5"), &AS_GIVEN, out, at, &length, found, 7, &count),
-           LEGUMEYET_TOO_SMALL);
+}
+
+static void parts(void) {
+    legumeyet_interval found[7];
+    size_t row, count = 77;
+    for (row = 0; row < COUNT(PARTS); row++) parts_of(row);
+    for (row = 0; row < FORMATS; row++) {
+        expect_error("no number", CALL(by[row], format_parts, TEXT("5."), NOTHING, out, ROOM, &length, found, 7, &count), LEGUMEYET_NUMBER);
+        expect_error("an exponent", CALL(by[row], format_parts, TEXT("1e40000"), NOTHING, out, ROOM, &length, found, 7, &count), LEGUMEYET_LIMIT);
+        expect("no parts", (int64_t)count, 77);
+    }
+    expect("no room", CALL(by[PLAIN], format_parts, TEXT("-1234.5"), NOTHING, out, 3, &length, found, 7, &count), LEGUMEYET_TOO_SMALL);
     expect("the parts", (int64_t)count, 5);
     expect("the length", (int64_t)length, 8);
     expect("the front", memcmp(out, "-1,.", 4), 0);
-    memset(out, '.', sizeof out);
-    length = count = 77;
-    expect_error("no number", format_parts("5.", found, 7, &count), LEGUMEYET_NUMBER);
-    expect_error("an exponent", format_parts("1e40000", found, 7, &count), LEGUMEYET_LIMIT);
-    expect("no parts", (int64_t)count, 77);
+    clear();
 }
 
-static void compact_parts(void) {
-    legumeyet_interval found[2];
-    size_t count = 77;
-    memset(found, 7, sizeof found);
-    expect("no room for parts",
-           legumeyet_compact_formatter_format_parts(&short_english, TEXT("-1650"), &AS_GIVEN, out, sizeof out, &length, found, 0, &count),
-           LEGUMEYET_TOO_SMALL);
-    expect("the parts", (int64_t)count, 1);
-    expect("the part after them", (int64_t)found[0].kind, 0x07070707);
-    expect_text("the text with its parts",
-                legumeyet_compact_formatter_format_parts(&short_english, TEXT("-1650"), &AS_GIVEN, out, sizeof out, &length, found, 2, &count),
-                "-1.6K");
-    expect("the parts", (int64_t)count, 1);
-    expect("the sign", found[0].start == 0 && found[0].end == 1 && found[0].kind == LEGUMEYET_PART_MINUS_SIGN, 1);
-    expect("the part after them", (int64_t)found[1].kind, 0x07070707);
-    expect_error("no number",
-                 legumeyet_compact_formatter_format_parts(&short_english, TEXT("5."), &AS_GIVEN, out, sizeof out, &length, found, 2, &count),
-                 LEGUMEYET_NUMBER);
-}
+static int32_t answer(const char *line) { return legumeyet_book_answer(&book, TEXT(line), out, sizeof out, &length); }
 
 static void answers(void) {
     expect_text("a line", answer("en\tplain\tauto\tkeep\t-\t-987654.321"), "ok\t-987,654.321");
     expect_text("a short form", answer("en\tshort\tauto\tkeep\t-\t1650"), "ok\t1.6K\t1.6c3");
     expect_text("a text", answer("en\tread\tauto\tkeep\t-\t-1,234.50"), "ok\t-1234.50");
+    expect_text("a typed text", answer("ar\tread-lenient\tauto\tkeep\t-\t1,234.5"), "ok\t1234.5");
     expect_text("no tag", answer("e\tplain\tauto\tkeep\t-\t1"), "err\ttag");
     expect_text("no line", answer(""), "err\tshape");
     expect_text("bytes", answer("\xff"), "err\tshape");
@@ -484,135 +608,110 @@ static void answers(void) {
 
 /* A call wrote as much of a text as the room has. */
 static void expect_front(int32_t error, const char *text, size_t room) {
-    size_t whole = strlen(text), front = room < whole ? room : whole;
-    expect(text, error, room < whole ? LEGUMEYET_TOO_SMALL : LEGUMEYET_OK);
+    const size_t whole = strlen(text), front = room < whole ? room : whole;
+    expect(text, error, room < whole ? LEGUMEYET_TOO_SMALL : WELL);
     expect("the length", (int64_t)length, (int64_t)whole);
     expect("the front", memcmp(out, text, front), 0);
     expect("the byte after it", out[front], '.');
-    memset(out, '.', sizeof out);
-    length = 77;
+    clear();
 }
 
 static void rooms(void) {
     static const char LINE[] = "en\tplain\tauto\tkeep\t-\t-1234.5";
     size_t room;
-    for (room = 0; room <= 12; room++) {
-        expect_front(legumeyet_decimal_formatter_format(&english, TEXT("-1234.5"), &AS_GIVEN, out, room, &length), "-1,234.5", room);
-        expect_front(legumeyet_decimal_formatter_read(&english, TEXT("-1,234.5"), out, room, &length), "-1234.5", room);
-        expect_front(legumeyet_decimal_formatter_read_lenient(&english, TEXT("-1234.5"), out, room, &length), "-1234.5", room);
-        expect_front(legumeyet_decimal_formatter_format_double(&english, -1234.5, &AS_GIVEN, out, room, &length), "-1,234.5", room);
+    for (room = 0; room <= 14; room++) {
+        expect_front(CALL(by[PLAIN], format, TEXT("-1234.5"), NOTHING, out, room, &length), "-1,234.5", room);
+        expect_front(CALL(by[PLAIN], format_i64, -12345, -1, NOTHING, out, room, &length), "-1,234.5", room);
+        expect_front(CALL(by[PLAIN], format_u64, 12345, -1, NOTHING, out, room, &length), "1,234.5", room);
+        expect_front(CALL(by[PLAIN], format_double, -1234.5, NOTHING, out, room, &length), "-1,234.5", room);
+        expect_front(CALL(by[PLAIN], read, TEXT("-1,234.5"), out, room, &length), "-1234.5", room);
+        expect_front(CALL(by[PLAIN], read_lenient, TEXT("-1234.5"), out, room, &length), "-1234.5", room);
+        expect_front(CALL(by[SHORT], format, TEXT("-12345678901"), NOTHING, out, room, &length), "-12,346M", room);
+        expect_front(CALL(by[SHORT], shown, TEXT("-1172700"), NOTHING, out, room, &length), "-1.2c6", room);
+        expect_front(CALL(by[SHORT], format_exact, TEXT("-1.20c6"), NOTHING, out, room, &length), "-1.20M", room);
+        expect_front(CALL(by[EUROS], format, TEXT("-1234.5"), NOTHING, out, room, &length), "-" EURO "1,234.50", room);
+        expect_front(CALL(by[EUROS], shown, TEXT("-1234.5"), NOTHING, out, room, &length), "-1234.50", room);
+        expect_front(CALL(by[EUROS], read_lenient, TEXT("5 EUR"), out, room, &length), "5", room);
+        expect_front(CALL(by[ARABIC], read_lenient, TEXT("1,234.5"), out, room, &length), "1234.5", room);
         expect_front(legumeyet_book_answer(&book, TEXT(LINE), out, room, &length), "ok\t-1,234.5", room);
-        expect_front(legumeyet_compact_formatter_format(&short_english, TEXT("-12345678901"), &AS_GIVEN, out, room, &length), "-12,346M", room);
-        expect_front(legumeyet_compact_formatter_shown(&short_english, TEXT("-1172700"), &AS_GIVEN, out, room, &length), "-1.2c6", room);
-        expect_front(legumeyet_compact_formatter_format_exact(&short_english, TEXT("-1.20c6"), &AS_GIVEN, out, room, &length), "-1.20M", room);
+        expect_front(legumeyet_error_text(LEGUMEYET_TAG, out, room, &length), "no locale tag", room);
     }
+    expect_text("the greatest room", CALL(by[PLAIN], format, TEXT("1"), NOTHING, out, SIZE_MAX, &length), "1");
 }
 
-/* A pointer is null where the length is 0, or the room: each text that is given. */
-static void null_texts(void) {
+/* A pointer is null where the length is 0, or the room. */
+static void nulls(void) {
     legumeyet_interval none;
-    size_t count = 77;
+    size_t row, count = 77;
+    for (row = 0; row < FORMATS; row++) {
+        const int32_t unread = row == SHORT || row == LONG || row == BAD ? LEGUMEYET_UNREADABLE : LEGUMEYET_NOT_WRITTEN;
+        expect_error("a number", CALL(by[row], format, NOTHING, NOTHING, out, ROOM, &length), LEGUMEYET_NUMBER);
+        expect_error("parts", CALL(by[row], format_parts, NOTHING, NOTHING, out, ROOM, &length, &none, 1, &count), LEGUMEYET_NUMBER);
+        expect_error("what is shown", CALL(by[row], shown, NOTHING, NOTHING, out, ROOM, &length), LEGUMEYET_NUMBER);
+        expect_error("an exact form", CALL(by[row], format_exact, NOTHING, NOTHING, out, ROOM, &length), LEGUMEYET_NUMBER);
+        expect_error("a text", CALL(by[row], read, NOTHING, out, ROOM, &length), unread);
+        expect_error("a typed text", CALL(by[row], read_lenient, NOTHING, out, ROOM, &length), unread);
+        expect("no parts", (int64_t)count, 77);
+    }
     expect("a book", legumeyet_book_open(NOTHING, &closed_book), LEGUMEYET_BOOK_JSON);
-    expect("a tag", legumeyet_decimal_formatter_open(&book, NOTHING, 0, &closed), LEGUMEYET_TAG);
-    expect("a tag", legumeyet_compact_formatter_open(&book, NOTHING, 0, 0, &closed_compact), LEGUMEYET_TAG);
-    expect_error("a number", legumeyet_decimal_formatter_format(&english, NOTHING, &AS_GIVEN, out, ROOM, &length), LEGUMEYET_NUMBER);
-    expect_error("parts", legumeyet_decimal_formatter_format_parts(&english, NOTHING, &AS_GIVEN, out, ROOM, &length, &none, 1, &count), LEGUMEYET_NUMBER);
-    expect_error("a text", legumeyet_decimal_formatter_read(&english, NOTHING, out, ROOM, &length), LEGUMEYET_NOT_WRITTEN);
-    expect_error("a typed text", legumeyet_decimal_formatter_read_lenient(&english, NOTHING, out, ROOM, &length), LEGUMEYET_NOT_WRITTEN);
-    expect_error("compact", legumeyet_compact_formatter_format(&short_english, NOTHING, &AS_GIVEN, out, ROOM, &length), LEGUMEYET_NUMBER);
-    expect_error("compact parts", legumeyet_compact_formatter_format_parts(&short_english, NOTHING, &AS_GIVEN, out, ROOM, &length, &none, 1, &count),
-                 LEGUMEYET_NUMBER);
-    expect_error("the value shown", legumeyet_compact_formatter_shown(&short_english, NOTHING, &AS_GIVEN, out, ROOM, &length), LEGUMEYET_NUMBER);
-    expect_error("an exact form", legumeyet_compact_formatter_format_exact(&short_english, NOTHING, &AS_GIVEN, out, ROOM, &length), LEGUMEYET_NUMBER);
-    expect("no parts", (int64_t)count, 77);
+    expect("a tag", legumeyet_formatter_open(&book, NOTHING, NOTHING, NOTHING, &closed), LEGUMEYET_TAG);
     expect_text("a line", legumeyet_book_answer(&book, NOTHING, out, ROOM, &length), "err\tshape");
-}
-
-/* A call wrote nothing, and tells what the text needs. */
-static void expect_needed(const char *what, int32_t error, size_t wanted) {
-    expect(what, error, LEGUMEYET_TOO_SMALL);
-    expect(what, (int64_t)length, (int64_t)wanted);
-    length = 77;
-}
-
-/* The same of each room. */
-static void null_rooms(void) {
-    static const char LINE[] = "en\tplain\tauto\tkeep\t-\t-1234.5";
-    size_t count = 77;
-    expect_needed("a number", legumeyet_decimal_formatter_format(&english, TEXT("-1234.5"), &AS_GIVEN, NOTHING, &length), 8);
-    expect_needed("an integer", legumeyet_decimal_formatter_format_i64(&english, -12345, -1, &AS_GIVEN, NOTHING, &length), 8);
-    expect_needed("parts", legumeyet_decimal_formatter_format_parts(&english, TEXT("-1234.5"), &AS_GIVEN, NOTHING, &length, NOTHING, &count), 8);
+    expect_needed("a number", CALL(by[PLAIN], format, TEXT("-1234.5"), NOTHING, NOTHING, &length), 8);
+    expect_needed("an integer", CALL(by[PLAIN], format_i64, -12345, -1, NOTHING, NOTHING, &length), 8);
+    expect_needed("an integer", CALL(by[PLAIN], format_u64, 12345, -1, NOTHING, NOTHING, &length), 7);
+    expect_needed("a double", CALL(by[PLAIN], format_double, -1234.5, NOTHING, NOTHING, &length), 8);
+    expect_needed("parts", CALL(by[PLAIN], format_parts, TEXT("-1234.5"), NOTHING, NOTHING, &length, NOTHING, &count), 8);
     expect("parts", (int64_t)count, 5);
-    expect_needed("a text", legumeyet_decimal_formatter_read(&english, TEXT("-1,234.5"), NOTHING, &length), 7);
-    expect_needed("a typed text", legumeyet_decimal_formatter_read_lenient(&english, TEXT("-1234.5 "), NOTHING, &length), 7);
-    expect_needed("an integer", legumeyet_decimal_formatter_format_u64(&english, 12345, -1, &AS_GIVEN, NOTHING, &length), 7);
-    expect_needed("a double", legumeyet_decimal_formatter_format_double(&english, -1234.5, &AS_GIVEN, NOTHING, &length), 8);
-    expect_needed("compact", legumeyet_compact_formatter_format_u64(&short_english, 165, 1, &AS_GIVEN, NOTHING, &length), 4);
-    expect_needed("compact", legumeyet_compact_formatter_format_double(&short_english, -1650.0, &AS_GIVEN, NOTHING, &length), 5);
-    expect_needed("compact", legumeyet_compact_formatter_format(&short_english, TEXT("-1650"), &AS_GIVEN, NOTHING, &length), 5);
-    expect_needed("compact", legumeyet_compact_formatter_format_i64(&short_english, -165, 1, &AS_GIVEN, NOTHING, &length), 5);
-    expect_needed("compact parts",
-                  legumeyet_compact_formatter_format_parts(&short_english, TEXT("-1650"), &AS_GIVEN, NOTHING, &length, NOTHING, &count), 5);
-    expect("parts", (int64_t)count, 1);
-    expect_needed("the value shown", legumeyet_compact_formatter_shown(&short_english, TEXT("-1650"), &AS_GIVEN, NOTHING, &length), 6);
-    expect_needed("an exact form", legumeyet_compact_formatter_format_exact(&short_english, TEXT("-1.60c3"), &AS_GIVEN, NOTHING, &length), 6);
-    expect_needed("a line", legumeyet_book_answer(&book, TEXT(LINE), NOTHING, &length), 11);
+    expect_needed("a text", CALL(by[PLAIN], read, TEXT("-1,234.5"), NOTHING, &length), 7);
+    expect_needed("a typed text", CALL(by[EUROS], read_lenient, TEXT("-1234.5 "), NOTHING, &length), 7);
+    expect_needed("the value shown", CALL(by[SHORT], shown, TEXT("-1650"), NOTHING, NOTHING, &length), 6);
+    expect_needed("an exact form", CALL(by[SHORT], format_exact, TEXT("-1.60c3"), NOTHING, NOTHING, &length), 6);
+    expect_needed("a line", legumeyet_book_answer(&book, TEXT("en\tplain\tauto\tkeep\t-\t-1234.5"), NOTHING, &length), 11);
+    expect_needed("a locale", legumeyet_book_locale(&book, 0, NOTHING, &length), 2);
     expect_needed("a text of an error", legumeyet_error_text(LEGUMEYET_TAG, NOTHING, &length), 13);
-    expect_text("the greatest room", legumeyet_decimal_formatter_format(&english, TEXT("1"), &AS_GIVEN, out, SIZE_MAX, &length), "1");
 }
 
 /* A text may have a NUL inside, and what there is room for may end inside a character. */
 static void inside(void) {
     legumeyet_book other = {0};
-    legumeyet_decimal_formatter formatter = {0};
-    expect("a book", legumeyet_book_open(TEXT(WITH_NUL), &other), LEGUMEYET_OK);
-    expect("a formatter", legumeyet_decimal_formatter_open(&other, TEXT("en"), 0, &formatter), LEGUMEYET_OK);
-    expect("a NUL", legumeyet_decimal_formatter_format(&formatter, TEXT("1234.5"), &AS_GIVEN, out, ROOM, &length), LEGUMEYET_OK);
+    legumeyet_formatter formatter = {0};
+    expect("a book", legumeyet_book_open(TEXT(WITH_NUL), &other), WELL);
+    expect("a formatter", legumeyet_formatter_open(&other, TEXT("en"), NOTHING, NOTHING, &formatter), WELL);
+    expect("a NUL", legumeyet_formatter_format(&formatter, TEXT("1234.5"), NOTHING, out, ROOM, &length), WELL);
     expect("a NUL", length == 9 && memcmp(out, "1\xe2\x80\xaf" "234\0" "5", 9) == 0, 1);
-    expect("inside", legumeyet_decimal_formatter_format(&formatter, TEXT("1234.5"), &AS_GIVEN, out, 2, &length), LEGUMEYET_TOO_SMALL);
+    expect("inside", legumeyet_formatter_format(&formatter, TEXT("1234.5"), NOTHING, out, 2, &length), LEGUMEYET_TOO_SMALL);
     expect("inside", memcmp(out, "1\xe2", 2), 0);
-    expect("a close", legumeyet_decimal_formatter_close(&formatter), LEGUMEYET_OK);
-    expect("a close", legumeyet_book_close(&other), LEGUMEYET_OK);
-    memset(out, '.', sizeof out);
-    length = 77;
+    expect("a close", legumeyet_formatter_close(&formatter), WELL);
+    expect("a close", legumeyet_book_close(&other), WELL);
+    clear();
 }
 
-/* Each call of a formatter of plain numbers, on a handle that has none open. */
-static void no_decimal(legumeyet_decimal_formatter *other) {
+/* Each call of a formatter, on a handle that has none open: that comes before all that is wrong else. */
+static void no_formatter(caller it) {
+    static const legumeyet_options UNKNOWN = {.sign = 6};
     legumeyet_interval none;
     size_t count = 77;
-    expect_error("a number", legumeyet_decimal_formatter_format(other, TEXT("1"), &AS_GIVEN, out, ROOM, &length), LEGUMEYET_CLOSED);
-    expect_error("an integer", legumeyet_decimal_formatter_format_i64(other, 1, 0, &AS_GIVEN, out, ROOM, &length), LEGUMEYET_CLOSED);
-    expect_error("an integer", legumeyet_decimal_formatter_format_u64(other, 1, 0, &AS_GIVEN, out, ROOM, &length), LEGUMEYET_CLOSED);
-    expect_error("a double", legumeyet_decimal_formatter_format_double(other, 1.0, &AS_GIVEN, out, ROOM, &length), LEGUMEYET_CLOSED);
-    expect_error("a typed text", read_lenient(other, "1"), LEGUMEYET_CLOSED);
-    expect_error("parts", legumeyet_decimal_formatter_format_parts(other, TEXT("1"), &AS_GIVEN, out, ROOM, &length, &none, 1, &count),
-                 LEGUMEYET_CLOSED);
+    expect_error("a number", CALL(it, format, TEXT("x"), LEGUMEYET_WORDS(UNKNOWN), out, ROOM, &length), LEGUMEYET_CLOSED);
+    expect_error("an integer", CALL(it, format_i64, 1, 0, LEGUMEYET_WORDS(UNKNOWN), out, ROOM, &length), LEGUMEYET_CLOSED);
+    expect_error("an integer", CALL(it, format_u64, 1, 0, LEGUMEYET_WORDS(UNKNOWN), out, ROOM, &length), LEGUMEYET_CLOSED);
+    expect_error("a double", CALL(it, format_double, NAN, LEGUMEYET_WORDS(UNKNOWN), out, ROOM, &length), LEGUMEYET_CLOSED);
+    expect_error("parts", CALL(it, format_parts, TEXT("1"), NOTHING, out, ROOM, &length, &none, 1, &count), LEGUMEYET_CLOSED);
     expect("the count of a refused call", (int64_t)count, 77);
-    expect_error("a text", read_back(other, "1"), LEGUMEYET_CLOSED);
-    expect("a close", legumeyet_decimal_formatter_close(other), LEGUMEYET_CLOSED);
-}
-
-static void no_compact(legumeyet_compact_formatter *other) {
-    legumeyet_interval none;
-    size_t count = 77;
-    expect_error("a number", legumeyet_compact_formatter_format(other, TEXT("1"), &AS_GIVEN, out, ROOM, &length), LEGUMEYET_CLOSED);
-    expect_error("an integer", legumeyet_compact_formatter_format_i64(other, 1, 0, &AS_GIVEN, out, ROOM, &length), LEGUMEYET_CLOSED);
-    expect_error("an integer", legumeyet_compact_formatter_format_u64(other, 1, 0, &AS_GIVEN, out, ROOM, &length), LEGUMEYET_CLOSED);
-    expect_error("a double", legumeyet_compact_formatter_format_double(other, 1.0, &AS_GIVEN, out, ROOM, &length), LEGUMEYET_CLOSED);
-    expect_error("parts", legumeyet_compact_formatter_format_parts(other, TEXT("1"), &AS_GIVEN, out, ROOM, &length, &none, 1, &count),
-                 LEGUMEYET_CLOSED);
-    expect("the count of a refused call", (int64_t)count, 77);
-    expect_error("the value shown", legumeyet_compact_formatter_shown(other, TEXT("1"), &AS_GIVEN, out, ROOM, &length), LEGUMEYET_CLOSED);
-    expect_error("an exact form", legumeyet_compact_formatter_format_exact(other, TEXT("1c3"), &AS_GIVEN, out, ROOM, &length), LEGUMEYET_CLOSED);
-    expect("a close", legumeyet_compact_formatter_close(other), LEGUMEYET_CLOSED);
+    expect_error("the value shown", CALL(it, shown, TEXT("x"), LEGUMEYET_WORDS(UNKNOWN), out, ROOM, &length), LEGUMEYET_CLOSED);
+    expect_error("an exact form", CALL(it, format_exact, TEXT("x"), LEGUMEYET_WORDS(UNKNOWN), out, ROOM, &length), LEGUMEYET_CLOSED);
+    expect_error("a text", CALL(it, read, TEXT("\xff"), out, ROOM, &length), LEGUMEYET_CLOSED);
+    expect_error("a typed text", CALL(it, read_lenient, TEXT("\xff"), out, ROOM, &length), LEGUMEYET_CLOSED);
+    if (it.own == NULL) return;
+    expect("a close", legumeyet_formatter_close(it.own), LEGUMEYET_CLOSED);
+    expect("a share", legumeyet_formatter_share(it.own, &closed_shared), LEGUMEYET_CLOSED);
 }
 
 static void no_book(legumeyet_book *other) {
-    expect("a formatter", legumeyet_decimal_formatter_open(other, TEXT("en"), 0, &closed), LEGUMEYET_CLOSED);
-    expect("it stayed closed", legumeyet_decimal_formatter_close(&closed), LEGUMEYET_CLOSED);
-    expect("a compact one", open_compact(other, "en", 0, 0, &closed_compact), LEGUMEYET_CLOSED);
-    expect("it stayed closed", legumeyet_compact_formatter_close(&closed_compact), LEGUMEYET_CLOSED);
+    size_t place = 77;
+    expect("a formatter", legumeyet_formatter_open(other, TEXT("e"), NOTHING, NOTHING, &closed), LEGUMEYET_CLOSED);
+    expect("a skeleton", legumeyet_formatter_open_skeleton(other, TEXT("e"), TEXT("foo"), &place, &closed), LEGUMEYET_CLOSED);
+    expect("its place", (int64_t)place, 77);
+    expect("it stayed closed", legumeyet_formatter_close(&closed), LEGUMEYET_CLOSED);
     expect_error("a line", legumeyet_book_answer(other, TEXT("en\tplain\tauto\tkeep\t-\t1"), out, ROOM, &length), LEGUMEYET_CLOSED);
     expect("a book to keep", legumeyet_book_keep(other), LEGUMEYET_CLOSED);
     expect("a close", legumeyet_book_close(other), LEGUMEYET_CLOSED);
@@ -620,48 +719,21 @@ static void no_book(legumeyet_book *other) {
 
 /* A handle that has something of another type open is closed to a call, and what it has stays open. */
 static void casts(void) {
-    legumeyet_decimal_formatter plain = {0};
-    no_decimal((void *)&book);
-    no_compact((void *)&book);
+    legumeyet_formatter plain = {0};
+    size_t row;
+    no_formatter((caller){.own = &closed});
+    no_formatter((caller){.shared = &closed_shared});
+    no_formatter((caller){.own = (void *)&book});
     expect_text("the book", answer("en\tplain\tauto\tkeep\t-\t1234"), "ok\t1,234");
-    no_book((void *)&english);
-    no_compact((void *)&english);
-    expect_text("the formatter", format("1234", AS_GIVEN), "1,234");
-    no_book((void *)&short_english);
-    no_decimal((void *)&short_english);
-    expect_text("the compact formatter", format_short("1650", AS_GIVEN), "1.6K");
-    expect("plain", legumeyet_decimal_formatter_open(&book, TEXT("en"), 0, &plain), LEGUMEYET_OK);
-    expect("a tag over it", open_compact(&book, "e", 0, 0, (void *)&plain), LEGUMEYET_TAG);
-    expect_text("it stayed open", legumeyet_decimal_formatter_format(&plain, TEXT("1234"), &AS_GIVEN, out, ROOM, &length), "1,234");
-    expect("a compact one over it", open_compact(&book, "en", 0, 0, (void *)&plain), LEGUMEYET_OK);
-    no_decimal(&plain);
-    expect("a close", legumeyet_compact_formatter_close((void *)&plain), LEGUMEYET_OK);
-}
-
-static void closes(void) {
-    legumeyet_interval none;
-    size_t count = 0;
-    expect("the book before its formatters", legumeyet_book_close(&book), LEGUMEYET_OK);
-    expect("the book again", legumeyet_book_close(&book), LEGUMEYET_CLOSED);
-    expect_error("a line", answer("en\tplain\tauto\tkeep\t-\t1"), LEGUMEYET_CLOSED);
-    expect_text("after its book", format("1234", AS_GIVEN), "1,234");
-    expect_text("after its book", format_short("1650", AS_GIVEN), "1.6K");
-    expect("short", legumeyet_compact_formatter_close(&short_english), LEGUMEYET_OK);
-    expect("short again", legumeyet_compact_formatter_close(&short_english), LEGUMEYET_CLOSED);
-    expect("long", legumeyet_compact_formatter_close(&long_english), LEGUMEYET_OK);
-    expect_error("a number", format_short("1", AS_GIVEN), LEGUMEYET_CLOSED);
-    expect_error("an integer", format_short_i64(1, 0), LEGUMEYET_CLOSED);
-    expect_error("the value shown", shown("1", AS_GIVEN), LEGUMEYET_CLOSED);
-    expect_error("an exact form", format_exact("1c3", AS_GIVEN), LEGUMEYET_CLOSED);
-    expect_error("its parts",
-                 legumeyet_compact_formatter_format_parts(&short_english, TEXT("1"), &AS_GIVEN, out, ROOM, &length, &none, 1, &count),
-                 LEGUMEYET_CLOSED);
-    expect("plain", legumeyet_decimal_formatter_close(&english), LEGUMEYET_OK);
-    expect("plain again", legumeyet_decimal_formatter_close(&english), LEGUMEYET_CLOSED);
-    expect_error("format", format("1", AS_GIVEN), LEGUMEYET_CLOSED);
-    expect_error("integer", format_i64(1, 0), LEGUMEYET_CLOSED);
-    expect_error("read", read_back(&english, "1"), LEGUMEYET_CLOSED);
-    expect_error("parts", format_parts("1", &none, 1, &count), LEGUMEYET_CLOSED);
+    for (row = 0; row < FORMATS; row++) no_book((void *)&formatters[row]);
+    expect_text("the formatter", format(by[PLAIN], "1234", (legumeyet_options){0}), "1,234");
+    expect("plain", open_asked(&book, &ASKED[PLAIN], &plain), WELL);
+    expect("no book over it", legumeyet_book_open(TEXT("[]"), (void *)&plain), LEGUMEYET_BOOK_SHAPE);
+    expect_text("it stayed open", legumeyet_formatter_format(&plain, TEXT("1234"), NOTHING, out, ROOM, &length), "1,234");
+    expect("a book over it", legumeyet_book_open(TEXT(BOOK), (void *)&plain), WELL);
+    no_formatter((caller){.own = &plain});
+    expect("a formatter over the book", open_asked(&book, &ASKED[EUROS], &plain), WELL);
+    expect("a close", legumeyet_formatter_close(&plain), WELL);
 }
 
 static void texts(void) {
@@ -669,38 +741,87 @@ static void texts(void) {
     expect("version", legumeyet_version(), LEGUMEYET_VERSION);
     expect("minor version", legumeyet_minor(), LEGUMEYET_MINOR);
     expect_text("a text", legumeyet_error_text(LEGUMEYET_TAG, out, ROOM, &length), "no locale tag");
-    for (error = -1; error < 200; error++) {
-        int is_known = (error >= LEGUMEYET_MEMORY && error <= LEGUMEYET_UNKEPT) || (error >= LEGUMEYET_BOOK_JSON && error <= LEGUMEYET_BOOK_CODE && error != 112);
-        expect("a number's text", legumeyet_error_text(error, out, ROOM, &length), is_known ? LEGUMEYET_OK : LEGUMEYET_OPTION);
+    for (error = -1; error < 300; error++) {
+        const int is_of_book = error >= LEGUMEYET_BOOK_JSON && error <= LEGUMEYET_BOOK_CODE && error != 112;
+        const int is_of_skeleton = error >= LEGUMEYET_SKELETON_UNKNOWN && error <= LEGUMEYET_SKELETON_UNSUPPORTED;
+        const int is_known = (error >= LEGUMEYET_MEMORY && error <= LEGUMEYET_UNKEPT) || is_of_book || is_of_skeleton;
+        size_t needed = 0;
+        expect("a number's text", legumeyet_error_text(error, NOTHING, &needed), is_known ? LEGUMEYET_TOO_SMALL : LEGUMEYET_OPTION);
+        expect("its length", needed > 5, is_known);
     }
-    expect("no room", legumeyet_error_text(LEGUMEYET_TAG, out, 0, &length), LEGUMEYET_TOO_SMALL);
 }
 
-int main(void) {
-    memset(out, '.', sizeof out);
-    length = 77;
-    books();
-    opens();
-    opens_compact();
-    formats();
-    increments();
-    zeros();
-    rounded_to_zero();
-    least_digits();
-    unsigned_integers();
+/* Each call of the formatters. */
+static void calls(void) {
+    writes();
+    integers();
     doubles();
-    compacts();
-    parts();
-    compact_parts();
+    shows();
     reads();
-    reads_leniently();
-    answers();
+    many_digits();
+    parts();
     rooms();
-    null_texts();
-    null_rooms();
-    inside();
-    casts();
-    closes();
+    nulls();
+}
+
+/* Opens all formatters, over what is open, and makes the calls by them. */
+static void opens_all(void) {
+    size_t row;
+    for (row = 0; row < FORMATS; row++) {
+        expect("a format", open_asked(&book, &ASKED[row], &formatters[row]), WELL);
+        by[row] = (caller){.own = &formatters[row]};
+    }
+}
+
+/* Shares them all, and makes the calls by the shared ones. */
+static void shares_all(void) {
+    size_t row;
+    for (row = 0; row < FORMATS; row++) {
+        expect("a share", legumeyet_formatter_share(&formatters[row], &shared[row]), WELL);
+        no_formatter((caller){.own = &formatters[row]});
+        by[row] = (caller){.shared = &shared[row]};
+    }
+}
+
+/* The book is closed before its formatters, which write and read as before. */
+static void closes(void) {
+    size_t row;
+    expect("the book before its formatters", legumeyet_book_close(&book), WELL);
+    no_book(&book);
+    writes();
+    reads();
+    for (row = 0; row < FORMATS; row++) {
+        expect("a close", legumeyet_formatter_close(&formatters[row]), WELL);
+        no_formatter((caller){.own = &formatters[row]});
+    }
+}
+
+int main(int count, char **word) {
+    (void)word;
+    clear();
+    books();
+    locales();
+    opens();
+    words();
     texts();
+    inside();
+    opens_all();
+    calls();
+    opens_all();
+    answers();
+    casts();
+    if (count == 2) {
+        shares_all();
+        calls();
+        opens_all();
+        expect("kept", legumeyet_book_keep(&book), WELL);
+        opens_all();
+        calls();
+        casts();
+        shares_all();
+        calls();
+        opens_all();
+    }
+    closes();
     return wrong == 0 ? 0 : 1;
 }

@@ -1,197 +1,158 @@
 /*
- * Calls each function that writes a column, well and badly, and prints what each answers otherwise than it should. The status is 1 where
- * something does.
+ * Calls each function that writes a column, well and badly, by formatters and by shared ones, and prints what each answers otherwise than it
+ * should. The status is 1 where something does.
  */
-#include "expect.h"
-#include <legumeyet.h>
+#include "calls.h"
 #include <math.h>
-#include <stdio.h>
-#include <string.h>
 
-#define TEXT(text) (const uint8_t *)(text), strlen(text)
-#define EURO "\xe2\x82\xac"
-#define COUNT(array) (sizeof(array) / sizeof *(array))
-
-enum { ROOM = 96, ENDS = 8 };
-
-/* English: plain numbers, short ones, percents, and euros. */
-static const char BOOK[] =
-    "[[[[\"en\",\"\",\"latn\",\"-\",\"\",\"+\",\"\",\".\",\",\",3,3,1]],[[\"latn\",\"0123456789\"]],"
-    "[[\"en\",[[\"one\",\"i = 1 and v = 0\"]]]],[[\"en\",\"\",[[3,3,[[\"one\",[\"\",\"K\"]],[\"other\",[\"\",\"K\"]]]],"
-    "[4,3,[[\"other\",[\"\",\"K\"]]]],[5,3,[[\"other\",[\"\",\"K\"]]]]],null]],[]],"
-    "[[[\"en\",\"\",\"%\",null,[\"\",\"\\u00a4\"]]],[[\"en\",\"\",null,[\"\\u00a4\",\"\"],[\"\\u00a4\\u00a0\",\"\"]]],[],"
-    "[[\"en\",\"EUR\",\"\\u20ac\",0]],[]]]";
+enum { ENDS = 8, WIDE = 96 };
 
 static legumeyet_book book, loose;
-static legumeyet_decimal_formatter plain, closed_plain;
-static legumeyet_compact_formatter compact, closed_compact;
-static legumeyet_unit_formatter euros, percents, closed_units;
-static legumeyet_shared_decimal_formatter shared_plain, closed_shared_plain;
-static legumeyet_shared_compact_formatter shared_compact, closed_shared_compact;
-static legumeyet_shared_unit_formatter shared_euros, closed_shared_units;
-static const legumeyet_options AS_GIVEN = {0};
-static uint8_t out[ROOM];
-static size_t ends[ENDS], count, room = ROOM, ends_room = ENDS;
+static legumeyet_formatter formatters[FORMATS], lent[FORMATS], closed;
+static legumeyet_shared_formatter shared[FORMATS], closed_shared;
+static caller by[FORMATS];
+static uint8_t texts_out[WIDE];
+static size_t ends[ENDS], count, room = WIDE, ends_room = ENDS;
 
-static void clear(void) {
+static void clear_column(void) {
     size_t at;
-    memset(out, '.', sizeof out);
+    memset(texts_out, '.', sizeof texts_out);
     for (at = 0; at < ENDS; at++) ends[at] = 77;
     count = 77;
 }
 
-/* The call returned this, and wrote these texts with their ends, and no end after them. */
-static void expect_column(int32_t error, int32_t wanted, const char *const *texts, size_t wanted_count) {
-    size_t at, end = 0;
+/* The call returned this, and wrote these texts with their ends, up to NULL, and no end after them. */
+static void expect_column(int32_t error, int32_t wanted, const char *const *texts) {
+    size_t at, end = 0, wanted_count = 0;
+    while (texts[wanted_count] != NULL) wanted_count++;
     expect("a column", error, wanted);
     expect("how many were written", (int64_t)count, (int64_t)wanted_count);
     for (at = 0; at < wanted_count && at < count; at++) {
-        size_t length = strlen(texts[at]);
-        if (memcmp(out + end, texts[at], length) != 0) {
-            fprintf(stderr, "%.*s, and not %s\n", (int)length, (const char *)out + end, texts[at]);
+        const size_t each = strlen(texts[at]);
+        if (memcmp(texts_out + end, texts[at], each) != 0) {
+            fprintf(stderr, "%.*s, and not %s\n", (int)each, (const char *)texts_out + end, texts[at]);
             wrong = 1;
         }
-        end += length;
+        end += each;
         expect(texts[at], (int64_t)ends[at], (int64_t)end);
     }
     for (at = wanted_count; at < ENDS; at++) expect("an end after those", (int64_t)ends[at], 77);
-    if (wanted != LEGUMEYET_TOO_SMALL && end < ROOM) expect("the byte after the texts", out[end], '.');
-    clear();
+    if (wanted != LEGUMEYET_TOO_SMALL && end < WIDE) expect("the byte after the texts", texts_out[end], '.');
+    clear_column();
 }
 
-/* One text after the other, of a column in braces. */
-#define EXPECT(call, wanted, ...)                                               \
-    do {                                                                        \
-        static const char *const texts_[] = {__VA_ARGS__};                      \
-        expect_column(call, wanted, texts_, COUNT(texts_));                     \
+/* One text after the other. */
+#define EXPECT(call, wanted, ...)                              \
+    do {                                                       \
+        static const char *const texts_[] = {__VA_ARGS__};     \
+        expect_column(call, wanted, texts_);                   \
     } while (0)
-#define EXPECT_NONE(call, wanted) expect_column(call, wanted, NULL, 0)
-
-#define WRITTEN out, room, ends, ends_room, &count
+#define WRITTEN texts_out, room, ends, ends_room, &count
+#define OWN NULL, 0
 
 static const double DOUBLES[] = {1234.5, -7, 0.25};
 static const int64_t INTEGERS[] = {123450, -700, 0};
 static const char LINES[] = "1234.50\n-7\n1e3\n";
 
-static void opens(void) {
-    legumeyet_decimal_formatter plain_to_share = {0};
-    legumeyet_compact_formatter compact_to_share = {0};
-    legumeyet_unit_formatter euros_to_share = {0};
-    expect("the book", legumeyet_book_open(TEXT(BOOK), &book), LEGUMEYET_OK);
-    expect("another book", legumeyet_book_open(TEXT(BOOK), &loose), LEGUMEYET_OK);
-    expect("kept", legumeyet_book_keep(&book), LEGUMEYET_OK);
-    expect("plain", legumeyet_decimal_formatter_open(&book, TEXT("en"), LEGUMEYET_GROUPING_AUTO, &plain), LEGUMEYET_OK);
-    expect("plain", legumeyet_decimal_formatter_open(&loose, TEXT("en"), LEGUMEYET_GROUPING_AUTO, &plain_to_share), LEGUMEYET_OK);
-    expect("compact", legumeyet_compact_formatter_open(&book, TEXT("en"), LEGUMEYET_WIDTH_SHORT, LEGUMEYET_GROUPING_MIN2, &compact), LEGUMEYET_OK);
-    expect("compact", legumeyet_compact_formatter_open(&loose, TEXT("en"), LEGUMEYET_WIDTH_SHORT, LEGUMEYET_GROUPING_MIN2, &compact_to_share), LEGUMEYET_OK);
-    expect("euros", legumeyet_currency_formatter_open(&book, TEXT("en"), TEXT("EUR"), 0, 0, 0, &euros), LEGUMEYET_OK);
-    expect("euros", legumeyet_currency_formatter_open(&book, TEXT("en"), TEXT("EUR"), 0, 0, 0, &euros_to_share), LEGUMEYET_OK);
-    expect("percents", legumeyet_percent_formatter_open(&book, TEXT("en"), 0, &percents), LEGUMEYET_OK);
-    expect("shared", legumeyet_decimal_formatter_share(&plain_to_share, &shared_plain), LEGUMEYET_OK);
-    expect("shared", legumeyet_compact_formatter_share(&compact_to_share, &shared_compact), LEGUMEYET_OK);
-    expect("shared", legumeyet_unit_formatter_share(&euros_to_share, &shared_euros), LEGUMEYET_OK);
+/* What each format makes of these columns. */
+static const struct {
+    int format;
+    const char *doubles[4], *integers[4], *lines[4];
+} ROWS[] = {
+    {PLAIN, {"1,234.5", "-7", "0.25"}, {"1,234.50", "-7.00", "0.00"}, {"1,234.50", "-7", "1,000"}},
+    {SHORT, {"1.2K", "-7", "0.25"}, {"1.2K", "-7", "0"}, {"1.2K", "-7", "1K"}},
+    {PERCENT, {"1,234.5%", "-7%", "0.25%"}, {"1,234.50%", "-7.00%", "0.00%"}, {"1,234.50%", "-7%", "1,000%"}},
+    {EUROS, {EURO "1,234.50", "-" EURO "7.00", EURO "0.25"}, {EURO "1,234.50", "-" EURO "7.00", EURO "0.00"}, {EURO "1,234.50", "-" EURO "7.00", EURO "1,000.00"}},
+};
+
+static void columns(void) {
+    size_t row;
+    for (row = 0; row < COUNT(ROWS); row++) {
+        const caller it = by[ROWS[row].format];
+        expect_column(CALL(it, format_doubles, DOUBLES, 3, OWN, WRITTEN), LEGUMEYET_OK, ROWS[row].doubles);
+        expect_column(CALL(it, format_integers, INTEGERS, 3, -2, OWN, WRITTEN), LEGUMEYET_OK, ROWS[row].integers);
+        expect_column(CALL(it, format_texts, TEXT(LINES), OWN, WRITTEN), LEGUMEYET_OK, ROWS[row].lines);
+    }
 }
 
-static void doubles(void) {
-    EXPECT(legumeyet_decimal_formatter_format_doubles(&plain, DOUBLES, 3, &AS_GIVEN, WRITTEN), LEGUMEYET_OK, "1,234.5", "-7", "0.25");
-    EXPECT(legumeyet_shared_decimal_formatter_format_doubles(&shared_plain, DOUBLES, 3, &AS_GIVEN, WRITTEN), LEGUMEYET_OK, "1,234.5", "-7", "0.25");
-    EXPECT(legumeyet_compact_formatter_format_doubles(&compact, DOUBLES, 3, &AS_GIVEN, WRITTEN), LEGUMEYET_OK, "1.2K", "-7", "0.25");
-    EXPECT(legumeyet_shared_compact_formatter_format_doubles(&shared_compact, DOUBLES, 3, &AS_GIVEN, WRITTEN), LEGUMEYET_OK, "1.2K", "-7", "0.25");
-    EXPECT(legumeyet_unit_formatter_format_doubles(&euros, DOUBLES, 3, &AS_GIVEN, WRITTEN), LEGUMEYET_OK, EURO "1,234.50", "-" EURO "7.00", EURO "0.25");
-    EXPECT(legumeyet_unit_formatter_format_doubles(&percents, DOUBLES, 3, &AS_GIVEN, WRITTEN), LEGUMEYET_OK, "1,234.5%", "-7%", "0.25%");
-    EXPECT(legumeyet_shared_unit_formatter_format_doubles(&shared_euros, DOUBLES, 3, &AS_GIVEN, WRITTEN), LEGUMEYET_OK, EURO "1,234.50", "-" EURO "7.00", EURO "0.25");
-}
-
-static void integers(void) {
-    EXPECT(legumeyet_decimal_formatter_format_integers(&plain, INTEGERS, 3, -2, &AS_GIVEN, WRITTEN), LEGUMEYET_OK, "1,234.50", "-7.00", "0.00");
-    EXPECT(legumeyet_shared_decimal_formatter_format_integers(&shared_plain, INTEGERS, 3, -2, &AS_GIVEN, WRITTEN), LEGUMEYET_OK, "1,234.50", "-7.00", "0.00");
-    EXPECT(legumeyet_compact_formatter_format_integers(&compact, INTEGERS, 3, -2, &AS_GIVEN, WRITTEN), LEGUMEYET_OK, "1.2K", "-7", "0");
-    EXPECT(legumeyet_shared_compact_formatter_format_integers(&shared_compact, INTEGERS, 3, -2, &AS_GIVEN, WRITTEN), LEGUMEYET_OK, "1.2K", "-7", "0");
-    EXPECT(legumeyet_unit_formatter_format_integers(&euros, INTEGERS, 3, -2, &AS_GIVEN, WRITTEN), LEGUMEYET_OK, EURO "1,234.50", "-" EURO "7.00", EURO "0.00");
-    EXPECT(legumeyet_shared_unit_formatter_format_integers(&shared_euros, INTEGERS, 3, -2, &AS_GIVEN, WRITTEN), LEGUMEYET_OK, EURO "1,234.50", "-" EURO "7.00", EURO "0.00");
-    EXPECT_NONE(legumeyet_decimal_formatter_format_integers(&plain, INTEGERS, 1, 32767, &AS_GIVEN, WRITTEN), LEGUMEYET_LIMIT);
-}
-
-static void texts(void) {
-    EXPECT(legumeyet_decimal_formatter_format_texts(&plain, TEXT(LINES), &AS_GIVEN, WRITTEN), LEGUMEYET_OK, "1,234.50", "-7", "1,000");
-    EXPECT(legumeyet_decimal_formatter_format_texts(&plain, TEXT("1234.50\n-7\n1e3"), &AS_GIVEN, WRITTEN), LEGUMEYET_OK, "1,234.50", "-7", "1,000");
-    EXPECT(legumeyet_shared_decimal_formatter_format_texts(&shared_plain, TEXT(LINES), &AS_GIVEN, WRITTEN), LEGUMEYET_OK, "1,234.50", "-7", "1,000");
-    EXPECT(legumeyet_compact_formatter_format_texts(&compact, TEXT(LINES), &AS_GIVEN, WRITTEN), LEGUMEYET_OK, "1.2K", "-7", "1K");
-    EXPECT(legumeyet_shared_compact_formatter_format_texts(&shared_compact, TEXT(LINES), &AS_GIVEN, WRITTEN), LEGUMEYET_OK, "1.2K", "-7", "1K");
-    EXPECT(legumeyet_unit_formatter_format_texts(&euros, TEXT(LINES), &AS_GIVEN, WRITTEN), LEGUMEYET_OK, EURO "1,234.50", "-" EURO "7.00", EURO "1,000.00");
-    EXPECT(legumeyet_shared_unit_formatter_format_texts(&shared_euros, TEXT(LINES), &AS_GIVEN, WRITTEN), LEGUMEYET_OK, EURO "1,234.50", "-" EURO "7.00", EURO "1,000.00");
-    EXPECT(legumeyet_decimal_formatter_format_texts(&plain, TEXT("7\n\n8"), &AS_GIVEN, WRITTEN), LEGUMEYET_NUMBER, "7");
-    EXPECT_NONE(legumeyet_decimal_formatter_format_texts(&plain, TEXT("7\r\n8"), &AS_GIVEN, WRITTEN), LEGUMEYET_NUMBER);
-    EXPECT(legumeyet_decimal_formatter_format_texts(&plain, TEXT("7\n1e32768\n8"), &AS_GIVEN, WRITTEN), LEGUMEYET_LIMIT, "7");
-    EXPECT_NONE(legumeyet_decimal_formatter_format_texts(&plain, TEXT("\n"), &AS_GIVEN, WRITTEN), LEGUMEYET_NUMBER);
-    EXPECT_NONE(legumeyet_decimal_formatter_format_texts(&plain, NULL, 0, &AS_GIVEN, WRITTEN), LEGUMEYET_OK);
+/* Where lines end, and numbers that are none. */
+static void lines(void) {
+    const caller plain = by[PLAIN];
+    EXPECT(CALL(plain, format_texts, TEXT("1234.50\n-7\n1e3"), OWN, WRITTEN), LEGUMEYET_OK, "1,234.50", "-7", "1,000", NULL);
+    EXPECT(CALL(plain, format_texts, TEXT("7\n\n8"), OWN, WRITTEN), LEGUMEYET_NUMBER, "7", NULL);
+    EXPECT(CALL(plain, format_texts, TEXT("7\r\n8"), OWN, WRITTEN), LEGUMEYET_NUMBER, NULL);
+    EXPECT(CALL(plain, format_texts, TEXT("7\n1e32768\n8"), OWN, WRITTEN), LEGUMEYET_LIMIT, "7", NULL);
+    EXPECT(CALL(plain, format_texts, TEXT("\n"), OWN, WRITTEN), LEGUMEYET_NUMBER, NULL);
+    EXPECT(CALL(plain, format_texts, NULL, 0, OWN, WRITTEN), LEGUMEYET_OK, NULL);
+    EXPECT(CALL(plain, format_integers, INTEGERS, 1, 32767, OWN, WRITTEN), LEGUMEYET_LIMIT, NULL);
 }
 
 /* What stops a column, and that one goes on from there. */
 static void stops(void) {
-    const double broken[] = {5, NAN, 1e21, -INFINITY};
-    legumeyet_options options = {0}, unknown = {0};
-    options.rounding = LEGUMEYET_ROUND_HALF_EVEN;
-    options.position = -1;
-    options.sign = LEGUMEYET_SIGN_ALWAYS;
-    unknown.sign = 6;
-    EXPECT(legumeyet_decimal_formatter_format_doubles(&plain, DOUBLES, 3, &options, WRITTEN), LEGUMEYET_OK, "+1,234.5", "-7.0", "+0.2");
-    EXPECT(legumeyet_decimal_formatter_format_doubles(&plain, broken, 4, &AS_GIVEN, WRITTEN), LEGUMEYET_NUMBER, "5");
-    EXPECT(legumeyet_decimal_formatter_format_doubles(&plain, broken + 2, 2, &AS_GIVEN, WRITTEN), LEGUMEYET_NUMBER, "1,000,000,000,000,000,000,000");
+    static const double BROKEN[] = {5, NAN, 1e21, -INFINITY};
+    static const legumeyet_options ROUNDED = {.sign = LEGUMEYET_SIGN_ALWAYS, .rounding = LEGUMEYET_ROUND_HALF_EVEN, .position = -1};
+    static const legumeyet_options CASH = {.sign = LEGUMEYET_SIGN_ALWAYS, .rounding = LEGUMEYET_ROUND_CASH}, UNKNOWN = {.sign = 6};
+    const caller plain = by[PLAIN];
+    size_t row;
+    EXPECT(CALL(plain, format_doubles, DOUBLES, 3, LEGUMEYET_WORDS(ROUNDED), WRITTEN), LEGUMEYET_OK, "+1,234.5", "-7.0", "+0.2", NULL);
+    EXPECT(CALL(plain, format_doubles, BROKEN, 4, OWN, WRITTEN), LEGUMEYET_NUMBER, "5", NULL);
+    EXPECT(CALL(plain, format_doubles, BROKEN + 2, 2, OWN, WRITTEN), LEGUMEYET_NUMBER, "1,000,000,000,000,000,000,000", NULL);
     room = 9;
-    EXPECT(legumeyet_decimal_formatter_format_doubles(&plain, DOUBLES, 3, &AS_GIVEN, WRITTEN), LEGUMEYET_TOO_SMALL, "1,234.5", "-7");
-    EXPECT(legumeyet_decimal_formatter_format_doubles(&plain, DOUBLES + 2, 1, &AS_GIVEN, WRITTEN), LEGUMEYET_OK, "0.25");
+    EXPECT(CALL(plain, format_doubles, DOUBLES, 3, OWN, WRITTEN), LEGUMEYET_TOO_SMALL, "1,234.5", "-7", NULL);
+    EXPECT(CALL(plain, format_doubles, DOUBLES + 2, 1, OWN, WRITTEN), LEGUMEYET_OK, "0.25", NULL);
     room = 8;
-    EXPECT(legumeyet_decimal_formatter_format_doubles(&plain, DOUBLES, 3, &AS_GIVEN, WRITTEN), LEGUMEYET_TOO_SMALL, "1,234.5");
+    EXPECT(CALL(plain, format_doubles, DOUBLES, 3, OWN, WRITTEN), LEGUMEYET_TOO_SMALL, "1,234.5", NULL);
     room = 6;
-    EXPECT_NONE(legumeyet_decimal_formatter_format_doubles(&plain, DOUBLES, 3, &AS_GIVEN, WRITTEN), LEGUMEYET_TOO_SMALL);
-    EXPECT_NONE(legumeyet_decimal_formatter_format_doubles(&plain, DOUBLES, 3, &AS_GIVEN, NULL, 0, ends, ends_room, &count), LEGUMEYET_TOO_SMALL);
-    room = ROOM;
+    EXPECT(CALL(plain, format_doubles, DOUBLES, 3, OWN, WRITTEN), LEGUMEYET_TOO_SMALL, NULL);
+    EXPECT(CALL(plain, format_doubles, DOUBLES, 3, OWN, NULL, 0, ends, ends_room, &count), LEGUMEYET_TOO_SMALL, NULL);
+    room = WIDE;
     ends_room = 2;
-    EXPECT(legumeyet_decimal_formatter_format_doubles(&plain, DOUBLES, 3, &AS_GIVEN, WRITTEN), LEGUMEYET_TOO_SMALL, "1,234.5", "-7");
-    EXPECT(legumeyet_decimal_formatter_format_doubles(&plain, DOUBLES, 2, &AS_GIVEN, WRITTEN), LEGUMEYET_OK, "1,234.5", "-7");
+    EXPECT(CALL(plain, format_doubles, DOUBLES, 3, OWN, WRITTEN), LEGUMEYET_TOO_SMALL, "1,234.5", "-7", NULL);
+    EXPECT(CALL(plain, format_doubles, DOUBLES, 2, OWN, WRITTEN), LEGUMEYET_OK, "1,234.5", "-7", NULL);
     ends_room = 1;
-    EXPECT(legumeyet_decimal_formatter_format_doubles(&plain, broken, 4, &AS_GIVEN, WRITTEN), LEGUMEYET_TOO_SMALL, "5");
-    EXPECT_NONE(legumeyet_decimal_formatter_format_doubles(&plain, DOUBLES, 3, &AS_GIVEN, out, room, NULL, 0, &count), LEGUMEYET_TOO_SMALL);
-    EXPECT_NONE(legumeyet_decimal_formatter_format_doubles(&plain, NULL, 0, &AS_GIVEN, NULL, 0, NULL, 0, &count), LEGUMEYET_OK);
-    EXPECT_NONE(legumeyet_decimal_formatter_format_integers(&plain, NULL, 0, 0, &AS_GIVEN, WRITTEN), LEGUMEYET_OK);
+    EXPECT(CALL(plain, format_doubles, BROKEN, 4, OWN, WRITTEN), LEGUMEYET_TOO_SMALL, "5", NULL);
+    EXPECT(CALL(plain, format_doubles, DOUBLES, 3, OWN, texts_out, room, NULL, 0, &count), LEGUMEYET_TOO_SMALL, NULL);
+    EXPECT(CALL(plain, format_doubles, NULL, 0, OWN, NULL, 0, NULL, 0, &count), LEGUMEYET_OK, NULL);
+    EXPECT(CALL(plain, format_integers, NULL, 0, 0, OWN, WRITTEN), LEGUMEYET_OK, NULL);
     ends_room = ENDS;
-    EXPECT_NONE(legumeyet_decimal_formatter_format_doubles(&plain, NULL, 0, &unknown, WRITTEN), LEGUMEYET_OPTION);
-    EXPECT_NONE(legumeyet_compact_formatter_format_integers(&compact, INTEGERS, 3, 0, &unknown, WRITTEN), LEGUMEYET_OPTION);
-    EXPECT_NONE(legumeyet_unit_formatter_format_texts(&euros, TEXT("x"), &unknown, WRITTEN), LEGUMEYET_OPTION);
-    options.rounding = LEGUMEYET_ROUND_CASH;
-    EXPECT_NONE(legumeyet_unit_formatter_format_doubles(&percents, DOUBLES, 3, &options, WRITTEN), LEGUMEYET_OPTION);
-    EXPECT(legumeyet_unit_formatter_format_doubles(&euros, DOUBLES, 1, &options, WRITTEN), LEGUMEYET_OK, "+" EURO "1,234.50");
+    for (row = 0; row < COUNT(ROWS); row++) {
+        EXPECT(CALL(by[ROWS[row].format], format_doubles, NULL, 0, LEGUMEYET_WORDS(UNKNOWN), WRITTEN), LEGUMEYET_OPTION, NULL);
+        EXPECT(CALL(by[ROWS[row].format], format_integers, INTEGERS, 3, 0, LEGUMEYET_WORDS(UNKNOWN), WRITTEN), LEGUMEYET_OPTION, NULL);
+        EXPECT(CALL(by[ROWS[row].format], format_texts, TEXT("x"), LEGUMEYET_WORDS(UNKNOWN), WRITTEN), LEGUMEYET_OPTION, NULL);
+    }
+    EXPECT(CALL(by[PERCENT], format_doubles, DOUBLES, 1, LEGUMEYET_WORDS(CASH), WRITTEN), LEGUMEYET_OK, "+1,234.5%", NULL);
+    EXPECT(CALL(by[EUROS], format_doubles, DOUBLES, 1, LEGUMEYET_WORDS(CASH), WRITTEN), LEGUMEYET_OK, "+" EURO "1,234.50", NULL);
 }
 
-static void closed(void) {
-    EXPECT_NONE(legumeyet_decimal_formatter_format_doubles(&closed_plain, NULL, 0, &AS_GIVEN, WRITTEN), LEGUMEYET_CLOSED);
-    EXPECT_NONE(legumeyet_decimal_formatter_format_integers(&closed_plain, INTEGERS, 3, 0, &AS_GIVEN, WRITTEN), LEGUMEYET_CLOSED);
-    EXPECT_NONE(legumeyet_compact_formatter_format_texts(&closed_compact, TEXT("x"), &AS_GIVEN, WRITTEN), LEGUMEYET_CLOSED);
-    EXPECT_NONE(legumeyet_unit_formatter_format_doubles(&closed_units, DOUBLES, 3, &AS_GIVEN, WRITTEN), LEGUMEYET_CLOSED);
-    EXPECT_NONE(legumeyet_unit_formatter_format_doubles((legumeyet_unit_formatter *)(void *)&plain, DOUBLES, 3, &AS_GIVEN, WRITTEN), LEGUMEYET_CLOSED);
-    EXPECT_NONE(legumeyet_shared_decimal_formatter_format_doubles(&closed_shared_plain, DOUBLES, 3, &AS_GIVEN, WRITTEN), LEGUMEYET_CLOSED);
-    EXPECT_NONE(legumeyet_shared_compact_formatter_format_integers(&closed_shared_compact, INTEGERS, 3, 0, &AS_GIVEN, WRITTEN), LEGUMEYET_CLOSED);
-    EXPECT_NONE(legumeyet_shared_unit_formatter_format_texts(&closed_shared_units, TEXT("1"), &AS_GIVEN, WRITTEN), LEGUMEYET_CLOSED);
-}
-
-static void closes(void) {
-    expect("a close", legumeyet_decimal_formatter_close(&plain), LEGUMEYET_OK);
-    expect("a close", legumeyet_compact_formatter_close(&compact), LEGUMEYET_OK);
-    expect("a close", legumeyet_unit_formatter_close(&euros), LEGUMEYET_OK);
-    expect("a close", legumeyet_unit_formatter_close(&percents), LEGUMEYET_OK);
-    expect("a close", legumeyet_book_close(&book), LEGUMEYET_OK);
-    expect("a close", legumeyet_book_close(&loose), LEGUMEYET_OK);
+/* By a handle that has no formatter open. */
+static void no_columns(caller it) {
+    EXPECT(CALL(it, format_doubles, NULL, 0, OWN, WRITTEN), LEGUMEYET_CLOSED, NULL);
+    EXPECT(CALL(it, format_doubles, DOUBLES, 3, OWN, WRITTEN), LEGUMEYET_CLOSED, NULL);
+    EXPECT(CALL(it, format_integers, INTEGERS, 3, 0, OWN, WRITTEN), LEGUMEYET_CLOSED, NULL);
+    EXPECT(CALL(it, format_texts, TEXT("x"), OWN, WRITTEN), LEGUMEYET_CLOSED, NULL);
 }
 
 int main(void) {
-    clear();
-    opens();
-    doubles();
-    integers();
-    texts();
-    stops();
-    closed();
-    closes();
+    size_t row, turn;
+    clear_column();
+    expect("the book", legumeyet_book_open(TEXT(BOOK), &book), LEGUMEYET_OK);
+    expect("another book", legumeyet_book_open(TEXT(BOOK), &loose), LEGUMEYET_OK);
+    expect("kept", legumeyet_book_keep(&book), LEGUMEYET_OK);
+    for (turn = 0; turn < 4; turn++) { /* by formatters that borrow tables or have their own, and by the same shared */
+        for (row = 0; row < FORMATS; row++) {
+            expect("a format", open_asked(turn % 2 == 0 ? &book : &loose, &ASKED[row], turn < 2 ? &formatters[row] : &lent[row]), LEGUMEYET_OK);
+            if (turn >= 2) expect("a share", legumeyet_formatter_share(&lent[row], &shared[row]), LEGUMEYET_OK);
+            by[row] = turn < 2 ? (caller){.own = &formatters[row]} : (caller){.shared = &shared[row]};
+        }
+        columns();
+        lines();
+        stops();
+    }
+    no_columns((caller){.own = &closed});
+    no_columns((caller){.own = (void *)&book});
+    no_columns((caller){.shared = &closed_shared});
+    for (row = 0; row < FORMATS; row++) expect("a close", legumeyet_formatter_close(&formatters[row]), LEGUMEYET_OK);
+    expect("a close", legumeyet_book_close(&book), LEGUMEYET_OK);
+    expect("a close", legumeyet_book_close(&loose), LEGUMEYET_OK);
     return wrong;
 }

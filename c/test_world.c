@@ -1,5 +1,5 @@
 /*
- * Opens the world's book, and a formatter of each kind for each of its locales, all open at once; opens books of files; and makes tags of
+ * Opens the world's book, and formatters of some formats for each of its locales, all open at once; opens books of files; and makes tags of
  * locales' names. It prints what is otherwise than it should be, and the status is 1 where something is.
  *
  * usage: test_world BOOK FOLDER
@@ -13,12 +13,21 @@
 #include <stdlib.h>
 #include <string.h>
 
-enum { ROOM = 256, MOST = 2000 };
+enum { ROOM = 256, MOST = 2000, FORMATS = 5 };
+
+static const struct {
+    legumeyet_format words;
+    const char *unit;
+} ASKED[FORMATS] = {
+    {{0}, ""},
+    {{.notation = LEGUMEYET_NOTATION_COMPACT, .grouping = LEGUMEYET_GROUPING_MIN2}, ""},
+    {{.notation = LEGUMEYET_NOTATION_COMPACT, .width = LEGUMEYET_WIDTH_LONG, .grouping = LEGUMEYET_GROUPING_MIN2}, ""},
+    {{.unit = LEGUMEYET_UNIT_PERCENT}, ""},
+    {{.unit = LEGUMEYET_UNIT_CURRENCY}, "EUR"},
+};
 
 static legumeyet_book world;
-static legumeyet_decimal_formatter plain[MOST];
-static legumeyet_compact_formatter compact[2][MOST];
-static const legumeyet_options AS_GIVEN = {0};
+static legumeyet_formatter formatters[FORMATS][MOST];
 static uint8_t out[ROOM];
 static size_t length;
 
@@ -43,38 +52,58 @@ static size_t locales(void) {
     return count;
 }
 
-/* Each locale has formatters of each kind, which have their own tables, and write. */
+static int32_t open_plain(const char *tag, legumeyet_formatter *formatter) {
+    return legumeyet_formatter_open(&world, LEGUMEYET_TEXT(tag), NULL, 0, NULL, 0, formatter);
+}
+
+/* A formatter writes, and reads what it writes where it is not compact. */
+static void expect_back(const char *tag, legumeyet_formatter *it, bool is_compact) {
+    const int32_t wanted = is_compact ? LEGUMEYET_UNREADABLE : LEGUMEYET_OK;
+    expect(tag, legumeyet_formatter_format_i64(it, -12345678, -2, NULL, 0, out, ROOM / 2, &length), LEGUMEYET_OK);
+    expect(tag, legumeyet_formatter_read(it, out, length, out + ROOM / 2, ROOM / 2, &length), wanted);
+    if (!is_compact) expect(tag, length == 10 && memcmp(out + ROOM / 2, "-123456.78", 10) == 0, 1);
+}
+
+/* Each locale has formatters of each format, which have their own tables, and write. */
 static void opens(size_t count) {
-    size_t at, width;
+    size_t at, row;
     for (at = 0; at < count; at++) {
         const char *tag = legumeyet_world_locale(at);
-        expect(tag, legumeyet_decimal_formatter_open(&world, LEGUMEYET_TEXT(tag), LEGUMEYET_GROUPING_AUTO, &plain[at]), LEGUMEYET_OK);
-        for (width = 0; width < 2; width++)
-            expect(tag, legumeyet_compact_formatter_open(&world, LEGUMEYET_TEXT(tag), (uint32_t)width, 3, &compact[width][at]), LEGUMEYET_OK);
+        for (row = 0; row < FORMATS; row++)
+            expect(tag, legumeyet_formatter_open(&world, LEGUMEYET_TEXT(tag), LEGUMEYET_WORDS(ASKED[row].words), LEGUMEYET_TEXT(ASKED[row].unit), &formatters[row][at]), LEGUMEYET_OK);
     }
-    for (at = 0; at < count; at++) {
-        expect("plain", legumeyet_decimal_formatter_format_i64(&plain[at], -12345678, -2, &AS_GIVEN, out, ROOM, &length), LEGUMEYET_OK);
-        expect("read", legumeyet_decimal_formatter_read(&plain[at], out, length, out + 128, 128, &length), LEGUMEYET_OK);
-        expect("read", length == 10 && memcmp(out + 128, "-123456.78", 10) == 0, 1);
-        for (width = 0; width < 2; width++)
-            expect("compact", legumeyet_compact_formatter_format_i64(&compact[width][at], -1234567, 0, &AS_GIVEN, out, ROOM, &length), LEGUMEYET_OK);
-    }
+    for (at = 0; at < count; at++)
+        for (row = 0; row < FORMATS; row++) expect_back(legumeyet_world_locale(at), &formatters[row][at], ASKED[row].words.notation != 0);
 }
 
 static void closes(size_t count) {
-    size_t at, width;
-    for (at = 0; at < count; at++) {
-        expect("plain", legumeyet_decimal_formatter_close(&plain[at]), LEGUMEYET_OK);
-        for (width = 0; width < 2; width++) expect("compact", legumeyet_compact_formatter_close(&compact[width][at]), LEGUMEYET_OK);
-    }
+    size_t at, row;
+    for (at = 0; at < count; at++)
+        for (row = 0; row < FORMATS; row++) expect("a close", legumeyet_formatter_close(&formatters[row][at]), LEGUMEYET_OK);
 }
 
 /* A number in a locale, whose signs have up to seven bytes. */
 static void expect_written(const char *tag, const char *number, const char *text) {
-    legumeyet_decimal_formatter formatter = {0};
-    expect(tag, legumeyet_decimal_formatter_open(&world, LEGUMEYET_TEXT(tag), LEGUMEYET_GROUPING_AUTO, &formatter), LEGUMEYET_OK);
-    expect_text(tag, legumeyet_decimal_formatter_format(&formatter, LEGUMEYET_TEXT(number), &AS_GIVEN, out, ROOM, &length), text);
-    expect(tag, legumeyet_decimal_formatter_close(&formatter), LEGUMEYET_OK);
+    legumeyet_formatter formatter = {0};
+    expect(tag, open_plain(tag, &formatter), LEGUMEYET_OK);
+    expect_text(tag, legumeyet_formatter_format(&formatter, LEGUMEYET_TEXT(number), NULL, 0, out, ROOM, &length), text);
+    expect(tag, legumeyet_formatter_close(&formatter), LEGUMEYET_OK);
+}
+
+/* What is typed is read as a line reads it; NULL: it is no number. */
+static void expect_typed(const char *tag, const char *typed, const char *number) {
+    legumeyet_formatter formatter = {0};
+    char line[ROOM];
+    int32_t error;
+    expect(tag, open_plain(tag, &formatter), LEGUMEYET_OK);
+    error = legumeyet_formatter_read_lenient(&formatter, LEGUMEYET_TEXT(typed), out, ROOM, &length);
+    if (number != NULL) expect_text(typed, error, number);
+    else expect(typed, error, LEGUMEYET_NOT_WRITTEN);
+    snprintf(line, sizeof line, "%s\tread-lenient\tauto\tkeep\t-\t%s", tag, typed);
+    expect(line, legumeyet_book_answer(&world, LEGUMEYET_TEXT(line), out, ROOM, &length), LEGUMEYET_OK);
+    expect(line, length >= 3 && memcmp(out, number != NULL ? "ok\t" : "err", 3) == 0, 1);
+    if (number != NULL) expect(line, length == 3 + strlen(number) && memcmp(out + 3, number, length - 3) == 0, 1);
+    expect(tag, legumeyet_formatter_close(&formatter), LEGUMEYET_OK);
 }
 
 static void texts(void) {
@@ -86,8 +115,18 @@ static void texts(void) {
     expect_written("he", "-1234.5", "\xe2\x80\x8e-1,234.5");
     expect_written("fa", "-5", "\xe2\x80\x8e\xe2\x88\x92\xdb\xb5");
     expect_written("ps", "+5", "\xe2\x80\x8e+\xe2\x80\x8e\xdb\xb5");
-    expect("no such language", legumeyet_decimal_formatter_open(&world, LEGUMEYET_TEXT("xx"), 0, &plain[0]), LEGUMEYET_TABLE);
-    expect("an underscore", legumeyet_decimal_formatter_open(&world, LEGUMEYET_TEXT("de_DE"), 0, &plain[0]), LEGUMEYET_TAG);
+    expect("no such language", open_plain("xx", &formatters[0][0]), LEGUMEYET_TABLE);
+    expect("an underscore", open_plain("de_DE", &formatters[0][0]), LEGUMEYET_TAG);
+    expect_typed("ar-EG", "1,234.5", "1234.5");
+    expect_typed("ar-EG", "\xd9\xa1\xd9\xac\xd9\xa2\xd9\xa3\xd9\xa4\xd9\xab\xd9\xa5", "1234.5");
+    expect_typed("ar-EG-u-nu-latn", "1,234.5", "1234.5");
+    expect_typed("ar-EG", "1,23", NULL);
+    expect_typed("hi", "\xe0\xa5\xa7\xe0\xa5\xa8\xe0\xa5\xa9", "123");
+    expect_typed("fa", "1,234.5", "1234.5");
+    expect_typed("mr", "1,234.5", "1234.5");
+    expect_typed("km-u-nu-khmr", "1,234", NULL);
+    expect_typed("km-u-nu-khmr", "1,234.5", "1234.5");
+    expect_typed("km-u-nu-khmr", "1.234,5", "1234.5");
 }
 
 /* The answer to a line, which is the same by two books. */
