@@ -6,22 +6,18 @@
 
 #include <algorithm>
 #include <iostream>
+#include <regex>
 #include <string>
 #include <vector>
 
-using legumeyet::Book, legumeyet::CompactDecimalFormatter, legumeyet::DecimalFormatter;
-using legumeyet::Code, legumeyet::Grouping, legumeyet::Options, legumeyet::Rounding, legumeyet::Sign, legumeyet::Width;
+using namespace legumeyet;
 using Words = std::vector<std::string>;
 
 // The words of fields, in the order of their numbers.
 static const Words GROUPINGS{"auto", "never", "always", "min2"};
-static const Words SHOWN_FORMS{"short", "long"};
-static const Words EXACT_FORMS{"exact-short", "exact-long"};
 static const Words SIGNS{"keep", "auto", "never", "always", "except-zero", "negative"};
 static const Words MODES{"-",           "expand",     "trunc",     "ceil",       "floor",
                          "half-expand", "half-trunc", "half-ceil", "half-floor", "half-even"};
-
-static bool is_in(const std::string &word, const Words &words) { return std::find(words.begin(), words.end(), word) != words.end(); }
 
 // The choice that a word is, of an enum whose numbers are the places of its words.
 template <class Choice> static Choice choice_of(const std::string &word, const Words &words) {
@@ -55,32 +51,49 @@ static std::string word_of(Code error) {
     }
 }
 
-// The text for the fields of a request by the call of a formatter; for `short` and `long` with the value shown after a tab.
-static std::string text_for(Book &book, const Words &fields, const Options &options) {
-    const std::string &form = fields[1], &number = fields[5];
-    const auto grouping = choice_of<Grouping>(fields[2], GROUPINGS);
-    if (is_in(form, SHOWN_FORMS)) {
-        CompactDecimalFormatter compact(book, fields[0], choice_of<Width>(form, SHOWN_FORMS), grouping);
-        return compact.format(number, options) + '\t' + compact.shown(number, options);
-    }
-    if (is_in(form, EXACT_FORMS))
-        return CompactDecimalFormatter(book, fields[0], choice_of<Width>(form, EXACT_FORMS), grouping).format_exact(number, options);
-    DecimalFormatter plain(book, fields[0], grouping);
-    return form == "read" ? plain.read(number) : plain.format(number, options);
+// A form: what comes before its format, the format, and the code of the currency.
+static const std::regex FORM("(read-lenient|read|exact)?-?(plain|short|long|percent|currency|accounting|code)?-?([A-Z]{3})?");
+
+// The formatter of a format.
+static NumberFormatter formatter_of(Book &book, const std::string &tag, const std::smatch &form, Grouping grouping) {
+    const std::string format = form[2];
+    if (format == "short" || format == "long") return CompactDecimalFormatter(book, tag, format == "long" ? Width::Long : Width::Short, grouping);
+    if (format == "percent") return PercentFormatter(book, tag, grouping);
+    if (format.empty() || format == "plain") return DecimalFormatter(book, tag, grouping);
+    const auto style = format == "accounting" ? CurrencyStyle::Accounting : CurrencyStyle::Standard;
+    return CurrencyFormatter(book, tag, form[3].str(), style, format == "code" ? CurrencyWidth::Code : CurrencyWidth::Symbol, grouping);
 }
 
-// What the call of a formatter says to a request, as an answer; empty where none says what is asked.
+// The number of a text. A line takes only an amount that is its own rounding, and a formatter any digits.
+static std::string read_by(NumberFormatter &it, const std::string &text, bool is_amount) {
+    const std::string number = it.read(text);
+    if (is_amount && it.format(number) != text) throw Error(Code::NotWritten);
+    return number;
+}
+
+// The text for the fields of a request by the call of a formatter; for `short` and `long` with the value shown after a tab.
+static std::string text_for(Book &book, const Words &fields, const Options &options) {
+    std::smatch form;
+    if (!std::regex_match(fields[1], form, FORM)) return "no form";
+    NumberFormatter it = formatter_of(book, fields[0], form, choice_of<Grouping>(fields[2], GROUPINGS));
+    const std::string task = form[1], &number = fields[5];
+    if (task == "read") return read_by(it, number, form[3].matched);
+    if (task == "read-lenient") return it.read_lenient(number);
+    if (task == "exact") return it.format_exact(number, options);
+    return it.format(number, options) + (form[2] == "short" || form[2] == "long" ? '\t' + it.shown(number, options) : "");
+}
+
+// What the calls of a formatter say to a request, as an answer.
 static std::string by_formatter(Book &book, const std::string &line) {
     const auto fields = pieces(line, '\t'), rounding = pieces(fields[4], ',');
     const bool is_rounded = rounding.size() == 3;
-    if (is_rounded && rounding[2] != "1") return "";
     Options options;
     options.sign = choice_of<Sign>(fields[3], SIGNS);
     options.rounding = choice_of<Rounding>(rounding[is_rounded], MODES);
-    if (is_rounded) options.position = static_cast<int16_t>(std::stoi(rounding[0]));
+    if (is_rounded) options.position = std::stoi(rounding[0]), options.increment = Increment{std::stoi(rounding[2])};
     try {
         return "ok\t" + text_for(book, fields, options);
-    } catch (const legumeyet::Error &error) {
+    } catch (const Error &error) {
         return "err\t" + word_of(error.code());
     }
 }
@@ -91,7 +104,7 @@ static int answer_lines(const char *path) {
     for (std::string line; std::getline(std::cin, line);) {
         if (lines++ == 5000) book.keep();
         const std::string answer = book.answer(line), said = by_formatter(book, line);
-        std::cout << answer << (said.empty() || said == answer ? "" : " but " + said) << '\n';
+        std::cout << answer << (said == answer ? "" : " but " + said) << '\n';
     }
     return 0;
 }
@@ -99,7 +112,7 @@ static int answer_lines(const char *path) {
 int main(int count, char **words) {
     try {
         return count == 2 ? answer_lines(words[1]) : 1;
-    } catch (const legumeyet::Error &error) {
+    } catch (const Error &error) {
         std::cerr << "error " << error.number << ": " << error.what() << '\n';
         return 1;
     }

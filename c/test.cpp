@@ -195,7 +195,7 @@ static void options() {
         all.with_increment(Increment::TwentyFive).with_minimum_integer_digits(4).with_minimum_fraction_digits(5));
     const bool is_first = found.sign == LEGUMEYET_SIGN_NEGATIVE && found.rounding == LEGUMEYET_ROUND_HALF_FLOOR && found.position == -3;
     const bool is_second = found.trailing_zeros == LEGUMEYET_TRAILING_ZEROS_TRIM && found.increment == 25;
-    const bool is_third = found.minimum_integer_digits == 4 && found.minimum_fraction_digits == 5 && found.reserved[0] == 0;
+    const bool is_third = found.minimum_integer_digits == 4 && found.minimum_fraction_digits == 5;
     expect(is_first && is_second && is_third ? "all" : "not all", "all");
     const auto none = static_cast<legumeyet_options>(Options().with_rounding(Rounding::Keep));
     expect(none.sign == 0 && none.rounding == 0 && none.position == 0 && none.increment == 1 ? "none" : "some", "none");
@@ -517,9 +517,8 @@ static void percents() {
     expect(german.read(spaced("12,5_%")) + ' ' + turkish.read("-%12,5"), "12.5 -12.5");
     expect(german.read_lenient("12,5") + ' ' + turkish.read_lenient("12,5 %"), "12.5 12.5");
     expect_error(LEGUMEYET_NOT_WRITTEN, [&] { german.read("12,5"); });
-    expect_error(LEGUMEYET_OPTION, [&] { german.format(1, 0, Options().with_rounding(Rounding::Cash)); });
-    expect_error(LEGUMEYET_OPTION, [&] { german.format(1, 0, Options().with_rounding(Rounding::None)); });
-    expect_error(LEGUMEYET_OPTION, [] { DecimalFormatter("de").format(1, 0, Options().with_rounding(Rounding::Cash)); });
+    expect(german.format(1.5, Options().with_rounding(Rounding::Cash)) + german.format(1.5, Options().with_rounding(Rounding::None)), spaced("1,5_%1,5_%"));
+    expect(DecimalFormatter("de").format(1.5, Options().with_rounding(Rounding::Cash)), "1,5");
     std::swap(german, turkish);
     expect(german.format(5), "%5");
 }

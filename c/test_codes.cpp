@@ -14,7 +14,7 @@
 #endif
 
 using legumeyet::Book, legumeyet::CompactDecimalFormatter, legumeyet::DecimalFormatter;
-using legumeyet::CurrencyFormatter, legumeyet::CurrencyStyle, legumeyet::PercentFormatter, legumeyet::Rounding;
+using legumeyet::CurrencyFormatter, legumeyet::CurrencyStyle, legumeyet::NumberFormatter, legumeyet::PercentFormatter, legumeyet::Rounding;
 using legumeyet::Code, legumeyet::Grouping, legumeyet::Options, legumeyet::Result, legumeyet::Sign, legumeyet::Width;
 
 // Nothing is constructed that may be refused, and what was found cannot be forgotten to be looked for.
@@ -104,13 +104,34 @@ static void units() {
     expect_text(dollars->try_read_lenient("5 $"), "5");
     expect_code(dollars->try_read_lenient("5 EUR").error(), Code::NotWritten);
     expect_text(percents->try_format(12.5), "%12,5");
-    expect_code(percents->try_format(1, Options().with_rounding(Rounding::Cash)).error(), Code::Option);
+    expect_text(percents->try_format(1.5, Options().with_rounding(Rounding::Cash)), "%1,5");
     expect_code(CurrencyFormatter::try_open("en", "usd").error(), Code::Code);
     auto book = Book::try_from_json("[[],[],[],[],[]]");
     expect_code(PercentFormatter::try_open(*book, "en").error(), Code::Table);
     expect_code(book->try_keep(), Code::Ok);
     expect_code(CurrencyFormatter::try_open(*book, "en", "USD").error(), Code::Table);
     expect(std::to_string(book->try_locales()->size()), "0");
+}
+
+static void skeletons() {
+    std::size_t place = 77;
+    auto euros = NumberFormatter::try_skeleton("en", "currency/EUR .00", &place);
+    if (!euros) return expect_code(euros.error(), Code::Ok);
+    expect(std::to_string(place), "77");
+    expect_text(euros->try_format(5), "€5.00");
+    expect_text(euros->try_format(5, Options().with_rounding(Rounding::None)), "€5");
+    expect_code(NumberFormatter::try_skeleton("en", "percent foo", &place).error(), Code::SkeletonUnknown);
+    expect(std::to_string(place), "8");
+    expect_text(legumeyet::try_normal_skeleton("percent"), "percent");
+    expect_code(legumeyet::try_normal_skeleton("foo", &place).error(), Code::SkeletonUnknown);
+    expect(std::to_string(place), "0");
+    expect_text(NumberFormatter::try_open("en", {.currency = "USD"}, {.sign = Sign::Always})->try_format(5), "+$5.00");
+    auto book = Book::try_from_json("[[],[],[],[],[]]");
+    expect_code(NumberFormatter::try_open(*book, "en", {}).error(), Code::Table);
+    expect_code(NumberFormatter::try_skeleton(*book, "en", "").error(), Code::Table);
+    const legumeyet::SharedNumberFormatter shared(*std::move(euros));
+    expect_text(shared.try_format(7), "€7.00");
+    expect_text(shared.try_shown(7), "7.00");
 }
 
 static void compact() {
@@ -143,6 +164,7 @@ int main(int count, char **words) {
     books(words[1]);
     plain();
     units();
+    skeletons();
     compact();
     answers();
     return wrong;

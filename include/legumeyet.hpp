@@ -6,6 +6,8 @@
 //     legumeyet::CompactDecimalFormatter short_german("de");
 //     short_german.format(1234567);                              // 1,2 Mio. with a no-break space
 //     legumeyet::CurrencyFormatter("de", "EUR").format(1234.5);  // 1.234,50 € with a no-break space
+//     auto whole = legumeyet::NumberFormatter::skeleton("de", "currency/EUR .00/w");
+//     whole.format(5);                                           // 5 € with a no-break space
 //     german.format_all(std::vector<double>{1234.5, 0.25});      // a Column of 1.234,5 and 0,25
 //     legumeyet::Answers(16).answer(lines);                      // the answers to request lines
 //
@@ -61,12 +63,9 @@
 #endif
 
 // What borrows from what is given is told to Clang, which warns where that is gone before.
-#if defined(__has_cpp_attribute)
 #if __has_cpp_attribute(clang::lifetimebound)
 #define LEGUMEYET_BORROWS [[clang::lifetimebound]]
-#endif
-#endif
-#ifndef LEGUMEYET_BORROWS
+#else
 #define LEGUMEYET_BORROWS
 #endif
 
@@ -79,181 +78,119 @@ namespace legumeyet {
 
 // What a call returns; legumeyet.h says of each call which.
 enum class Code : int32_t {
-    File = LEGUMEYET_FILE,
-    Ok = LEGUMEYET_OK,
-    Memory = LEGUMEYET_MEMORY,
-    Closed = LEGUMEYET_CLOSED,
-    TooSmall = LEGUMEYET_TOO_SMALL,
-    Option = LEGUMEYET_OPTION,
-    Tag = LEGUMEYET_TAG,
-    Table = LEGUMEYET_TABLE,
-    Number = LEGUMEYET_NUMBER,
-    Limit = LEGUMEYET_LIMIT,
-    Range = LEGUMEYET_RANGE,
-    Utf8 = LEGUMEYET_UTF8,
-    Unreadable = LEGUMEYET_UNREADABLE,
-    NotWritten = LEGUMEYET_NOT_WRITTEN,
-    Exponent = LEGUMEYET_EXPONENT,
-    Code = LEGUMEYET_CODE,
-    Unkept = LEGUMEYET_UNKEPT,
-    BookJson = LEGUMEYET_BOOK_JSON,
-    BookShape = LEGUMEYET_BOOK_SHAPE,
-    BookTag = LEGUMEYET_BOOK_TAG,
-    BookSystem = LEGUMEYET_BOOK_SYSTEM,
-    BookText = LEGUMEYET_BOOK_TEXT,
-    BookDigits = LEGUMEYET_BOOK_DIGITS,
-    BookCondition = LEGUMEYET_BOOK_CONDITION,
-    BookTypes = LEGUMEYET_BOOK_TYPES,
-    BookExponents = LEGUMEYET_BOOK_EXPONENTS,
-    BookDuplicate = LEGUMEYET_BOOK_DUPLICATE,
-    BookCycle = LEGUMEYET_BOOK_CYCLE,
-    BookUnit = LEGUMEYET_BOOK_UNIT,
-    BookCode = LEGUMEYET_BOOK_CODE
+    File = LEGUMEYET_FILE, Ok = LEGUMEYET_OK, Memory = LEGUMEYET_MEMORY, Closed = LEGUMEYET_CLOSED, TooSmall = LEGUMEYET_TOO_SMALL,
+    Option = LEGUMEYET_OPTION, Tag = LEGUMEYET_TAG, Table = LEGUMEYET_TABLE, Number = LEGUMEYET_NUMBER, Limit = LEGUMEYET_LIMIT,
+    Range = LEGUMEYET_RANGE, Utf8 = LEGUMEYET_UTF8, Unreadable = LEGUMEYET_UNREADABLE, NotWritten = LEGUMEYET_NOT_WRITTEN,
+    Exponent = LEGUMEYET_EXPONENT, Code = LEGUMEYET_CODE, Unkept = LEGUMEYET_UNKEPT,
+    BookJson = LEGUMEYET_BOOK_JSON, BookShape = LEGUMEYET_BOOK_SHAPE, BookTag = LEGUMEYET_BOOK_TAG, BookSystem = LEGUMEYET_BOOK_SYSTEM,
+    BookText = LEGUMEYET_BOOK_TEXT, BookDigits = LEGUMEYET_BOOK_DIGITS, BookCondition = LEGUMEYET_BOOK_CONDITION,
+    BookTypes = LEGUMEYET_BOOK_TYPES, BookExponents = LEGUMEYET_BOOK_EXPONENTS, BookDuplicate = LEGUMEYET_BOOK_DUPLICATE,
+    BookCycle = LEGUMEYET_BOOK_CYCLE, BookUnit = LEGUMEYET_BOOK_UNIT, BookCode = LEGUMEYET_BOOK_CODE,
+    SkeletonUnknown = LEGUMEYET_SKELETON_UNKNOWN, SkeletonTwice = LEGUMEYET_SKELETON_TWICE, SkeletonCode = LEGUMEYET_SKELETON_CODE,
+    SkeletonPair = LEGUMEYET_SKELETON_PAIR, SkeletonSystem = LEGUMEYET_SKELETON_SYSTEM, SkeletonLater = LEGUMEYET_SKELETON_LATER,
+    SkeletonUnsupported = LEGUMEYET_SKELETON_UNSUPPORTED
 };
 
-// When grouping separators are written: LEGUMEYET_GROUPING.
-enum class Grouping : uint32_t {
-    Auto = LEGUMEYET_GROUPING_AUTO,
-    Never = LEGUMEYET_GROUPING_NEVER,
-    Always = LEGUMEYET_GROUPING_ALWAYS,
-    Min2 = LEGUMEYET_GROUPING_MIN2
-};
-
-// Which patterns compact numbers are written in: LEGUMEYET_WIDTH.
-enum class Width : uint32_t { Short = LEGUMEYET_WIDTH_SHORT, Long = LEGUMEYET_WIDTH_LONG };
-
+// How the digits are written: LEGUMEYET_NOTATION.
+enum class Notation : int32_t { Standard = LEGUMEYET_NOTATION_STANDARD, Compact = LEGUMEYET_NOTATION_COMPACT };
+// In which patterns compact numbers are written: LEGUMEYET_WIDTH.
+enum class Width : int32_t { Short = LEGUMEYET_WIDTH_SHORT, Long = LEGUMEYET_WIDTH_LONG };
+// What is written beside the digits: LEGUMEYET_UNIT.
+enum class Unit : int32_t { None = LEGUMEYET_UNIT_NONE, Percent = LEGUMEYET_UNIT_PERCENT, Currency = LEGUMEYET_UNIT_CURRENCY };
 // How a negative amount of money is written: LEGUMEYET_STYLE.
-enum class CurrencyStyle : uint32_t { Standard = LEGUMEYET_STYLE_STANDARD, Accounting = LEGUMEYET_STYLE_ACCOUNTING };
-
+enum class CurrencyStyle : int32_t { Standard = LEGUMEYET_STYLE_STANDARD, Accounting = LEGUMEYET_STYLE_ACCOUNTING };
 // What a currency is written as: LEGUMEYET_CURRENCY.
-enum class CurrencyWidth : uint32_t { Symbol = LEGUMEYET_CURRENCY_SYMBOL, Code = LEGUMEYET_CURRENCY_CODE };
+enum class CurrencyWidth : int32_t { Symbol = LEGUMEYET_CURRENCY_SYMBOL, Code = LEGUMEYET_CURRENCY_CODE };
+// When grouping separators are written: LEGUMEYET_GROUPING.
+enum class Grouping : int32_t {
+    Auto = LEGUMEYET_GROUPING_AUTO, Never = LEGUMEYET_GROUPING_NEVER, Always = LEGUMEYET_GROUPING_ALWAYS, Min2 = LEGUMEYET_GROUPING_MIN2
+};
 
 // Which sign is written: LEGUMEYET_SIGN.
-enum class Sign : uint32_t {
-    Keep = LEGUMEYET_SIGN_KEEP,
-    Auto = LEGUMEYET_SIGN_AUTO,
-    Never = LEGUMEYET_SIGN_NEVER,
-    Always = LEGUMEYET_SIGN_ALWAYS,
-    ExceptZero = LEGUMEYET_SIGN_EXCEPT_ZERO,
-    Negative = LEGUMEYET_SIGN_NEGATIVE
+enum class Sign : int32_t {
+    Keep = LEGUMEYET_SIGN_KEEP, Auto = LEGUMEYET_SIGN_AUTO, Never = LEGUMEYET_SIGN_NEVER, Always = LEGUMEYET_SIGN_ALWAYS,
+    ExceptZero = LEGUMEYET_SIGN_EXCEPT_ZERO, Negative = LEGUMEYET_SIGN_NEGATIVE
 };
 
-// Which multiple of the increment, at the position, a number is rounded to: LEGUMEYET_ROUND. Keep rounds an amount of money to the digits of
-// its currency. Cash and None are only of amounts.
-enum class Rounding : uint32_t {
-    Keep = LEGUMEYET_ROUND_KEEP,
-    Expand = LEGUMEYET_ROUND_EXPAND,
-    Trunc = LEGUMEYET_ROUND_TRUNC,
-    Ceil = LEGUMEYET_ROUND_CEIL,
-    Floor = LEGUMEYET_ROUND_FLOOR,
-    HalfExpand = LEGUMEYET_ROUND_HALF_EXPAND,
-    HalfTrunc = LEGUMEYET_ROUND_HALF_TRUNC,
-    HalfCeil = LEGUMEYET_ROUND_HALF_CEIL,
-    HalfFloor = LEGUMEYET_ROUND_HALF_FLOOR,
-    HalfEven = LEGUMEYET_ROUND_HALF_EVEN,
-    Cash = LEGUMEYET_ROUND_CASH,
-    None = LEGUMEYET_ROUND_NONE
-};
-
-// What becomes of the zeros at the end of the fraction digits: LEGUMEYET_TRAILING_ZEROS.
-enum class TrailingZeros : uint16_t {
-    Keep = LEGUMEYET_TRAILING_ZEROS_KEEP,
-    Trim = LEGUMEYET_TRAILING_ZEROS_TRIM,
-    TrimWhole = LEGUMEYET_TRAILING_ZEROS_TRIM_WHOLE
+// Which multiple of the increment, at the position, a number is rounded to: LEGUMEYET_ROUND. Usual and Keep are one: an amount of money is
+// rounded to the digits of its currency, and Cash to those in cash; any other number is not rounded.
+enum class Rounding : int32_t {
+    Usual = LEGUMEYET_ROUND_USUAL, Keep = Usual, Expand = LEGUMEYET_ROUND_EXPAND, Trunc = LEGUMEYET_ROUND_TRUNC,
+    Ceil = LEGUMEYET_ROUND_CEIL, Floor = LEGUMEYET_ROUND_FLOOR, HalfExpand = LEGUMEYET_ROUND_HALF_EXPAND,
+    HalfTrunc = LEGUMEYET_ROUND_HALF_TRUNC, HalfCeil = LEGUMEYET_ROUND_HALF_CEIL, HalfFloor = LEGUMEYET_ROUND_HALF_FLOOR,
+    HalfEven = LEGUMEYET_ROUND_HALF_EVEN, Cash = LEGUMEYET_ROUND_CASH, None = LEGUMEYET_ROUND_NONE
 };
 
 // What a number is rounded to a multiple of, at the position.
-enum class Increment : uint32_t { One = 1, Two = 2, Five = 5, TwentyFive = 25 };
+enum class Increment : int32_t { One = 1, Two = 2, Five = 5, TwentyFive = 25 };
+// What becomes of the zeros at the end of the fraction digits: LEGUMEYET_TRAILING_ZEROS.
+enum class TrailingZeros : int32_t {
+    Keep = LEGUMEYET_TRAILING_ZEROS_KEEP, Trim = LEGUMEYET_TRAILING_ZEROS_TRIM, TrimWhole = LEGUMEYET_TRAILING_ZEROS_TRIM_WHOLE
+};
 
 // What a part of a text is: LEGUMEYET_PART. A later library may have other kinds.
 enum class Kind : uint32_t {
-    MinusSign = LEGUMEYET_PART_MINUS_SIGN,
-    PlusSign = LEGUMEYET_PART_PLUS_SIGN,
-    Integer = LEGUMEYET_PART_INTEGER,
-    Group = LEGUMEYET_PART_GROUP,
-    Decimal = LEGUMEYET_PART_DECIMAL,
-    Fraction = LEGUMEYET_PART_FRACTION,
-    Currency = LEGUMEYET_PART_CURRENCY,
-    PercentSign = LEGUMEYET_PART_PERCENT_SIGN
+    MinusSign = LEGUMEYET_PART_MINUS_SIGN, PlusSign = LEGUMEYET_PART_PLUS_SIGN, Integer = LEGUMEYET_PART_INTEGER,
+    Group = LEGUMEYET_PART_GROUP, Decimal = LEGUMEYET_PART_DECIMAL, Fraction = LEGUMEYET_PART_FRACTION,
+    Currency = LEGUMEYET_PART_CURRENCY, PercentSign = LEGUMEYET_PART_PERCENT_SIGN
 };
 
 namespace inner {
 
-// Whether a type is of integers that numbers are given as: not of characters, and not bool.
-template <class T>
-inline constexpr bool is_number = std::is_integral_v<T> && sizeof(T) <= sizeof(int64_t) && !std::is_same_v<T, bool> &&
-                                  !std::is_same_v<T, char> && !std::is_same_v<T, wchar_t> && !std::is_same_v<T, char16_t> &&
-#ifdef __cpp_char8_t
-                                  !std::is_same_v<T, char8_t> &&
-#endif
-                                  !std::is_same_v<T, char32_t>;
+// For a template that is only of what a condition holds of.
+template <bool holds> using If = std::enable_if_t<holds, int>;
 
-// Whether an integer is one of the type.
+// Whether a type is of integers that numbers are given as: not of characters, which are no integers with a sign or without, and not bool.
+template <class T, class = void> inline constexpr bool is_number = false;
+template <class T>
+inline constexpr bool is_number<T, std::enable_if_t<std::is_integral_v<T> && !std::is_same_v<T, bool> && sizeof(T) <= sizeof(int64_t)>> =
+    std::is_same_v<T, std::make_signed_t<T>> || std::is_same_v<T, std::make_unsigned_t<T>>;
+
+// Whether a number is one of the type.
 template <class To, class From> constexpr bool fits(From number) noexcept {
     const To narrow = static_cast<To>(number);
     return static_cast<From>(narrow) == number && (narrow < To{}) == (number < From{});
 }
 
-// Options with another field.
-template <class Options, class T> constexpr Options with(Options options, T Options::*field, T it) noexcept {
+// An integer as a word, or where it has no room in one a word that each call refuses.
+class Word {
+    int32_t word;
+
+  public:
+    template <class T, If<is_number<T>> = 0> constexpr Word(T number) noexcept : word(fits<int32_t>(number) ? static_cast<int32_t>(number) : INT32_MAX) {}
+    constexpr operator int32_t() const noexcept { return word; }
+};
+
+// Options that are given, with another field.
+template <class Options, class T> constexpr Options with(Options options, T Options::*field, std::common_type_t<T> it) noexcept {
     options.*field = it;
+    options.is_own = false;
     return options;
 }
 
-// A least count of digits, or one that each call refuses where it has no room in its field.
-template <class T> constexpr uint16_t least(T count) noexcept { return fits<uint16_t>(count) ? static_cast<uint16_t>(count) : UINT16_MAX; }
-
-} // namespace inner
-
-// What is made of a number before it is written: legumeyet_options. At most two fraction digits, in C++20 and in each version:
-//
-//     german.format(1.255, {.rounding = Rounding::HalfEven, .position = -2, .trailing_zeros = TrailingZeros::Trim});
-//     german.format(1.255, Options().with_rounding(Rounding::HalfEven, -2).with_trailing_zeros(TrailingZeros::Trim));
-struct Options {
-    Sign sign = Sign::Keep;
-    Rounding rounding = Rounding::Keep;
-    int16_t position = 0;
-    TrailingZeros trailing_zeros = TrailingZeros::Keep;
-    Increment increment = Increment::One;
-    uint16_t minimum_integer_digits = 0;
-    uint16_t minimum_fraction_digits = 0;
-
-    // The same with another choice. An integer that has no room in its field is refused by the call that is given the options: Code::Option.
-    constexpr Options with_sign(Sign it) const noexcept { return inner::with(*this, &Options::sign, it); }
-    template <class T = int, std::enable_if_t<inner::is_number<T>, int> = 0>
-    constexpr Options with_rounding(Rounding it, T at = 0) const noexcept {
-        const Rounding known = inner::fits<int16_t>(at) ? it : Rounding{UINT32_MAX};
-        return inner::with(inner::with(*this, &Options::rounding, known), &Options::position, static_cast<int16_t>(at));
-    }
-    constexpr Options with_trailing_zeros(TrailingZeros it) const noexcept { return inner::with(*this, &Options::trailing_zeros, it); }
-    constexpr Options with_increment(Increment it) const noexcept { return inner::with(*this, &Options::increment, it); }
-    template <class T, std::enable_if_t<inner::is_number<T>, int> = 0>
-    constexpr Options with_minimum_integer_digits(T count) const noexcept {
-        return inner::with(*this, &Options::minimum_integer_digits, inner::least(count));
-    }
-    template <class T, std::enable_if_t<inner::is_number<T>, int> = 0>
-    constexpr Options with_minimum_fraction_digits(T count) const noexcept {
-        return inner::with(*this, &Options::minimum_fraction_digits, inner::least(count));
-    }
-
-    // The same for legumeyet.h.
-    constexpr explicit operator legumeyet_options() const noexcept {
-        legumeyet_options found{};
-        found.sign = static_cast<uint32_t>(sign);
-        found.rounding = static_cast<uint32_t>(rounding);
-        found.position = position;
-        found.trailing_zeros = static_cast<uint16_t>(trailing_zeros);
-        found.increment = static_cast<uint32_t>(increment);
-        found.minimum_integer_digits = minimum_integer_digits;
-        found.minimum_fraction_digits = minimum_fraction_digits;
-        return found;
-    }
-};
-
-namespace inner {
+// Whether a type is of texts.
+template <class T> inline constexpr bool is_text = std::is_convertible_v<const T &, std::string_view> && !std::is_null_pointer_v<T>;
 
 inline const uint8_t *bytes(std::string_view text) noexcept { return reinterpret_cast<const uint8_t *>(text.data()); }
 inline uint8_t *bytes(char *text) noexcept { return reinterpret_cast<uint8_t *>(text); }
+
+// A text that a call is given, which it borrows. A null pointer is an empty one.
+class Text {
+    std::string_view view;
+
+  public:
+    template <class T, If<is_text<T>> = 0> Text(const T &text LEGUMEYET_BORROWS) noexcept(std::is_nothrow_constructible_v<std::string_view, const T &>) {
+        if constexpr (std::is_pointer_v<T>)
+            view = text == nullptr ? std::string_view() : std::string_view(text);
+        else
+            view = text;
+    }
+    Text(std::nullptr_t) = delete;
+
+    operator std::string_view() const noexcept { return view; }
+    std::size_t size() const noexcept { return view.size(); }
+    const uint8_t *bytes() const noexcept { return inner::bytes(view); }
+};
 
 // How many bytes a text may have that is written without an allocation of this header.
 inline constexpr std::size_t NEAR = 256;
@@ -271,34 +208,61 @@ template <class Call, class Use> Code with_text(Call call, Use use) {
     return code;
 }
 
-// Whether a type is of texts.
-template <class T> inline constexpr bool is_text = std::is_convertible_v<const T &, std::string_view> && !std::is_null_pointer_v<T>;
+} // namespace inner
 
-// The characters of a text. A null pointer has none.
-template <class T> std::string_view view_of(const T &text) noexcept(std::is_nothrow_constructible_v<std::string_view, const T &>) {
-    if constexpr (std::is_pointer_v<T>) return text == nullptr ? std::string_view() : std::string_view(text);
-    return text;
-}
+// How numbers are written: legumeyet_format. Euros in accounting are, in C++20, {.currency = "EUR", .currency_style = CurrencyStyle::Accounting}.
+struct Format {
+    Notation notation = Notation::Standard;
+    Width width = Width::Short;
+    Unit unit = Unit::None;
+    std::string_view currency = {}; // its code, which is borrowed; where there is one, Unit::None is Unit::Currency
+    CurrencyStyle currency_style = CurrencyStyle::Standard;
+    CurrencyWidth currency_width = CurrencyWidth::Symbol;
+    Grouping grouping = Grouping::Auto;
 
-// A text that a call is given, which it borrows.
-class Text {
-    std::string_view view;
-
-  public:
-    template <class T, std::enable_if_t<is_text<T>, int> = 0> Text(const T &text LEGUMEYET_BORROWS) noexcept(noexcept(view_of(text))) : view(view_of(text)) {}
-    Text(std::nullptr_t) = delete;
-
-    operator std::string_view() const noexcept { return view; }
-    std::size_t size() const noexcept { return view.size(); }
-    const uint8_t *bytes() const noexcept { return inner::bytes(view); }
+    // The same for legumeyet.h, but for the code.
+    constexpr explicit operator legumeyet_format() const noexcept {
+        const Unit known = unit == Unit::None && !currency.empty() ? Unit::Currency : unit;
+        return {static_cast<int32_t>(notation),       static_cast<int32_t>(width),          static_cast<int32_t>(known),
+                static_cast<int32_t>(currency_style), static_cast<int32_t>(currency_width), static_cast<int32_t>(grouping)};
+    }
 };
 
-// Whether a type is of numbers that are given otherwise: bool and the characters, and a float or a long double, which has other shortest
-// digits than a double.
-template <class T>
-inline constexpr bool is_refused = std::is_null_pointer_v<T> || (std::is_arithmetic_v<T> && !is_number<T> && !std::is_same_v<T, double>);
+// What is made of a number before it is written: legumeyet_options. At most two fraction digits, in C++20 and in each version:
+//
+//     german.format(1.255, {.rounding = Rounding::HalfEven, .position = -2, .trailing_zeros = TrailingZeros::Trim});
+//     german.format(1.255, Options().with_rounding(Rounding::HalfEven, -2).with_trailing_zeros(TrailingZeros::Trim));
+//
+// A call without options is by the formatter's own: those of its skeleton, or that a NumberFormatter was opened with, and else Options().
+struct Options {
+    Sign sign = Sign::Keep;
+    Rounding rounding = Rounding::Usual;
+    int32_t position = 0;
+    TrailingZeros trailing_zeros = TrailingZeros::Keep;
+    Increment increment = Increment::One;
+    int32_t minimum_integer_digits = 0;
+    int32_t minimum_fraction_digits = 0;
+    bool is_own = false; // whether they are the formatter's own, and none of these
 
-} // namespace inner
+    // The formatter's own, for a function that passes options on.
+    static constexpr Options own() noexcept { return {{}, {}, 0, {}, Increment::One, 0, 0, true}; }
+
+    // The same with another choice. An integer that has no room in its field is refused by the call that is given the options: Code::Option.
+    constexpr Options with_sign(Sign it) const noexcept { return inner::with(*this, &Options::sign, it); }
+    constexpr Options with_rounding(Rounding it, inner::Word at = 0) const noexcept {
+        return inner::with(inner::with(*this, &Options::rounding, it), &Options::position, at);
+    }
+    constexpr Options with_trailing_zeros(TrailingZeros it) const noexcept { return inner::with(*this, &Options::trailing_zeros, it); }
+    constexpr Options with_increment(Increment it) const noexcept { return inner::with(*this, &Options::increment, it); }
+    constexpr Options with_minimum_integer_digits(inner::Word count) const noexcept { return inner::with(*this, &Options::minimum_integer_digits, count); }
+    constexpr Options with_minimum_fraction_digits(inner::Word count) const noexcept { return inner::with(*this, &Options::minimum_fraction_digits, count); }
+
+    // The same for legumeyet.h.
+    constexpr explicit operator legumeyet_options() const noexcept {
+        return {static_cast<int32_t>(sign),           static_cast<int32_t>(rounding), position, static_cast<int32_t>(increment),
+                static_cast<int32_t>(trailing_zeros), minimum_integer_digits,         minimum_fraction_digits};
+    }
+};
 
 // What a code means, in English.
 inline std::string message(Code code) {
@@ -314,28 +278,18 @@ class Error : public std::runtime_error {
   public:
     int32_t number;
     explicit Error(int32_t error, const std::string &hint = "") : Error(static_cast<Code>(error), hint) {}
-    explicit Error(Code code, const std::string &hint = "")
-        : std::runtime_error(message(code) + hint), number(static_cast<int32_t>(code)) {}
+    explicit Error(Code code, const std::string &hint = "") : std::runtime_error(message(code) + hint), number(static_cast<int32_t>(code)) {}
 
     Code code() const noexcept { return static_cast<Code>(number); }
 };
 
-namespace inner {
-
-inline void expect_well(Code code) {
-    if (code != Code::Ok) throw Error(code);
-}
-
-// The same of a formatter that is opened. An underscore of a tag is told, and what is no code of a currency.
-inline void expect_opened(Code code, std::string_view tag, std::string_view currency = {}) {
-    std::string hyphens(tag);
-    std::replace(hyphens.begin(), hyphens.end(), '_', '-');
-    if (code == Code::Tag && hyphens != tag) throw Error(code, ": `" + std::string(tag) + "` is written `" + hyphens + "`");
-    if (code == Code::Code) throw Error(code, ": `" + std::string(currency) + "`");
-    expect_well(code);
-}
-
-} // namespace inner
+// Why a text is no skeleton: `place` is where the faulty word begins, in bytes, and `what()` says it too.
+class SkeletonError : public Error {
+  public:
+    std::size_t place;
+    SkeletonError(Code code, std::string_view skeleton, std::size_t at)
+        : Error(code, ": at " + std::to_string(at) + " of `" + std::string(skeleton) + "`"), place(at) {}
+};
 #endif
 
 // What a call found, or the code that refused it, which is not Code::Ok. It is the same type in each version of C++; in C++23 it converts
@@ -350,10 +304,7 @@ template <class T> class [[nodiscard]] Result {
 
     bool has_value() const noexcept { return content.index() == 0; }
     explicit operator bool() const noexcept { return has_value(); }
-    Code error() const noexcept {
-        const Code *code = std::get_if<1>(&content);
-        return code != nullptr ? *code : Code::Ok;
-    }
+    Code error() const noexcept { return has_value() ? Code::Ok : *std::get_if<1>(&content); }
 
     // What was found; only of a result that has it.
     T &operator*() &noexcept LEGUMEYET_BORROWS { return *std::get_if<0>(&content); }
@@ -368,14 +319,9 @@ template <class T> class [[nodiscard]] Result {
 
 #ifdef __cpp_exceptions
     // What was found. Throws the Error of the code.
-    T &value() & LEGUMEYET_BORROWS { return expect(), **this; }
-    const T &value() const & LEGUMEYET_BORROWS { return expect(), **this; }
-    T value() && { return expect(), std::move(**this); }
-
-  private:
-    void expect() const { inner::expect_well(error()); }
-
-  public:
+    T &value() & LEGUMEYET_BORROWS { return has_value() ? **this : throw Error(error()); }
+    const T &value() const & LEGUMEYET_BORROWS { return has_value() ? **this : throw Error(error()); }
+    T value() && { return has_value() ? std::move(**this) : throw Error(error()); }
 #endif
 #ifdef __cpp_lib_expected
     operator std::expected<T, Code>() && {
@@ -386,6 +332,27 @@ template <class T> class [[nodiscard]] Result {
 };
 
 namespace inner {
+
+#ifdef __cpp_exceptions
+inline void expect_well(Code code) { if (code != Code::Ok) throw Error(code); }
+
+// The same where a formatter is opened. Told are an underscore of a tag, and what is no code of a currency, or no skeleton.
+inline void expect_opened(Code code, std::string_view tag, std::string_view given = {}, std::size_t place = 0) {
+    std::string hyphens(tag);
+    std::replace(hyphens.begin(), hyphens.end(), '_', '-');
+    if (code == Code::Tag && hyphens != tag) throw Error(code, ": `" + std::string(tag) + "` is written `" + hyphens + "`");
+    if (code == Code::Code) throw Error(code, ": `" + std::string(given) + "`");
+    if (static_cast<int32_t>(code) / 100 == 2) throw SkeletonError(code, given, place);
+    expect_well(code);
+}
+#endif
+
+// What a call opened by a handle.
+template <class Opened, class Handle, class Call> Result<Opened> opened_by(Opened &found, Handle &handle, Call call) noexcept {
+    const auto code = static_cast<Code>(call(&handle));
+    if (code != Code::Ok) return code;
+    return std::move(found);
+}
 
 // The text that a call writes, as `with_text` takes it.
 template <class Call> Result<std::string> text_of(Call call) {
@@ -412,11 +379,55 @@ template <class Handle, int32_t (*close)(Handle *)> class Owned {
     ~Owned() { close(&handle); }
 };
 
-} // namespace inner
+// Options as two arguments of legumeyet.h: no words are those of a formatter's skeleton.
+struct Words {
+    legumeyet_options options;
+    std::size_t count;
 
-namespace inner {
+    explicit Words(const Options &it) noexcept : options(it), count(it.is_own ? 0 : sizeof options / sizeof(int32_t)) {}
+};
 
-template <class Handle, class Calls, class Base = Owned<Handle, Calls::close>> class Formatter;
+// The one of two functions of legumeyet.h that takes a handle: a formatter's, and its twin of a shared one.
+template <class Own, class Shared> constexpr Own twin(const legumeyet_formatter *, Own own, Shared) noexcept { return own; }
+template <class Own, class Shared> constexpr Shared twin(const legumeyet_shared_formatter *, Own, Shared shared) noexcept { return shared; }
+
+// Where an item of a whole is.
+template <class Whole, class Item> class Iterator {
+    const Whole *whole = nullptr;
+    std::ptrdiff_t at = 0;
+
+  public:
+    using iterator_category = std::input_iterator_tag;
+    using iterator_concept = std::random_access_iterator_tag;
+    using difference_type = std::ptrdiff_t;
+    using value_type = Item;
+    using reference = Item;
+    using pointer = void;
+
+    Iterator() = default;
+    Iterator(const Whole &it, std::size_t item) noexcept : whole(&it), at(static_cast<std::ptrdiff_t>(item)) {}
+
+    Item operator*() const noexcept { return (*whole)[static_cast<std::size_t>(at)]; }
+    Item operator[](std::ptrdiff_t count) const noexcept { return *(*this + count); }
+    Iterator &operator+=(std::ptrdiff_t count) noexcept { return at += count, *this; }
+    Iterator &operator-=(std::ptrdiff_t count) noexcept { return at -= count, *this; }
+    Iterator &operator++() noexcept { return *this += 1; }
+    Iterator &operator--() noexcept { return *this -= 1; }
+    Iterator operator++(int) noexcept { return ++*this - 1; }
+    Iterator operator--(int) noexcept { return --*this + 1; }
+    friend Iterator operator+(Iterator it, std::ptrdiff_t count) noexcept { return it += count; }
+    friend Iterator operator+(std::ptrdiff_t count, Iterator it) noexcept { return it += count; }
+    friend Iterator operator-(Iterator it, std::ptrdiff_t count) noexcept { return it -= count; }
+    friend std::ptrdiff_t operator-(const Iterator &left, const Iterator &right) noexcept { return left.at - right.at; }
+    friend bool operator==(const Iterator &left, const Iterator &right) noexcept { return left.at == right.at; }
+    friend bool operator!=(const Iterator &left, const Iterator &right) noexcept { return left.at != right.at; }
+    friend bool operator<(const Iterator &left, const Iterator &right) noexcept { return left.at < right.at; }
+    friend bool operator>(const Iterator &left, const Iterator &right) noexcept { return left.at > right.at; }
+    friend bool operator<=(const Iterator &left, const Iterator &right) noexcept { return left.at <= right.at; }
+    friend bool operator>=(const Iterator &left, const Iterator &right) noexcept { return left.at >= right.at; }
+};
+
+class Numbers;
 
 } // namespace inner
 
@@ -426,7 +437,7 @@ class Exponent {
     bool is_known;
 
   public:
-    template <class T, std::enable_if_t<inner::is_number<T>, int> = 0>
+    template <class T, inner::If<inner::is_number<T>> = 0>
     constexpr explicit Exponent(T it) noexcept : power(static_cast<int16_t>(it)), is_known(inner::fits<int16_t>(it)) {}
 
     constexpr bool has_room() const noexcept { return is_known; }
@@ -439,12 +450,11 @@ class Number {
     int16_t exponent = 0;
 
   public:
-    template <class T, std::enable_if_t<inner::is_text<T>, int> = 0> Number(const T &text LEGUMEYET_BORROWS) : content(inner::view_of(text)) {}
+    template <class T, inner::If<inner::is_text<T>> = 0> Number(const T &text LEGUMEYET_BORROWS) : content(inner::Text(text)) {}
 
     // The number `mantissa` times ten to the power `exponent`, with all digits down to it: 500 and -2 are `5.00`.
-    template <class T, std::enable_if_t<inner::is_number<T>, int> = 0> Number(T number) noexcept : Number(number, 0) {}
-    template <class T, class E, std::enable_if_t<inner::is_number<T> && inner::is_number<E>, int> = 0>
-    Number(T mantissa, E power) noexcept {
+    template <class T, inner::If<inner::is_number<T>> = 0> Number(T number) noexcept : Number(number, 0) {}
+    template <class T, class E, inner::If<inner::is_number<T> && inner::is_number<E>> = 0> Number(T mantissa, E power) noexcept {
         if (!inner::fits<int16_t>(power))
             content = std::string_view("1e99999"); // no call takes it: Code::Limit
         else if (inner::fits<int64_t>(mantissa))
@@ -454,50 +464,22 @@ class Number {
         exponent = static_cast<int16_t>(power);
     }
 
-    // The shortest number that gives the double back: `1,234.5` of 1234.5 in English, `5` of 5.0.
-    template <class T, std::enable_if_t<std::is_same_v<T, double>, int> = 0> Number(T number) noexcept : content(number) {}
+    // The shortest number that gives the double back: `1,234.5` of 1234.5 in English, `5` of 5.0. That of a float is another: it is refused.
+    template <class T, inner::If<std::is_same_v<T, double>> = 0> Number(T number) noexcept : content(number) {}
 
-    template <class T, std::enable_if_t<inner::is_refused<T>, int> = 0> Number(T) = delete;
-
-    // Calls the function of `Calls` for the number.
-    template <class Calls, class Handle, class... Out>
-    int32_t written_by(Handle &handle, const legumeyet_options &options, Out... out) const noexcept {
+    // Has the function of legumeyet.h for the number write it.
+    template <class Handle, class... Out> int32_t written_by(Handle *by, const inner::Words &words, Out... out) const noexcept {
+        const auto write = [&](auto call, auto... number) { return call(by, number..., &words.options, words.count, out...); };
         if (const auto *text = std::get_if<std::string_view>(&content))
-            return Calls::format(&handle, inner::bytes(*text), text->size(), &options, out...);
-        if (const auto *number = std::get_if<int64_t>(&content)) return Calls::format_i64(&handle, *number, exponent, &options, out...);
-        if (const auto *number = std::get_if<uint64_t>(&content)) return Calls::format_u64(&handle, *number, exponent, &options, out...);
-        return Calls::format_double(&handle, *std::get_if<double>(&content), &options, out...);
+            return write(inner::twin(by, legumeyet_formatter_format, legumeyet_shared_formatter_format), inner::bytes(*text), text->size());
+        if (const auto *number = std::get_if<int64_t>(&content))
+            return write(inner::twin(by, legumeyet_formatter_format_i64, legumeyet_shared_formatter_format_i64), *number, exponent);
+        if (const auto *number = std::get_if<uint64_t>(&content))
+            return write(inner::twin(by, legumeyet_formatter_format_u64, legumeyet_shared_formatter_format_u64), *number, exponent);
+        const double number = *std::get_if<double>(&content);
+        return write(inner::twin(by, legumeyet_formatter_format_double, legumeyet_shared_formatter_format_double), number);
     }
 };
-
-namespace inner {
-
-// A number that is given as text, as an integer or as a double, for a function of legumeyet.h that takes texts alone.
-class Digits {
-    const char *text = nullptr;
-    std::size_t length;
-    char near[32];
-
-  public:
-    template <class T, std::enable_if_t<is_text<T>, int> = 0> Digits(const T &number) {
-        const std::string_view given = view_of(number);
-        text = given.data();
-        length = given.size();
-    }
-    template <class T, std::enable_if_t<is_number<T> || std::is_same_v<T, double>, int> = 0> Digits(T number) noexcept {
-        char *end = near;
-        if constexpr (is_number<T>)
-            end = std::to_chars(near, near + sizeof near, number).ptr;
-        else
-            end = std::remove(near, std::to_chars(near, near + sizeof near, number, std::chars_format::scientific).ptr, '+');
-        length = static_cast<std::size_t>(end - near);
-    }
-    template <class T, std::enable_if_t<is_refused<T>, int> = 0> Digits(T) = delete;
-
-    std::string_view view() const noexcept { return {text != nullptr ? text : near, length}; }
-};
-
-} // namespace inner
 
 // What a call wrote to `out`, which is the place after the last byte. The text has `size` bytes. Code::TooSmall says that the room has the
 // first of them, which may end inside a character; of any other error nothing is written, and `size` is 0.
@@ -520,64 +502,24 @@ struct Annotated {
     std::string text;
     std::vector<legumeyet_interval> parts;
 
-    class iterator {
-        const Annotated *whole = nullptr;
-        std::size_t at = 0;
+    using iterator = inner::Iterator<Annotated, Part>;
 
-      public:
-        using iterator_category = std::input_iterator_tag;
-        using iterator_concept = std::forward_iterator_tag;
-        using difference_type = std::ptrdiff_t;
-        using value_type = Part;
-        using reference = Part;
-        using pointer = void;
-
-        iterator() = default;
-        iterator(const Annotated &annotated, std::size_t part) noexcept : whole(&annotated), at(part) {}
-
-        Part operator*() const noexcept {
-            const legumeyet_interval &it = whole->parts[at];
-            return {std::string_view(whole->text).substr(it.start, it.end - it.start), static_cast<Kind>(it.kind)};
-        }
-        iterator &operator++() noexcept {
-            ++at;
-            return *this;
-        }
-        iterator operator++(int) noexcept { return {*whole, at++}; }
-        friend bool operator==(const iterator &left, const iterator &right) noexcept { return left.at == right.at; }
-        friend bool operator!=(const iterator &left, const iterator &right) noexcept { return left.at != right.at; }
-    };
-
+    Part operator[](std::size_t at) const &noexcept LEGUMEYET_BORROWS {
+        return {std::string_view(text).substr(parts[at].start, parts[at].end - parts[at].start), static_cast<Kind>(parts[at].kind)};
+    }
     iterator begin() const &noexcept LEGUMEYET_BORROWS { return {*this, 0}; }
     iterator end() const &noexcept LEGUMEYET_BORROWS { return {*this, parts.size()}; }
+    Part operator[](std::size_t at) && = delete;
     iterator begin() && = delete;
     iterator end() && = delete;
 };
-
-namespace inner {
-
-// The same of a call that takes the last six arguments of such a function.
-template <class Call> Result<Annotated> annotated_of(Call call) {
-    Annotated found{std::string(), std::vector<legumeyet_interval>(16)};
-    std::size_t count = 0;
-    Result<std::string> text = text_of([&](auto... out) {
-        found.parts.resize(std::max(found.parts.size(), count));
-        return call(out..., found.parts.data(), found.parts.size(), &count);
-    });
-    if (!text) return text.error();
-    found.text = *std::move(text);
-    found.parts.resize(count);
-    return found;
-}
-
-} // namespace inner
 
 // The texts of many numbers, one after the other in one string: `column[0]` is the first. As a range it has each as a std::string_view.
 class Column {
     std::string content;
     std::vector<std::size_t> ends;
 
-    template <class, class, class> friend class inner::Formatter;
+    friend class inner::Numbers;
 
     // Adds the texts of `total` numbers. A call writes those from a number on, and takes the last five arguments of such a function of
     // legumeyet.h.
@@ -596,68 +538,17 @@ class Column {
         for (;;) {
             const std::size_t done = written.count - before;
             std::size_t *next = ends.data() + written.count, count = 0;
-            const Code code = call(done, inner::bytes(&content[written.used]), content.size() - written.used, next, total - done, &count);
+            const int32_t code = call(done, inner::bytes(&content[written.used]), content.size() - written.used, next, total - done, &count);
             for (std::size_t *it = next; it != next + count; ++it) *it += written.used;
             if (count > 0) written.used = next[count - 1];
             written.count += count;
-            if (code != Code::TooSmall) return code;
+            if (code != LEGUMEYET_TOO_SMALL) return static_cast<Code>(code);
             content.resize(2 * content.size());
         }
     }
 
-    void add(std::string_view text) {
-        if (ends.size() == ends.capacity()) ends.reserve(2 * ends.size() + 1);
-        content += text;
-        ends.push_back(content.size());
-    }
-
   public:
-    // Where a text is.
-    class iterator {
-        const Column *whole = nullptr;
-        std::ptrdiff_t at = 0;
-
-      public:
-        using iterator_category = std::input_iterator_tag;
-        using iterator_concept = std::random_access_iterator_tag;
-        using difference_type = std::ptrdiff_t;
-        using value_type = std::string_view;
-        using reference = std::string_view;
-        using pointer = void;
-
-        iterator() = default;
-        iterator(const Column &column, std::size_t text) noexcept : whole(&column), at(static_cast<std::ptrdiff_t>(text)) {}
-
-        std::string_view operator*() const noexcept { return (*whole)[static_cast<std::size_t>(at)]; }
-        std::string_view operator[](std::ptrdiff_t count) const noexcept { return *(*this + count); }
-        iterator &operator+=(std::ptrdiff_t count) noexcept {
-            at += count;
-            return *this;
-        }
-        iterator &operator-=(std::ptrdiff_t count) noexcept { return *this += -count; }
-        iterator &operator++() noexcept { return *this += 1; }
-        iterator &operator--() noexcept { return *this -= 1; }
-        iterator operator++(int) noexcept {
-            const iterator before = *this;
-            ++*this;
-            return before;
-        }
-        iterator operator--(int) noexcept {
-            const iterator before = *this;
-            --*this;
-            return before;
-        }
-        friend iterator operator+(iterator it, std::ptrdiff_t count) noexcept { return it += count; }
-        friend iterator operator+(std::ptrdiff_t count, iterator it) noexcept { return it += count; }
-        friend iterator operator-(iterator it, std::ptrdiff_t count) noexcept { return it -= count; }
-        friend std::ptrdiff_t operator-(const iterator &left, const iterator &right) noexcept { return left.at - right.at; }
-        friend bool operator==(const iterator &left, const iterator &right) noexcept { return left.at == right.at; }
-        friend bool operator!=(const iterator &left, const iterator &right) noexcept { return left.at != right.at; }
-        friend bool operator<(const iterator &left, const iterator &right) noexcept { return left.at < right.at; }
-        friend bool operator>(const iterator &left, const iterator &right) noexcept { return left.at > right.at; }
-        friend bool operator<=(const iterator &left, const iterator &right) noexcept { return left.at <= right.at; }
-        friend bool operator>=(const iterator &left, const iterator &right) noexcept { return left.at >= right.at; }
-    };
+    using iterator = inner::Iterator<Column, std::string_view>;
     using const_iterator = iterator;
     using value_type = std::string_view;
     using size_type = std::size_t;
@@ -691,11 +582,38 @@ class Column {
     }
 };
 
+template <class Formatter> class Formatted;
+
 namespace inner {
 
+// Whether a type is of numbers that are given alone.
+template <class T> inline constexpr bool is_given = is_text<T> || is_number<T> || std::is_same_v<T, double>;
+
+// A number that is given as text, as an integer, also times a power of ten, or as a double, for a function of legumeyet.h that takes texts.
+class Digits {
+    std::string text;
+
+  public:
+    template <class T, If<is_given<T>> = 0> Digits(const T &number, int power = 0) {
+        char near[32], *end = near + sizeof near;
+        if constexpr (is_text<T>)
+            text = Text(number);
+        else if constexpr (std::is_same_v<T, double>)
+            text.assign(near, std::remove(near, std::to_chars(near, end, number, std::chars_format::scientific).ptr, '+'));
+        else {
+            const auto zeros = static_cast<std::size_t>(std::max(power, 0)), fraction = static_cast<std::size_t>(std::max(-power, 0));
+            text.assign(near, std::to_chars(near, end, number).ptr).append(zeros, '0');
+            const std::size_t start = *near == '-', count = text.size() - start;
+            if (fraction > 0) text.insert(start, count > fraction ? 0 : fraction + 1 - count, '0').insert(text.size() - fraction, 1, '.');
+        }
+    }
+
+    operator std::string_view() const noexcept { return text; }
+};
+
 // What a range has, and whether it has that in one piece of memory: one with a stride may have `data` and `size` too.
-template <class Numbers> using iterator_of = decltype(std::begin(std::declval<Numbers &>()));
-template <class Numbers> using item_of = std::remove_cv_t<std::remove_reference_t<decltype(*std::declval<iterator_of<Numbers> &>())>>;
+template <class Range> using iterator_of = decltype(std::begin(std::declval<Range &>()));
+template <class Range> using item_of = std::remove_cv_t<std::remove_reference_t<decltype(*std::declval<iterator_of<Range> &>())>>;
 #ifdef __cpp_lib_concepts
 template <class T, class Iterator> inline constexpr bool is_contiguous = std::contiguous_iterator<Iterator>;
 #else
@@ -703,38 +621,258 @@ template <class T, class Iterator>
 inline constexpr bool is_contiguous = std::is_pointer_v<Iterator> || std::is_same_v<Iterator, typename std::vector<T>::iterator> ||
                                       std::is_same_v<Iterator, typename std::vector<T>::const_iterator>;
 #endif
-template <class T, class Numbers, class = void> inline constexpr bool is_memory_of = false;
-template <class T, class Numbers>
-inline constexpr bool is_memory_of<T, Numbers, std::void_t<decltype(std::data(std::declval<Numbers &>()), std::size(std::declval<Numbers &>()))>> =
-    std::is_convertible_v<decltype(std::data(std::declval<Numbers &>())), const T *> && is_contiguous<T, iterator_of<Numbers>>;
+template <class T, class Range, class = void> inline constexpr bool is_memory_of = false;
+template <class T, class Range>
+inline constexpr bool is_memory_of<T, Range, std::void_t<decltype(std::data(std::declval<Range &>()), std::size(std::declval<Range &>()))>> =
+    std::is_convertible_v<decltype(std::data(std::declval<Range &>())), const T *> && is_contiguous<T, iterator_of<Range>>;
 
-// Whether a type is of ranges of numbers: of doubles, of integers, or of texts.
-template <class Numbers, class = void> inline constexpr bool has_numbers = false;
-template <class Numbers>
-inline constexpr bool has_numbers<Numbers, std::void_t<item_of<Numbers>>> =
-    std::is_same_v<item_of<Numbers>, double> || is_number<item_of<Numbers>> || is_text<item_of<Numbers>>;
-template <class Numbers, class = void> inline constexpr bool has_integers = false;
-template <class Numbers> inline constexpr bool has_integers<Numbers, std::void_t<item_of<Numbers>>> = is_number<item_of<Numbers>>;
+// Many numbers to be written: a range of doubles, integers or texts, or doubles or int64_t behind a pointer. Integers may all be times a
+// power of ten. What is in one piece of memory as the library takes it is borrowed, and the rest is copied.
+class Numbers {
+    const double *doubles = nullptr;
+    const int64_t *integers = nullptr;
+    std::size_t count = 0;
+    Exponent exponent{0};
+    std::vector<double> copied_doubles;
+    std::vector<int64_t> copied_integers;
+    std::string lines;
 
-// How many numbers are behind a pointer. `{}` is no such count, so beside an array it is options.
-class Count {
-    std::size_t count;
+    void take(const double *numbers, std::size_t total) noexcept { doubles = numbers, count = total; }
+    void take(const int64_t *numbers, std::size_t total) noexcept { integers = numbers, count = total; }
+
+    template <class T, class Range> void copy(std::vector<T> &copied, Range &range) {
+        for (const auto &it : range) copied.push_back(it);
+        take(copied.data(), copied.size());
+    }
+
+    // A line feed inside a text would make two numbers of it: with a space there it is none, as before.
+    void copy_line(std::string_view text) {
+        lines += text;
+        std::replace(lines.end() - static_cast<std::ptrdiff_t>(text.size()), lines.end(), '\n', ' ');
+        lines += '\n', ++count;
+    }
+
+    template <class Range> void take(Range &range) {
+        using T = item_of<Range>;
+        if constexpr (is_memory_of<double, Range> || is_memory_of<int64_t, Range>)
+            take(std::data(range), std::size(range));
+        else if constexpr (std::is_same_v<T, double>)
+            copy(copied_doubles, range);
+        else if constexpr (is_number<T> && (std::is_signed_v<T> || sizeof(T) < sizeof(int64_t)))
+            copy(copied_integers, range);
+        else
+            for (const auto &it : range) {
+                if constexpr (is_text<T>) copy_line(Text(it));
+                else copy_line(Digits(it, static_cast<int16_t>(exponent)));
+            }
+    }
 
   public:
-    template <class T, std::enable_if_t<std::is_convertible_v<T, std::size_t> && !std::is_floating_point_v<T>, int> = 0>
-    Count(T it) noexcept : count(static_cast<std::size_t>(it)) {}
-    operator std::size_t() const noexcept { return count; }
+    template <class Range, class T = item_of<Range>, If<is_given<T>> = 0> Numbers(Range &&range) { take(range); }
+    template <class Range, If<is_number<item_of<Range>>> = 0> Numbers(Range &&range, Exponent power) : exponent(power) { if (power.has_room()) take(range); }
+    template <class C, If<is_number<C>> = 0> Numbers(const double *numbers, C total) noexcept { take(numbers, static_cast<std::size_t>(total)); }
+    template <class C, If<is_number<C>> = 0> Numbers(const int64_t *numbers, C total, Exponent power = Exponent(0)) noexcept : exponent(power) {
+        take(numbers, static_cast<std::size_t>(total));
+    }
+    Numbers(const Numbers &) = delete;
+
+    // Has the functions of legumeyet.h for the numbers add their texts to a column.
+    template <class Handle> Code written_by(Handle *by, const Words &words, Column &into) const {
+        if (!exponent.has_room()) return Code::Limit;
+        std::string_view rest = lines;
+        std::size_t first = 0;
+        return into.add(count, [&](std::size_t done, auto... out) {
+            const auto write = [&](auto call, auto... numbers) { return call(by, numbers..., &words.options, words.count, out...); };
+            const auto power = static_cast<int16_t>(exponent);
+            if (doubles != nullptr)
+                return write(twin(by, legumeyet_formatter_format_doubles, legumeyet_shared_formatter_format_doubles), doubles + done, count - done);
+            if (integers != nullptr)
+                return write(twin(by, legumeyet_formatter_format_integers, legumeyet_shared_formatter_format_integers), integers + done, count - done, power);
+            for (; first < done; ++first) rest.remove_prefix(rest.find('\n') + 1);
+            return write(twin(by, legumeyet_formatter_format_texts, legumeyet_shared_formatter_format_texts), bytes(rest), rest.size());
+        });
+    }
+};
+
+// For what many numbers are made of.
+template <class... Given> using Many = If<std::is_constructible_v<Numbers, Given...>>;
+
+// The handle of a shared formatter: it is copied as its bytes are, and what it shows stays for the rest of the program.
+struct Kept {
+    legumeyet_shared_formatter handle{};
+};
+
+// What a formatter writes and reads by the handle that `Base` has.
+template <class Base> class Formatter : Base {
+    friend class Formatted<Formatter>;
+
+    Words words_of(const Options &options) const noexcept { return Words(options.is_own ? own : options); }
+
+    // The call that writes a number, but for its last arguments; and one for a number as text.
+    auto writing(const Number &number, const Options &options) noexcept {
+        return [by = &handle, &number, words = words_of(options)](auto... out) { return number.written_by(by, words, out...); };
+    }
+    template <class Call> auto writing(Call call, std::string_view number, const Options &options) noexcept {
+        return [=, by = &handle, words = words_of(options)](auto... out) {
+            return call(by, bytes(number), number.size(), &words.options, words.count, out...);
+        };
+    }
+
+  protected:
+    static constexpr Options OWN = Options::own();
+
+    using Base::handle;
+    Options own = OWN;
+
+    Formatter() = default;
+
+  public:
+    // Writes the text of a number to the front of the room. Nothing is allocated by this header.
+    FormatToResult<char *> format_to(char *first, std::size_t room, Number number, Options options = OWN) noexcept {
+        std::size_t size = 0;
+        const auto code = static_cast<Code>(writing(number, options)(bytes(first), room, &size));
+        return {first == nullptr ? first : first + std::min(size, room), size, code};
+    }
+
+    // Writes the text of a number to an output iterator, as std::back_inserter(text). A text up to 256 bytes takes no allocation.
+    template <class Out, If<!std::is_pointer_v<Out>> = 0> FormatToResult<Out> format_to(Out out, Number number, Options options = OWN) {
+        std::size_t size = 0;
+        const Code code = with_text(writing(number, options), [&](std::string_view text) {
+            out = std::copy(text.begin(), text.end(), std::move(out));
+            size = text.size();
+        });
+        return {std::move(out), size, code};
+    }
+
+    // What `<<` and std::format write a number by; it borrows the formatter, and a text. It is used in the statement that makes it.
+    Formatted<Formatter> operator()(Number number LEGUMEYET_BORROWS, Options options = OWN) &noexcept LEGUMEYET_BORROWS { return {*this, number, options}; }
+
+    // The text of a number.
+    Result<std::string> try_format(Number number, Options options = OWN) { return text_of(writing(number, options)); }
+
+    // Adds the texts of many numbers to a column: of a range of doubles, integers or texts, or of doubles or int64_t behind a pointer and
+    // their count; as `format` has each, and sooner. Where one is refused the column has those before it, so that its size says which. The
+    // numbers are not texts of the column itself. Integers may all be times a power of ten, so that cents need no arithmetic:
+    // format_all_to(column, cents, Exponent(-2)).
+    [[nodiscard]] Code format_all_to(Column &into, const Numbers &numbers, Options options = OWN) { return numbers.written_by(&handle, words_of(options), into); }
+    template <class A, class B, Many<A, B> = 0> [[nodiscard]] Code format_all_to(Column &into, A &&numbers, B how, Options options = OWN) {
+        return format_all_to(into, Numbers(numbers, how), options);
+    }
+    template <class C> [[nodiscard]] Code format_all_to(Column &into, const int64_t *numbers, C count, Exponent power, Options options = OWN) {
+        return format_all_to(into, Numbers(numbers, count, power), options);
+    }
+
+    // The texts of many numbers, which are given as to `format_all_to`.
+    Result<Column> try_format_all(const Numbers &numbers, Options options = OWN) {
+        Column column;
+        const Code code = format_all_to(column, numbers, options);
+        if (code != Code::Ok) return code;
+        return column;
+    }
+    template <class A, class B, Many<A, B> = 0> Result<Column> try_format_all(A &&numbers, B how, Options options = OWN) {
+        return try_format_all(Numbers(numbers, how), options);
+    }
+    template <class C> Result<Column> try_format_all(const int64_t *numbers, C count, Exponent power, Options options = OWN) {
+        return try_format_all(Numbers(numbers, count, power), options);
+    }
+
+    // The text of a number with its parts, in order of their beginning; of a compact number those of its sign.
+    Result<Annotated> try_format_parts(const Digits &number, Options options = OWN) {
+        const auto write = writing(twin(&handle, legumeyet_formatter_format_parts, legumeyet_shared_formatter_format_parts), number, options);
+        Annotated found{std::string(), std::vector<legumeyet_interval>(16)};
+        std::size_t count = 0;
+        Result<std::string> text = text_of([&](auto... out) {
+            found.parts.resize(std::max(found.parts.size(), count));
+            return write(out..., found.parts.data(), found.parts.size(), &count);
+        });
+        if (!text) return text.error();
+        found.text = *std::move(text);
+        found.parts.resize(count);
+        return found;
+    }
+
+    // The value that the text of a number shows: `-1.2c6` of `-1.2M`, and where it is not compact its digits after the options.
+    Result<std::string> try_shown(const Digits &number, Options options = OWN) {
+        return text_of(writing(twin(&handle, legumeyet_formatter_shown, legumeyet_shared_formatter_shown), number, options));
+    }
+
+    // The text of a significand with an exponent, its digits as they are: `-1.20M` of `-1.20c6`. Where it is not compact it has no exponent.
+    Result<std::string> try_format_exact(Text number, Options options = OWN) {
+        return text_of(writing(twin(&handle, legumeyet_formatter_format_exact, legumeyet_shared_formatter_format_exact), number, options));
+    }
+
+    // The number that is written so, as digits: in English `-1234.50` of `-1,234.50`, and of `-€1,234.50` with euros. Not of a compact one.
+    Result<std::string> try_read(Text text) {
+        const auto read = twin(&handle, legumeyet_formatter_read, legumeyet_shared_formatter_read);
+        return text_of([&](auto... out) { return read(&handle, text.bytes(), text.size(), out...); });
+    }
+
+    // The number that somebody typed, as digits: `1234.5` of ` 1234.5 ` in English; legumeyet_formatter_read_lenient has the rule.
+    Result<std::string> try_read_lenient(Text text) {
+        const auto read = twin(&handle, legumeyet_formatter_read_lenient, legumeyet_shared_formatter_read_lenient);
+        return text_of([&](auto... out) { return read(&handle, text.bytes(), text.size(), out...); });
+    }
+
+#ifdef __cpp_exceptions
+    std::string format(Number number, Options options = OWN) { return try_format(number, options).value(); }
+    template <class T, class E, If<is_number<T> && is_number<E>> = 0> std::string format(T mantissa, E exponent, Options options = OWN) {
+        return format(Number(mantissa, exponent), options);
+    }
+    // An Error says which number it is of, from 0 on.
+    Column format_all(const Numbers &numbers, Options options = OWN) {
+        Column column;
+        const Code code = format_all_to(column, numbers, options);
+        const bool is_of_one = code != Code::Ok && code != Code::Closed && code != Code::Option;
+        if (is_of_one) throw Error(code, ": the number at " + std::to_string(column.size()));
+        expect_well(code);
+        return column;
+    }
+    template <class A, class B, Many<A, B> = 0> Column format_all(A &&numbers, B how, Options options = OWN) {
+        return format_all(Numbers(numbers, how), options);
+    }
+    template <class C> Column format_all(const int64_t *numbers, C count, Exponent power, Options options = OWN) {
+        return format_all(Numbers(numbers, count, power), options);
+    }
+    Annotated format_parts(const Digits &number, Options options = OWN) { return try_format_parts(number, options).value(); }
+    std::string shown(const Digits &number, Options options = OWN) { return try_shown(number, options).value(); }
+    std::string format_exact(Text number, Options options = OWN) { return try_format_exact(number, options).value(); }
+    std::string read(Text text) { return try_read(text).value(); }
+    std::string read_lenient(Text text) { return try_read_lenient(text).value(); }
+#endif
 };
 
 } // namespace inner
 
+// A number as a formatter writes it: std::cout << german(1234.5), and in C++20 std::format("{:>12}", german(1234.5)).
+template <class Formatter> class Formatted {
+    friend Formatter;
+
+    Formatter *formatter;
+    Number number;
+    Options options;
+
+    Formatted(Formatter &by, Number it, const Options &how) noexcept : formatter(&by), number(it), options(how) {}
+
+  public:
+    // Calls with the text.
+    template <class Use> Code with_text(Use use) const { return inner::with_text(formatter->writing(number, options), use); }
+
+    // Writes the text, or where a program has no exceptions sets the failbit.
+    template <class Traits> friend std::basic_ostream<char, Traits> &operator<<(std::basic_ostream<char, Traits> &out, const Formatted &it) {
+        using View = std::basic_string_view<char, Traits>;
+        const Code code = it.with_text([&](std::string_view text) { out << View(text.data(), text.size()); });
+#ifdef __cpp_exceptions
+        inner::expect_well(code);
+#else
+        if (code != Code::Ok) out.setstate(std::basic_ostream<char, Traits>::failbit);
+#endif
+        return out;
+    }
+};
+
 // The tag of a locale's name as LANG and setlocale give it: `de-DE` of `de_DE.UTF-8`; legumeyet_tag_of_locale_name has the rule. A null
 // pointer is an empty name.
-inline std::string tag_of_locale_name(const char *name) {
-    std::string tag;
-    inner::with_text([&](auto... out) { return legumeyet_tag_of_locale_name(name, out...); }, [&](std::string_view text) { tag = text; });
-    return tag;
-}
+inline std::string tag_of_locale_name(const char *name) { return *inner::text_of([&](auto... out) { return legumeyet_tag_of_locale_name(name, out...); }); }
 
 // The tags of the world's locales, in order.
 inline std::vector<std::string_view> world_locales() {
@@ -743,21 +881,31 @@ inline std::vector<std::string_view> world_locales() {
     return found;
 }
 
+// The normal text of a skeleton, one for all that ask for the same format: `compact-short` of `K  sign-auto`. Where a text is no skeleton, the
+// place is where the faulty word begins, in bytes.
+inline Result<std::string> try_normal_skeleton(inner::Text skeleton, std::size_t *place = nullptr) {
+    std::size_t at = 0, *const found = place != nullptr ? place : &at;
+    return inner::text_of([&](auto... out) { return legumeyet_skeleton_normal(skeleton.bytes(), skeleton.size(), found, out...); });
+}
+#ifdef __cpp_exceptions
+inline std::string normal_skeleton(inner::Text skeleton) {
+    std::size_t place = 0;
+    Result<std::string> found = try_normal_skeleton(skeleton, &place);
+    inner::expect_opened(found.error(), {}, skeleton, place);
+    return *std::move(found);
+}
+#endif
+
 // A book of tables.
 class Book : inner::Owned<legumeyet_book, legumeyet_book_close> {
     friend class Answers;
-    friend class CompactDecimalFormatter;
-    friend class CurrencyFormatter;
-    friend class DecimalFormatter;
-    friend class PercentFormatter;
+    friend class NumberFormatter;
 
     Book() = default;
 
     template <class Call> static Result<Book> opened(Call call) noexcept {
         Book book;
-        const auto code = static_cast<Code>(call(&book.handle));
-        if (code != Code::Ok) return code;
-        return book;
+        return inner::opened_by(book, book.handle, call);
     }
 
   public:
@@ -829,10 +977,8 @@ class World {
         Result<Book> opened = Book::try_world();
         if (!opened) return opened.error();
         auto made = std::make_unique<World>(*std::move(opened));
-        while (found == nullptr || found->process != getpid()) {
-            if (!shared.compare_exchange_weak(found, made.get())) continue;
-            return made.release();
-        }
+        while (found == nullptr || found->process != getpid())
+            if (shared.compare_exchange_weak(found, made.get())) return made.release();
         return found;
     }
 
@@ -858,48 +1004,33 @@ class Answers : inner::Owned<legumeyet_answers, legumeyet_answers_close> {
     struct Unopened {};
     explicit Answers(Unopened) noexcept {}
 
-    // Writes the answers to lines that all end after the `used` bytes of a text, which is made larger where it has too little room.
-    Code add(std::string_view lines, std::string &text, std::size_t &used) {
-        std::size_t done = 0;
-        for (;;) {
-            std::size_t read = 0, written = 0, needs = 0;
-            const auto code = static_cast<Code>(legumeyet_answers_answer(&handle, inner::bytes(lines) + done, lines.size() - done,
-                                                                         inner::bytes(&text[used]), text.size() - used, &read,
-                                                                         &written, &needs));
-            done += read;
-            used += written;
-            if (code != Code::TooSmall) return code;
-            text.resize(text.size() + std::max(text.size(), needs));
-        }
-    }
-
   public:
     static constexpr std::size_t CAPACITY = 512;
 
     // By the world's book, which the process opens once and keeps. Code::Option of a capacity of 0.
-    static Result<Answers> try_open(std::size_t capacity = CAPACITY) {
-        return inner::World::with([&](Book &book) { return try_open(book, capacity); });
-    }
+    static Result<Answers> try_open(std::size_t capacity = CAPACITY) { return inner::World::with([&](Book &book) { return try_open(book, capacity); }); }
 
     // By a book that is kept: Code::Unkept of another.
     static Result<Answers> try_open(Book &book, std::size_t capacity = CAPACITY) noexcept {
         Answers found{Unopened()};
-        const auto code = static_cast<Code>(legumeyet_answers_open(&book.handle, capacity, &found.handle));
-        if (code != Code::Ok) return code;
-        return found;
+        return inner::opened_by(found, found.handle, [&](legumeyet_answers *it) { return legumeyet_answers_open(&book.handle, capacity, it); });
     }
 
     // The answers to the lines, in order, as Book::answer has them, each with a line feed. A last line without one is answered too.
     Result<std::string> try_answer(inner::Text given) {
-        const std::string_view lines = given;
-        const std::size_t whole = lines.rfind('\n') + 1; // 0 where no line ends
-        std::string text(lines.size() + inner::NEAR, ' ');
-        std::size_t used = 0;
-        Code code = add(lines.substr(0, whole), text, used);
-        if (code == Code::Ok && whole < lines.size()) code = add(std::string(lines.substr(whole)) += '\n', text, used);
-        if (code != Code::Ok) return code;
-        text.resize(used);
-        return text;
+        std::string_view lines = given;
+        std::string whole, text(lines.size() + inner::NEAR, ' ');
+        if (!lines.empty() && lines.back() != '\n') lines = whole.append(lines).append(1, '\n');
+        for (std::size_t used = 0;;) {
+            std::size_t read = 0, written = 0, needs = 0;
+            const auto code = static_cast<Code>(legumeyet_answers_answer(
+                &handle, inner::bytes(lines), lines.size(), inner::bytes(&text[used]), text.size() - used, &read, &written, &needs));
+            lines.remove_prefix(read);
+            used += written;
+            if (code != Code::Ok && code != Code::TooSmall) return code;
+            text.resize(code == Code::Ok ? used : text.size() + std::max(text.size(), needs));
+            if (code == Code::Ok) return text;
+        }
     }
 
 #ifdef __cpp_exceptions
@@ -909,503 +1040,69 @@ class Answers : inner::Owned<legumeyet_answers, legumeyet_answers_close> {
 #endif
 };
 
-template <class Formatter> class Formatted;
-
-namespace inner {
-
-// The column that a call adds all its numbers to.
-template <class Call> Result<Column> column_of(Call call) {
-    Column column;
-    const Code code = call(column);
-    if (code != Code::Ok) return code;
-    return column;
-}
-
-#ifdef __cpp_exceptions
-template <class Call> Column whole_column_of(Call call) {
-    Column column;
-    const Code code = call(column);
-    const bool is_of_one = code != Code::Ok && code != Code::Closed && code != Code::Option;
-    if (is_of_one) throw Error(code, ": the number at " + std::to_string(column.size()));
-    expect_well(code);
-    return column;
-}
-#endif
-
-// What a formatter of any kind writes; `Calls` has the functions of legumeyet.h for the kind, and `Base` the handle.
-template <class Handle, class Calls, class Base> class Formatter : Base {
-    friend class Formatted<Formatter>;
-
-    // How many numbers that are not in one piece of memory one call writes, and how many bytes of texts.
-    static constexpr std::size_t GATHERED = 256, LINES = 1 << 16;
-
-    // Adds the text of one number to a column.
-    Code add_one(Column &into, const Number &number, const Options &options) {
-        return with_text_of(number, options, [&](std::string_view text) { into.add(text); });
-    }
-
-    Code add_doubles(Column &into, const double *numbers, std::size_t total, const legumeyet_options &options) {
-        return into.add(total, [&](std::size_t done, auto... out) {
-            return static_cast<Code>(Calls::format_doubles(&handle, numbers + done, total - done, &options, out...));
-        });
-    }
-
-    Code add_integers(Column &into, const int64_t *numbers, std::size_t total, Exponent exponent, const legumeyet_options &options) {
-        if (!exponent.has_room()) return Code::Limit;
-        return into.add(total, [&](std::size_t done, auto... out) {
-            return static_cast<Code>(
-                Calls::format_integers(&handle, numbers + done, total - done, static_cast<int16_t>(exponent), &options, out...));
-        });
-    }
-
-    // The numbers are lines.
-    Code add_lines(Column &into, std::string_view lines, std::size_t total, const legumeyet_options &options) {
-        std::size_t at = 0;
-        return into.add(total, [&](std::size_t done, auto... out) {
-            for (; at < done; ++at) lines.remove_prefix(lines.find('\n') + 1);
-            return static_cast<Code>(Calls::format_texts(&handle, bytes(lines), lines.size(), &options, out...));
-        });
-    }
-
-    // Adds numbers that are not in one piece of memory as T, some at a time; an integer that is none is added alone.
-    template <class T, class Numbers> Code add_gathered(Column &into, Numbers &numbers, Exponent exponent, const Options &options) {
-        const auto choices = static_cast<legumeyet_options>(options);
-        T gathered[GATHERED];
-        std::size_t count = 0;
-        const auto add = [&] {
-            const std::size_t total = std::exchange(count, 0);
-            if constexpr (std::is_same_v<T, double>)
-                return add_doubles(into, gathered, total, choices);
-            else
-                return add_integers(into, gathered, total, exponent, choices);
-        };
-        for (const auto &it : numbers) {
-            Code code = Code::Ok;
-            bool is_alone = false;
-            if constexpr (!std::is_same_v<T, double>) is_alone = !fits<T>(it);
-            if (count == GATHERED || is_alone) code = add();
-            if (code != Code::Ok) return code;
-            if constexpr (!std::is_same_v<T, double>)
-                if (is_alone) code = add_one(into, Number(it, static_cast<int16_t>(exponent)), options);
-            if (!is_alone) gathered[count++] = static_cast<T>(it);
-            if (code != Code::Ok) return code;
-        }
-        return add();
-    }
-
-    // Adds texts. One with a line feed inside would be two numbers: it is added alone, to be refused.
-    template <class Numbers> Code add_texts(Column &into, Numbers &numbers, const Options &options) {
-        const auto choices = static_cast<legumeyet_options>(options);
-        std::string lines;
-        std::size_t count = 0;
-        const auto add = [&] {
-            const Code code = add_lines(into, lines, count, choices);
-            lines.clear();
-            count = 0;
-            return code;
-        };
-        for (const auto &it : numbers) {
-            const std::string_view text = view_of(it);
-            const bool is_alone = text.find('\n') != text.npos;
-            Code code = is_alone || lines.size() >= LINES ? add() : Code::Ok;
-            if (code == Code::Ok && is_alone) code = add_one(into, text, options);
-            if (code != Code::Ok) return code;
-            if (!is_alone) (lines += text) += '\n', ++count;
-        }
-        return add();
-    }
-
-    // Calls with the text of a number.
-    template <class Use> Code with_text_of(const Number &number, const Options &options, Use use) {
-        const auto choices = static_cast<legumeyet_options>(options);
-        return with_text([&](auto... out) { return number.written_by<Calls>(handle, choices, out...); }, use);
-    }
+// The formatter of a format, or of a skeleton, for a locale tag. It may outlive its book. One for which no book is given is of the world's,
+// which the process opens once and keeps.
+class NumberFormatter : public inner::Formatter<inner::Owned<legumeyet_formatter, legumeyet_formatter_close>> {
+    friend class SharedNumberFormatter;
 
   protected:
-    using Base::handle;
+    using Text = inner::Text;
+    struct Closed {
+        explicit Closed() = default;
+    };
 
-    Formatter() = default;
-
-    // What a call for a number as text writes.
-    template <class Call> Result<std::string> of_text(Call call, std::string_view number, const Options &options) {
-        const auto choices = static_cast<legumeyet_options>(options);
-        return text_of([&](auto... out) { return call(&handle, bytes(number), number.size(), &choices, out...); });
-    }
-
-  public:
-    // Writes the text of a number to the front of the room. Nothing is allocated by this header.
-    FormatToResult<char *> format_to(char *first, std::size_t room, Number number, const Options &options = {}) noexcept {
-        std::size_t size = 0;
-        const auto choices = static_cast<legumeyet_options>(options);
-        const auto code = static_cast<Code>(number.written_by<Calls>(handle, choices, bytes(first), room, &size));
-        return {first == nullptr ? first : first + std::min(size, room), size, code};
-    }
-
-    // Writes the text of a number to an output iterator, as std::back_inserter(text). A text up to 256 bytes takes no allocation.
-    template <class Out, std::enable_if_t<!std::is_pointer_v<Out>, int> = 0>
-    FormatToResult<Out> format_to(Out out, Number number, const Options &options = {}) {
-        FormatToResult<Out> found{std::move(out), 0, Code::Ok};
-        found.code = with_text_of(number, options, [&](std::string_view text) {
-            found.out = std::copy(text.begin(), text.end(), std::move(found.out));
-            found.size = text.size();
+    // A formatter of any class.
+    template <class Self> static Result<Self> opened(Book &book, Text tag, const Format &format, Options options = OWN) noexcept {
+        const auto words = static_cast<legumeyet_format>(format);
+        const uint8_t *code = inner::bytes(format.currency);
+        Self found{Closed()};
+        found.own = options;
+        return inner::opened_by(found, found.handle, [&](legumeyet_formatter *it) {
+            return legumeyet_formatter_open(&book.handle, tag.bytes(), tag.size(), LEGUMEYET_WORDS(words), code, format.currency.size(), it);
         });
-        return found;
     }
-
-    // What `<<` and std::format write a number by; it borrows the formatter, and a text. It is used in the statement that makes it.
-    Formatted<Formatter> operator()(Number number LEGUMEYET_BORROWS, const Options &options = {}) &noexcept LEGUMEYET_BORROWS { return {*this, number, options}; }
-
-    // The text of a number.
-    Result<std::string> try_format(Number number, const Options &options = {}) {
-        std::string text;
-        const Code code = with_text_of(number, options, [&](std::string_view written) { text = written; });
-        if (code != Code::Ok) return code;
-        return text;
-    }
-
-    // Adds the texts of many numbers to a column, of a range of doubles, integers or texts: as `format` has each, and sooner. Where one is
-    // refused the column has those before it, so that its size says which. The numbers are not texts of the column itself. Integers may
-    // all be times a power of ten, so that cents need no arithmetic: format_all_to(column, cents, Exponent(-2)).
-    template <class Numbers, std::enable_if_t<has_numbers<Numbers>, int> = 0>
-    [[nodiscard]] Code format_all_to(Column &into, Numbers &&numbers, const Options &options = {}) {
-        using T = item_of<Numbers>;
-        if constexpr (is_text<T>)
-            return add_texts(into, numbers, options);
-        else if constexpr (is_memory_of<double, Numbers>)
-            return add_doubles(into, std::data(numbers), std::size(numbers), static_cast<legumeyet_options>(options));
-        else if constexpr (is_number<T>)
-            return format_all_to(into, numbers, Exponent(0), options);
-        else
-            return add_gathered<double>(into, numbers, Exponent(0), options);
-    }
-    template <class Numbers, std::enable_if_t<has_integers<Numbers>, int> = 0>
-    [[nodiscard]] Code format_all_to(Column &into, Numbers &&mantissas, Exponent exponent, const Options &options = {}) {
-        if constexpr (is_memory_of<int64_t, Numbers>)
-            return add_integers(into, std::data(mantissas), std::size(mantissas), exponent, static_cast<legumeyet_options>(options));
-        else
-            return exponent.has_room() ? add_gathered<int64_t>(into, mantissas, exponent, options) : Code::Limit;
-    }
-    [[nodiscard]] Code format_all_to(Column &into, const double *numbers, Count count, const Options &options = {}) {
-        return add_doubles(into, numbers, count, static_cast<legumeyet_options>(options));
-    }
-    [[nodiscard]] Code format_all_to(Column &into, const int64_t *numbers, Count count, const Options &options = {}) {
-        return format_all_to(into, numbers, count, Exponent(0), options);
-    }
-    [[nodiscard]] Code format_all_to(Column &into, const int64_t *mantissas, Count count, Exponent exponent, const Options &options = {}) {
-        return add_integers(into, mantissas, count, exponent, static_cast<legumeyet_options>(options));
-    }
-
-    // The texts of many numbers, which are given as to `format_all_to`.
-    template <class Numbers, std::enable_if_t<has_numbers<Numbers>, int> = 0>
-    Result<Column> try_format_all(Numbers &&numbers, const Options &options = {}) {
-        return column_of([&](Column &it) { return format_all_to(it, numbers, options); });
-    }
-    Result<Column> try_format_all(const double *numbers, Count count, const Options &options = {}) {
-        return column_of([&](Column &it) { return format_all_to(it, numbers, count, options); });
-    }
-    Result<Column> try_format_all(const int64_t *numbers, Count count, const Options &options = {}) {
-        return column_of([&](Column &it) { return format_all_to(it, numbers, count, options); });
-    }
-    template <class Numbers, std::enable_if_t<has_integers<Numbers>, int> = 0>
-    Result<Column> try_format_all(Numbers &&mantissas, Exponent exponent, const Options &options = {}) {
-        return column_of([&](Column &it) { return format_all_to(it, mantissas, exponent, options); });
-    }
-    Result<Column> try_format_all(const int64_t *mantissas, Count count, Exponent exponent, const Options &options = {}) {
-        return column_of([&](Column &it) { return format_all_to(it, mantissas, count, exponent, options); });
-    }
-
-    // The same with its parts, in order of their beginning; of a compact number those of its sign.
-    Result<Annotated> try_format_parts(const Digits &number, const Options &options = {}) {
-        const std::string_view text = number.view();
-        const auto choices = static_cast<legumeyet_options>(options);
-        return annotated_of([&](auto... out) { return Calls::format_parts(&handle, bytes(text), text.size(), &choices, out...); });
-    }
-
-#ifdef __cpp_exceptions
-    std::string format(Number number, const Options &options = {}) { return try_format(number, options).value(); }
-    template <class T, class E, std::enable_if_t<is_number<T> && is_number<E>, int> = 0>
-    std::string format(T mantissa, E exponent, const Options &options = {}) {
-        return format(Number(mantissa, exponent), options);
-    }
-    Annotated format_parts(const Digits &number, const Options &options = {}) { return try_format_parts(number, options).value(); }
-
-    // An Error says which number it is of, from 0 on.
-    template <class Numbers, std::enable_if_t<has_numbers<Numbers>, int> = 0>
-    Column format_all(Numbers &&numbers, const Options &options = {}) {
-        return whole_column_of([&](Column &it) { return format_all_to(it, numbers, options); });
-    }
-    Column format_all(const double *numbers, Count count, const Options &options = {}) {
-        return whole_column_of([&](Column &it) { return format_all_to(it, numbers, count, options); });
-    }
-    Column format_all(const int64_t *numbers, Count count, const Options &options = {}) {
-        return whole_column_of([&](Column &it) { return format_all_to(it, numbers, count, options); });
-    }
-    template <class Numbers, std::enable_if_t<has_integers<Numbers>, int> = 0>
-    Column format_all(Numbers &&mantissas, Exponent exponent, const Options &options = {}) {
-        return whole_column_of([&](Column &it) { return format_all_to(it, mantissas, exponent, options); });
-    }
-    Column format_all(const int64_t *mantissas, Count count, Exponent exponent, const Options &options = {}) {
-        return whole_column_of([&](Column &it) { return format_all_to(it, mantissas, count, exponent, options); });
-    }
-#endif
-};
-
-struct DecimalCalls {
-    static constexpr auto close = legumeyet_decimal_formatter_close;
-    static constexpr auto format = legumeyet_decimal_formatter_format;
-    static constexpr auto format_i64 = legumeyet_decimal_formatter_format_i64;
-    static constexpr auto format_u64 = legumeyet_decimal_formatter_format_u64;
-    static constexpr auto format_double = legumeyet_decimal_formatter_format_double;
-    static constexpr auto format_parts = legumeyet_decimal_formatter_format_parts;
-    static constexpr auto format_doubles = legumeyet_decimal_formatter_format_doubles;
-    static constexpr auto format_integers = legumeyet_decimal_formatter_format_integers;
-    static constexpr auto format_texts = legumeyet_decimal_formatter_format_texts;
-};
-
-struct CompactCalls {
-    static constexpr auto close = legumeyet_compact_formatter_close;
-    static constexpr auto format = legumeyet_compact_formatter_format;
-    static constexpr auto format_i64 = legumeyet_compact_formatter_format_i64;
-    static constexpr auto format_u64 = legumeyet_compact_formatter_format_u64;
-    static constexpr auto format_double = legumeyet_compact_formatter_format_double;
-    static constexpr auto format_parts = legumeyet_compact_formatter_format_parts;
-    static constexpr auto format_doubles = legumeyet_compact_formatter_format_doubles;
-    static constexpr auto format_integers = legumeyet_compact_formatter_format_integers;
-    static constexpr auto format_texts = legumeyet_compact_formatter_format_texts;
-};
-
-struct UnitCalls {
-    static constexpr auto close = legumeyet_unit_formatter_close;
-    static constexpr auto format = legumeyet_unit_formatter_format;
-    static constexpr auto format_i64 = legumeyet_unit_formatter_format_i64;
-    static constexpr auto format_u64 = legumeyet_unit_formatter_format_u64;
-    static constexpr auto format_double = legumeyet_unit_formatter_format_double;
-    static constexpr auto format_parts = legumeyet_unit_formatter_format_parts;
-    static constexpr auto format_doubles = legumeyet_unit_formatter_format_doubles;
-    static constexpr auto format_integers = legumeyet_unit_formatter_format_integers;
-    static constexpr auto format_texts = legumeyet_unit_formatter_format_texts;
-};
-
-// What formatters of numbers with a unit have in common.
-class UnitFormatter : public Formatter<legumeyet_unit_formatter, UnitCalls> {
-  protected:
-    UnitFormatter() = default;
 
   public:
-    // The number that is written so, as digits: `-1234.50` of `-€1,234.50` in English.
-    Result<std::string> try_read(inner::Text text) {
-        return text_of([&](auto... out) { return legumeyet_unit_formatter_read(&handle, text.bytes(), text.size(), out...); });
+    explicit NumberFormatter(Closed) noexcept {}
+
+    // Of a format, and with options of its own, which its calls look at. Code::Table of compact numbers with a unit.
+    static Result<NumberFormatter> try_open(Book &book, Text tag, const Format &format, Options options = OWN) noexcept {
+        return opened<NumberFormatter>(book, tag, format, options);
+    }
+    static Result<NumberFormatter> try_open(Text tag, const Format &format, Options options = OWN) {
+        return inner::World::with([&](Book &book) { return try_open(book, tag, format, options); });
     }
 
-    // The number that somebody typed, as digits: `1234.5` of `1234.5 €` in English; legumeyet_unit_formatter_read_lenient has the rule.
-    Result<std::string> try_read_lenient(inner::Text text) {
-        return text_of([&](auto... out) { return legumeyet_unit_formatter_read_lenient(&handle, text.bytes(), text.size(), out...); });
+    // Of a skeleton, the text by which ICU asks for a format: docs/skeletons.md of the repository. Where it is none, `place` is where the
+    // faulty word begins, in bytes: 8 of `percent foo`.
+    static Result<NumberFormatter> try_skeleton(Book &book, Text tag, Text skeleton, std::size_t *place = nullptr) noexcept {
+        NumberFormatter found{Closed()};
+        std::size_t at = 0, *const fault = place != nullptr ? place : &at;
+        return inner::opened_by(found, found.handle, [&](legumeyet_formatter *it) {
+            return legumeyet_formatter_open_skeleton(&book.handle, tag.bytes(), tag.size(), skeleton.bytes(), skeleton.size(), fault, it);
+        });
     }
-
-#ifdef __cpp_exceptions
-    std::string read(inner::Text text) { return try_read(text).value(); }
-    std::string read_lenient(inner::Text text) { return try_read_lenient(text).value(); }
-#endif
-};
-
-} // namespace inner
-
-// A number as a formatter writes it: std::cout << german(1234.5), and in C++20 std::format("{:>12}", german(1234.5)).
-template <class Formatter> class Formatted {
-    friend Formatter;
-
-    Formatter *formatter;
-    Number number;
-    Options options;
-
-    Formatted(Formatter &by, Number it, const Options &how) noexcept : formatter(&by), number(it), options(how) {}
-
-  public:
-    // Calls with the text.
-    template <class Use> Code with_text(Use use) const { return formatter->with_text_of(number, options, use); }
-
-    // Writes the text, or where a program has no exceptions sets the failbit.
-    template <class Traits>
-    friend std::basic_ostream<char, Traits> &operator<<(std::basic_ostream<char, Traits> &out, const Formatted &it) {
-        using View = std::basic_string_view<char, Traits>;
-        const Code code = it.with_text([&](std::string_view text) { out << View(text.data(), text.size()); });
-#ifdef __cpp_exceptions
-        inner::expect_well(code);
-#else
-        if (code != Code::Ok) out.setstate(std::basic_ostream<char, Traits>::failbit);
-#endif
-        return out;
-    }
-};
-
-// The formatter of plain numbers for a locale tag. It may outlive its book.
-class DecimalFormatter : public inner::Formatter<legumeyet_decimal_formatter, inner::DecimalCalls> {
-    friend class SharedDecimalFormatter;
-
-    DecimalFormatter() = default;
-
-  public:
-    // Of the world's book, which the process opens once and keeps.
-    static Result<DecimalFormatter> try_open(inner::Text tag, Grouping grouping = Grouping::Auto) {
-        return inner::World::with([&](Book &book) { return try_open(book, tag, grouping); });
-    }
-
-    static Result<DecimalFormatter> try_open(Book &book, inner::Text tag, Grouping grouping = Grouping::Auto) noexcept {
-        DecimalFormatter found;
-        const auto code = static_cast<Code>(
-            legumeyet_decimal_formatter_open(&book.handle, tag.bytes(), tag.size(), static_cast<uint32_t>(grouping), &found.handle));
-        if (code != Code::Ok) return code;
-        return found;
-    }
-
-    // The number that is written so, as digits: `-1234.50` of `-1,234.50` in English.
-    Result<std::string> try_read(inner::Text text) {
-        return inner::text_of(
-            [&](auto... out) { return legumeyet_decimal_formatter_read(&handle, text.bytes(), text.size(), out...); });
-    }
-
-    // The number that somebody typed, as digits: `1234.5` of ` 1234.5 ` in English; legumeyet_decimal_formatter_read_lenient has the rule.
-    Result<std::string> try_read_lenient(inner::Text text) {
-        return inner::text_of(
-            [&](auto... out) { return legumeyet_decimal_formatter_read_lenient(&handle, text.bytes(), text.size(), out...); });
+    static Result<NumberFormatter> try_skeleton(Text tag, Text skeleton, std::size_t *place = nullptr) {
+        return inner::World::with([&](Book &book) { return try_skeleton(book, tag, skeleton, place); });
     }
 
 #ifdef __cpp_exceptions
-    explicit DecimalFormatter(inner::Text tag, Grouping grouping = Grouping::Auto) { take(try_open(tag, grouping), tag); }
-    DecimalFormatter(Book &book, inner::Text tag, Grouping grouping = Grouping::Auto) { take(try_open(book, tag, grouping), tag); }
-    std::string read(inner::Text text) { return try_read(text).value(); }
-    std::string read_lenient(inner::Text text) { return try_read_lenient(text).value(); }
-
-  private:
-    void take(Result<DecimalFormatter> opened, inner::Text tag) {
-        inner::expect_opened(opened.error(), tag);
-        *this = *std::move(opened);
+    explicit NumberFormatter(Text tag, const Format &format = {}, Options options = OWN) : NumberFormatter(try_open(tag, format, options), tag, format.currency) {}
+    NumberFormatter(Book &book, Text tag, const Format &format = {}, Options options = OWN)
+        : NumberFormatter(try_open(book, tag, format, options), tag, format.currency) {}
+    // Throws a SkeletonError where the text is no skeleton.
+    static NumberFormatter skeleton(Text tag, Text skeleton) {
+        std::size_t place = 0;
+        return {try_skeleton(tag, skeleton, &place), tag, skeleton, place};
     }
-#endif
-};
-
-// The formatter of compact numbers for a locale tag. It may outlive its book.
-class CompactDecimalFormatter : public inner::Formatter<legumeyet_compact_formatter, inner::CompactCalls> {
-    friend class SharedCompactDecimalFormatter;
-
-    CompactDecimalFormatter() = default;
-
-  public:
-    // Of the world's book, which the process opens once and keeps.
-    static Result<CompactDecimalFormatter> try_open(inner::Text tag, Width width = Width::Short, Grouping grouping = Grouping::Min2) {
-        return inner::World::with([&](Book &book) { return try_open(book, tag, width, grouping); });
-    }
-
-    static Result<CompactDecimalFormatter> try_open(Book &book, inner::Text tag, Width width = Width::Short,
-                                                    Grouping grouping = Grouping::Min2) noexcept {
-        CompactDecimalFormatter found;
-        const auto code = static_cast<Code>(legumeyet_compact_formatter_open(
-            &book.handle, tag.bytes(), tag.size(), static_cast<uint32_t>(width), static_cast<uint32_t>(grouping), &found.handle));
-        if (code != Code::Ok) return code;
-        return found;
-    }
-
-    // The value that the text of a number shows: `-1.2c6` of `-1.2M`.
-    Result<std::string> try_shown(const inner::Digits &number, const Options &options = {}) {
-        return of_text(legumeyet_compact_formatter_shown, number.view(), options);
-    }
-
-    // The text of a significand with an exponent, its digits as they are: `-1.20M` of `-1.20c6`.
-    Result<std::string> try_format_exact(inner::Text number, const Options &options = {}) {
-        return of_text(legumeyet_compact_formatter_format_exact, number, options);
-    }
-
-#ifdef __cpp_exceptions
-    explicit CompactDecimalFormatter(inner::Text tag, Width width = Width::Short, Grouping grouping = Grouping::Min2) {
-        take(try_open(tag, width, grouping), tag);
-    }
-    CompactDecimalFormatter(Book &book, inner::Text tag, Width width = Width::Short, Grouping grouping = Grouping::Min2) {
-        take(try_open(book, tag, width, grouping), tag);
-    }
-    std::string shown(const inner::Digits &number, const Options &options = {}) { return try_shown(number, options).value(); }
-    std::string format_exact(inner::Text number, const Options &options = {}) { return try_format_exact(number, options).value(); }
-
-  private:
-    void take(Result<CompactDecimalFormatter> opened, inner::Text tag) {
-        inner::expect_opened(opened.error(), tag);
-        *this = *std::move(opened);
-    }
-#endif
-};
-
-// The formatter of percents for a locale tag. It may outlive its book. A percent is written as it is given: 12.5 as `12.5%`. Only amounts
-// have Rounding::Cash and Rounding::None: Code::Option.
-class PercentFormatter : public inner::UnitFormatter {
-    friend class SharedUnitFormatter;
-
-    PercentFormatter() = default;
-
-  public:
-    // Of the world's book, which the process opens once and keeps.
-    static Result<PercentFormatter> try_open(inner::Text tag, Grouping grouping = Grouping::Auto) {
-        return inner::World::with([&](Book &book) { return try_open(book, tag, grouping); });
-    }
-
-    static Result<PercentFormatter> try_open(Book &book, inner::Text tag, Grouping grouping = Grouping::Auto) noexcept {
-        PercentFormatter found;
-        const auto code = static_cast<Code>(
-            legumeyet_percent_formatter_open(&book.handle, tag.bytes(), tag.size(), static_cast<uint32_t>(grouping), &found.handle));
-        if (code != Code::Ok) return code;
-        return found;
-    }
-
-#ifdef __cpp_exceptions
-    explicit PercentFormatter(inner::Text tag, Grouping grouping = Grouping::Auto) { take(try_open(tag, grouping), tag); }
-    PercentFormatter(Book &book, inner::Text tag, Grouping grouping = Grouping::Auto) { take(try_open(book, tag, grouping), tag); }
-
-  private:
-    void take(Result<PercentFormatter> opened, inner::Text tag) {
-        inner::expect_opened(opened.error(), tag);
-        *this = *std::move(opened);
-    }
-#endif
-};
-
-// The formatter of amounts of money for a locale tag and the code of a currency, as `EUR`. It may outlive its book. Without a rounding an
-// amount is rounded to the digits of its currency, half even, and shown down to them: 5 dollars as `$5.00`. With Rounding::Cash they are
-// those of the currency in cash, and with Rounding::None it is written as given.
-class CurrencyFormatter : public inner::UnitFormatter {
-    friend class SharedUnitFormatter;
-
-    CurrencyFormatter() = default;
-
-  public:
-    // Of the world's book, which the process opens once and keeps.
-    static Result<CurrencyFormatter> try_open(inner::Text tag, inner::Text currency,
-                                              CurrencyStyle style = CurrencyStyle::Standard,
-                                              CurrencyWidth width = CurrencyWidth::Symbol, Grouping grouping = Grouping::Auto) {
-        return inner::World::with([&](Book &book) { return try_open(book, tag, currency, style, width, grouping); });
-    }
-
-    static Result<CurrencyFormatter> try_open(Book &book, inner::Text tag, inner::Text currency,
-                                              CurrencyStyle style = CurrencyStyle::Standard,
-                                              CurrencyWidth width = CurrencyWidth::Symbol, Grouping grouping = Grouping::Auto) noexcept {
-        CurrencyFormatter found;
-        const auto code = static_cast<Code>(legumeyet_currency_formatter_open(
-            &book.handle, tag.bytes(), tag.size(), currency.bytes(), currency.size(), static_cast<uint32_t>(style),
-            static_cast<uint32_t>(width), static_cast<uint32_t>(grouping), &found.handle));
-        if (code != Code::Ok) return code;
-        return found;
-    }
-
-#ifdef __cpp_exceptions
-    CurrencyFormatter(inner::Text tag, inner::Text currency, CurrencyStyle style = CurrencyStyle::Standard,
-                      CurrencyWidth width = CurrencyWidth::Symbol, Grouping grouping = Grouping::Auto) {
-        take(try_open(tag, currency, style, width, grouping), tag, currency);
-    }
-    CurrencyFormatter(Book &book, inner::Text tag, inner::Text currency, CurrencyStyle style = CurrencyStyle::Standard,
-                      CurrencyWidth width = CurrencyWidth::Symbol, Grouping grouping = Grouping::Auto) {
-        take(try_open(book, tag, currency, style, width, grouping), tag, currency);
+    static NumberFormatter skeleton(Book &book, Text tag, Text skeleton) {
+        std::size_t place = 0;
+        return {try_skeleton(book, tag, skeleton, &place), tag, skeleton, place};
     }
 
   private:
-    void take(Result<CurrencyFormatter> opened, inner::Text tag, inner::Text currency) {
-        inner::expect_opened(opened.error(), tag, currency);
+    NumberFormatter(Result<NumberFormatter> opened, Text tag, Text given, const std::size_t &place = 0) {
+        inner::expect_opened(opened.error(), tag, given, place);
         *this = *std::move(opened);
     }
 #endif
@@ -1413,195 +1110,127 @@ class CurrencyFormatter : public inner::UnitFormatter {
 
 namespace inner {
 
-// The handle of a shared formatter: it is copied as its bytes are, and what it shows stays for the rest of the program.
-template <class Handle> class Kept {
-  protected:
-    Handle handle{};
-};
-
-// What shared formatters have in common: the calls of a formatter, as const. The functions of `Calls` take the handle as const, so none of
-// these calls writes to it.
-template <class Handle, class Calls> class SharedFormatter : Formatter<Handle, Calls, Kept<Handle>> {
-    using Calling = Formatter<Handle, Calls, Kept<Handle>>;
-
-    Calling &calling() const noexcept { return const_cast<SharedFormatter &>(*this); }
-
-  protected:
-    using Calling::handle;
-
-    SharedFormatter() = default;
-
-    template <class Call> Result<std::string> of_text(Call call, std::string_view number, const Options &options) const {
-        return const_cast<SharedFormatter &>(*this).Calling::of_text(call, number, options);
-    }
-
+// A formatter of one kind, of the format that Kind::format_of makes of the choices after the tag.
+template <class Kind> class Face : public NumberFormatter {
   public:
-    FormatToResult<char *> format_to(char *first, std::size_t room, Number number, const Options &options = {}) const noexcept {
-        return calling().format_to(first, room, number, options);
-    }
-    template <class Out, std::enable_if_t<!std::is_pointer_v<Out>, int> = 0>
-    FormatToResult<Out> format_to(Out out, Number number, const Options &options = {}) const {
-        return calling().format_to(std::move(out), number, options);
-    }
-    Formatted<Calling> operator()(Number number LEGUMEYET_BORROWS, const Options &options = {}) const &noexcept LEGUMEYET_BORROWS {
-        return calling()(number, options);
-    }
-    Result<std::string> try_format(Number number, const Options &options = {}) const { return calling().try_format(number, options); }
-    template <class Numbers, std::enable_if_t<has_numbers<Numbers>, int> = 0>
-    [[nodiscard]] Code format_all_to(Column &into, Numbers &&numbers, const Options &options = {}) const {
-        return calling().format_all_to(into, numbers, options);
-    }
-    template <class T> [[nodiscard]] Code format_all_to(Column &into, const T *numbers, Count count, const Options &options = {}) const {
-        return calling().format_all_to(into, numbers, count, options);
-    }
-    template <class Numbers, std::enable_if_t<has_integers<Numbers>, int> = 0>
-    [[nodiscard]] Code format_all_to(Column &into, Numbers &&mantissas, Exponent exponent, const Options &options = {}) const {
-        return calling().format_all_to(into, mantissas, exponent, options);
-    }
-    [[nodiscard]] Code format_all_to(Column &into, const int64_t *mantissas, Count count, Exponent exponent, const Options &options = {}) const {
-        return calling().format_all_to(into, mantissas, count, exponent, options);
-    }
-    template <class Numbers, std::enable_if_t<has_numbers<Numbers>, int> = 0>
-    Result<Column> try_format_all(Numbers &&numbers, const Options &options = {}) const {
-        return calling().try_format_all(numbers, options);
-    }
-    template <class T> Result<Column> try_format_all(const T *numbers, Count count, const Options &options = {}) const {
-        return calling().try_format_all(numbers, count, options);
-    }
-    template <class Numbers, std::enable_if_t<has_integers<Numbers>, int> = 0>
-    Result<Column> try_format_all(Numbers &&mantissas, Exponent exponent, const Options &options = {}) const {
-        return calling().try_format_all(mantissas, exponent, options);
-    }
-    Result<Column> try_format_all(const int64_t *mantissas, Count count, Exponent exponent, const Options &options = {}) const {
-        return calling().try_format_all(mantissas, count, exponent, options);
-    }
-    Result<Annotated> try_format_parts(const Digits &number, const Options &options = {}) const {
-        return calling().try_format_parts(number, options);
-    }
+    explicit Face(Closed closed) noexcept : NumberFormatter(closed) {}
 
+    template <class... Choices> static Result<Kind> try_open(Book &book, Text tag, const Choices &...choices) noexcept {
+        return opened<Kind>(book, tag, Kind::format_of(choices...));
+    }
+    template <class... Choices> static Result<Kind> try_open(Text tag, const Choices &...choices) {
+        return World::with([&](Book &book) { return try_open(book, tag, choices...); });
+    }
 #ifdef __cpp_exceptions
-    std::string format(Number number, const Options &options = {}) const { return calling().format(number, options); }
-    template <class T, class E, std::enable_if_t<is_number<T> && is_number<E>, int> = 0>
-    std::string format(T mantissa, E exponent, const Options &options = {}) const {
-        return calling().format(mantissa, exponent, options);
-    }
-    Annotated format_parts(const Digits &number, const Options &options = {}) const { return calling().format_parts(number, options); }
-    template <class Numbers, std::enable_if_t<has_numbers<Numbers>, int> = 0>
-    Column format_all(Numbers &&numbers, const Options &options = {}) const {
-        return calling().format_all(numbers, options);
-    }
-    template <class T> Column format_all(const T *numbers, Count count, const Options &options = {}) const {
-        return calling().format_all(numbers, count, options);
-    }
-    template <class Numbers, std::enable_if_t<has_integers<Numbers>, int> = 0>
-    Column format_all(Numbers &&mantissas, Exponent exponent, const Options &options = {}) const {
-        return calling().format_all(mantissas, exponent, options);
-    }
-    Column format_all(const int64_t *mantissas, Count count, Exponent exponent, const Options &options = {}) const {
-        return calling().format_all(mantissas, count, exponent, options);
-    }
+    template <class K = Kind, class = decltype(K::format_of())> explicit Face(Text tag) : NumberFormatter(tag, K::format_of()) {}
+    template <class T, class... More, class K = Kind, class = decltype(K::format_of(std::declval<const T &>(), std::declval<const More &>()...))>
+    Face(Text tag, const T &choice, const More &...more) : NumberFormatter(tag, K::format_of(choice, more...)) {}
+    template <class... Choices, class K = Kind, class = decltype(K::format_of(std::declval<const Choices &>()...))>
+    Face(Book &book, Text tag, const Choices &...choices) : NumberFormatter(book, tag, K::format_of(choices...)) {}
 #endif
-};
-
-struct SharedDecimalCalls {
-    static constexpr auto format = legumeyet_shared_decimal_formatter_format;
-    static constexpr auto format_i64 = legumeyet_shared_decimal_formatter_format_i64;
-    static constexpr auto format_u64 = legumeyet_shared_decimal_formatter_format_u64;
-    static constexpr auto format_double = legumeyet_shared_decimal_formatter_format_double;
-    static constexpr auto format_parts = legumeyet_shared_decimal_formatter_format_parts;
-    static constexpr auto format_doubles = legumeyet_shared_decimal_formatter_format_doubles;
-    static constexpr auto format_integers = legumeyet_shared_decimal_formatter_format_integers;
-    static constexpr auto format_texts = legumeyet_shared_decimal_formatter_format_texts;
-};
-
-struct SharedCompactCalls {
-    static constexpr auto format = legumeyet_shared_compact_formatter_format;
-    static constexpr auto format_i64 = legumeyet_shared_compact_formatter_format_i64;
-    static constexpr auto format_u64 = legumeyet_shared_compact_formatter_format_u64;
-    static constexpr auto format_double = legumeyet_shared_compact_formatter_format_double;
-    static constexpr auto format_parts = legumeyet_shared_compact_formatter_format_parts;
-    static constexpr auto format_doubles = legumeyet_shared_compact_formatter_format_doubles;
-    static constexpr auto format_integers = legumeyet_shared_compact_formatter_format_integers;
-    static constexpr auto format_texts = legumeyet_shared_compact_formatter_format_texts;
-};
-
-struct SharedUnitCalls {
-    static constexpr auto format = legumeyet_shared_unit_formatter_format;
-    static constexpr auto format_i64 = legumeyet_shared_unit_formatter_format_i64;
-    static constexpr auto format_u64 = legumeyet_shared_unit_formatter_format_u64;
-    static constexpr auto format_double = legumeyet_shared_unit_formatter_format_double;
-    static constexpr auto format_parts = legumeyet_shared_unit_formatter_format_parts;
-    static constexpr auto format_doubles = legumeyet_shared_unit_formatter_format_doubles;
-    static constexpr auto format_integers = legumeyet_shared_unit_formatter_format_integers;
-    static constexpr auto format_texts = legumeyet_shared_unit_formatter_format_texts;
 };
 
 } // namespace inner
 
-// A formatter of plain numbers for any number of threads at once. It is copied as a pointer is, and what it writes with stays for the rest
-// of the program. A call on one that was made of a formatter that was moved from returns Code::Closed.
-class SharedDecimalFormatter : public inner::SharedFormatter<legumeyet_shared_decimal_formatter, inner::SharedDecimalCalls> {
+// The formatter of plain numbers for a locale tag: DecimalFormatter("de", Grouping::Never).
+class DecimalFormatter : public inner::Face<DecimalFormatter> {
   public:
-    explicit SharedDecimalFormatter(DecimalFormatter &&formatter) noexcept { legumeyet_decimal_formatter_share(&formatter.handle, &handle); }
+    using Face::Face;
+    static constexpr Format format_of(Grouping grouping = Grouping::Auto) noexcept { return {{}, {}, {}, {}, {}, {}, grouping}; }
+};
 
-    // The number that is written so, and the one that somebody typed, as of DecimalFormatter.
-    Result<std::string> try_read(inner::Text text) const {
-        return inner::text_of(
-            [&](auto... out) { return legumeyet_shared_decimal_formatter_read(&handle, text.bytes(), text.size(), out...); });
+// The formatter of compact numbers for a locale tag: CompactDecimalFormatter("de", Width::Long).
+class CompactDecimalFormatter : public inner::Face<CompactDecimalFormatter> {
+  public:
+    using Face::Face;
+    static constexpr Format format_of(Width width = Width::Short, Grouping grouping = Grouping::Min2) noexcept {
+        return {Notation::Compact, width, {}, {}, {}, {}, grouping};
     }
-    Result<std::string> try_read_lenient(inner::Text text) const {
-        return inner::text_of(
-            [&](auto... out) { return legumeyet_shared_decimal_formatter_read_lenient(&handle, text.bytes(), text.size(), out...); });
+};
+
+// The formatter of percents for a locale tag: PercentFormatter("de"). A percent is written as it is given: 12.5 as `12.5%`.
+class PercentFormatter : public inner::Face<PercentFormatter> {
+  public:
+    using Face::Face;
+    static constexpr Format format_of(Grouping grouping = Grouping::Auto) noexcept { return {{}, {}, Unit::Percent, {}, {}, {}, grouping}; }
+};
+
+// The formatter of amounts of money for a locale tag and the code of a currency: CurrencyFormatter("de", "EUR", CurrencyStyle::Accounting).
+// Without a rounding an amount is rounded to the digits of its currency, half even, and shown down to them: 5 dollars as `$5.00`. With
+// Rounding::Cash they are those of the currency in cash, and with Rounding::None it is written as given.
+class CurrencyFormatter : public inner::Face<CurrencyFormatter> {
+  public:
+    using Face::Face;
+    static Format format_of(Text currency, CurrencyStyle style = CurrencyStyle::Standard, CurrencyWidth width = CurrencyWidth::Symbol,
+                            Grouping grouping = Grouping::Auto) noexcept { return {{}, {}, Unit::Currency, currency, style, width, grouping}; }
+};
+
+// A formatter for any number of threads at once. It is copied as a pointer is, and what it writes with stays for the rest of the program. A call
+// on one that was made of a formatter that was moved from returns Code::Closed. Each call is that of NumberFormatter, as const.
+class SharedNumberFormatter : inner::Formatter<inner::Kept> {
+    using Calling = inner::Formatter<inner::Kept>;
+    using Digits = inner::Digits;
+    using Numbers = inner::Numbers;
+    using Text = inner::Text;
+
+    // The functions of legumeyet.h take the handle as const, so no call writes to it.
+    Calling &by() const noexcept { return const_cast<SharedNumberFormatter &>(*this); }
+
+  public:
+    explicit SharedNumberFormatter(NumberFormatter &&formatter) noexcept {
+        own = formatter.own;
+        legumeyet_formatter_share(&formatter.handle, &handle);
     }
+
+    FormatToResult<char *> format_to(char *first, std::size_t room, Number number, Options options = OWN) const noexcept {
+        return by().format_to(first, room, number, options);
+    }
+    template <class Out, inner::If<!std::is_pointer_v<Out>> = 0> FormatToResult<Out> format_to(Out out, Number number, Options options = OWN) const {
+        return by().format_to(std::move(out), number, options);
+    }
+    Formatted<Calling> operator()(Number number LEGUMEYET_BORROWS, Options options = OWN) const &noexcept LEGUMEYET_BORROWS { return by()(number, options); }
+    Result<std::string> try_format(Number number, Options options = OWN) const { return by().try_format(number, options); }
+    [[nodiscard]] Code format_all_to(Column &into, const Numbers &numbers, Options options = OWN) const { return by().format_all_to(into, numbers, options); }
+    template <class A, class B, inner::Many<A, B> = 0>
+    [[nodiscard]] Code format_all_to(Column &into, A &&numbers, B how, Options options = OWN) const { return by().format_all_to(into, numbers, how, options); }
+    template <class C> [[nodiscard]] Code format_all_to(Column &into, const int64_t *numbers, C count, Exponent power, Options options = OWN) const {
+        return by().format_all_to(into, numbers, count, power, options);
+    }
+    Result<Column> try_format_all(const Numbers &numbers, Options options = OWN) const { return by().try_format_all(numbers, options); }
+    template <class A, class B, inner::Many<A, B> = 0> Result<Column> try_format_all(A &&numbers, B how, Options options = OWN) const {
+        return by().try_format_all(numbers, how, options);
+    }
+    template <class C> Result<Column> try_format_all(const int64_t *numbers, C count, Exponent power, Options options = OWN) const {
+        return by().try_format_all(numbers, count, power, options);
+    }
+    Result<Annotated> try_format_parts(const Digits &number, Options options = OWN) const { return by().try_format_parts(number, options); }
+    Result<std::string> try_shown(const Digits &number, Options options = OWN) const { return by().try_shown(number, options); }
+    Result<std::string> try_format_exact(Text number, Options options = OWN) const { return by().try_format_exact(number, options); }
+    Result<std::string> try_read(Text text) const { return by().try_read(text); }
+    Result<std::string> try_read_lenient(Text text) const { return by().try_read_lenient(text); }
 
 #ifdef __cpp_exceptions
-    std::string read(inner::Text text) const { return try_read(text).value(); }
-    std::string read_lenient(inner::Text text) const { return try_read_lenient(text).value(); }
+    std::string format(Number number, Options options = OWN) const { return by().format(number, options); }
+    template <class T, class E, inner::If<inner::is_number<T> && inner::is_number<E>> = 0>
+    std::string format(T mantissa, E exponent, Options options = OWN) const { return by().format(mantissa, exponent, options); }
+    Column format_all(const Numbers &numbers, Options options = OWN) const { return by().format_all(numbers, options); }
+    template <class A, class B, inner::Many<A, B> = 0> Column format_all(A &&numbers, B how, Options options = OWN) const {
+        return by().format_all(numbers, how, options);
+    }
+    template <class C> Column format_all(const int64_t *numbers, C count, Exponent power, Options options = OWN) const {
+        return by().format_all(numbers, count, power, options);
+    }
+    Annotated format_parts(const Digits &number, Options options = OWN) const { return by().format_parts(number, options); }
+    std::string shown(const Digits &number, Options options = OWN) const { return by().shown(number, options); }
+    std::string format_exact(Text number, Options options = OWN) const { return by().format_exact(number, options); }
+    std::string read(Text text) const { return by().read(text); }
+    std::string read_lenient(Text text) const { return by().read_lenient(text); }
 #endif
 };
 
-// The same of compact numbers.
-class SharedCompactDecimalFormatter : public inner::SharedFormatter<legumeyet_shared_compact_formatter, inner::SharedCompactCalls> {
-  public:
-    explicit SharedCompactDecimalFormatter(CompactDecimalFormatter &&formatter) noexcept {
-        legumeyet_compact_formatter_share(&formatter.handle, &handle);
-    }
-
-    // The value that the text shows, and the text of a significand with an exponent, as of CompactDecimalFormatter.
-    Result<std::string> try_shown(const inner::Digits &number, const Options &options = {}) const {
-        return of_text(legumeyet_shared_compact_formatter_shown, number.view(), options);
-    }
-    Result<std::string> try_format_exact(inner::Text number, const Options &options = {}) const {
-        return of_text(legumeyet_shared_compact_formatter_format_exact, number, options);
-    }
-
-#ifdef __cpp_exceptions
-    std::string shown(const inner::Digits &number, const Options &options = {}) const { return try_shown(number, options).value(); }
-    std::string format_exact(inner::Text number, const Options &options = {}) const { return try_format_exact(number, options).value(); }
-#endif
-};
-
-// The same of percents and of amounts.
-class SharedUnitFormatter : public inner::SharedFormatter<legumeyet_shared_unit_formatter, inner::SharedUnitCalls> {
-  public:
-    explicit SharedUnitFormatter(PercentFormatter &&formatter) noexcept { legumeyet_unit_formatter_share(&formatter.handle, &handle); }
-    explicit SharedUnitFormatter(CurrencyFormatter &&formatter) noexcept { legumeyet_unit_formatter_share(&formatter.handle, &handle); }
-
-    // The number that is written so, and the one that somebody typed, as of PercentFormatter and CurrencyFormatter.
-    Result<std::string> try_read(inner::Text text) const {
-        return inner::text_of(
-            [&](auto... out) { return legumeyet_shared_unit_formatter_read(&handle, text.bytes(), text.size(), out...); });
-    }
-    Result<std::string> try_read_lenient(inner::Text text) const {
-        return inner::text_of(
-            [&](auto... out) { return legumeyet_shared_unit_formatter_read_lenient(&handle, text.bytes(), text.size(), out...); });
-    }
-
-#ifdef __cpp_exceptions
-    std::string read(inner::Text text) const { return try_read(text).value(); }
-    std::string read_lenient(inner::Text text) const { return try_read_lenient(text).value(); }
-#endif
-};
+using SharedDecimalFormatter = SharedNumberFormatter;
+using SharedCompactDecimalFormatter = SharedNumberFormatter;
+using SharedUnitFormatter = SharedNumberFormatter;
 
 } // namespace legumeyet
 
