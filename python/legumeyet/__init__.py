@@ -16,6 +16,11 @@ Percents and amounts of money have formatters of their own:
 >>> PercentFormatter("tr").format(12.5), CurrencyFormatter("en", "USD").format(Decimal("-1234.5"))
 ('%12,5', '-$1,234.50')
 
+Any format can be asked for by its number skeleton, as ICU and message formatters have them:
+
+>>> NumberFormatter("de", "currency/EUR").format(1234.5)
+'1.234,50\xa0€'
+
 Books, formatters and answers close themselves when they are no longer used; `with` and `close` close them sooner. Threads, signal handlers and
 forked children may use them: a call waits where another thread is inside `format_all`, for 4,096 numbers of it at most, or inside the `answer` of
 answers, for 65,536 bytes of lines.
@@ -23,12 +28,14 @@ answers, for 65,536 bytes of lines.
 from decimal import Decimal
 
 try:
-    from ._errors import ClosedError, Error, InputError, OutOfMemoryError
+    from ._errors import ClosedError, Error, InputError, OutOfMemoryError, SkeletonError
 except ImportError as error:
     raise ImportError(f"{error}: the wheel of tools/build_wheel has this module, and `pip install ./python` compiles it") from None
-from ._formatters import Answers, Book, CompactDecimalFormatter, CurrencyFormatter, DecimalFormatter, Part, PercentFormatter
+from ._formatters import (
+    Answers, Book, CompactDecimalFormatter, CurrencyFormatter, DecimalFormatter, NumberFormatter, Part, PercentFormatter, normal_skeleton,
+)
 from ._locales import minor, tag_of_locale_name, version, world_locales
-from ._options import Grouping, Kind, Options, Rounding, Sign, TrailingZeros, Width
+from ._options import Fault, Grouping, Kind, Options, Rounding, Sign, TrailingZeros, Width
 
 __all__ = [
     "Answers",
@@ -39,18 +46,22 @@ __all__ = [
     "Decimal",
     "DecimalFormatter",
     "Error",
+    "Fault",
     "Grouping",
     "InputError",
     "Kind",
+    "NumberFormatter",
     "Options",
     "OutOfMemoryError",
     "Part",
     "PercentFormatter",
     "Rounding",
     "Sign",
+    "SkeletonError",
     "TrailingZeros",
     "Width",
     "minor",
+    "normal_skeleton",
     "tag_of_locale_name",
     "version",
     "world_locales",

@@ -1,10 +1,13 @@
 """The errors of the library."""
 from fractions import Fraction
-from typing import Any, Dict, Tuple, Type
+from typing import Any, Dict, Tuple, Type, Union
 
 from . import _core
+from ._options import Fault
 
-MEMORY, CLOSED, TAG, TABLE, CODE = 1, 2, 5, 6, 14
+MEMORY, CLOSED, OPTION, TAG, TABLE, NUMBER, UTF8, NOT_WRITTEN, EXPONENT, CODE = 1, 2, 4, 5, 6, 7, 10, 12, 13, 14
+TELLS_GIVEN = (TAG, TABLE, NUMBER, UTF8, NOT_WRITTEN, EXPONENT, CODE)
+TOLD = 40  # characters of what was given
 
 
 class Error(Exception):
@@ -20,7 +23,7 @@ class Error(Exception):
 
     __module__ = "legumeyet"
 
-    def __new__(cls, number: int, hint: str = "") -> "Error":
+    def __new__(cls, number: int, hint: str = "", *_more: Any) -> "Error":
         return super().__new__(kind_of(number) if cls is Error else cls)
 
     def __init__(self, number: int, hint: str = ""):
@@ -43,6 +46,28 @@ class InputError(Error, ValueError):
     """
 
     __module__ = "legumeyet"
+
+
+class SkeletonError(InputError):
+    """A text is no skeleton. `fault` says why, a number where a later library has one that is not a `Fault`, and `place` where the faulty word
+    begins in the text that was given.
+
+    >>> try:
+    ...     NumberFormatter("de", "percent foo")
+    ... except SkeletonError as error:
+    ...     error.fault, error.place
+    (<Fault.UNKNOWN: 201>, 8)
+    """
+
+    __module__ = "legumeyet"
+
+    def __init__(self, number: int, hint: str = "", place: int = 0):
+        super().__init__(number, hint)
+        self.fault: Union[Fault, int] = Fault(number) if number in list(Fault) else number
+        self.place = place
+
+    def __reduce__(self) -> Tuple[Any, ...]:
+        return SkeletonError, (self.number, self.hint, self.place)
 
 
 class ClosedError(Error, RuntimeError):
@@ -73,18 +98,59 @@ class OutOfMemoryError(Error, MemoryError):
 def kind_of(number: int) -> Type[Error]:
     """The kind of an error."""
     kinds: Dict[int, Type[Error]] = {MEMORY: OutOfMemoryError, CLOSED: ClosedError}
-    return kinds.get(number, InputError)
+    kind: Type[Error] = SkeletonError if is_of_skeleton(number) else InputError
+    return kinds.get(number, kind)
+
+
+def is_of_skeleton(number: int) -> bool:
+    """Whether an error is of a skeleton."""
+    return 200 < number < 300
+
+
+def told(given: Any) -> str:
+    """What was given, as an error tells it: its first characters."""
+    is_long = isinstance(given, (str, bytes)) and len(given) > TOLD
+    return f"{given[:TOLD]!r}.." if is_long else repr(given)
+
+
+def refusal(number: int, given: object, place: int, is_read: bool) -> Error:
+    """The error of a number of the library: it tells what was given, how that is written where it is known, and its place, which is -1 of one
+    alone."""
+    if is_of_skeleton(number) and isinstance(given, (str, bytes)):
+        rest = given[place : place + TOLD + 1]
+        word = rest.partition(" ")[0] if isinstance(rest, str) else rest.partition(b" ")[0]
+        return SkeletonError(number, f": {told(word)} at {place}", place)
+    if place >= 0:
+        return Error(number, "" if number in (CLOSED, OPTION) else f": the number at {place}")
+    if number not in TELLS_GIVEN or not isinstance(given, (str, bytes, float)):
+        return Error(number)
+    tag = given.decode(errors="replace") if isinstance(given, bytes) else str(given)
+    if number == TAG and "_" in tag:
+        return Error(number, f": {told(given)} is written {told(tag.replace('_', '-'))}")
+    return Error(number, f": {told(given)}{'; with lenient=True what people type is read' if is_read and number == NOT_WRITTEN else ''}")
 
 
 MISSING = ("NoneType", "NAType", "NaTType", "MaskedConstant")
 
 
-def wrong_number(number: object) -> TypeError:
-    """The error of what is no number that a formatter takes, with the way out where there is one."""
+def wrong_number(number: object, place: int, has_exponent: bool) -> TypeError:
+    """The error of what is no number that a formatter takes; of one among many it tells the place, and has the other as its cause."""
+    error = no_number(number, has_exponent)
+    if place < 0:
+        return error
+    placed = TypeError(f"{error}: the number at {place}")
+    placed.__cause__ = error
+    return placed
+
+
+def no_number(number: object, has_exponent: bool) -> TypeError:
+    """The same of one alone, with the way out where there is one."""
     if type(number).__name__ in MISSING:
         return TypeError(f"a number is missing: {number!r}")
     if isinstance(number, bool) or type(number).__name__ in ("bool", "bool_"):
         return TypeError("a number is no bool: give it as int(it)")
+    if has_exponent:
+        return TypeError(f"an exponent is given for an int, and not for {type(number).__name__}")
     if isinstance(number, Fraction):
         way = "a Fraction may have no end of digits: give Decimal(it.numerator) / it.denominator, which has those of the context"
         return TypeError(way)

@@ -1,11 +1,12 @@
 """Books, formatters and answers."""
 import os
 import sys
+from decimal import Decimal
 from types import TracebackType
 from typing import TYPE_CHECKING, Any, Dict, NamedTuple, NoReturn, Optional, Tuple, Type, TypeVar, Union, overload
 
 from . import _core
-from ._errors import CODE, TABLE, TAG, Error, wrong_number
+from ._errors import refusal, wrong_number
 from ._options import Grouping, Kind, Options, Rounding, Sign, TrailingZeros, Width, kind_of, number_of
 
 if TYPE_CHECKING:
@@ -13,7 +14,6 @@ if TYPE_CHECKING:
 
 Self = TypeVar("Self", bound="Open")
 Text = Union[str, bytes]
-AnyFormatter = Union[_core.DecimalFormatter, _core.CompactDecimalFormatter]
 
 
 class Part(NamedTuple):
@@ -28,16 +28,52 @@ class Part(NamedTuple):
     end: int
 
 
-_core.use(Error, Part, Sign, Rounding, TrailingZeros, kind_of, wrong_number)
+def part_of(kind: int, start: int, end: int) -> Part:
+    """A part of a text."""
+    return Part(kind_of(kind), start, end)
+
+
+def row_of(numbers: Any, has_exponent: bool) -> Optional[Tuple[str, int, bytes]]:
+    """The format, the width and the bytes of numbers in a row of memory, or in that of the array that a column of pandas gives: integers, or doubles
+    where no exponent is given. None of what is iterated over, as an array with a mask, which has numbers where some are missing."""
+    try:
+        try:
+            memory = memoryview(numbers)
+        except Exception:
+            numbers = numbers.to_numpy()
+            memory = memoryview(numbers)
+    except Exception:
+        return None
+    if hasattr(numbers, "mask"):
+        return None
+    if memory.ndim != 1:
+        raise TypeError(f"numbers are in a row, and not in {memory.ndim} dimensions")
+    order, kind = memory.format[:-1], memory.format[-1:]
+    if order in ("", *"@=<>!") and kind in ("e", "f", "g") and not has_exponent:
+        said = f"a row of reals has doubles, and not the format {memory.format!r}: give them as doubles, as numbers.astype(float)"
+        raise TypeError(said)
+    is_row = order in ("", *"@=<") and kind in tuple("bBhHiIlLqQnN" if has_exponent else "bBhHiIlLqQnNd")
+    return (kind, memory.itemsize, memory.tobytes()) if is_row else None
+
+
+_core.use(refusal, wrong_number, part_of, row_of, Decimal, Sign, Rounding, TrailingZeros)
 if hasattr(os, "register_at_fork"):
     os.register_at_fork(after_in_child=_core.forked)
 
 
-def encoded(text: Text) -> bytes:
-    """The bytes of a text. What is not UTF-8 stays so."""
-    if not isinstance(text, (str, bytes)):
-        raise TypeError(f"a text is a str or bytes, and not {type(text).__name__}")
-    return text if isinstance(text, bytes) else text.encode("utf-8", "surrogatepass")
+class Format(NamedTuple):
+    """The words of a format, as legumeyet.h has them."""
+
+    notation: int = 0
+    width: int = 0
+    unit: int = 0
+    style: int = 0
+    currency_width: int = 0
+    grouping: int = 0
+
+
+COMPACT, PERCENT, CURRENCY = 1, 1, 2
+kept_world: Dict[str, "Book"] = {}  # one process has one, which threads may open at once
 
 
 class Open:
@@ -46,21 +82,19 @@ class Open:
     __slots__ = ()
 
     if TYPE_CHECKING:
-        _tag: Text
-        _currency: Text
+        _names: Tuple[Text, ...]
 
         @property
         def is_open(self) -> bool: ...
         def close(self) -> None: ...
 
     def __repr__(self) -> str:
-        """Its kind, of a formatter its tag, and whether it is open.
+        """Its kind, of a formatter its tag and its currency or skeleton, and whether it is open.
 
-        >>> Book.world(), DecimalFormatter("de")
-        (<Book, open>, <DecimalFormatter of 'de', open>)
+        >>> Book.world(), DecimalFormatter("de"), NumberFormatter("de", "percent")
+        (<Book, open>, <DecimalFormatter of 'de', open>, <NumberFormatter of 'de' and 'percent', open>)
         """
-        of = f" of {self._tag!r}" if hasattr(self, "_tag") else ""
-        of += f" and {self._currency!r}" if hasattr(self, "_currency") else ""
+        of = f" of {' and '.join(map(repr, self._names))}" if hasattr(self, "_names") else ""
         return f"<{type(self).__name__}{of}, {'open' if self.is_open else 'closed'}>"
 
     def __reduce_ex__(self, _protocol: Any) -> NoReturn:
@@ -88,7 +122,9 @@ class Book(Open, _core.Book):
     __slots__ = ("__weakref__",)
 
     def __init__(self, json: Text) -> None:
-        _core.open_book(self, encoded(json))
+        if json is None:
+            raise TypeError("a text is a str or bytes, and not None")
+        _core.open_book(self, json)
 
     @classmethod
     def world(cls) -> "Book":
@@ -109,7 +145,14 @@ class Book(Open, _core.Book):
             return cls(file.read())
 
 
-def named_by(book: Union[Book, Text], tag: Optional[Text]) -> Tuple[Optional[Book], Text]:
+def world() -> Book:
+    """The world's book, which is opened once and kept."""
+    book = kept_world.get("book") or kept_world.setdefault("book", Book.world())
+    book.keep()
+    return book
+
+
+def named_by(book: Union[Book, Text], tag: Optional[Text]) -> Tuple[Book, Text]:
     """The book and the tag that a formatter is opened of: both are given, or a tag alone, which is of the world's book."""
     if isinstance(book, Book):
         if tag is None:
@@ -117,35 +160,52 @@ def named_by(book: Union[Book, Text], tag: Optional[Text]) -> Tuple[Optional[Boo
         return book, tag
     if tag is not None:
         raise TypeError(f"a book is a Book, and not {type(book).__name__}")
-    return None, book
+    return world(), book
 
 
-def expect_opened(number: int, tag: Text) -> None:
-    """Raises the error of what opened a formatter, which tells the tag, and how it is written where it has an underscore."""
-    given = encoded(tag)
-    if number == TAG and b"_" in given:
-        raise Error(TAG, f": {tag!r} is written {given.replace(b'_', b'-').decode(errors='replace')!r}")
-    if number in (TAG, TABLE):
-        raise Error(number, f": {tag!r}")
-    if number:
-        raise Error(number)
+class NumberFormatter(Open, _core.NumberFormatter):
+    """The formatter of a locale tag and a number skeleton, the text by which ICU asks for a format: of the world's book, which the process
+    opens once and keeps, or of another one, which it may outlive. It writes as the skeleton says; options that a call is given take the
+    place of all that it says of rounding, digits and signs. docs/skeletons.md of the repository has the words.
+
+    The formatters of plain and compact numbers, of percents and of amounts are such formatters too, and have options in place of a skeleton.
+
+    Raises `Error` 5 where the text is no locale tag, 6 where the book lacks a table for it, 2 where the book is closed, 1 where memory was
+    refused, and a `SkeletonError`, 201 to 207, where the text is no skeleton.
+
+    >>> NumberFormatter("de", "currency/EUR").format(1234.5), NumberFormatter("en", "compact-short").format(1650)
+    ('1.234,50\xa0€', '1.6K')
+    >>> signed = NumberFormatter("en", "percent sign-always")
+    >>> signed.format(12.5), signed.format(12.5, position=0)
+    ('+12.5%', '12%')
+    """
+
+    __slots__ = ("_names", "__weakref__")
+
+    def __init__(self, tag: Text, skeleton: Text, *, book: Optional[Book] = None) -> None:
+        _core.open_formatter(self, world() if book is None else book, tag, None, skeleton, {})
+        self._names = tag, skeleton
+
+    def _open(self, book: Book, tag: Text, format: Format, options: Dict[str, Any], *currency: Text) -> None:
+        """Opens it by the words of a format, with options of its own."""
+        _core.open_formatter(self, book, tag, format, currency[0] if currency else None, options)
+        self._names = tag, *currency
 
 
-def open_by(
-    formatter: AnyFormatter, book: Union[Book, Text], tag: Optional[Text], grouping: int, width: int, options: Dict[str, Any]
-) -> Text:
-    """Opens a formatter of a book and a tag, or of a tag and the world's book; the width of a plain one is -1. Returns the tag."""
-    of, named = named_by(book, tag)
-    expect_opened(_core.open_formatter(formatter, of, encoded(named), grouping, width, options), named)
-    return named
+def normal_skeleton(skeleton: Text) -> str:
+    """The normal text of a number skeleton, one for all that ask for the same format. Raises a `SkeletonError` where the text is none.
+
+    >>> normal_skeleton("percent"), normal_skeleton(b"currency/EUR")
+    ('percent', 'currency/EUR')
+    """
+    return _core.normal_skeleton(skeleton)
 
 
-class DecimalFormatter(Open, _core.DecimalFormatter):
-    """The formatter of plain numbers for a locale tag: of the world's book, which the process opens once and keeps, or of a book that is
-    given first. It may outlive the book. Options are those of each call that is not given others; `format` has them.
+class DecimalFormatter(NumberFormatter):
+    """The formatter of plain numbers for a locale tag: of the world's book, or of a book that is given first, which it may outlive. Options are
+    those of each call that is not given others; `format` has them.
 
-    Raises `Error` 5 where the text is no locale tag, 6 where the book lacks a table for it, 2 where the book is closed, 1 where memory
-    was refused.
+    Raises as `NumberFormatter`, but for skeletons.
 
     >>> DecimalFormatter("de").format(1234567), DecimalFormatter("hi").format(1234567)
     ('1.234.567', '12,34,567')
@@ -159,7 +219,7 @@ class DecimalFormatter(Open, _core.DecimalFormatter):
     '1234567,89'
     """
 
-    __slots__ = ("_tag", "__weakref__")
+    __slots__ = ()
 
     @overload
     def __init__(self, tag: Text, /, *, grouping: Grouping = ..., **options: "Unpack[Options]") -> None: ...
@@ -168,10 +228,10 @@ class DecimalFormatter(Open, _core.DecimalFormatter):
     def __init__(self, book: Book, tag: Text, /, *, grouping: Grouping = ..., **options: "Unpack[Options]") -> None: ...
 
     def __init__(self, book: Union[Book, Text], tag: Optional[Text] = None, /, *, grouping: Grouping = Grouping.AUTO, **options: Any) -> None:
-        self._tag = open_by(self, book, tag, number_of(Grouping, grouping), -1, options)
+        self._open(*named_by(book, tag), Format(grouping=number_of(Grouping, grouping)), options)
 
 
-class CompactDecimalFormatter(Open, _core.CompactDecimalFormatter):
+class CompactDecimalFormatter(NumberFormatter):
     """The formatter of compact numbers for a locale tag, short or long: of the world's book, or of one that is given first. It may outlive
     the book. The parts that it lists are those of the sign.
 
@@ -186,7 +246,7 @@ class CompactDecimalFormatter(Open, _core.CompactDecimalFormatter):
     '12 लाख'
     """
 
-    __slots__ = ("_tag", "__weakref__")
+    __slots__ = ()
 
     @overload
     def __init__(self, tag: Text, /, *, width: Width = ..., grouping: Grouping = ..., **options: "Unpack[Options]") -> None: ...
@@ -204,10 +264,10 @@ class CompactDecimalFormatter(Open, _core.CompactDecimalFormatter):
         grouping: Grouping = Grouping.MIN2,
         **options: Any,
     ) -> None:
-        self._tag = open_by(self, book, tag, number_of(Grouping, grouping), number_of(Width, width), options)
+        self._open(*named_by(book, tag), Format(COMPACT, number_of(Width, width), grouping=number_of(Grouping, grouping)), options)
 
 
-class PercentFormatter(Open, _core.UnitFormatter):
+class PercentFormatter(NumberFormatter):
     """The formatter of percents for a locale tag: of the world's book, or of one that is given first. It may outlive the book. A percent is
     written as it is given, so a ratio is multiplied by 100 first.
 
@@ -219,7 +279,7 @@ class PercentFormatter(Open, _core.UnitFormatter):
     '12%'
     """
 
-    __slots__ = ("_tag", "__weakref__")
+    __slots__ = ()
 
     @overload
     def __init__(self, tag: Text, /, *, grouping: Grouping = ..., **options: "Unpack[Options]") -> None: ...
@@ -228,13 +288,10 @@ class PercentFormatter(Open, _core.UnitFormatter):
     def __init__(self, book: Book, tag: Text, /, *, grouping: Grouping = ..., **options: "Unpack[Options]") -> None: ...
 
     def __init__(self, book: Union[Book, Text], tag: Optional[Text] = None, /, *, grouping: Grouping = Grouping.AUTO, **options: Any) -> None:
-        of, named = named_by(book, tag)
-        number = _core.open_unit_formatter(self, of, encoded(named), None, 0, 0, number_of(Grouping, grouping), options)
-        expect_opened(number, named)
-        self._tag = named
+        self._open(*named_by(book, tag), Format(unit=PERCENT, grouping=number_of(Grouping, grouping)), options)
 
 
-class CurrencyFormatter(Open, _core.UnitFormatter):
+class CurrencyFormatter(NumberFormatter):
     """The formatter of amounts of money for a locale tag and the code of a currency, three capitals: of the world's book, or of one that is
     given first, which it may outlive. With `accounting` a negative amount is written as in accounts, and with `code` the currency by its
     code. An amount is rounded to the digits of its currency, and with `cash` to those that it has in cash; `rounding` and `position` say
@@ -253,7 +310,7 @@ class CurrencyFormatter(Open, _core.UnitFormatter):
     legumeyet.InputError: 14: no code of a currency: 'usd'
     """
 
-    __slots__ = ("_tag", "_currency", "__weakref__")
+    __slots__ = ()
 
     @overload
     def __init__(
@@ -306,12 +363,8 @@ class CurrencyFormatter(Open, _core.UnitFormatter):
             raise ValueError("cash and rounding both say how an amount is rounded")
         if cash:
             options["rounding"] = Rounding.CASH
-        choices = int(bool(accounting)), int(bool(code)), number_of(Grouping, grouping)
-        number = _core.open_unit_formatter(self, of, encoded(named), encoded(currency), *choices, options)
-        if number == CODE:
-            raise Error(CODE, f": {currency!r}")
-        expect_opened(number, named)
-        self._tag, self._currency = named, currency
+        format = Format(unit=CURRENCY, style=bool(accounting), currency_width=bool(code), grouping=number_of(Grouping, grouping))
+        self._open(of, named, format, options, currency)
 
 
 class Answers(Open, _core.Answers):
@@ -332,6 +385,4 @@ class Answers(Open, _core.Answers):
             raise TypeError(f"capacity is an int, and not {type(capacity).__name__}")
         if capacity < 1:
             raise ValueError("capacity is at least 1")
-        number = _core.open_answers(self, book, min(capacity, sys.maxsize))
-        if number:
-            raise Error(number)
+        _core.open_answers(self, world() if book is None else book, min(capacity, sys.maxsize))

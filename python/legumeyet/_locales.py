@@ -13,8 +13,7 @@ def tag_of_locale_name(name: Optional[str]) -> str:
     """
     if name is not None and not isinstance(name, str):
         raise TypeError(f"the name of a locale is a str or None, and not {type(name).__name__}")
-    given = None if name is None else name.encode("utf-8", "surrogateescape")
-    return _core.tag_of_locale_name(given).decode("utf-8", "surrogateescape")
+    return _core.tag_of_locale_name(None if name is None else name.encode("utf-8", "surrogateescape"))
 
 
 def world_locales() -> List[str]:
@@ -30,9 +29,9 @@ def version() -> int:
     """The version of the library.
 
     >>> version()
-    1
+    2
     """
-    return _core.version()
+    return _core.VERSION
 
 
 def minor() -> int:
@@ -41,4 +40,4 @@ def minor() -> int:
     >>> minor() >= 0
     True
     """
-    return _core.minor()
+    return _core.MINOR

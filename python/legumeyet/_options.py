@@ -1,4 +1,4 @@
-"""Options by their names, and the numbers of options and of parts, as legumeyet.h has them."""
+"""Options by their names, and the numbers of options, of parts and of faults, as legumeyet.h has them."""
 from enum import IntEnum
 from typing import Optional, SupportsIndex, Type, TypedDict, Union
 
@@ -104,6 +104,27 @@ class TrailingZeros(IntEnum):
     KEEP = 0
     TRIM = 1
     TRIM_WHOLE = 2
+
+
+class Fault(IntEnum):
+    """Why a text is no skeleton.
+
+    UNKNOWN: a word is none of a skeleton, as `foo`. TWICE: it sets what another has set, as the second of `percent currency/EUR`. CODE: what
+    follows `currency/` is no code of a currency. PAIR: a word is for amounts, and there is no currency, as `sign-accounting` alone. SYSTEM: it
+    names a numbering system, which the tag has, as `latin`. LATER: what it says is not written yet, as `permille`. UNSUPPORTED: it asks
+    for what is not written here, as `decimal-always`.
+
+    >>> Fault(201)
+    <Fault.UNKNOWN: 201>
+    """
+
+    UNKNOWN = 201
+    TWICE = 202
+    CODE = 203
+    PAIR = 204
+    SYSTEM = 205
+    LATER = 206
+    UNSUPPORTED = 207
 
 
 class Options(TypedDict, total=False):

@@ -39,6 +39,9 @@ JSON = """[[["en","","latn","-","","+","",".",",",3,3,1],["ar","","arab","-","",
 ["bad","","latn","","","+","",".",",",3,3,1]],[["latn","0123456789"],["arab","٠١٢٣٤٥٦٧٨٩"]],
 [["en",[]]],[["en","",[[3,3,[["other",["","K"]]]],[6,6,[["other",["","M"]]]]],null]],
 [["en","",[[3,3,[["other",[""," thousand"]]]]],null]]]"""
+FORKS_BESIDE_THREADS = unittest.skipIf(
+    "libasan" in os.environ.get("LD_PRELOAD", ""), "the memory of the sanitizer is not for a child of a fork with threads"
+)
 
 
 def load_tests(_loader, tests, _pattern):
@@ -192,6 +195,8 @@ class Calls(unittest.TestCase):
             self.refused(12, self.english.read, text)
         for text in (b"\xff", "\udcff"):
             self.refused(10, self.english.read, text)
+        for text, lenient in itertools.product(("1.6K", "1650", "", "x"), (False, True)):
+            self.refused(11, functools.partial(self.short.read, lenient=lenient), text)
         self.refused(11, DecimalFormatter(self.book, "bad").read, "1")
         self.assertRaises(TypeError, self.english.read, 1)
 
@@ -357,6 +362,7 @@ class Calls(unittest.TestCase):
         self.assertEqual((locales, len(set(locales))), (sorted(locales), len(locales)))
         self.assertTrue({"de", "de-AT", "hi", "ar-EG", "zu-ZA"} <= set(locales))
 
+    @FORKS_BESIDE_THREADS
     def test_children(self):
         words = """if True:
             import os, threading
@@ -378,7 +384,7 @@ class Calls(unittest.TestCase):
         """
         subprocess.run([sys.executable, "-W", "ignore::DeprecationWarning", "-c", words], check=True, timeout=60)
 
-    @unittest.skipIf("libasan" in os.environ.get("LD_PRELOAD", ""), "the memory of the sanitizer is not for a child of a fork with threads")
+    @FORKS_BESIDE_THREADS
     def test_child_of_a_thread_inside_a_call(self):
         words = """if True:
             import array, os, threading, time
@@ -592,7 +598,7 @@ class Calls(unittest.TestCase):
         self.assertRaises(TypeError, self.english.format_all, [1], position="1")
         for numbers in ([], [1], [1.5] * 100):
             with self.assertRaises(InputError) as caught:
-                self.english.format_all(numbers, rounding=Rounding.CASH)
+                self.english.format_all(numbers, rounding=int.__new__(Rounding, 12))
             self.assertRegex(str(caught.exception), "^4: [a-z0-9 ,]*$")
         self.english.close()
         for numbers in ([], iter(()), [1], array.array("d"), array.array("d", [1.0] * 100)):
@@ -630,6 +636,7 @@ class Calls(unittest.TestCase):
 
         self.refused(2, english.format_all, nested())
 
+    @FORKS_BESIDE_THREADS
     def test_children_of_columns(self):
         """A child of a process whose threads are inside columns and wait for them has a formatter of its own, or is told to open one."""
         words = """if True:
@@ -743,6 +750,7 @@ class Calls(unittest.TestCase):
         thread.join()
         self.assertEqual(said, [True])
 
+    @FORKS_BESIDE_THREADS
     def test_answers_and_children(self):
         """A child of a process that has a thread inside answers has its own, or is told to open others."""
         words = """if True:
@@ -971,7 +979,19 @@ class Calls(unittest.TestCase):
         for text in ("1,23", "1,234,5", "1 234", ""):
             self.refused(12, self.english.read, text)
             self.assertRaises(InputError, self.english.read, text, lenient=True)
-        self.assertEqual(DecimalFormatter("ar-EG").read("1234", lenient=True), 1234)
+        # digits of ASCII with their separators, where the formatter's own are others
+        egyptian = DecimalFormatter("ar-EG")
+        for text, number in (("1234", "1234"), ("1,234.5", "1234.5"), ("1234.5", "1234.5"), ("١٬٢٣٤٫٥", "1234.5"), ("-1,234,567.50", "-1234567.50")):
+            self.assertEqual(str(egyptian.read(text, lenient=True)), number)
+        # digits of the formatter's own with the separators of those of ASCII are read as native digits
+        self.assertEqual(str(egyptian.read("١,٢٣٤.٥", lenient=True)), "1234.5")
+        for text in ("1.234,5", "1,23", "1٬234.5"):
+            self.refused(12, functools.partial(egyptian.read, lenient=True), text)
+        self.refused(12, egyptian.read, "1,234.5")
+        egyptian.share()
+        self.assertEqual(egyptian.read("1,234.5", lenient=True), Decimal("1234.5"))
+        self.assertEqual(DecimalFormatter("fa").read("1234.5", lenient=True), Decimal("1234.5"))
+        self.refused(12, functools.partial(DecimalFormatter(self.book, "ar").read, lenient=True), "1,234.5")
 
     def test_reads_units_leniently(self):
         euros, percents = CurrencyFormatter("en", "EUR"), PercentFormatter("tr")
@@ -982,7 +1002,8 @@ class Calls(unittest.TestCase):
         for text, number in (("%12,5", "12.5"), ("12,5 %", "12.5"), ("1.234,5", "1234.5"), ("-5%", "-5")):
             self.assertEqual(str(percents.read(text, lenient=True)), number)
         self.assertEqual(str(CurrencyFormatter("en", "USD", accounting=True).read("($1234.5)", lenient=True)), "-1234.5")
-        self.assertEqual(str(CurrencyFormatter("ar-EG", "EGP").read("1234", lenient=True)), "1234")
+        for text in ("1234", "1,234", "EGP 1,234"):
+            self.assertEqual(str(CurrencyFormatter("ar-EG", "EGP").read(text, lenient=True)), "1234")
 
     def test_what_was_never_opened(self):
         for kind in (Book, DecimalFormatter, CompactDecimalFormatter, PercentFormatter, CurrencyFormatter, Answers):
@@ -996,13 +1017,21 @@ class Calls(unittest.TestCase):
         self.assertRaises(RuntimeError, CurrencyFormatter, Book.__new__(Book), "en", "EUR")
         self.assertRaises(RuntimeError, Book.__new__(Book).locales)
         self.assertRaises(RuntimeError, Answers, Book.__new__(Book))
+        kept = Book(JSON)
+        kept.keep()
         self.assertRaises(TypeError, _core.Answers.answer, self.book, "x")
         self.assertRaises(TypeError, _core.open_answers, self.book, None, 1)
-        self.assertEqual(_core.open_answers(Answers(), None, -1), 4)
-        self.assertRaises(TypeError, _core.DecimalFormatter.format, self.short, 1)
-        self.assertRaises(TypeError, _core.open_formatter, self.short, None, b"en", 0, -1, {})
-        self.assertRaises(TypeError, _core.open_unit_formatter, self.short, None, b"en", None, 0, 0, 0, {})
-        self.assertRaises(TypeError, _core.open_unit_formatter, PercentFormatter("en"), None, b"en", "EUR", 0, 0, 0, {})
+        self.refused(4, _core.open_answers, Answers(), kept, -1)
+        self.assertRaises(TypeError, _core.NumberFormatter.format, self.book, 1)
+        for words in (
+            (self.book, self.book, "en", None, "", {}), (self.english, None, "en", None, "", {}), (self.english, self.book, None, None, "", {}),
+            (self.english, self.book, "en", None, None, {}), (self.english, self.book, "en", (0, 0, 0, 0, 0), None, {}),
+            (self.english, self.book, "en", (0, 0, 0, 0, 0, "0"), None, {}), (self.english, self.book, "en", None, "", None),
+        ):
+            self.assertRaises(TypeError, _core.open_formatter, *words)
+        for format, number in (((2, 0, 0, 0, 0, 0), 4), ((0, 0, 0, 0, 0, -1), 4), ((0, 0, 2, 0, 0, 0), 14), ((0, 7, 0, 0, 0, 0), 4)):
+            self.refused(number, _core.open_formatter, self.english, self.book, "en", format, None, {})
+        self.assertEqual(self.english.format(1234), "1,234")
         self.assertRaises(TypeError, _core.open_book, self.english, None)
         self.assertRaises(TypeError, _core.tag_of_locale_name, 5)
 
@@ -1149,8 +1178,11 @@ class Calls(unittest.TestCase):
         for options in ({"cash": True, "position": 0}, {"cash": True, "rounding": Rounding.CEIL}):
             self.assertRaises(ValueError, CurrencyFormatter, "en", "USD", **options)
         for rounding in (Rounding.CASH, Rounding.NONE):
-            for formatter in (self.english, self.short, PercentFormatter("en")):
-                self.refused(4, functools.partial(formatter.format, rounding=rounding), 1)
+            for formatter, text in ((self.english, "1.005"), (self.short, "1"), (PercentFormatter("en"), "1.005%")):
+                self.assertEqual(formatter.format("1.005", rounding=rounding), text)
+        for number in (12, -1, 2**31, 2**70):
+            for formatter in (self.english, self.short, dollars):
+                self.refused(4, functools.partial(formatter.format, rounding=int.__new__(Rounding, number), increment=5), 1)
 
     def test_percents(self):
         for tag, number, text in [("de", 12.5, "12,5\xa0%"), ("tr", Decimal("-12.50"), "-%12,50"), ("en", 1234, "1,234%"), ("eu", "-5", "−%\xa05")]:
