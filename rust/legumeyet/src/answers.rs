@@ -1,7 +1,7 @@
 //! Answers to many request lines.
 
 use crate::owned::Owned;
-use crate::world::with_world;
+use crate::world::with_book;
 use crate::{sys, Book, Error};
 
 /// The answers to many request lines, by the formatters that were used last, as many as the capacity is: who has many lines of few tags
@@ -33,7 +33,7 @@ impl Answers {
     ///
     /// [`Error::OPTION`] of a capacity of 0, or [`Error::MEMORY`].
     pub fn new(capacity: usize) -> Result<Answers, Error> {
-        with_world(|book| Answers::open(book, capacity))
+        with_book(None, |book| Answers::open(book, capacity))
     }
 
     /// Answers by a book that is kept.

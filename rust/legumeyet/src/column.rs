@@ -1,7 +1,7 @@
 //! Many numbers in one call.
 
 use crate::{sys, Error, Number};
-use std::{fmt, iter, ops, slice};
+use std::{fmt, iter, ops};
 
 /// The texts of many numbers, one after the other in one string: what `format_all`, `format_doubles` and `format_integers` write.
 ///
@@ -40,7 +40,7 @@ impl Column {
 
     /// The texts, in order.
     pub fn iter(&self) -> Texts<'_> {
-        Texts { rest: &self.texts, done: 0, ends: self.ends.iter() }
+        Texts { column: self, places: 0..self.len() }
     }
 
     /// All texts, with nothing between.
@@ -105,23 +105,19 @@ impl<'a> IntoIterator for &'a Column {
 /// The texts of a column, in order.
 #[derive(Clone, Debug)]
 pub struct Texts<'a> {
-    rest: &'a str,
-    done: usize,
-    ends: slice::Iter<'a, usize>,
+    column: &'a Column,
+    places: ops::Range<usize>,
 }
 
 impl<'a> Iterator for Texts<'a> {
     type Item = &'a str;
 
     fn next(&mut self) -> Option<&'a str> {
-        let end = *self.ends.next()?;
-        let (text, rest) = self.rest.split_at(end - self.done);
-        (self.rest, self.done) = (rest, end);
-        Some(text)
+        self.column.get(self.places.next()?)
     }
 
     fn size_hint(&self) -> (usize, Option<usize>) {
-        self.ends.size_hint()
+        self.places.size_hint()
     }
 }
 
@@ -172,102 +168,15 @@ impl From<ColumnError> for Error {
     }
 }
 
-/// Numbers as lines. A text with a line feed inside would be two numbers: there are none from it on, and it is refused.
-pub(crate) struct Lines {
-    text: Vec<u8>,
-    pub(crate) count: usize,
-    is_cut: bool,
-}
-
-impl Lines {
-    pub(crate) fn of<'a, N: Into<Number<'a>>>(numbers: impl IntoIterator<Item = N>) -> Lines {
-        let mut lines = Lines { text: Vec::new(), count: 0, is_cut: false };
-        for number in numbers {
-            let number = number.into();
-            let digits = number.digits();
-            if digits.contains('\n') {
-                lines.is_cut = true;
-                break;
-            }
-            lines.text.extend_from_slice(digits.as_bytes());
-            lines.text.push(b'\n');
-            lines.count += 1;
-        }
-        lines
+/// Numbers as lines, and where each begins. A text with a line feed inside would be two numbers: it is an empty line, which is refused as well.
+pub(crate) fn lines_of<'a, N: Into<Number<'a>>>(numbers: impl IntoIterator<Item = N>) -> (Vec<u8>, Vec<usize>) {
+    let (mut lines, mut begins) = (Vec::new(), Vec::new());
+    for number in numbers {
+        begins.push(lines.len());
+        let number = number.into();
+        let digits = number.digits();
+        lines.extend_from_slice(if digits.contains('\n') { b"" } else { digits.as_bytes() });
+        lines.push(b'\n');
     }
-
-    /// Those from a number on.
-    pub(crate) fn after(&self, done: usize) -> &[u8] {
-        let begins = |_| self.text.iter().enumerate().filter(|it| *it.1 == b'\n').nth(done - 1).map(|it| it.0 + 1);
-        &self.text[done.checked_sub(1).and_then(begins).unwrap_or(0)..]
-    }
-
-    /// What was written of them, where none was left out.
-    pub(crate) fn whole(&self, column: Column) -> Result<Column, ColumnError> {
-        if self.is_cut {
-            Err(ColumnError { error: Error::NUMBER, column })
-        } else {
-            Ok(column)
-        }
-    }
+    (lines, begins)
 }
-
-/// The calls of a formatter that write many numbers; the handle is found as the last argument says.
-macro_rules! columns {
-    ($type:ident: $doubles:ident, $integers:ident, $texts:ident, |$it:ident| $at:expr) => {
-        impl $type {
-            /// The texts of many doubles, as `format` writes each, and sooner.
-            ///
-            /// # Errors
-            ///
-            /// A [`ColumnError`](crate::ColumnError) of the first number that is refused, as of [`Self::format`].
-            pub fn format_doubles(&self, numbers: &[f64], options: &crate::Options) -> Result<crate::Column, crate::ColumnError> {
-                let (options, $it) = (options.numbers(), self);
-                crate::Column::written(numbers.len(), |done, out, room, ends, ends_room, count| {
-                    let from = &numbers[done..];
-                    // SAFETY: a slice is memory of its length, `out` and `ends` are memory of their room, and no other call has the handle.
-                    unsafe { crate::sys::$doubles($at, from.as_ptr(), from.len(), &options, out, room, ends, ends_room, count) }
-                })
-            }
-
-            /// The texts of many integers, each times ten to the power `exponent`: with -2 those of cents in whole units.
-            ///
-            /// # Errors
-            ///
-            /// A [`ColumnError`](crate::ColumnError) of the first number that is refused, as of [`Self::format_i64`].
-            pub fn format_integers(
-                &self,
-                mantissas: &[i64],
-                exponent: i16,
-                options: &crate::Options,
-            ) -> Result<crate::Column, crate::ColumnError> {
-                let (options, $it) = (options.numbers(), self);
-                crate::Column::written(mantissas.len(), |done, out, room, ends, ends_room, count| {
-                    let from = &mantissas[done..];
-                    // SAFETY: as for `format_doubles`.
-                    unsafe { crate::sys::$integers($at, from.as_ptr(), from.len(), exponent, &options, out, room, ends, ends_room, count) }
-                })
-            }
-
-            /// The texts of what can be iterated over: texts, integers or floats, as `format` takes them.
-            ///
-            /// # Errors
-            ///
-            /// A [`ColumnError`](crate::ColumnError) of the first number that is refused, as of [`Self::format`].
-            pub fn format_all<'a, N: Into<crate::Number<'a>>>(
-                &self,
-                numbers: impl IntoIterator<Item = N>,
-                options: &crate::Options,
-            ) -> Result<crate::Column, crate::ColumnError> {
-                let (options, $it, lines) = (options.numbers(), self, crate::column::Lines::of(numbers));
-                let column = crate::Column::written(lines.count, |done, out, room, ends, ends_room, count| {
-                    let from = lines.after(done);
-                    // SAFETY: as for `format_doubles`.
-                    unsafe { crate::sys::$texts($at, from.as_ptr(), from.len(), &options, out, room, ends, ends_room, count) }
-                })?;
-                lines.whole(column)
-            }
-        }
-    };
-}
-pub(crate) use columns;

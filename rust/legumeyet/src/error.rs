@@ -16,12 +16,11 @@ pub struct Error(i32);
 impl Error {
     /// Memory was refused.
     pub const MEMORY: Error = Error(1);
-    /// A least count of digits is above 32767, a rounding of amounts of money, as `Rounding::Cash`, is asked for of another number, or
-    /// the capacity of answers is 0.
+    /// A least count of digits is above 32767, or the capacity of answers is 0.
     pub const OPTION: Error = Error(4);
     /// The text is no locale tag, as `e`, or as `de_DE`, which is written `de-DE`: `tag_of_locale_name`.
     pub const TAG: Error = Error(5);
-    /// The book lacks a table for the tag.
+    /// The book lacks a table for the tag, or compact numbers with a unit are asked for.
     pub const TABLE: Error = Error(6);
     /// The text is no decimal number.
     pub const NUMBER: Error = Error(7);
@@ -29,7 +28,7 @@ impl Error {
     pub const LIMIT: Error = Error(8);
     /// What is shown in compact form, or an exact form, reaches ten to the power 32768.
     pub const RANGE: Error = Error(9);
-    /// Two numbers may have one text under the symbols.
+    /// Two numbers may have one text: under the symbols, or since they are compact.
     pub const UNREADABLE: Error = Error(11);
     /// No number is written so.
     pub const NOT_WRITTEN: Error = Error(12);
@@ -65,8 +64,22 @@ impl Error {
     pub const BOOK_UNIT: Error = Error(113);
     /// The code of a currency is not three capitals.
     pub const BOOK_CODE: Error = Error(114);
+    /// A word is none of a skeleton, as `foo`.
+    pub const SKELETON_UNKNOWN: Error = Error(201);
+    /// A word sets what another one has set, as the second of `percent currency/EUR`.
+    pub const SKELETON_TWICE: Error = Error(202);
+    /// What follows `currency/` is no code of a currency, as in `currency/EURO`.
+    pub const SKELETON_CODE: Error = Error(203);
+    /// A word is for amounts of money, and there is no currency, as `sign-accounting` alone.
+    pub const SKELETON_PAIR: Error = Error(204);
+    /// A word names a numbering system, which the tag has, as `latin`.
+    pub const SKELETON_SYSTEM: Error = Error(205);
+    /// A word, or what it says beside another one, is not written yet: `permille`, `compact-short .00`.
+    pub const SKELETON_LATER: Error = Error(206);
+    /// A word asks for what is not written here, as `decimal-always`.
+    pub const SKELETON_UNSUPPORTED: Error = Error(207);
 
-    /// The number, 1 to 99 of a call, 100 and more of a book.
+    /// The number, 1 to 99 of a call, 100 and more of a book, 200 and more of a skeleton.
     pub fn number(self) -> i32 {
         self.0
     }
@@ -101,6 +114,27 @@ impl fmt::Debug for Error {
 
 impl std::error::Error for Error {}
 
+/// What an error of two kinds says, and how it is made of either.
+macro_rules! either {
+    ($type:ident: $($kind:ident($error:ty)),*) => {
+        impl fmt::Display for $type {
+            fn fmt(&self, out: &mut fmt::Formatter<'_>) -> fmt::Result {
+                match self {
+                    $($type::$kind(error) => error.fmt(out),)*
+                }
+            }
+        }
+
+        impl std::error::Error for $type {}
+
+        $(impl From<$error> for $type {
+            fn from(error: $error) -> $type {
+                $type::$kind(error)
+            }
+        })*
+    };
+}
+
 /// Why nothing was written.
 #[derive(Clone, Copy, Debug, PartialEq, Eq)]
 #[non_exhaustive]
@@ -111,28 +145,7 @@ pub enum WriteError {
     Write(fmt::Error),
 }
 
-impl fmt::Display for WriteError {
-    fn fmt(&self, out: &mut fmt::Formatter<'_>) -> fmt::Result {
-        match self {
-            WriteError::Number(error) => error.fmt(out),
-            WriteError::Write(error) => error.fmt(out),
-        }
-    }
-}
-
-impl std::error::Error for WriteError {}
-
-impl From<Error> for WriteError {
-    fn from(error: Error) -> WriteError {
-        WriteError::Number(error)
-    }
-}
-
-impl From<fmt::Error> for WriteError {
-    fn from(error: fmt::Error) -> WriteError {
-        WriteError::Write(error)
-    }
-}
+either!(WriteError: Number(Error), Write(fmt::Error));
 
 /// So that `?` ends a `Display`, which cannot say why.
 impl From<WriteError> for fmt::Error {
@@ -145,6 +158,55 @@ impl From<WriteError> for fmt::Error {
 impl From<Error> for fmt::Error {
     fn from(_: Error) -> fmt::Error {
         fmt::Error
+    }
+}
+
+/// Why a skeleton was refused, and where.
+///
+/// # Examples
+///
+/// ```
+/// use legumeyet::{Error, NumberFormatter};
+///
+/// let refused = NumberFormatter::skeleton(None, "en", "percent foo").unwrap_err();
+/// assert_eq!((refused.error, refused.place), (Error::SKELETON_UNKNOWN, Some(8)));
+/// ```
+#[derive(Clone, Copy, Debug, PartialEq, Eq)]
+#[non_exhaustive]
+pub struct SkeletonError {
+    /// Why: the fault of the skeleton, or why no formatter was opened.
+    pub error: Error,
+    /// Where the faulty word of the skeleton begins, in bytes.
+    pub place: Option<usize>,
+}
+
+impl SkeletonError {
+    /// An error with the place that a call wrote, where it is of a skeleton.
+    pub(crate) fn at(error: Error, place: usize) -> SkeletonError {
+        SkeletonError { error, place: Some(place).filter(|_| error.0 > 200) }
+    }
+}
+
+impl fmt::Display for SkeletonError {
+    fn fmt(&self, out: &mut fmt::Formatter<'_>) -> fmt::Result {
+        match self.place {
+            Some(place) => out.pad(&format!("{}: the word at {place}", self.error)),
+            None => self.error.fmt(out),
+        }
+    }
+}
+
+impl std::error::Error for SkeletonError {}
+
+impl From<Error> for SkeletonError {
+    fn from(error: Error) -> SkeletonError {
+        SkeletonError { error, place: None }
+    }
+}
+
+impl From<SkeletonError> for Error {
+    fn from(refused: SkeletonError) -> Error {
+        refused.error
     }
 }
 
@@ -170,25 +232,4 @@ pub enum OpenError {
     Book(Error),
 }
 
-impl fmt::Display for OpenError {
-    fn fmt(&self, out: &mut fmt::Formatter<'_>) -> fmt::Result {
-        match self {
-            OpenError::File(error) => error.fmt(out),
-            OpenError::Book(error) => error.fmt(out),
-        }
-    }
-}
-
-impl std::error::Error for OpenError {}
-
-impl From<io::Error> for OpenError {
-    fn from(error: io::Error) -> OpenError {
-        OpenError::File(error)
-    }
-}
-
-impl From<Error> for OpenError {
-    fn from(error: Error) -> OpenError {
-        OpenError::Book(error)
-    }
-}
+either!(OpenError: File(io::Error), Book(Error));

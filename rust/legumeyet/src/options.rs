@@ -1,4 +1,4 @@
-use crate::{sys, UnknownWord};
+use crate::UnknownWord;
 use std::fmt;
 use std::str::FromStr;
 
@@ -35,6 +35,26 @@ words!(Rounding: "keep" Keep, "expand" Expand, "trunc" Trunc, "ceil" Ceil, "floo
     "half-trunc" HalfTrunc, "half-ceil" HalfCeil, "half-floor" HalfFloor, "half-even" HalfEven, "cash" Cash, "none" None);
 words!(CurrencyStyle: "standard" Standard, "accounting" Accounting);
 words!(CurrencyWidth: "symbol" Symbol, "code" Code);
+
+/// Calls that change one field.
+macro_rules! changes {
+    ($type:ty: $($field:ident $kind:ty),*) => {
+        impl $type {
+            $(
+                #[doc = concat!("The same with this `", stringify!($field), "`.")]
+                #[must_use]
+                pub const fn $field(self, $field: $kind) -> Self {
+                    Self { $field, ..self }
+                }
+            )*
+        }
+    };
+}
+
+changes!(CurrencyOptions: style CurrencyStyle, width CurrencyWidth, grouping Grouping);
+changes!(Format<'_>: notation Notation, currency_style CurrencyStyle, currency_width CurrencyWidth, grouping Grouping);
+changes!(Options: sign Sign, rounding Rounding, increment Increment, trailing_zeros TrailingZeros, minimum_integer_digits u16,
+    minimum_fraction_digits u16);
 
 /// When grouping separators are written.
 #[derive(Clone, Copy, Debug, Default, PartialEq, Eq, Hash)]
@@ -97,22 +117,96 @@ pub struct CurrencyOptions {
 }
 
 impl CurrencyOptions {
-    /// The same with this style.
+    /// The format of amounts in a currency.
+    pub(crate) fn of(self, code: &str) -> Format<'_> {
+        Format::currency(code).currency_style(self.style).currency_width(self.width).grouping(self.grouping)
+    }
+}
+
+/// How the digits are written.
+#[derive(Clone, Copy, Debug, Default, PartialEq, Eq, Hash)]
+#[non_exhaustive]
+pub enum Notation {
+    /// All of them: `1,650`.
+    #[default]
+    Standard,
+    /// The first ones, by the patterns of a width: `1.6K`.
+    Compact(Width),
+}
+
+/// What is written beside the digits.
+#[derive(Clone, Copy, Debug, Default, PartialEq, Eq, Hash)]
+#[non_exhaustive]
+pub enum Unit<'a> {
+    /// Nothing.
+    #[default]
+    None,
+    /// The percent sign: 12.5 as `12.5%`.
+    Percent,
+    /// The currency of a code, three capitals: 5 as `$5.00`.
+    Currency(&'a str),
+}
+
+/// How numbers are written. By default they are plain.
+///
+/// # Examples
+///
+/// ```
+/// use legumeyet::{CurrencyStyle, Format, Grouping, NumberFormatter, Width};
+///
+/// let in_accounts = Format::currency("USD").currency_style(CurrencyStyle::Accounting);
+/// assert_eq!(NumberFormatter::new(None, "en", &in_accounts)?.format(-1234.5)?, "($1,234.50)");
+/// let ungrouped = Format::default().grouping(Grouping::Never);
+/// assert_eq!(NumberFormatter::new(None, "de", &ungrouped)?.format(1234.5)?, "1234,5");
+/// assert_eq!(NumberFormatter::new(None, "en", &Format::compact(Width::Short))?.format(1650)?, "1.6K");
+/// # Ok::<(), legumeyet::Error>(())
+/// ```
+#[derive(Clone, Copy, Debug, Default, PartialEq, Eq, Hash)]
+#[non_exhaustive]
+pub struct Format<'a> {
+    /// How the digits are written.
+    pub notation: Notation,
+    /// What is written beside them. Compact numbers have no unit yet: `Error::TABLE`.
+    pub unit: Unit<'a>,
+    /// How a negative amount of money is written.
+    pub currency_style: CurrencyStyle,
+    /// What a currency is written as.
+    pub currency_width: CurrencyWidth,
+    /// When grouping separators are written.
+    pub grouping: Grouping,
+}
+
+impl<'a> Format<'a> {
+    /// That of compact numbers, with `Grouping::Min2`, which is usual of them.
     #[must_use]
-    pub const fn style(self, style: CurrencyStyle) -> CurrencyOptions {
-        CurrencyOptions { style, ..self }
+    pub fn compact(width: Width) -> Format<'a> {
+        Format { notation: Notation::Compact(width), grouping: Grouping::Min2, ..Format::default() }
     }
 
-    /// The same with this width.
+    /// That of percents.
     #[must_use]
-    pub const fn width(self, width: CurrencyWidth) -> CurrencyOptions {
-        CurrencyOptions { width, ..self }
+    pub fn percent() -> Format<'a> {
+        Format { unit: Unit::Percent, ..Format::default() }
     }
 
-    /// The same with this grouping.
+    /// That of amounts of money in a currency.
     #[must_use]
-    pub const fn grouping(self, grouping: Grouping) -> CurrencyOptions {
-        CurrencyOptions { grouping, ..self }
+    pub fn currency(code: &'a str) -> Format<'a> {
+        Format { unit: Unit::Currency(code), ..Format::default() }
+    }
+
+    /// The words of the format, as legumeyet.h has them, and the code of its currency.
+    pub(crate) fn words(&self) -> ([i32; 6], &'a str) {
+        let (notation, width) = match self.notation {
+            Notation::Standard => (0, 0),
+            Notation::Compact(width) => (1, width as i32),
+        };
+        let (unit, code) = match self.unit {
+            Unit::None => (0, ""),
+            Unit::Percent => (1, ""),
+            Unit::Currency(code) => (2, code),
+        };
+        ([notation, width, unit, self.currency_style as i32, self.currency_width as i32, self.grouping as i32], code)
     }
 }
 
@@ -188,7 +282,7 @@ impl Kind {
 #[derive(Clone, Copy, Debug, Default, PartialEq, Eq, Hash)]
 #[non_exhaustive]
 pub enum Rounding {
-    /// It is not rounded; an amount of money is rounded to the digits of its currency, a tie to the even one.
+    /// An amount of money to the digits of its currency, a tie to the even one; another number is not rounded.
     #[default]
     Keep = 0,
     /// Away from zero.
@@ -209,9 +303,9 @@ pub enum Rounding {
     HalfFloor = 8,
     /// To the nearest, a tie to the even one.
     HalfEven = 9,
-    /// Of amounts of money alone: to the digits of the currency in cash, a tie to the even one.
+    /// An amount of money to the digits of its currency in cash, a tie to the even one; another number is not rounded.
     Cash = 10,
-    /// Of amounts of money alone: it is not rounded.
+    /// It is not rounded.
     None = 11,
 }
 
@@ -281,60 +375,20 @@ pub struct Options {
 }
 
 impl Options {
-    /// The same with this rounding, which has no position: `Rounding::Cash` and `Rounding::None`, or `Rounding::Keep`.
-    #[must_use]
-    pub const fn rounding(self, rounding: Rounding) -> Options {
-        Options { rounding, ..self }
-    }
-
-    /// The same with this sign.
-    #[must_use]
-    pub const fn sign(self, sign: Sign) -> Options {
-        Options { sign, ..self }
-    }
-
-    /// The same with this rounding, at this position.
+    /// The same with this rounding, at this position. A rounding that has none is that of `rounding`: `Rounding::Cash`, `None` or `Keep`.
     #[must_use]
     pub const fn rounded(self, rounding: Rounding, position: i16) -> Options {
         Options { rounding, position, ..self }
     }
+}
 
-    /// The same, rounded to a multiple of this.
-    #[must_use]
-    pub const fn increment(self, increment: Increment) -> Options {
-        Options { increment, ..self }
-    }
-
-    /// The same with this choice of zeros.
-    #[must_use]
-    pub const fn trailing_zeros(self, trailing_zeros: TrailingZeros) -> Options {
-        Options { trailing_zeros, ..self }
-    }
-
-    /// The same with at least so many integer digits.
-    #[must_use]
-    pub const fn minimum_integer_digits(self, minimum_integer_digits: u16) -> Options {
-        Options { minimum_integer_digits, ..self }
-    }
-
-    /// The same with at least so many fraction digits.
-    #[must_use]
-    pub const fn minimum_fraction_digits(self, minimum_fraction_digits: u16) -> Options {
-        Options { minimum_fraction_digits, ..self }
-    }
-
-    pub(crate) fn numbers(&self) -> sys::Options {
-        sys::Options {
-            sign: self.sign as u32,
-            rounding: self.rounding as u32,
-            position: self.position,
-            trailing_zeros: self.trailing_zeros as u16,
-            increment: self.increment as u32,
-            minimum_integer_digits: self.minimum_integer_digits,
-            minimum_fraction_digits: self.minimum_fraction_digits,
-            reserved: [0; 2],
-        }
-    }
+/// The words of options, as legumeyet.h has them, and how many there are: none for those of a formatter itself.
+pub(crate) fn words_of(options: Option<&Options>) -> ([i32; 7], usize) {
+    options.map_or(([0; 7], 0), |it| {
+        let (sign, rounding, increment, zeros) = (it.sign as i32, it.rounding as i32, it.increment as i32, it.trailing_zeros as i32);
+        let digits = [it.minimum_integer_digits, it.minimum_fraction_digits].map(i32::from);
+        ([sign, rounding, it.position.into(), increment, zeros, digits[0], digits[1]], 7)
+    })
 }
 
 #[cfg(test)]

@@ -41,6 +41,32 @@ impl Drop for Owned {
     }
 }
 
+/// A handle of a shared formatter, which is open. It is copied as its 16 bytes are, and what it shows is never given back.
+#[derive(Clone, Copy)]
+pub(crate) struct Shared(sys::SharedHandle);
+
+impl Shared {
+    /// What is shared of a formatter, which is open.
+    pub(crate) fn of(formatter: &Owned) -> Shared {
+        let mut handle = sys::SharedHandle::CLOSED;
+        // SAFETY: no other call has either handle.
+        let number = unsafe { sys::legumeyet_formatter_share(formatter.at(), &mut handle) };
+        assert_eq!(number, sys::OK, "a formatter is open");
+        Shared(handle)
+    }
+
+    /// The handle, for any number of calls.
+    pub(crate) fn at(&self) -> *const sys::SharedHandle {
+        &self.0
+    }
+}
+
+impl fmt::Debug for Shared {
+    fn fmt(&self, out: &mut fmt::Formatter<'_>) -> fmt::Result {
+        out.write_str("..")
+    }
+}
+
 /// The bytes that a call writes, with as much room as it needs: the call is passed memory, its length, and where the text's length goes.
 pub(crate) fn written_bytes(mut call: impl FnMut(*mut u8, usize, *mut usize) -> i32) -> Result<Vec<u8>, Error> {
     let (mut out, mut length) = (vec![0; 64], 0);

@@ -17,7 +17,7 @@ impl Handle {
     pub const CLOSED: Handle = Handle { content: std::ptr::null_mut(), is_open: false };
 }
 
-/// A shared formatter: in C one of each kind is a type of its own with these fields. The calls that read it leave it as it is.
+/// A shared formatter. The calls that read it leave it as it is.
 #[repr(C)]
 #[derive(Clone, Copy)]
 pub struct SharedHandle {
@@ -33,18 +33,6 @@ impl SharedHandle {
 unsafe impl Send for SharedHandle {}
 // SAFETY: the same.
 unsafe impl Sync for SharedHandle {}
-
-#[repr(C)]
-pub struct Options {
-    pub sign: u32,
-    pub rounding: u32,
-    pub position: i16,
-    pub trailing_zeros: u16,
-    pub increment: u32,
-    pub minimum_integer_digits: u16,
-    pub minimum_fraction_digits: u16,
-    pub reserved: [u32; 2],
-}
 
 #[repr(C)]
 #[derive(Clone, Copy, Default)]
@@ -67,66 +55,55 @@ extern "C" {
     pub fn legumeyet_answers_answer(answers: *mut Handle, lines: *const u8, lines_length: usize, out: *mut u8, room: usize, read: *mut usize, written: *mut usize, needs: *mut usize) -> i32;
     pub fn legumeyet_book_locale_count(book: *mut Handle, count: *mut usize) -> i32;
     pub fn legumeyet_book_locale(book: *mut Handle, index: usize, out: *mut u8, room: usize, length: *mut usize) -> i32;
-    pub fn legumeyet_decimal_formatter_open(book: *mut Handle, tag: *const u8, tag_length: usize, grouping: u32, formatter: *mut Handle) -> i32;
-    pub fn legumeyet_decimal_formatter_close(formatter: *mut Handle) -> i32;
-    pub fn legumeyet_decimal_formatter_format(formatter: *mut Handle, number: *const u8, number_length: usize, options: *const Options, out: *mut u8, room: usize, length: *mut usize) -> i32;
-    pub fn legumeyet_decimal_formatter_format_i64(formatter: *mut Handle, mantissa: i64, exponent: i16, options: *const Options, out: *mut u8, room: usize, length: *mut usize) -> i32;
-    pub fn legumeyet_decimal_formatter_format_parts(formatter: *mut Handle, number: *const u8, number_length: usize, options: *const Options, out: *mut u8, room: usize, length: *mut usize, intervals: *mut Interval, intervals_room: usize, count: *mut usize) -> i32;
-    pub fn legumeyet_decimal_formatter_read(formatter: *mut Handle, text: *const u8, text_length: usize, out: *mut u8, room: usize, length: *mut usize) -> i32;
-    pub fn legumeyet_decimal_formatter_read_lenient(formatter: *mut Handle, text: *const u8, text_length: usize, out: *mut u8, room: usize, length: *mut usize) -> i32;
-    pub fn legumeyet_compact_formatter_open(book: *mut Handle, tag: *const u8, tag_length: usize, width: u32, grouping: u32, formatter: *mut Handle) -> i32;
-    pub fn legumeyet_compact_formatter_close(formatter: *mut Handle) -> i32;
-    pub fn legumeyet_compact_formatter_format(formatter: *mut Handle, number: *const u8, number_length: usize, options: *const Options, out: *mut u8, room: usize, length: *mut usize) -> i32;
-    pub fn legumeyet_compact_formatter_format_i64(formatter: *mut Handle, mantissa: i64, exponent: i16, options: *const Options, out: *mut u8, room: usize, length: *mut usize) -> i32;
-    pub fn legumeyet_compact_formatter_format_parts(formatter: *mut Handle, number: *const u8, number_length: usize, options: *const Options, out: *mut u8, room: usize, length: *mut usize, intervals: *mut Interval, intervals_room: usize, count: *mut usize) -> i32;
-    pub fn legumeyet_compact_formatter_shown(formatter: *mut Handle, number: *const u8, number_length: usize, options: *const Options, out: *mut u8, room: usize, length: *mut usize) -> i32;
-    pub fn legumeyet_compact_formatter_format_exact(formatter: *mut Handle, number: *const u8, number_length: usize, options: *const Options, out: *mut u8, room: usize, length: *mut usize) -> i32;
-    pub fn legumeyet_percent_formatter_open(book: *mut Handle, tag: *const u8, tag_length: usize, grouping: u32, formatter: *mut Handle) -> i32;
-    pub fn legumeyet_currency_formatter_open(book: *mut Handle, tag: *const u8, tag_length: usize, code: *const u8, code_length: usize, style: u32, width: u32, grouping: u32, formatter: *mut Handle) -> i32;
-    pub fn legumeyet_unit_formatter_close(formatter: *mut Handle) -> i32;
-    pub fn legumeyet_unit_formatter_format(formatter: *mut Handle, number: *const u8, number_length: usize, options: *const Options, out: *mut u8, room: usize, length: *mut usize) -> i32;
-    pub fn legumeyet_unit_formatter_format_i64(formatter: *mut Handle, mantissa: i64, exponent: i16, options: *const Options, out: *mut u8, room: usize, length: *mut usize) -> i32;
-    pub fn legumeyet_unit_formatter_format_parts(formatter: *mut Handle, number: *const u8, number_length: usize, options: *const Options, out: *mut u8, room: usize, length: *mut usize, intervals: *mut Interval, intervals_room: usize, count: *mut usize) -> i32;
-    pub fn legumeyet_unit_formatter_read(formatter: *mut Handle, text: *const u8, text_length: usize, out: *mut u8, room: usize, length: *mut usize) -> i32;
-    pub fn legumeyet_unit_formatter_read_lenient(formatter: *mut Handle, text: *const u8, text_length: usize, out: *mut u8, room: usize, length: *mut usize) -> i32;
-    pub fn legumeyet_decimal_formatter_share(formatter: *mut Handle, shared: *mut SharedHandle) -> i32;
-    pub fn legumeyet_shared_decimal_formatter_format(formatter: *const SharedHandle, number: *const u8, number_length: usize, options: *const Options, out: *mut u8, room: usize, length: *mut usize) -> i32;
-    pub fn legumeyet_shared_decimal_formatter_format_i64(formatter: *const SharedHandle, mantissa: i64, exponent: i16, options: *const Options, out: *mut u8, room: usize, length: *mut usize) -> i32;
-    pub fn legumeyet_shared_decimal_formatter_format_parts(formatter: *const SharedHandle, number: *const u8, number_length: usize, options: *const Options, out: *mut u8, room: usize, length: *mut usize, intervals: *mut Interval, intervals_room: usize, count: *mut usize) -> i32;
-    pub fn legumeyet_shared_decimal_formatter_read(formatter: *const SharedHandle, text: *const u8, text_length: usize, out: *mut u8, room: usize, length: *mut usize) -> i32;
-    pub fn legumeyet_shared_decimal_formatter_read_lenient(formatter: *const SharedHandle, text: *const u8, text_length: usize, out: *mut u8, room: usize, length: *mut usize) -> i32;
-    pub fn legumeyet_compact_formatter_share(formatter: *mut Handle, shared: *mut SharedHandle) -> i32;
-    pub fn legumeyet_shared_compact_formatter_format(formatter: *const SharedHandle, number: *const u8, number_length: usize, options: *const Options, out: *mut u8, room: usize, length: *mut usize) -> i32;
-    pub fn legumeyet_shared_compact_formatter_format_i64(formatter: *const SharedHandle, mantissa: i64, exponent: i16, options: *const Options, out: *mut u8, room: usize, length: *mut usize) -> i32;
-    pub fn legumeyet_shared_compact_formatter_format_parts(formatter: *const SharedHandle, number: *const u8, number_length: usize, options: *const Options, out: *mut u8, room: usize, length: *mut usize, intervals: *mut Interval, intervals_room: usize, count: *mut usize) -> i32;
-    pub fn legumeyet_shared_compact_formatter_shown(formatter: *const SharedHandle, number: *const u8, number_length: usize, options: *const Options, out: *mut u8, room: usize, length: *mut usize) -> i32;
-    pub fn legumeyet_shared_compact_formatter_format_exact(formatter: *const SharedHandle, number: *const u8, number_length: usize, options: *const Options, out: *mut u8, room: usize, length: *mut usize) -> i32;
-    pub fn legumeyet_unit_formatter_share(formatter: *mut Handle, shared: *mut SharedHandle) -> i32;
-    pub fn legumeyet_shared_unit_formatter_format(formatter: *const SharedHandle, number: *const u8, number_length: usize, options: *const Options, out: *mut u8, room: usize, length: *mut usize) -> i32;
-    pub fn legumeyet_shared_unit_formatter_format_i64(formatter: *const SharedHandle, mantissa: i64, exponent: i16, options: *const Options, out: *mut u8, room: usize, length: *mut usize) -> i32;
-    pub fn legumeyet_shared_unit_formatter_format_parts(formatter: *const SharedHandle, number: *const u8, number_length: usize, options: *const Options, out: *mut u8, room: usize, length: *mut usize, intervals: *mut Interval, intervals_room: usize, count: *mut usize) -> i32;
-    pub fn legumeyet_shared_unit_formatter_read(formatter: *const SharedHandle, text: *const u8, text_length: usize, out: *mut u8, room: usize, length: *mut usize) -> i32;
-    pub fn legumeyet_shared_unit_formatter_read_lenient(formatter: *const SharedHandle, text: *const u8, text_length: usize, out: *mut u8, room: usize, length: *mut usize) -> i32;
-    pub fn legumeyet_decimal_formatter_format_doubles(formatter: *mut Handle, numbers: *const f64, number_count: usize, options: *const Options, out: *mut u8, room: usize, ends: *mut usize, ends_room: usize, count: *mut usize) -> i32;
-    pub fn legumeyet_decimal_formatter_format_integers(formatter: *mut Handle, mantissas: *const i64, mantissa_count: usize, exponent: i16, options: *const Options, out: *mut u8, room: usize, ends: *mut usize, ends_room: usize, count: *mut usize) -> i32;
-    pub fn legumeyet_decimal_formatter_format_texts(formatter: *mut Handle, numbers: *const u8, numbers_length: usize, options: *const Options, out: *mut u8, room: usize, ends: *mut usize, ends_room: usize, count: *mut usize) -> i32;
-    pub fn legumeyet_compact_formatter_format_doubles(formatter: *mut Handle, numbers: *const f64, number_count: usize, options: *const Options, out: *mut u8, room: usize, ends: *mut usize, ends_room: usize, count: *mut usize) -> i32;
-    pub fn legumeyet_compact_formatter_format_integers(formatter: *mut Handle, mantissas: *const i64, mantissa_count: usize, exponent: i16, options: *const Options, out: *mut u8, room: usize, ends: *mut usize, ends_room: usize, count: *mut usize) -> i32;
-    pub fn legumeyet_compact_formatter_format_texts(formatter: *mut Handle, numbers: *const u8, numbers_length: usize, options: *const Options, out: *mut u8, room: usize, ends: *mut usize, ends_room: usize, count: *mut usize) -> i32;
-    pub fn legumeyet_unit_formatter_format_doubles(formatter: *mut Handle, numbers: *const f64, number_count: usize, options: *const Options, out: *mut u8, room: usize, ends: *mut usize, ends_room: usize, count: *mut usize) -> i32;
-    pub fn legumeyet_unit_formatter_format_integers(formatter: *mut Handle, mantissas: *const i64, mantissa_count: usize, exponent: i16, options: *const Options, out: *mut u8, room: usize, ends: *mut usize, ends_room: usize, count: *mut usize) -> i32;
-    pub fn legumeyet_unit_formatter_format_texts(formatter: *mut Handle, numbers: *const u8, numbers_length: usize, options: *const Options, out: *mut u8, room: usize, ends: *mut usize, ends_room: usize, count: *mut usize) -> i32;
-    pub fn legumeyet_shared_decimal_formatter_format_doubles(formatter: *const SharedHandle, numbers: *const f64, number_count: usize, options: *const Options, out: *mut u8, room: usize, ends: *mut usize, ends_room: usize, count: *mut usize) -> i32;
-    pub fn legumeyet_shared_decimal_formatter_format_integers(formatter: *const SharedHandle, mantissas: *const i64, mantissa_count: usize, exponent: i16, options: *const Options, out: *mut u8, room: usize, ends: *mut usize, ends_room: usize, count: *mut usize) -> i32;
-    pub fn legumeyet_shared_decimal_formatter_format_texts(formatter: *const SharedHandle, numbers: *const u8, numbers_length: usize, options: *const Options, out: *mut u8, room: usize, ends: *mut usize, ends_room: usize, count: *mut usize) -> i32;
-    pub fn legumeyet_shared_compact_formatter_format_doubles(formatter: *const SharedHandle, numbers: *const f64, number_count: usize, options: *const Options, out: *mut u8, room: usize, ends: *mut usize, ends_room: usize, count: *mut usize) -> i32;
-    pub fn legumeyet_shared_compact_formatter_format_integers(formatter: *const SharedHandle, mantissas: *const i64, mantissa_count: usize, exponent: i16, options: *const Options, out: *mut u8, room: usize, ends: *mut usize, ends_room: usize, count: *mut usize) -> i32;
-    pub fn legumeyet_shared_compact_formatter_format_texts(formatter: *const SharedHandle, numbers: *const u8, numbers_length: usize, options: *const Options, out: *mut u8, room: usize, ends: *mut usize, ends_room: usize, count: *mut usize) -> i32;
-    pub fn legumeyet_shared_unit_formatter_format_doubles(formatter: *const SharedHandle, numbers: *const f64, number_count: usize, options: *const Options, out: *mut u8, room: usize, ends: *mut usize, ends_room: usize, count: *mut usize) -> i32;
-    pub fn legumeyet_shared_unit_formatter_format_integers(formatter: *const SharedHandle, mantissas: *const i64, mantissa_count: usize, exponent: i16, options: *const Options, out: *mut u8, room: usize, ends: *mut usize, ends_room: usize, count: *mut usize) -> i32;
-    pub fn legumeyet_shared_unit_formatter_format_texts(formatter: *const SharedHandle, numbers: *const u8, numbers_length: usize, options: *const Options, out: *mut u8, room: usize, ends: *mut usize, ends_room: usize, count: *mut usize) -> i32;
+    pub fn legumeyet_formatter_open(book: *mut Handle, tag: *const u8, tag_length: usize, format: *const i32, format_words: usize, unit: *const u8, unit_length: usize, formatter: *mut Handle) -> i32;
+    pub fn legumeyet_formatter_open_skeleton(book: *mut Handle, tag: *const u8, tag_length: usize, skeleton: *const u8, skeleton_length: usize, place: *mut usize, formatter: *mut Handle) -> i32;
+    pub fn legumeyet_skeleton_normal(skeleton: *const u8, skeleton_length: usize, place: *mut usize, out: *mut u8, room: usize, length: *mut usize) -> i32;
+    pub fn legumeyet_formatter_close(formatter: *mut Handle) -> i32;
+    pub fn legumeyet_formatter_share(formatter: *mut Handle, shared: *mut SharedHandle) -> i32;
+    pub fn legumeyet_formatter_format(formatter: *mut Handle, number: *const u8, number_length: usize, options: *const i32, option_words: usize, out: *mut u8, room: usize, length: *mut usize) -> i32;
+    pub fn legumeyet_formatter_format_i64(formatter: *mut Handle, mantissa: i64, exponent: i16, options: *const i32, option_words: usize, out: *mut u8, room: usize, length: *mut usize) -> i32;
+    pub fn legumeyet_formatter_format_parts(formatter: *mut Handle, number: *const u8, number_length: usize, options: *const i32, option_words: usize, out: *mut u8, room: usize, length: *mut usize, intervals: *mut Interval, intervals_room: usize, count: *mut usize) -> i32;
+    pub fn legumeyet_formatter_shown(formatter: *mut Handle, number: *const u8, number_length: usize, options: *const i32, option_words: usize, out: *mut u8, room: usize, length: *mut usize) -> i32;
+    pub fn legumeyet_formatter_format_exact(formatter: *mut Handle, number: *const u8, number_length: usize, options: *const i32, option_words: usize, out: *mut u8, room: usize, length: *mut usize) -> i32;
+    pub fn legumeyet_formatter_read(formatter: *mut Handle, text: *const u8, text_length: usize, out: *mut u8, room: usize, length: *mut usize) -> i32;
+    pub fn legumeyet_formatter_read_lenient(formatter: *mut Handle, text: *const u8, text_length: usize, out: *mut u8, room: usize, length: *mut usize) -> i32;
+    pub fn legumeyet_formatter_format_doubles(formatter: *mut Handle, numbers: *const f64, number_count: usize, options: *const i32, option_words: usize, out: *mut u8, room: usize, ends: *mut usize, ends_room: usize, count: *mut usize) -> i32;
+    pub fn legumeyet_formatter_format_integers(formatter: *mut Handle, mantissas: *const i64, mantissa_count: usize, exponent: i16, options: *const i32, option_words: usize, out: *mut u8, room: usize, ends: *mut usize, ends_room: usize, count: *mut usize) -> i32;
+    pub fn legumeyet_formatter_format_texts(formatter: *mut Handle, numbers: *const u8, numbers_length: usize, options: *const i32, option_words: usize, out: *mut u8, room: usize, ends: *mut usize, ends_room: usize, count: *mut usize) -> i32;
+    pub fn legumeyet_shared_formatter_format(formatter: *const SharedHandle, number: *const u8, number_length: usize, options: *const i32, option_words: usize, out: *mut u8, room: usize, length: *mut usize) -> i32;
+    pub fn legumeyet_shared_formatter_format_i64(formatter: *const SharedHandle, mantissa: i64, exponent: i16, options: *const i32, option_words: usize, out: *mut u8, room: usize, length: *mut usize) -> i32;
+    pub fn legumeyet_shared_formatter_format_parts(formatter: *const SharedHandle, number: *const u8, number_length: usize, options: *const i32, option_words: usize, out: *mut u8, room: usize, length: *mut usize, intervals: *mut Interval, intervals_room: usize, count: *mut usize) -> i32;
+    pub fn legumeyet_shared_formatter_shown(formatter: *const SharedHandle, number: *const u8, number_length: usize, options: *const i32, option_words: usize, out: *mut u8, room: usize, length: *mut usize) -> i32;
+    pub fn legumeyet_shared_formatter_format_exact(formatter: *const SharedHandle, number: *const u8, number_length: usize, options: *const i32, option_words: usize, out: *mut u8, room: usize, length: *mut usize) -> i32;
+    pub fn legumeyet_shared_formatter_read(formatter: *const SharedHandle, text: *const u8, text_length: usize, out: *mut u8, room: usize, length: *mut usize) -> i32;
+    pub fn legumeyet_shared_formatter_read_lenient(formatter: *const SharedHandle, text: *const u8, text_length: usize, out: *mut u8, room: usize, length: *mut usize) -> i32;
+    pub fn legumeyet_shared_formatter_format_doubles(formatter: *const SharedHandle, numbers: *const f64, number_count: usize, options: *const i32, option_words: usize, out: *mut u8, room: usize, ends: *mut usize, ends_room: usize, count: *mut usize) -> i32;
+    pub fn legumeyet_shared_formatter_format_integers(formatter: *const SharedHandle, mantissas: *const i64, mantissa_count: usize, exponent: i16, options: *const i32, option_words: usize, out: *mut u8, room: usize, ends: *mut usize, ends_room: usize, count: *mut usize) -> i32;
+    pub fn legumeyet_shared_formatter_format_texts(formatter: *const SharedHandle, numbers: *const u8, numbers_length: usize, options: *const i32, option_words: usize, out: *mut u8, room: usize, ends: *mut usize, ends_room: usize, count: *mut usize) -> i32;
     pub fn legumeyet_tag_of_locale_name(name: *const c_char, out: *mut u8, room: usize, length: *mut usize) -> i32;
     pub fn legumeyet_error_text(error: i32, out: *mut u8, room: usize, length: *mut usize) -> i32;
     pub fn legumeyet_version() -> u32;
     pub fn legumeyet_minor() -> u32;
+}
+
+/// The calls of a formatter that one call at a time has, by the ends of their names.
+pub mod owned {
+    pub use super::{
+        legumeyet_formatter_format as format, legumeyet_formatter_format_doubles as format_doubles,
+        legumeyet_formatter_format_exact as format_exact, legumeyet_formatter_format_i64 as format_i64,
+        legumeyet_formatter_format_integers as format_integers, legumeyet_formatter_format_parts as format_parts,
+        legumeyet_formatter_format_texts as format_texts, legumeyet_formatter_read as read,
+        legumeyet_formatter_read_lenient as read_lenient, legumeyet_formatter_shown as shown,
+    };
+}
+
+/// Those of a shared formatter.
+pub mod shared {
+    pub use super::{
+        legumeyet_shared_formatter_format as format, legumeyet_shared_formatter_format_doubles as format_doubles,
+        legumeyet_shared_formatter_format_exact as format_exact, legumeyet_shared_formatter_format_i64 as format_i64,
+        legumeyet_shared_formatter_format_integers as format_integers, legumeyet_shared_formatter_format_parts as format_parts,
+        legumeyet_shared_formatter_format_texts as format_texts, legumeyet_shared_formatter_read as read,
+        legumeyet_shared_formatter_read_lenient as read_lenient, legumeyet_shared_formatter_shown as shown,
+    };
 }

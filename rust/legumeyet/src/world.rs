@@ -38,8 +38,11 @@ fn of_process() -> Result<&'static World, Error> {
     }
 }
 
-/// Calls with the world's book of this process, which is kept, one call at a time.
-pub(crate) fn with_world<T>(call: impl FnOnce(&Book) -> Result<T, Error>) -> Result<T, Error> {
+/// Calls with a book, or with the world's of this process, which is kept, one call at a time.
+pub(crate) fn with_book<T, E: From<Error>>(book: Option<&Book>, call: impl FnOnce(&Book) -> Result<T, E>) -> Result<T, E> {
+    if let Some(book) = book {
+        return call(book);
+    }
     let book = of_process()?.book.lock().unwrap_or_else(PoisonError::into_inner);
     book.keep()?;
     call(&book)

@@ -152,7 +152,25 @@ fn reads_leniently() {
     for text in ["1,23", "1,234,5", "1 234", ""] {
         assert_eq!(english.read_lenient(text), Err(Error::NOT_WRITTEN), "{text}");
     }
-    assert_eq!(DecimalFormatter::new("ar-EG").unwrap().read_lenient("1234").as_deref(), Ok("1234"));
+}
+
+/// What is typed in ASCII is read by second tables where the digits of the locale are others, and never as another number.
+#[test]
+fn reads_ascii_where_digits_are_others() {
+    let book = Book::world().unwrap();
+    let line = |tag: &str, form: &str, text: &str| book.answer(format!("{tag}\t{form}\tauto\tkeep\t-\t{text}").as_bytes()).unwrap();
+    let said = |read: Result<String, Error>| read.map_or("err\tnot-written".to_string(), |number| format!("ok\t{number}"));
+    for tag in ["ar-EG", "fa", "mr", "de", "km-u-nu-khmr", "hi-u-nu-deva"] {
+        let (plain, dollars) = (DecimalFormatter::new(tag).unwrap(), CurrencyFormatter::new(tag, "USD").unwrap());
+        for text in ["1234", "1,234.5", "1.234,5", "1,234", "1.234", "1,23", "-5", "١٬٢٣٤٫٥", "۱٬۲۳۴٫۵", "5 USD", "x"] {
+            assert_eq!(said(plain.read_lenient(text)), line(tag, "read-lenient", text), "{tag} {text}");
+            assert_eq!(said(dollars.read_lenient(text)), line(tag, "read-lenient-currency-USD", text), "{tag} {text}");
+        }
+    }
+    let arabic = DecimalFormatter::new("ar-EG").unwrap();
+    assert_eq!(arabic.read_lenient("1,234.5").as_deref(), Ok("1234.5"));
+    assert_eq!(arabic.share().read_lenient("1,234.5").as_deref(), Ok("1234.5"));
+    assert_eq!(PercentFormatter::new("ar-EG").unwrap().read_lenient("1,234.5%").as_deref(), Ok("1234.5"));
 }
 
 #[test]
@@ -189,7 +207,7 @@ fn newer_options() {
     assert_eq!(TrailingZeros::Trim.to_string(), "trim");
     let by_options = HashMap::from([((Options::default(), CurrencyOptions::default()), 0), ((trimmed, CurrencyOptions::default()), 1)]);
     assert_eq!(by_options[&(trimmed, CurrencyOptions::default())], 1);
-    assert!(legumeyet::minor() >= 1);
+    assert!((legumeyet::version(), legumeyet::minor()) >= (2, 0));
 }
 
 #[test]
@@ -415,9 +433,10 @@ fn roundings_of_amounts() {
     }
     let percents = PercentFormatter::new("en").unwrap();
     for rounding in [Rounding::Cash, Rounding::None] {
-        assert_eq!(percents.format(1, &as_given.rounding(rounding)), Err(Error::OPTION));
-        assert_eq!(english().format(1, &as_given.rounding(rounding)), Err(Error::OPTION));
-        assert_eq!(compact(Width::Short).format(1, &as_given.rounding(rounding)), Err(Error::OPTION));
+        let options = as_given.rounding(rounding);
+        assert_eq!(percents.format("1.25", &options).unwrap(), "1.25%");
+        assert_eq!(english().format("1.25", &options).unwrap(), "1.25");
+        assert_eq!(compact(Width::Short).format(1250, &options).unwrap(), "1.2K");
     }
 }
 

@@ -56,8 +56,8 @@ fn refused() {
     let first = english.format_all(["1", "x", "1\n2"], &AS_GIVEN()).unwrap_err();
     assert_eq!((Error::from(first.clone()), first.at()), (Error::NUMBER, 1));
     assert_eq!(english.format_integers(&[1, 10], i16::MAX, &AS_GIVEN()).unwrap_err().at(), 1);
-    let unknown = AS_GIVEN().rounding(Rounding::Cash);
-    let of_all = english.format_doubles(&[], &unknown).unwrap_err();
+    let wide = AS_GIVEN().minimum_integer_digits(32768);
+    let of_all = english.format_doubles(&[], &wide).unwrap_err();
     assert_eq!((of_all.error, of_all.to_string()), (Error::OPTION, Error::OPTION.to_string()));
 }
 

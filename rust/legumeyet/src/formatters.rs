@@ -1,0 +1,523 @@
+//! The formatters: one handle in C, and a type of each kind over it.
+
+use crate::column::lines_of;
+use crate::number::Of;
+use crate::options::words_of;
+use crate::owned::{annotated, written, written_to, Owned, Shared};
+use crate::world::with_book;
+use crate::{
+    sys, Book, Column, ColumnError, CurrencyOptions, Error, Format, Grouping, Number, Options, Parts, SkeletonError, Width, WriteError,
+};
+use std::fmt;
+use std::str::FromStr;
+
+/// What a formatter does by the functions of a module of `sys`. Each call takes options, and without them those of the formatter.
+macro_rules! calls {
+    ($type:ident: $of:ident, $format:ident) => {
+        impl $type {
+            fn call(&self, number: &Number<'_>, (words, count): &([i32; 7], usize), out: *mut u8, room: usize, length: *mut usize) -> i32 {
+                let words = words.as_ptr();
+                // SAFETY: a text is memory of its length, `out` is memory of `room`, and no other call has a handle that is not shared.
+                unsafe {
+                    match &number.0 {
+                        Of::Integer(it) => sys::$of::format_i64(self.0.at(), *it, 0, words, *count, out, room, length),
+                        Of::Digits(it) => sys::$of::format(self.0.at(), it.as_ptr(), it.len(), words, *count, out, room, length),
+                    }
+                }
+            }
+
+            /// The text of a number. `None` in place of options are those of the formatter itself.
+            ///
+            /// # Errors
+            ///
+            /// [`Error::OPTION`], [`Error::NUMBER`], [`Error::LIMIT`], [`Error::RANGE`] of a compact number, or [`Error::MEMORY`].
+            pub fn $format<'a>(&self, number: impl Into<Number<'a>>, options: impl Into<Option<&'a Options>>) -> Result<String, Error> {
+                let (number, options) = (number.into(), words_of(options.into()));
+                written(|out, room, length| self.call(&number, &options, out, room, length))
+            }
+
+            /// Writes the text of a number into what takes texts, without a text of its own where it has up to 128 bytes.
+            ///
+            /// # Errors
+            ///
+            #[doc = concat!("[`WriteError::Number`] as of [`Self::", stringify!($format), "`],")]
+            /// or [`WriteError::Write`] where what takes the text fails.
+            pub fn write_to<'a>(
+                &self,
+                into: &mut impl fmt::Write,
+                number: impl Into<Number<'a>>,
+                options: impl Into<Option<&'a Options>>,
+            ) -> Result<(), WriteError> {
+                let (number, options) = (number.into(), words_of(options.into()));
+                written_to(into, |out, room, length| self.call(&number, &options, out, room, length))
+            }
+
+            /// The text of the number `mantissa` times ten to the power `exponent`: 500 and -2 are `5.00`.
+            ///
+            /// # Errors
+            ///
+            /// [`Error::OPTION`], [`Error::LIMIT`], [`Error::RANGE`] of a compact number, or [`Error::MEMORY`].
+            pub fn format_i64<'a>(&self, mantissa: i64, exponent: i16, options: impl Into<Option<&'a Options>>) -> Result<String, Error> {
+                let (words, count) = words_of(options.into());
+                // SAFETY: as for `call`.
+                written(|out, room, length| unsafe {
+                    sys::$of::format_i64(self.0.at(), mantissa, exponent, words.as_ptr(), count, out, room, length)
+                })
+            }
+
+            /// The text of a number with its parts, by bytes, in order of their beginning. Those of a compact number are those of its sign.
+            ///
+            /// # Errors
+            ///
+            #[doc = concat!("As of [`Self::", stringify!($format), "`].")]
+            pub fn format_parts<'a>(
+                &self,
+                number: impl Into<Number<'a>>,
+                options: impl Into<Option<&'a Options>>,
+            ) -> Result<(String, Parts), Error> {
+                let (number, (words, count)) = (number.into(), words_of(options.into()));
+                let digits = number.digits();
+                let (at, len, words) = (digits.as_ptr(), digits.len(), words.as_ptr());
+                // SAFETY: as for `call`; the memory for parts has the room that is passed.
+                annotated(|out, room, length, parts, places, found| unsafe {
+                    sys::$of::format_parts(self.0.at(), at, len, words, count, out, room, length, parts, places, found)
+                })
+            }
+
+            /// The value that the text of a number shows: of a compact number a significand and, after `c`, an exponent where it is not 0,
+            /// `-1.2c6`, and of any other one the number as the options leave it, `5.00` of 5 dollars.
+            ///
+            /// # Errors
+            ///
+            #[doc = concat!("As of [`Self::", stringify!($format), "`].")]
+            pub fn shown<'a>(&self, number: impl Into<Number<'a>>, options: impl Into<Option<&'a Options>>) -> Result<String, Error> {
+                let (number, (words, count)) = (number.into(), words_of(options.into()));
+                let digits = number.digits();
+                let (at, len, words) = (digits.as_ptr(), digits.len(), words.as_ptr());
+                // SAFETY: as for `call`.
+                written(|out, room, length| unsafe { sys::$of::shown(self.0.at(), at, len, words, count, out, room, length) })
+            }
+
+            /// The text of a significand with an exponent, its digits as they are: `-1.20c6` is `-1.20M` in short English. But of compact
+            /// numbers the exponent is 0: `1.20`. The options change the significand.
+            ///
+            /// # Errors
+            ///
+            /// [`Error::OPTION`], [`Error::NUMBER`], [`Error::LIMIT`], [`Error::RANGE`], [`Error::EXPONENT`] or [`Error::MEMORY`].
+            pub fn format_exact<'a>(&self, number: &str, options: impl Into<Option<&'a Options>>) -> Result<String, Error> {
+                let (words, count) = words_of(options.into());
+                let (at, len, words) = (number.as_ptr(), number.len(), words.as_ptr());
+                // SAFETY: as for `call`.
+                written(|out, room, length| unsafe { sys::$of::format_exact(self.0.at(), at, len, words, count, out, room, length) })
+            }
+
+            /// The texts of many doubles, sooner than one by one.
+            ///
+            /// # Errors
+            ///
+            #[doc = concat!("A [`ColumnError`] of the first number that is refused, as of [`Self::", stringify!($format), "`].")]
+            pub fn format_doubles<'a>(&self, numbers: &[f64], options: impl Into<Option<&'a Options>>) -> Result<Column, ColumnError> {
+                let (words, count) = words_of(options.into());
+                Column::written(numbers.len(), |done, out, room, ends, ends_room, wrote| {
+                    let (at, len, words) = (numbers[done..].as_ptr(), numbers.len() - done, words.as_ptr());
+                    // SAFETY: as for `call`; `ends` is memory of its room.
+                    unsafe { sys::$of::format_doubles(self.0.at(), at, len, words, count, out, room, ends, ends_room, wrote) }
+                })
+            }
+
+            /// The texts of many integers, each times ten to the power `exponent`: with -2 those of cents in whole units.
+            ///
+            /// # Errors
+            ///
+            /// A [`ColumnError`] of the first number that is refused, as of [`Self::format_i64`].
+            pub fn format_integers<'a>(
+                &self,
+                mantissas: &[i64],
+                exponent: i16,
+                options: impl Into<Option<&'a Options>>,
+            ) -> Result<Column, ColumnError> {
+                let (words, count) = words_of(options.into());
+                Column::written(mantissas.len(), |done, out, room, ends, ends_room, wrote| {
+                    let (at, len, words) = (mantissas[done..].as_ptr(), mantissas.len() - done, words.as_ptr());
+                    // SAFETY: as for `format_doubles`.
+                    unsafe { sys::$of::format_integers(self.0.at(), at, len, exponent, words, count, out, room, ends, ends_room, wrote) }
+                })
+            }
+
+            /// The texts of what can be iterated over: texts, integers or floats.
+            ///
+            /// # Errors
+            ///
+            #[doc = concat!("A [`ColumnError`] of the first number that is refused, as of [`Self::", stringify!($format), "`].")]
+            pub fn format_all<'a, N: Into<Number<'a>>>(
+                &self,
+                numbers: impl IntoIterator<Item = N>,
+                options: impl Into<Option<&'a Options>>,
+            ) -> Result<Column, ColumnError> {
+                let ((lines, begins), (words, count)) = (lines_of(numbers), words_of(options.into()));
+                Column::written(begins.len(), |done, out, room, ends, ends_room, wrote| {
+                    let (from, words) = (&lines[begins.get(done).map_or(lines.len(), |at| *at)..], words.as_ptr());
+                    // SAFETY: as for `format_doubles`.
+                    unsafe {
+                        sys::$of::format_texts(self.0.at(), from.as_ptr(), from.len(), words, count, out, room, ends, ends_room, wrote)
+                    }
+                })
+            }
+        }
+    };
+}
+
+/// What a formatter reads.
+macro_rules! reads {
+    ($type:ident: $of:ident) => {
+        impl $type {
+            /// The number that is written so, as digits: in English `-1,234.50` is `-1234.50`, and `-€1,234.50` with euros. How many digits
+            /// the currency has is not looked at.
+            ///
+            /// # Errors
+            ///
+            /// [`Error::UNREADABLE`], [`Error::NOT_WRITTEN`] or [`Error::MEMORY`].
+            pub fn read(&self, text: &str) -> Result<String, Error> {
+                // SAFETY: as for `call`.
+                written(|out, room, length| unsafe { sys::$of::read(self.0.at(), text.as_ptr(), text.len(), out, room, length) })
+            }
+
+            /// The number of a text that somebody typed, as digits: what `read` reads, and other texts by folding, without separators, with
+            /// blanks around it, in other digits, with the unit or its code on either side or without it. Where the digits of the locale
+            /// are not those of ASCII, a text in ASCII is read too: `1,234.5` in `ar-EG`. Nothing is dropped or guessed: another unit is
+            /// refused, and digits are grouped wholly, or not at all.
+            ///
+            /// # Errors
+            ///
+            /// As of [`Self::read`].
+            pub fn read_lenient(&self, text: &str) -> Result<String, Error> {
+                // SAFETY: as for `call`.
+                written(|out, room, length| unsafe { sys::$of::read_lenient(self.0.at(), text.as_ptr(), text.len(), out, room, length) })
+            }
+        }
+    };
+}
+
+/// The call by the formatter's own options.
+macro_rules! formats {
+    ($type:ident: $of:ident) => {
+        impl $type {
+            /// The text of a number, by the formatter's own options.
+            ///
+            /// # Errors
+            ///
+            /// As of [`Self::format_with`].
+            pub fn format<'a>(&self, number: impl Into<Number<'a>>) -> Result<String, Error> {
+                self.format_with(number, None)
+            }
+        }
+    };
+}
+
+/// A formatter, and the shared one that is made of it: with the name of the call that writes a number by options, and which others they have.
+macro_rules! formatters {
+    ($(#[$about:meta])* $type:ident: $format:ident $(, $more:ident)*; $(#[$about_shared:meta])* $shared:ident) => {
+        $(#[$about])*
+        ///
+        /// It may move to another thread, and is used by one thread at a time:
+        ///
+        /// ```compile_fail
+        /// fn is_shared<T: Sync>() {}
+        #[doc = concat!("is_shared::<legumeyet::", stringify!($type), ">();")]
+        /// ```
+        #[derive(Debug)]
+        pub struct $type(Owned);
+
+        $(#[$about_shared])*
+        #[derive(Clone, Copy, Debug)]
+        pub struct $shared(Shared);
+
+        calls!($type: owned, $format);
+        calls!($shared: shared, $format);
+        $(
+            $more!($type: owned);
+            $more!($shared: shared);
+        )*
+
+        impl $type {
+            /// Shares the formatter: any number of threads use it at once, and it stays for the rest of the program: its memory is never
+            /// given back. So share those that a program uses until it ends, and not one for each request.
+            #[must_use = "it stays for the rest of the program"]
+            pub fn share(self) -> $shared {
+                $shared(Shared::of(&self.0))
+            }
+        }
+    };
+}
+
+formatters! {
+    /// The formatter of a [`Format`], or of a *number skeleton*, the text by which ICU asks for a format. It may outlive the book.
+    ///
+    /// `format` writes by the options that the skeleton says. Each other call takes options, which replace those wholly, or `None`. Without
+    /// a skeleton a number stays as it is, and an amount of money has the digits of its currency.
+    ///
+    /// # Examples
+    ///
+    /// ```
+    /// use legumeyet::{Book, Format, NumberFormatter, Options};
+    /// use std::thread;
+    ///
+    /// let world = Book::world()?;
+    /// let percents = NumberFormatter::skeleton(&world, "en", "percent .00")?;
+    /// assert_eq!(percents.format(12.345)?, "12.34%");
+    /// assert_eq!(percents.format_with(12.345, &Options::default())?, "12.345%");
+    /// assert_eq!(percents.format_doubles(&[1.0, 2.5], None)?.as_str(), "1.00%2.50%");
+    /// let francs = NumberFormatter::new(&world, "de-CH", &Format::currency("CHF"))?;
+    /// assert_eq!(francs.format(-5)?, "CHF-5.00");
+    /// let shared = francs.share();
+    /// assert_eq!(thread::spawn(move || shared.format(5)).join().unwrap()?, "CHF\u{a0}5.00");
+    /// # Ok::<(), Box<dyn std::error::Error>>(())
+    /// ```
+    NumberFormatter: format_with, formats, reads;
+    /// A formatter that any number of threads use at once: what [`NumberFormatter::share`] makes, with its calls.
+    SharedNumberFormatter
+}
+
+formatters! {
+    /// The formatter of plain numbers for a locale tag. It may outlive the book.
+    ///
+    /// # Examples
+    ///
+    /// ```
+    /// use legumeyet::{DecimalFormatter, Error, Kind, Options};
+    ///
+    /// let (german, as_given) = (DecimalFormatter::new("de")?, Options::default());
+    /// assert_eq!(german.format("-1234.50", &as_given)?, "-1.234,50");
+    /// assert_eq!(german.format_i64(-123450, -2, &as_given)?, "-1.234,50");
+    /// assert_eq!(german.format_parts(-5, &as_given)?, ("-5".into(), vec![(Kind::MinusSign, 0..1), (Kind::Integer, 1..2)]));
+    /// assert_eq!(german.read("-1.234,50")?, "-1234.50");
+    /// assert_eq!(german.read_lenient(" 1234,50 ")?, "1234.50");
+    /// assert_eq!(german.read_lenient("1.23"), Err(Error::NOT_WRITTEN));
+    /// assert_eq!(german.format("1,5", &as_given), Err(Error::NUMBER));
+    /// # Ok::<(), Error>(())
+    /// ```
+    DecimalFormatter: format, reads;
+    /// A formatter of plain numbers that any number of threads use at once: what [`DecimalFormatter::share`] makes, with its calls.
+    SharedDecimalFormatter
+}
+
+formatters! {
+    /// The formatter of compact numbers for a locale tag, short or long. It may outlive the book.
+    ///
+    /// # Examples
+    ///
+    /// ```
+    /// use legumeyet::{CompactDecimalFormatter, Options, Width};
+    ///
+    /// let english = CompactDecimalFormatter::new("en", Width::Short)?;
+    /// assert_eq!(english.format("-1172700", &Options::default())?, "-1.2M");
+    /// assert_eq!(english.shown("-1172700", &Options::default())?, "-1.2c6");
+    /// assert_eq!(english.format_exact("-1.20c6", &Options::default())?, "-1.20M");
+    /// assert_eq!(CompactDecimalFormatter::new("hi", Width::Long)?.format("1234567", &Options::default())?, "12 लाख");
+    /// # Ok::<(), legumeyet::Error>(())
+    /// ```
+    CompactDecimalFormatter: format;
+    /// A formatter of compact numbers that any number of threads use at once: what [`CompactDecimalFormatter::share`] makes, with its calls.
+    SharedCompactDecimalFormatter
+}
+
+formatters! {
+    /// The formatter of percents for a locale tag. It may outlive the book.
+    ///
+    /// A percent is written as it is given, so a ratio is multiplied by 100 first.
+    ///
+    /// # Examples
+    ///
+    /// ```
+    /// use legumeyet::{Options, PercentFormatter};
+    ///
+    /// let turkish: PercentFormatter = "tr".parse()?;
+    /// assert_eq!(turkish.format(-12.5, &Options::default())?, "-%12,5");
+    /// assert_eq!(turkish.read("%1.234,50")?, "1234.50");
+    /// assert_eq!(turkish.read_lenient("1234,5 %")?, "1234.5");
+    /// # Ok::<(), legumeyet::Error>(())
+    /// ```
+    PercentFormatter: format, reads;
+    /// A formatter of percents that any number of threads use at once: what [`PercentFormatter::share`] makes, with its calls.
+    SharedPercentFormatter
+}
+
+formatters! {
+    /// The formatter of amounts of money for a locale tag and the code of a currency, three capitals. It may outlive the book.
+    ///
+    /// An amount is rounded to the digits of its currency, a tie to the even one, and shown down to them. With `Rounding::Cash` they are
+    /// those of the currency in cash, with `Rounding::None` it is written as it is given, and with another rounding it is rounded as any
+    /// number is.
+    ///
+    /// # Examples
+    ///
+    /// ```
+    /// use legumeyet::{CurrencyFormatter, CurrencyOptions, CurrencyStyle, Error, Options, Rounding};
+    ///
+    /// let as_given = Options::default();
+    /// assert_eq!(CurrencyFormatter::new("en", "JPY")?.format(2.5, &as_given)?, "¥2");
+    /// assert_eq!(CurrencyFormatter::new("en", "CHF")?.format(2.345, &as_given.rounding(Rounding::Cash))?, "CHF\u{a0}2.35");
+    /// let in_accounts = CurrencyOptions::default().style(CurrencyStyle::Accounting);
+    /// let dollars = CurrencyFormatter::with_options("en", "USD", &in_accounts)?;
+    /// assert_eq!(dollars.format(-5, &as_given)?, "($5.00)");
+    /// assert_eq!(dollars.read("($1,234.50)")?, "-1234.50");
+    /// assert_eq!(dollars.read_lenient("-1234.5 USD")?, "-1234.5");
+    /// assert_eq!(CurrencyFormatter::new("en", "usd").unwrap_err(), Error::CODE);
+    /// # Ok::<(), Error>(())
+    /// ```
+    CurrencyFormatter: format, reads;
+    /// A formatter of amounts of money that any number of threads use at once: what [`CurrencyFormatter::share`] makes, with its calls.
+    SharedCurrencyFormatter
+}
+
+/// The handle of a formatter of a book, or of the world's.
+fn opened(book: Option<&Book>, tag: &str, format: &Format<'_>) -> Result<Owned, Error> {
+    let (words, code) = format.words();
+    with_book(book, |book| {
+        let (book, tag_at, code_at) = (book.0.at(), tag.as_ptr(), code.as_ptr());
+        // SAFETY: a text is memory of its length, no other call has the book's handle, and `open` passes a closed one.
+        let call = |formatter| unsafe {
+            sys::legumeyet_formatter_open(book, tag_at, tag.len(), words.as_ptr(), words.len(), code_at, code.len(), formatter)
+        };
+        Owned::open(sys::legumeyet_formatter_close, call)
+    })
+}
+
+impl NumberFormatter {
+    /// The formatter of a tag and a format. `None` in place of a book is the world's, which the process opens once and keeps.
+    ///
+    /// # Errors
+    ///
+    /// [`Error::CODE`], [`Error::TAG`], [`Error::TABLE`], also of compact numbers with a unit, or [`Error::MEMORY`].
+    pub fn new<'b>(book: impl Into<Option<&'b Book>>, tag: &str, format: &Format<'_>) -> Result<NumberFormatter, Error> {
+        opened(book.into(), tag, format).map(NumberFormatter)
+    }
+
+    /// The formatter of a tag and a skeleton, as `currency/EUR .00`, with the options that this says. Without words it is plain numbers with
+    /// up to six digits of a fraction. `None` in place of a book is the world's.
+    ///
+    /// # Errors
+    ///
+    /// A [`SkeletonError`]: one of the errors of a skeleton, 201 to 207, with the place, or [`Error::TAG`], [`Error::TABLE`] or
+    /// [`Error::MEMORY`].
+    pub fn skeleton<'b>(book: impl Into<Option<&'b Book>>, tag: &str, skeleton: &str) -> Result<NumberFormatter, SkeletonError> {
+        with_book(book.into(), |book| {
+            let (book, tag_at, at, mut place) = (book.0.at(), tag.as_ptr(), skeleton.as_ptr(), 0);
+            // SAFETY: as for `opened`.
+            let call = |formatter| unsafe {
+                sys::legumeyet_formatter_open_skeleton(book, tag_at, tag.len(), at, skeleton.len(), &mut place, formatter)
+            };
+            let opened = Owned::open(sys::legumeyet_formatter_close, call);
+            opened.map(NumberFormatter).map_err(|error| SkeletonError::at(error, place))
+        })
+    }
+}
+
+/// How a formatter is opened by a tag and a grouping, with the usual one.
+macro_rules! opens {
+    ($type:ident($($more:ident: $what:ty)?), $usual:ident, $format:expr) => {
+        impl $type {
+            /// The formatter of a tag, of the world's book, which the process opens once and keeps, with
+            #[doc = concat!("`Grouping::", stringify!($usual), "`.")]
+            ///
+            /// # Errors
+            ///
+            /// [`Error::TAG`], [`Error::TABLE`] or [`Error::MEMORY`].
+            pub fn new(tag: &str $(, $more: $what)?) -> Result<$type, Error> {
+                $type::with_grouping(tag $(, $more)?, Grouping::$usual)
+            }
+
+            /// The same with a grouping.
+            ///
+            /// # Errors
+            ///
+            /// As of [`Self::new`].
+            pub fn with_grouping(tag: &str $(, $more: $what)?, grouping: Grouping) -> Result<$type, Error> {
+                opened(None, tag, &$format.grouping(grouping)).map($type)
+            }
+
+            /// The formatter of a book's tag.
+            ///
+            /// # Errors
+            ///
+            /// As of [`Self::new`].
+            pub fn from_book(book: &Book, tag: &str $(, $more: $what)?, grouping: Grouping) -> Result<$type, Error> {
+                opened(Some(book), tag, &$format.grouping(grouping)).map($type)
+            }
+        }
+    };
+}
+
+opens!(DecimalFormatter(), Auto, Format::default());
+opens!(PercentFormatter(), Auto, Format::percent());
+opens!(CompactDecimalFormatter(width: Width), Min2, Format::compact(width));
+
+/// The formatter of a tag, as of `new`.
+impl FromStr for DecimalFormatter {
+    type Err = Error;
+
+    fn from_str(tag: &str) -> Result<DecimalFormatter, Error> {
+        DecimalFormatter::new(tag)
+    }
+}
+
+/// The formatter of a tag, as of `new`.
+impl FromStr for PercentFormatter {
+    type Err = Error;
+
+    fn from_str(tag: &str) -> Result<PercentFormatter, Error> {
+        PercentFormatter::new(tag)
+    }
+}
+
+impl CurrencyFormatter {
+    /// The formatter of a tag and a code, of the world's book, which the process opens once and keeps.
+    ///
+    /// # Errors
+    ///
+    /// [`Error::CODE`], [`Error::TAG`], [`Error::TABLE`] or [`Error::MEMORY`].
+    pub fn new(tag: &str, code: &str) -> Result<CurrencyFormatter, Error> {
+        CurrencyFormatter::with_options(tag, code, &CurrencyOptions::default())
+    }
+
+    /// The same with options.
+    ///
+    /// # Errors
+    ///
+    /// As of [`Self::new`].
+    pub fn with_options(tag: &str, code: &str, options: &CurrencyOptions) -> Result<CurrencyFormatter, Error> {
+        opened(None, tag, &options.of(code)).map(CurrencyFormatter)
+    }
+
+    /// The formatter of a book's tag and a code.
+    ///
+    /// # Errors
+    ///
+    /// As of [`Self::new`].
+    pub fn from_book(book: &Book, tag: &str, code: &str, options: &CurrencyOptions) -> Result<CurrencyFormatter, Error> {
+        opened(Some(book), tag, &options.of(code)).map(CurrencyFormatter)
+    }
+}
+
+/// The normal text of a skeleton, one for all that ask for the same format.
+///
+/// # Errors
+///
+/// A [`SkeletonError`] of a skeleton that is refused.
+///
+/// # Examples
+///
+/// ```
+/// use legumeyet::{normal_skeleton, Error};
+///
+/// assert_eq!(normal_skeleton("percent")?, "percent");
+/// let refused = normal_skeleton("percent foo").unwrap_err();
+/// assert_eq!((refused.error, refused.place), (Error::SKELETON_UNKNOWN, Some(8)));
+/// # Ok::<(), legumeyet::SkeletonError>(())
+/// ```
+pub fn normal_skeleton(skeleton: &str) -> Result<String, SkeletonError> {
+    let (at, len, mut place) = (skeleton.as_ptr(), skeleton.len(), 0);
+    // SAFETY: a text is memory of its length, and `written` passes memory that is as long as it says.
+    let normal = written(|out, room, length| unsafe { sys::legumeyet_skeleton_normal(at, len, &mut place, out, room, length) });
+    normal.map_err(|error| SkeletonError::at(error, place))
+}
