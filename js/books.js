@@ -1,6 +1,6 @@
 // Books of tables, and what formatters and answers are opened from.
 import { alwaysOf } from "./always.js";
-import { LoadError, age, begun, calls, expected, got, inside, put, written } from "./instance.js";
+import { LoadError, NONE, age, begun, calls, expected, got, inside, put, written } from "./instance.js";
 import { Open, closeHandle, handleOf, isOpen, openHandle } from "./open.js";
 import { forget } from "./sharing.js";
 
@@ -50,7 +50,7 @@ export class Book extends Open {
   /** The answer to a request line, a text or its bytes. */
   answer(line) {
     if (typeof line !== "string" && !(line instanceof Uint8Array)) throw new TypeError("a line is a string or a Uint8Array");
-    return written(atOf(this), calls.js_book_answer, typeof line === "string" ? line : plain(Uint8Array, line));
+    return written(atOf(this), calls.js_book_answer, NONE, typeof line === "string" ? line : plain(Uint8Array, line));
   }
 
   /** The tags of the locales that the book has symbols of, in its order. Others have the tables of their parents. */

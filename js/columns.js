@@ -1,13 +1,12 @@
 // The texts of many numbers.
-import { LegumeyetError, NUMBERS, calls, columnWritten, written } from "./instance.js";
+import { LegumeyetError, NUMBERS, calls, columnWritten } from "./instance.js";
 import { plain } from "./books.js";
 import { digitsOf } from "./numbers.js";
 
 /**
- * What writes many numbers: `at` says where it is, each time that it is used; `one` writes digits alone, and `isAlone` says of which it has to; the
- * others are the names of the calls for columns.
- * @typedef {{ at: () => number, one: (digits: string) => string, isAlone: (digits: string) => boolean, hasColumns: boolean,
- *   doubles: string, integers: string, texts: string }} Writer
+ * What writes many numbers: `at` says where it is, each time that it is used, and `how` are the words of its options; `one` writes digits alone, and
+ * `isAlone` says of which it has to: of none where it `hasColumns`.
+ * @typedef {{ at: () => number, how: Int32Array, one: (digits: string) => string, isAlone: (digits: string) => boolean, hasColumns: boolean }} Writer
  */
 
 // Digits that may be in a line with others: one of any other character is no digit.
@@ -38,7 +37,7 @@ function addTogether(writer, digits, texts) {
   for (let done = 0; done < digits.length; ) {
     const before = texts.length;
     const at = writer.at();
-    columnWritten(at, calls[writer.texts], `${digits.slice(done).join("\n")}\n`, texts);
+    columnWritten(at, calls.js_formatter_texts, writer.how, `${digits.slice(done).join("\n")}\n`, texts);
     done += texts.length - before;
   }
 }
@@ -55,13 +54,13 @@ function addColumn(writer, call, column, texts) {
   for (const end = texts.length + column.length; texts.length < end; ) {
     const done = column.length - (end - texts.length);
     const at = writer.at();
-    columnWritten(at, calls[call], column.subarray(done, done + NUMBERS), texts);
+    columnWritten(at, calls[call], writer.how, column.subarray(done, done + NUMBERS), texts);
   }
 }
 
 // Adds the texts of numbers of JavaScript, at most NUMBERS.
 function addNumbers(writer, numbers, texts) {
-  if (writer.hasColumns && numbers.every((it) => typeof it === "number")) addColumn(writer, writer.doubles, Float64Array.from(numbers), texts);
+  if (writer.hasColumns && numbers.every((it) => typeof it === "number")) addColumn(writer, "js_formatter_doubles", Float64Array.from(numbers), texts);
   else addDigits(writer, numbers.map(digitsOf), texts);
 }
 
@@ -76,10 +75,10 @@ export function allWritten(writer, numbers) {
   }
   const texts = [];
   writer.at(); // a closed one is refused also where there is no number
-  if (!(writer.texts in calls)) return addedAlone(writer, numbers); // as of a module of pages
+  if (!("js_formatter_texts" in calls)) return addedAlone(writer, numbers); // as of a module of pages
   const Type = [Float64Array, BigInt64Array].find((it) => numbers instanceof it);
   const all = Type === undefined ? Array.from(numbers) : plain(Type, numbers);
-  if (Type !== undefined && writer.hasColumns) addColumn(writer, Type === Float64Array ? writer.doubles : writer.integers, all, texts);
+  if (Type !== undefined && writer.hasColumns) addColumn(writer, `js_formatter_${Type === Float64Array ? "doubles" : "integers"}`, all, texts);
   else for (let start = 0; start < all.length; start += NUMBERS) addNumbers(writer, Array.from(all.slice(start, start + NUMBERS)), texts);
   return texts;
 }

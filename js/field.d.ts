@@ -14,8 +14,8 @@ export interface FieldState {
 
 /** The text of a field while somebody types, of a formatter of plain numbers, of percents or of amounts that does not round. */
 export class FieldText {
-  /** `latin` is one of the same locale with the digits 0 to 9, for what the formatter does not read. Without a formatter no text is a number. */
-  constructor(formatter: FieldFormatter | null, latin?: FieldFormatter | null);
+  /** Without a formatter no text is a number. */
+  constructor(formatter: FieldFormatter | null);
   readonly state: FieldState;
   readonly text: string;
   readonly value: string | null;

@@ -66,17 +66,12 @@ function moved(places, { start, end, inserted }) {
 /** The text of a field while somebody types, of a formatter of plain numbers, of percents or of amounts that does not round. */
 export class FieldText {
   #formatter;
-  #latin;
   #digits;
   #state = EMPTY;
 
-  /**
-   * `latin` is one of the same locale with the digits 0 to 9: what the formatter does not read is read by it, as where `.` is typed in Arabic.
-   * Without a formatter no text is a number.
-   */
-  constructor(formatter, latin = null) {
+  /** Without a formatter no text is a number. */
+  constructor(formatter) {
     this.#formatter = formatter;
-    this.#latin = latin;
     this.#digits = new Digits(formatter?.formatToParts("9876543210.5") ?? [{ type: "decimal", value: "." }]);
     if (this.#digits.decimal === undefined) throw new RangeError("the formatter of a field shows a fraction as it is: it rounds no number, and is not compact");
   }
@@ -221,12 +216,11 @@ export class FieldText {
     return state;
   }
 
-  // The number of a text; of the digits that were written here and of those of ASCII by the second formatter, where the first reads none.
+  // The number of a text; where it is none, of that with the digits of ASCII, as where `.` is typed in Arabic.
   #read(text) {
     if (this.#formatter === null) return null;
     const value = unlessNone(() => this.#formatter.readLenient(text));
-    if (value !== null || this.#latin === null) return value;
-    return unlessNone(() => this.#latin.readLenient(this.#digits.inAscii(text)));
+    return value ?? unlessNone(() => this.#formatter.readLenient(this.#digits.inAscii(text)));
   }
 
   #isOfNumber(char) {

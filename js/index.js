@@ -9,6 +9,4 @@ const [module, world] = await Promise.all([
 await load(module);
 setWorld(world);
 
-export {
-  Answers, Book, CompactDecimalFormatter, CurrencyFormatter, DecimalFormatter, ErrorNumber, LegumeyetError, LoadError, PercentFormatter, version,
-} from "./core.js";
+export * from "./classes.js";

@@ -29,6 +29,4 @@ export function init() {
   return begun;
 }
 
-export {
-  Answers, Book, CompactDecimalFormatter, CurrencyFormatter, DecimalFormatter, ErrorNumber, LegumeyetError, LoadError, PercentFormatter, version,
-} from "./core.js";
+export * from "./classes.js";

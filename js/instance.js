@@ -5,6 +5,8 @@ const ROOM = 512; // as in module/calls.c
 /** How many numbers of a column a call writes at most; as in module/calls.c. */
 export const NUMBERS = 512;
 const LITERAL = 0, MINUS_SIGN = 1, PLUS_SIGN = 2, INTEGER = 3; // kinds of parts
+/** No words: a format of plain numbers, or the options that a formatter has of its own. */
+export const NONE = Int32Array.of(0);
 const NO_UTF8 = new Uint8Array([0xff]);
 const HALF = /\p{Surrogate}/u;
 const encoder = new TextEncoder();
@@ -12,9 +14,11 @@ const decoder = new TextDecoder("utf-8", { ignoreBOM: true });
 
 let module = null;
 let memory = new Uint8Array(0);
-let words = new Uint32Array(0);
+let words = new Int32Array(0);
 let input = 0;
 let output = 0;
+let asking = 0;
+let asked = null; // the words that are put for the next calls
 
 // Whether a call was begun and did not come back, as where JavaScript's stack ran out in it, or where it trapped.
 let isInside = false;
@@ -31,6 +35,8 @@ export const ErrorNumber = Object.freeze({
   CODE: 14, UNKEPT: 15,
   BOOK_JSON: 101, BOOK_SHAPE: 102, BOOK_TAG: 103, BOOK_SYSTEM: 104, BOOK_TEXT: 105, BOOK_DIGITS: 106, BOOK_CONDITION: 107,
   BOOK_TYPES: 108, BOOK_EXPONENTS: 109, BOOK_DUPLICATE: 110, BOOK_CYCLE: 111, BOOK_UNIT: 113, BOOK_CODE: 114,
+  SKELETON_UNKNOWN: 201, SKELETON_TWICE: 202, SKELETON_CODE: 203, SKELETON_PAIR: 204, SKELETON_SYSTEM: 205, SKELETON_LATER: 206,
+  SKELETON_UNSUPPORTED: 207,
 });
 
 // What each number says. It is asked of the module at first, so that an error can be told where no call can be made.
@@ -69,16 +75,14 @@ function loadError(error) {
 // Views of the memory end where it grows.
 function look() {
   memory = new Uint8Array(calls.memory.buffer);
-  words = new Uint32Array(calls.memory.buffer);
+  words = new Int32Array(calls.memory.buffer);
 }
 
 function begin(instance) {
   const made = instance.exports;
-  input = made.js_in();
-  output = made.js_out();
-  memory = new Uint8Array(made.memory.buffer);
-  words = new Uint32Array(made.memory.buffer);
-  calls = made;
+  [input, output, asking] = [made.js_in(), made.js_out(), made.js_how() >> 2];
+  [memory, words, asked] = [new Uint8Array(made.memory.buffer), new Int32Array(made.memory.buffer), null];
+  calls = made; // last: where the stack runs out before, there is no instance
 }
 
 function take(from, instance) {
@@ -181,6 +185,24 @@ function putLong(text) {
   return putBytes(HALF.test(text) ? NO_UTF8 : encoder.encode(text));
 }
 
+/** Puts a tag and what follows it where the next call finds them. Returns the lengths of both in bytes. Half a pair of surrogates is U+FFFD there. */
+export function putBoth(tag, text) {
+  const [front, back] = [encoder.encode(tag), encoder.encode(text)];
+  const both = new Uint8Array(front.length + back.length);
+  both.set(front);
+  both.set(back, front.length);
+  putBytes(both);
+  return [front.length, back.length];
+}
+
+/** Puts the words of a format or of options, with their count before them, for the next calls. They stay the same array as long as they do. */
+export function ask(how) {
+  if (how === asked) return;
+  if (memory.length === 0) look();
+  words.set(how, asking);
+  asked = how;
+}
+
 /** Puts a text, or bytes of one, where the next call finds it. Returns its length in bytes. Half a pair of surrogates makes it no UTF-8. */
 export function put(text) {
   if (typeof text !== "string") return putBytes(text);
@@ -245,9 +267,10 @@ function gathered(start, end) {
   return text;
 }
 
-/** The text that a call writes of a handle and a text. The handle comes first: to find it may make a new instance, which has its own calls. */
-export function written(at, call, text) {
+/** The text that a call writes of a handle, words and a text. The handle comes first: to find it may make a new instance, which has its own calls. */
+export function written(at, call, how, text) {
   isInside = true;
+  if (how !== asked) ask(how);
   const size = put(text);
   const length = call(at, size);
   if (size > ROOM || length < 0 || length > ROOM) return large(length);
@@ -266,11 +289,12 @@ function large(length) {
 }
 
 /**
- * Adds the texts that a call writes of a handle and a column: at most NUMBERS doubles or integers, which are a typed array, or digits with a line
+ * Adds the texts that a call writes of a handle, words and a column: at most NUMBERS doubles or integers, which are a typed array, or digits with a line
  * feed after each. Where not all are written it is called again with the others. Where the next is refused it throws the error, with its place.
  */
-export function columnWritten(at, call, column, texts) {
+export function columnWritten(at, call, how, column, texts) {
   const error = inside(() => {
+    ask(how);
     let size = column.length;
     if (typeof column === "string") size = put(column);
     else new column.constructor(calls.memory.buffer, calls.js_column_in(), size).set(column);
@@ -351,9 +375,10 @@ function flat(from, length) {
   return parts;
 }
 
-/** The parts, each with its type and value, of the text that a call writes of a handle and a text. */
-export function partsWritten(at, call, text) {
+/** The parts, each with its type and value, of the text that a call writes of a handle, words and a text. */
+export function partsWritten(at, call, how, text) {
   isInside = true;
+  ask(how);
   const length = call(at, put(text));
   if (memory.length === 0) look();
   const parts = length < 0 ? [] : flat(length > ROOM ? calls.js_large_out() : output, length);
@@ -363,7 +388,7 @@ export function partsWritten(at, call, text) {
   return parts;
 }
 
-/** The version of the library, with its minor one: `1.4`. */
+/** The version of the library, with its minor one: `2.0`. */
 export function version() {
   begun();
   return inside(() => `${calls.js_version()}.${calls.js_minor()}`);

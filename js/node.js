@@ -15,6 +15,4 @@ function bytesOf(name, address) {
 loadSync(bytesOf("legumeyet.wasm", new URL("./legumeyet.wasm", import.meta.url)));
 setWorld(bytesOf("world.json", new URL("./world.json", import.meta.url)));
 
-export {
-  Answers, Book, CompactDecimalFormatter, CurrencyFormatter, DecimalFormatter, ErrorNumber, LegumeyetError, LoadError, PercentFormatter, version,
-} from "./core.js";
+export * from "./classes.js";

@@ -72,7 +72,6 @@ export class NumberField extends HTMLElement {
   #message = document.createElement("p");
   #field = new FieldText(null);
   #formatter = null;
-  #formatters = []; // all that were opened with it
   #digits = 0; // of the fraction, that an amount is shown with at least
   #opened = null; // the locale that was asked for
   #fault = ""; // why there is no formatter
@@ -151,18 +150,17 @@ export class NumberField extends HTMLElement {
   }
 
   // The formatter of one of these locales: of amounts, of percents or of plain numbers.
-  #formatterOf(locales, currencyDigits) {
+  #formatterOf(locales) {
     const currency = this.currency?.toUpperCase();
-    if (currency !== undefined) this.#formatters.push(new library.CurrencyFormatter(locales, { currency, currencyDigits }));
-    else this.#formatters.push(this.percent ? new library.PercentFormatter(locales) : new library.DecimalFormatter(locales));
-    return this.#formatters.at(-1);
+    if (currency !== undefined) return new library.CurrencyFormatter(locales, { currency, currencyDigits: "given" });
+    return this.percent ? new library.PercentFormatter(locales) : new library.DecimalFormatter(locales);
   }
 
   // Opens the formatter of the locale, and writes the number anew.
   #open() {
     const { value, text } = this.#field;
     this.#opened = this.locale;
-    for (const it of this.#formatters.splice(0)) it.close();
+    this.#formatter?.close();
     try {
       this.#openOf(tagsOf(this.#opened));
     } catch (error) {
@@ -175,11 +173,10 @@ export class NumberField extends HTMLElement {
 
   #openOf(tags) {
     if (library.error) throw library.error;
-    this.#formatter = this.#formatterOf(tags, "given");
+    this.#formatter = this.#formatterOf(tags);
+    this.#field = new FieldText(this.#formatter);
     const { locale } = this.#formatter.resolvedOptions();
-    const isLatin = this.#formatter.formatToParts("0").some((it) => it.type === "integer" && it.value === "0");
-    this.#field = new FieldText(this.#formatter, isLatin ? null : this.#formatterOf(new Intl.Locale(locale, { numberingSystem: "latn" }), "given"));
-    const shown = this.currency === null ? [] : this.#formatterOf(locale, "standard").formatToParts("0");
+    const shown = this.currency === null ? [] : this.#formatter.formatToParts("0", { currencyDigits: "standard" });
     this.#digits = shown.find((it) => it.type === "fraction")?.value.length ?? 0;
     this.#fault = "";
     this.#input.lang = locale;

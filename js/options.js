@@ -1,4 +1,5 @@
-// The options of formatters: Intl's words, and the numbers that the library has for them.
+// The options of formatters: Intl's words, and what these are in the library's words, those of legumeyet_format and legumeyet_options.
+import { NONE } from "./instance.js";
 
 const GROUPINGS = { auto: 0, false: 1, always: 2, true: 2, min2: 3 };
 const SIGNS = { keep: 0, auto: 1, never: 2, always: 3, exceptZero: 4, negative: 5 };
@@ -9,35 +10,41 @@ const CURRENCY_DISPLAYS = { symbol: 0, code: 1 };
 const CURRENCY_DIGITS = { standard: 0, cash: 10, given: 11 }; // roundings that have no position
 const INCREMENTS = [1, 2, 5, 10, 20, 25, 50, 100, 200, 250, 500, 1000, 2000, 2500, 5000];
 const MOST = 32767;
-const OF_BOTH = ["book", "fallback", "useGrouping", "signDisplay", "position", "roundingMode", "roundingIncrement"];
-const OF_DIGITS = [...OF_BOTH, "minimumIntegerDigits", "minimumFractionDigits", "maximumFractionDigits"];
-const NAMES = {
-  decimal: OF_DIGITS,
-  compact: [...OF_BOTH, "compactDisplay"],
-  percent: OF_DIGITS,
-  currency: [...OF_DIGITS, "currency", "currencySign", "currencyDisplay", "currencyDigits"],
+const UNITS = { percent: 1, currency: 2 };
+// The options of a kind: of its calls, and of its opening alone.
+const OF_EACH = ["signDisplay", "position", "roundingMode", "roundingIncrement"];
+const OF_DIGITS = [...OF_EACH, "minimumIntegerDigits", "minimumFractionDigits", "maximumFractionDigits"];
+const OF_CALLS = { decimal: OF_DIGITS, compact: OF_EACH, percent: OF_DIGITS, currency: [...OF_DIGITS, "currencyDigits"], skeleton: [] };
+const OF_FORMATS = {
+  decimal: ["useGrouping"], compact: ["useGrouping", "compactDisplay"], percent: ["useGrouping"],
+  currency: ["useGrouping", "currency", "currencySign", "currencyDisplay"], skeleton: ["skeleton"],
 };
+const HOW_OPENED = ["book", "fallback"]; // what resolvedOptions does not tell
 // The options of the rounding that do something where nothing says at which place.
 const UNPLACED = { compact: ["roundingMode"], standard: ["roundingMode", "roundingIncrement"], cash: ["roundingMode"] };
-const HOW_OPENED = ["book", "fallback"]; // what resolvedOptions does not tell
+// The kinds of numbers that a skeleton may ask for beside plain ones, by a word that it then has.
+const OF_SKELETONS = {
+  compact: (word) => ["K", "KK", "compact-short", "compact-long"].includes(word), currency: (word) => word.startsWith("currency/"),
+  percent: (word) => word === "%" || word === "percent",
+};
 
-/** The grouping from the first group on in each locale. */
-export const ALWAYS = GROUPINGS.always;
-/** The rounding of halves to the even one, which is the library's own of compact numbers and of amounts. */
-export const HALF_EVEN = MODES.halfEven;
 /** Whether a rounding looks at halves, and else takes the nearest. */
 export const isOfHalves = (mode) => mode >= MODES.halfExpand;
-/** The roundings of amounts to the digits that their currency has. */
-export const OF_CURRENCY = [CURRENCY_DIGITS.standard, CURRENCY_DIGITS.cash];
-/** That of amounts that are not rounded. */
-export const AS_GIVEN = CURRENCY_DIGITS.given;
 
 /**
- * The numbers of options: of the opening of a formatter, and of its calls. `rounding` is the mode that is asked for, also where `mode` is none of
- * the modes, and `multiple` is the increment of an amount, 0 for that of its currency.
- * @typedef {{ grouping: number, width: number, sign: number, integer: number, code?: number, style?: number, display?: number, mode: number,
- *   position: number, increment: number, zeros: number, fraction: number, rounding: number, multiple?: number }} Numbers
+ * What the options of a call say: `how` in the library's words, behind their count, and the rounding that is asked for. Where `learned` says so it is
+ * made at another place than these have: at the last digit that is `shown` of a compact number, or of an amount by the `currency`, and then to a
+ * multiple of that digit, of the currency's own where it is 0.
+ * @typedef {{ kind: string, how: Int32Array, rounding: number, multiple: number, learned: string | null, units?: Map<number, Int32Array> }} Call
  */
+
+/** The words of options. Without one nothing is changed. */
+export function wordsOf({ sign = 0, mode = 0, position = 0, increment = 0, zeros = 0, integer = 0, fraction = 0 }) {
+  return Int32Array.of(7, sign, mode, position, increment, zeros, integer, fraction);
+}
+
+/** The words for a number that is not rounded, with so many digits of the fraction at least. */
+export const asGiven = (fraction) => wordsOf({ mode: CURRENCY_DIGITS.given, fraction });
 
 /**
  * The number that a word of an option has.
@@ -92,63 +99,45 @@ function incrementOf(options) {
 }
 
 // The rounding where nothing says at which place: none, but that of amounts to the digits of their currency, and that of what is shown of a compact
-// number. `multiple` is the increment of an amount where it is not its currency's own.
-function unplacedOf(kind, options, least) {
+// number.
+function unplacedOf(kind, options, rounding, fraction = 0) {
   const mode = kind === "currency" ? chosen(options, "currencyDigits", CURRENCY_DIGITS, "standard") : 0;
   const does = UNPLACED[kind === "currency" ? (options.currencyDigits ?? "standard") : kind] ?? [];
   const idle = ["roundingMode", "roundingIncrement"].find((it) => options[it] !== undefined && !does.includes(it));
   if (idle !== undefined) throw new RangeError(`${idle} rounds nothing ${mode === 0 ? "without maximumFractionDigits or position" : "of such currencyDigits"}`);
   const multiple = options.roundingIncrement === undefined ? 0 : incrementOf(options);
-  return { mode, position: 0, increment: 0, zeros: 0, fraction: least ?? 0, multiple };
+  const isOwn = rounding === MODES.halfEven && multiple === 0; // the library's
+  const place = { compact: "shown", currency: "currency" }[kind];
+  return { words: { mode, fraction }, multiple, learned: isOwn || mode === CURRENCY_DIGITS.given ? null : (place ?? null) };
 }
 
-// The rounding at the place that is said, and what its fraction shows then.
-function placedOf(options, { least, most }, rounding) {
+// The rounding at the place that is said, and what its fraction shows then. A compact number may show no digit there.
+function placedOf(kind, options, { least, most }, mode) {
   const given = incrementOf(options);
   if (given !== 1 && most !== undefined && most !== least) throw new RangeError("roundingIncrement asks for as many fraction digits at least as at most");
   const { position, increment, fraction } = multiplesOf(given, most === undefined ? options.position : 0 - most);
   const isTrimmed = most !== undefined && most !== (least ?? 0);
-  return {
-    mode: rounding,
-    position,
-    increment,
-    zeros: isTrimmed ? 1 : 0,
-    fraction: isTrimmed || most === undefined ? Math.max(least ?? 0, fraction) : fraction,
-  };
+  const shown = isTrimmed || most === undefined ? Math.max(least ?? 0, fraction) : fraction;
+  return { words: { mode, position, increment, zeros: isTrimmed ? 1 : 0, fraction: shown }, multiple: 0, learned: kind === "compact" ? "shown" : null };
 }
 
-// The rounding of a number: `mode` is the library's, and `rounding` the one that is asked for, also where nothing says at which place.
+// The rounding of a number, wherever it is.
 function roundingOf(kind, options) {
   const found = fractionOf(kind, options);
   const rounding = chosen(options, "roundingMode", MODES, "halfExpand");
-  if (found.most === undefined && whole(options, "position", -32768, MOST) === undefined) {
-    return { ...unplacedOf(kind, options, found.least), rounding };
-  }
-  if (options.currencyDigits !== undefined) throw new RangeError("currencyDigits says how to round, and so does maximumFractionDigits or position");
-  return { ...placedOf(options, found, rounding), rounding };
+  const isPlaced = found.most !== undefined || whole(options, "position", -32768, MOST) !== undefined;
+  if (isPlaced && options.currencyDigits !== undefined) throw new RangeError("currencyDigits says how to round, and so does maximumFractionDigits or position");
+  return { rounding, ...(isPlaced ? placedOf(kind, options, found, rounding) : unplacedOf(kind, options, rounding, found.least)) };
 }
 
-// The three characters of a currency's code, the first of them lowest; of another text 0, which is no code.
-function codeOf(options) {
-  const { currency } = options;
-  if (typeof currency !== "string") throw new TypeError("currency is a string, the code of a currency");
-  const codes = [0, 1, 2].map((at) => currency.charCodeAt(at));
-  return currency.length === 3 && codes.every((it) => it < 0x80) ? codes[0] | (codes[1] << 8) | (codes[2] << 16) : 0;
+// What the options of a call say.
+function callOf(kind, options) {
+  const sign = chosen(options, "signDisplay", SIGNS, "auto");
+  const { words, ...rounding } = roundingOf(kind, options);
+  return { kind, how: wordsOf({ sign, integer: whole(options, "minimumIntegerDigits", 1, MOST), ...words }), ...rounding };
 }
 
-// How an amount is written.
-function moneyOf(options) {
-  return {
-    code: codeOf(options),
-    style: chosen(options, "currencySign", CURRENCY_SIGNS, "standard"),
-    display: chosen(options, "currencyDisplay", CURRENCY_DISPLAYS, "symbol"),
-  };
-}
-
-/**
- * Each option that says something, as it was given or as it is without.
- * @returns {Record<string, any>}
- */
+// Each option that says something, as it was given or as it is without.
 function resolvedOf(kind, options, mode) {
   const given = Object.entries(options).filter(([name, value]) => !HOW_OPENED.includes(name) && value !== undefined);
   /** @type {Record<string, any>} */
@@ -160,40 +149,60 @@ function resolvedOf(kind, options, mode) {
     found.currencyDisplay ??= "symbol";
     if (!Object.values(MODES).includes(mode)) found.currencyDigits ??= "standard";
   }
-  const isRounded = kind === "compact" || (kind === "currency" ? mode !== AS_GIVEN : mode !== 0);
+  const isRounded = kind === "compact" || (kind === "currency" ? mode !== CURRENCY_DIGITS.given : mode !== 0);
   if (isRounded) found.roundingMode ??= "halfExpand";
   return found;
 }
 
-function readAnew(kind, options) {
-  const numbers = {
-    grouping: chosen(options, "useGrouping", GROUPINGS, kind === "compact" ? "min2" : "auto"),
-    width: chosen(options, "compactDisplay", WIDTHS, "short"),
-    sign: chosen(options, "signDisplay", SIGNS, "auto"),
-    integer: whole(options, "minimumIntegerDigits", 1, MOST) ?? 0,
-    ...(kind === "currency" ? moneyOf(options) : {}),
-    ...roundingOf(kind, options),
-  };
-  return { numbers, key: `${kind} ${Object.values(numbers)}`, resolved: resolvedOf(kind, options, numbers.mode) };
+// What is opened by the text of a skeleton, whose options are the formatter's own.
+function ofSkeleton({ skeleton }) {
+  if (typeof skeleton !== "string") throw new TypeError("skeleton is a string, as percent .00");
+  const words = skeleton.split(" ");
+  const kind = Object.keys(OF_SKELETONS).find((it) => words.some(OF_SKELETONS[it])) ?? "decimal";
+  /** @type {Call} */
+  const call = { kind, how: NONE, rounding: 0, multiple: 0, learned: null };
+  return { format: NONE, unit: skeleton, isSkeleton: true, isAlways: false, key: `skeleton ${skeleton}`, call, resolved: { skeleton } };
+}
+
+function ofWords(kind, options) {
+  const { currency: unit = "" } = options;
+  if (kind === "currency" && typeof options.currency !== "string") throw new TypeError("currency is a string, the code of a currency");
+  const grouping = chosen(options, "useGrouping", GROUPINGS, kind === "compact" ? "min2" : "auto");
+  const [style, display] = [chosen(options, "currencySign", CURRENCY_SIGNS, "standard"), chosen(options, "currencyDisplay", CURRENCY_DISPLAYS, "symbol")];
+  const width = chosen(options, "compactDisplay", WIDTHS, "short");
+  const format = Int32Array.of(6, kind === "compact" ? 1 : 0, width, UNITS[kind] ?? 0, style, display, grouping);
+  const call = callOf(kind, options);
+  return { format, unit, isSkeleton: false, isAlways: grouping === GROUPINGS.always, key: `${format} ${unit}`, call, resolved: resolvedOf(kind, options, call.how[2]) };
+}
+
+function checked(options, names, of) {
+  if (typeof options !== "object" || options === null) throw new TypeError("options are an object");
+  const unknown = Object.keys(options).find((it) => !names.includes(it));
+  if (unknown !== undefined) throw new RangeError(`${unknown} is no option${of}: there are ${names.join(", ")}`);
 }
 
 // What is said by no options, of each kind.
 const defaults = new Map();
 
-function readNone(kind) {
-  if (!defaults.has(kind)) defaults.set(kind, readAnew(kind, {}));
+/**
+ * What a kind of formatters, as `decimal`, is opened with: the words of its format, with the code of its currency, or a skeleton; `key` is one text for
+ * all that have both alike. `call` is what the options say to calls that are given none, and `resolved` what resolvedOptions tells.
+ * @typedef {{ format: Int32Array, unit: string, isSkeleton: boolean, isAlways: boolean, key: string, call: Call, resolved: Record<string, any> }} Opening
+ * @returns {Opening}
+ */
+export function read(kind, options) {
+  checked(options, [...HOW_OPENED, ...OF_FORMATS[kind], ...OF_CALLS[kind]], "");
+  if (kind === "skeleton") return ofSkeleton(options);
+  if (Object.keys(options).some((it) => !HOW_OPENED.includes(it))) return ofWords(kind, options);
+  if (!defaults.has(kind)) defaults.set(kind, ofWords(kind, {}));
   return defaults.get(kind);
 }
 
 /**
- * What the options of a kind of formatters, as `decimal`, say: by the library's numbers, which `key` has in a text, and as resolvedOptions tells them.
- * @typedef {{ numbers: Numbers, key: string, resolved: Record<string, any> }} Read
- * @returns {Read}
+ * What the options of a call say of numbers of a kind.
+ * @returns {Call}
  */
-export function read(kind, options) {
-  if (typeof options !== "object" || options === null) throw new TypeError("options are an object");
-  const names = Object.keys(options);
-  const unknown = names.find((it) => !NAMES[kind].includes(it));
-  if (unknown !== undefined) throw new RangeError(`${unknown} is no option: there are ${NAMES[kind].join(", ")}`);
-  return names.every((it) => HOW_OPENED.includes(it)) ? readNone(kind) : readAnew(kind, options);
+export function readCall(kind, options) {
+  checked(options, OF_CALLS[kind], " of a call");
+  return callOf(kind, options);
 }

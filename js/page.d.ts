@@ -1,8 +1,9 @@
 import type { Bytes, CompiledModule, FileResponse } from "./core.js";
 export {
-  CompactDecimalFormatter, CompactDecimalFormatterOptions, CurrencyFormatter, CurrencyFormatterOptions, DecimalFormatter, DecimalFormatterOptions, ErrorNumber,
-  FormatterOptions, LegumeyetError, LoadError, Locales, Num, Part, PercentFormatter, PercentFormatterOptions, ResolvedOptions, RoundingIncrement, RoundingMode, SignDisplay, UseGrouping,
-  memorySize, version,
+  CallOptions, CompactDecimalFormatter, CompactDecimalFormatterOptions, CurrencyCallOptions, CurrencyFormatter, CurrencyFormatterOptions, DecimalCallOptions,
+  DecimalFormatter, DecimalFormatterOptions, ErrorNumber, FormatterOptions, LegumeyetError, LoadError, Locales, Num, NumberFormatter, NumberFormatterOptions, Part,
+  PercentFormatter, PercentFormatterOptions, ResolvedOptions, RoundingIncrement, RoundingMode, SignDisplay, SkeletonError, UseGrouping, memorySize, normalSkeleton,
+  version,
 } from "./core.js";
 
 /** Takes the module that `legumeyet-page` makes: its bytes, a WebAssembly.Module, or the response to a request for it, or its promise. A second call does nothing. */

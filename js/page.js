@@ -14,5 +14,5 @@ export function loadSync(source) {
   useInside();
 }
 
-export { ErrorNumber, LegumeyetError, LoadError, memorySize, version } from "./instance.js";
-export { CompactDecimalFormatter, CurrencyFormatter, DecimalFormatter, PercentFormatter } from "./formatters.js";
+export * from "./common.js";
+export { memorySize } from "./instance.js";

@@ -1,5 +1,5 @@
-/** What a page's module may be made without: compact numbers, percents and amounts, and what reads texts. */
-export type PagePart = "compact" | "units" | "read";
+/** What a page's module may be made without: compact numbers, percents and amounts, what reads texts, and skeletons. */
+export type PagePart = "compact" | "units" | "read" | "skeletons";
 export const PARTS: readonly PagePart[];
 
 /**

@@ -64,7 +64,7 @@ function sectionsOf(module) {
   return sections;
 }
 
-// The calls of each part of the module, and of each function the parts that need it, as tools/building_js/module.py notes them.
+// The calls of each part of the module, and the choices of parts that need each function and each static, as tools/building_js/module.py notes them.
 function noteOf(sections) {
   for (const { id, data } of sections) {
     const reader = new Reader(data);
@@ -73,14 +73,14 @@ function noteOf(sections) {
   throw new Error("the module is not page.wasm");
 }
 
-// The names of calls, the numbers of functions and the statics, as places and sizes, that go with some parts.
-function leftOf({ parts, functions, statics }, left) {
-  const names = Object.keys(parts);
-  const kept = names.reduce((sum, it, bit) => (left.includes(it) ? sum : sum + 2 ** bit), 0);
+// The names of calls, the numbers of functions and the statics, as places and sizes, that go where a page does without some parts.
+function leftOf({ parts, functions, statics }, without) {
+  const choice = PARTS.reduce((sum, it, bit) => (without.includes(it) ? sum : sum + 2 ** bit), 0);
+  const goes = (choices) => ((choices >> choice) & 1) === 0;
   return {
-    calls: left.flatMap((it) => parts[it]),
-    functions: new Set(functions.flatMap((needs, number) => ((needs & kept) === 0 ? [number] : []))),
-    statics: statics.filter(([, size, needs]) => size > 0 && (needs & kept) === 0),
+    calls: ["opening", ...without].flatMap((it) => parts[it]),
+    functions: new Set(functions.flatMap((choices, number) => (goes(choices) ? [number] : []))),
+    statics: statics.filter(([, size, choices]) => size > 0 && goes(choices)),
   };
 }
 
@@ -161,8 +161,8 @@ function withMemory(sections, memory, left) {
   return joined([HEAD, ...all.flatMap(({ id, data }) => [[id], numberOf(data.length), data])]);
 }
 
-/** What a page's module may be made without: compact numbers, percents and amounts, and what reads texts. */
-export const PARTS = Object.freeze(["compact", "units", "read"]);
+/** What a page's module may be made without: compact numbers, percents and amounts, what reads texts, and skeletons. */
+export const PARTS = Object.freeze(["compact", "units", "read", "skeletons"]);
 
 /**
  * The WebAssembly module of a page, for `load` of `legumeyet/page`: that of `page.wasm` with the locales of these tags, and those below them.
@@ -177,7 +177,7 @@ export function pageModule(module, json, tags, options = {}) {
   const wrong = without.find((it) => !PARTS.includes(it));
   if (wrong !== undefined) throw new RangeError(`without is of ${PARTS.join(", ")}, and not ${wrong}`);
   const sections = sectionsOf(module);
-  const left = leftOf(noteOf(sections), ["opening", ...without]);
+  const left = leftOf(noteOf(sections), without);
   const book = smallerBook(json, tags);
   const always = alwaysOf(book);
   const { exports } = /** @type {{ exports: any }} */ (new WebAssembly.Instance(new WebAssembly.Module(module), {}));

@@ -6,14 +6,15 @@ import { closeHandle, handleOf, isOpen } from "./open.js";
 const MOST = 1000;
 
 /**
- * A formatter of the module. Of a compact one `mode` and `position` say how it rounds now, and `units` at which place numbers of a magnitude.
- * @typedef {import("./open.js").Handle & { mode?: number, position?: number, units?: Map<number, number> }} Native
+ * A formatter of the module, for calls with any options. `units` says at which place a compact one rounds numbers of a magnitude, and `currencies` how
+ * many digits one of amounts shows by a rounding, and of which they are a multiple.
+ * @typedef {import("./open.js").Handle & { units?: Map<number, number>, currencies?: Map<number, { digits: number, multiple: number }> }} Native
  */
 
 /**
  * What a formatter is opened from, by `open`, and by which call it is closed. Those of one source with one key are alike.
- * @typedef {{ source: import("./books.js").Source, key: string, open: (native: Native, asked: Asked) => void, close: string, kind: string, tag: string,
- *   numbers: import("./options.js").Numbers, currency?: string }} Asked
+ * @typedef {{ source: import("./books.js").Source, key: string, open: (native: Native, asked: Asked) => void, close: string, tag: string,
+ *   opening: import("./options.js").Opening }} Asked
  */
 
 /** That of a formatter that was closed by its caller. */

@@ -3,11 +3,11 @@
  *
  * A result below 0 is less the number of an error; else it is the length of the text that was written, or 0. A text of at most ROOM
  * bytes is put at js_in() and found at js_out(). A larger one is put at js_large_in(size), and found at js_large_out(); js_let_go() frees
- * both. A column of numbers is put at js_column_in(), and its texts are found at js_column_out(). In the memory of the module a pointer of
- * the library takes eight bytes, as on the machine that its layouts were computed for.
+ * both. The words of a format, or of the options of a call, are put at js_how(), behind their count. A column of numbers is put at
+ * js_column_in(), and its texts are found at js_column_out(). In the memory of the module a pointer of the library takes eight bytes, as on
+ * the machine that its layouts were computed for.
  */
 typedef unsigned char u8;
-typedef unsigned short u16;
 typedef unsigned u32;
 typedef unsigned long long u64;
 typedef int number;
@@ -21,74 +21,51 @@ typedef struct {
 } handle;
 
 typedef struct {
-    u32 sign, rounding;
-    short position;
-    u16 trailing_zeros;
-    u32 increment;
-    u16 minimum_integer_digits, minimum_fraction_digits;
-    u32 reserved[2];
-} options;
-
-typedef struct {
     u64 start, end;
     u32 kind, unused;
 } interval;
-_Static_assert(sizeof(handle) == 16 && sizeof(options) == 28 && sizeof(interval) == 24, "as the library has them");
+_Static_assert(sizeof(handle) == 16 && sizeof(interval) == 24, "as the library has them");
 
-/* What JavaScript has open: a book, or a formatter with the options of its calls. */
-typedef struct {
-    handle of;
-    options how;
-} opened;
+/* What is written by the words of options that a call is given, and a column. */
+#define WORDS const number *, u64
+#define TEXT u8 *, u64, u64 *
+#define COLUMN_TEXTS u8 *, u64, u64 *, u64, u64 *
 
 number legumeyet_book_open(const u8 *, u64, handle *);
 number legumeyet_book_close(handle *);
 number legumeyet_book_keep(handle *);
-number legumeyet_book_answer(handle *, const u8 *, u64, u8 *, u64, u64 *);
+number legumeyet_book_answer(handle *, const u8 *, u64, TEXT);
 number legumeyet_book_locale_count(handle *, u64 *);
-number legumeyet_book_locale(handle *, u64, u8 *, u64, u64 *);
+number legumeyet_book_locale(handle *, u64, TEXT);
 number legumeyet_answers_open(handle *, u64, handle *);
 number legumeyet_answers_close(handle *);
-number legumeyet_answers_answer(handle *, const u8 *, u64, u8 *, u64, u64 *, u64 *, u64 *);
-number legumeyet_decimal_formatter_open(handle *, const u8 *, u64, u32, handle *);
-number legumeyet_decimal_formatter_close(handle *);
-number legumeyet_decimal_formatter_format(handle *, const u8 *, u64, const options *, u8 *, u64, u64 *);
-number legumeyet_decimal_formatter_format_doubles(handle *, const double *, u64, const options *, u8 *, u64, u64 *, u64, u64 *);
-number legumeyet_decimal_formatter_format_integers(handle *, const long long *, u64, short, const options *, u8 *, u64, u64 *, u64, u64 *);
-number legumeyet_decimal_formatter_format_texts(handle *, const u8 *, u64, const options *, u8 *, u64, u64 *, u64, u64 *);
-number legumeyet_decimal_formatter_format_parts(handle *, const u8 *, u64, const options *, u8 *, u64, u64 *, interval *, u64, u64 *);
-number legumeyet_decimal_formatter_read(handle *, const u8 *, u64, u8 *, u64, u64 *);
-number legumeyet_decimal_formatter_read_lenient(handle *, const u8 *, u64, u8 *, u64, u64 *);
-number legumeyet_compact_formatter_open(handle *, const u8 *, u64, u32, u32, handle *);
-number legumeyet_compact_formatter_close(handle *);
-number legumeyet_compact_formatter_format(handle *, const u8 *, u64, const options *, u8 *, u64, u64 *);
-number legumeyet_compact_formatter_format_doubles(handle *, const double *, u64, const options *, u8 *, u64, u64 *, u64, u64 *);
-number legumeyet_compact_formatter_format_integers(handle *, const long long *, u64, short, const options *, u8 *, u64, u64 *, u64, u64 *);
-number legumeyet_compact_formatter_format_texts(handle *, const u8 *, u64, const options *, u8 *, u64, u64 *, u64, u64 *);
-number legumeyet_compact_formatter_format_parts(handle *, const u8 *, u64, const options *, u8 *, u64, u64 *, interval *, u64, u64 *);
-number legumeyet_compact_formatter_shown(handle *, const u8 *, u64, const options *, u8 *, u64, u64 *);
-number legumeyet_compact_formatter_format_exact(handle *, const u8 *, u64, const options *, u8 *, u64, u64 *);
-number legumeyet_percent_formatter_open(handle *, const u8 *, u64, u32, handle *);
-number legumeyet_currency_formatter_open(handle *, const u8 *, u64, const u8 *, u64, u32, u32, u32, handle *);
-number legumeyet_unit_formatter_close(handle *);
-number legumeyet_unit_formatter_format(handle *, const u8 *, u64, const options *, u8 *, u64, u64 *);
-number legumeyet_unit_formatter_format_doubles(handle *, const double *, u64, const options *, u8 *, u64, u64 *, u64, u64 *);
-number legumeyet_unit_formatter_format_integers(handle *, const long long *, u64, short, const options *, u8 *, u64, u64 *, u64, u64 *);
-number legumeyet_unit_formatter_format_texts(handle *, const u8 *, u64, const options *, u8 *, u64, u64 *, u64, u64 *);
-number legumeyet_unit_formatter_format_parts(handle *, const u8 *, u64, const options *, u8 *, u64, u64 *, interval *, u64, u64 *);
-number legumeyet_unit_formatter_read(handle *, const u8 *, u64, u8 *, u64, u64 *);
-number legumeyet_unit_formatter_read_lenient(handle *, const u8 *, u64, u8 *, u64, u64 *);
-number legumeyet_error_text(number, u8 *, u64, u64 *);
+number legumeyet_answers_answer(handle *, const u8 *, u64, TEXT, u64 *, u64 *);
+number legumeyet_formatter_open(handle *, const u8 *, u64, WORDS, const u8 *, u64, handle *);
+number legumeyet_formatter_open_skeleton(handle *, const u8 *, u64, const u8 *, u64, u64 *, handle *);
+number legumeyet_formatter_close(handle *);
+number legumeyet_formatter_format(handle *, const u8 *, u64, WORDS, TEXT);
+number legumeyet_formatter_format_parts(handle *, const u8 *, u64, WORDS, TEXT, interval *, u64, u64 *);
+number legumeyet_formatter_format_exact(handle *, const u8 *, u64, WORDS, TEXT);
+number legumeyet_formatter_shown(handle *, const u8 *, u64, WORDS, TEXT);
+number legumeyet_formatter_format_doubles(handle *, const double *, u64, WORDS, COLUMN_TEXTS);
+number legumeyet_formatter_format_integers(handle *, const long long *, u64, short, WORDS, COLUMN_TEXTS);
+number legumeyet_formatter_format_texts(handle *, const u8 *, u64, WORDS, COLUMN_TEXTS);
+number legumeyet_formatter_read(handle *, const u8 *, u64, TEXT);
+number legumeyet_formatter_read_lenient(handle *, const u8 *, u64, TEXT);
+number legumeyet_skeleton_normal(const u8 *, u64, u64 *, TEXT);
+number legumeyet_error_text(number, TEXT);
 u32 legumeyet_version(void);
 u32 legumeyet_minor(void);
 
-enum { ROOM = 512, PARTS = 64, NUMBERS = 512, TEXTS = 1 << 14, MEMORY = 1, TOO_SMALL = 3 };
+enum { ROOM = 512, HOW = 8, PARTS = 64, NUMBERS = 512, TEXTS = 1 << 14, MEMORY = 1, TOO_SMALL = 3 };
 
 static u8 small_in[ROOM], small_out[ROOM];
 static interval small_parts[PARTS];
 static u8 *large_in, *large_out;
 static interval *large_parts;
 static u32 parts_count;
+static number how[HOW];
+static u64 fault_place;
 
 u8 *js_in(void) { return small_in; }
 u8 *js_out(void) { return small_out; }
@@ -96,6 +73,10 @@ u8 *js_large_in(u32 size) { return large_in = malloc(size); }
 u8 *js_large_out(void) { return large_out; }
 interval *js_parts(void) { return large_parts ? large_parts : small_parts; }
 u32 js_parts_count(void) { return parts_count; }
+number *js_how(void) { return how; }
+
+/* Where the word or part begins that makes a text no skeleton, as the call said that read it last. */
+u32 js_place(void) { return (u32)fault_place; }
 
 void js_let_go(void) {
     free(large_in);
@@ -188,26 +169,27 @@ static number column_told(const u8 *out, u32 count, number error) {
     }                                                                        \
     return column_told(out, (u32)count, error);
 
-#define COLUMN_OUT &it->how, out, room, column_ends, NUMBERS, &count
+#define ASKED how + 1, (u64)how[0]
+#define COLUMN_OUT ASKED, out, room, column_ends, NUMBERS, &count
 
-opened *js_new(void) {
-    opened *it = malloc(sizeof *it);
-    if (it) *it = (opened){{0, 0}, {0}};
+handle *js_new(void) {
+    handle *it = malloc(sizeof *it);
+    if (it) *it = (handle){0, 0};
     return it;
 }
 
 /* Books. */
-number js_book_open(opened *it, u32 n) { return -legumeyet_book_open(text_in(), n, &it->of); }
-number js_book_keep(opened *it) { return -legumeyet_book_keep(&it->of); }
-number js_book_answer(opened *it, u32 n) { WRITTEN(legumeyet_book_answer(&it->of, text_in(), n, OUT)) }
-number js_book_locale_count(opened *it) {
+number js_book_open(handle *it, u32 n) { return -legumeyet_book_open(text_in(), n, it); }
+number js_book_keep(handle *it) { return -legumeyet_book_keep(it); }
+number js_book_answer(handle *it, u32 n) { WRITTEN(legumeyet_book_answer(it, text_in(), n, OUT)) }
+number js_book_locale_count(handle *it) {
     u64 count = 0;
-    number error = legumeyet_book_locale_count(&it->of, &count);
+    number error = legumeyet_book_locale_count(it, &count);
     return error ? -error : (number)count;
 }
-number js_book_locale(opened *it, u32 index) { WRITTEN(legumeyet_book_locale(&it->of, index, OUT)) }
-void js_book_close(opened *it) {
-    legumeyet_book_close(&it->of);
+number js_book_locale(handle *it, u32 index) { WRITTEN(legumeyet_book_locale(it, index, OUT)) }
+void js_book_close(handle *it) {
+    legumeyet_book_close(it);
     free(it);
 }
 
@@ -216,101 +198,64 @@ void js_book_close(opened *it) {
  * from the first group on, where there is one.
  */
 enum { INSIDE = 2 };
-static opened *inside[INSIDE];
-void js_book_put_inside(opened *book, u32 place) {
+static handle *inside[INSIDE];
+void js_book_put_inside(handle *book, u32 place) {
     if (place < INSIDE) inside[place] = book;
 }
-opened *js_book_inside(u32 place) { return place < INSIDE ? inside[place] : 0; }
+handle *js_book_inside(u32 place) { return place < INSIDE ? inside[place] : 0; }
 void js_zero_freed(void) { zero_freed(); }
 
 /* Answers to request lines. */
-number js_answers_open(opened *book, u32 capacity, opened *it) { return -legumeyet_answers_open(&book->of, capacity, &it->of); }
+number js_answers_open(handle *book, u32 capacity, handle *it) { return -legumeyet_answers_open(book, capacity, it); }
 /*
  * Answers the lines from the byte `from` up to `end`, as many as have room, and one at least. Their answers are found at js_column_out(), with
  * their length and why there are no more as of a column. Returns how many bytes of the lines were answered.
  */
-number js_answers_answer(opened *it, u32 from, u32 end) {
+number js_answers_answer(handle *it, u32 from, u32 end) {
     const u8 *lines = text_in() + from;
     u64 read = 0, written = 0, needs = 0;
     free(large_out);
     large_out = 0;
-    number error = legumeyet_answers_answer(&it->of, lines, end - from, column_out, TEXTS, &read, &written, &needs);
+    number error = legumeyet_answers_answer(it, lines, end - from, column_out, TEXTS, &read, &written, &needs);
     if (error == TOO_SMALL && read == 0) {
         large_out = malloc((__SIZE_TYPE__)needs);
-        error = large_out ? legumeyet_answers_answer(&it->of, lines, end - from, large_out, needs, &read, &written, &needs) : MEMORY;
+        error = large_out ? legumeyet_answers_answer(it, lines, end - from, large_out, needs, &read, &written, &needs) : MEMORY;
     }
     column_length = (u32)written;
     column_error = error == TOO_SMALL ? 0 : error;
     return (number)read;
 }
-void js_answers_close(opened *it) {
-    legumeyet_answers_close(&it->of);
+void js_answers_close(handle *it) {
+    legumeyet_answers_close(it);
     free(it);
 }
 
-/* The options of a formatter: the one place where they are named. */
-void js_options(opened *it, u32 sign, u32 rounding, int position, u32 zeros, u32 increment, u32 integer, u32 fraction) {
-    it->how = (options){sign, rounding, (short)position, (u16)zeros, increment, (u16)integer, (u16)fraction, {0, 0}};
+/*
+ * Formatters. The text that one is opened of is a tag and, behind it, the code of its currency or its skeleton. What a module of a page may be made
+ * without has a call that does nothing, by which JavaScript knows that it is there: compact numbers, and percents and amounts.
+ */
+number js_formatter_open(handle *book, u32 n, u32 unit, handle *it) {
+    return -legumeyet_formatter_open(book, text_in(), n, ASKED, unit ? text_in() + n : 0, unit, it);
 }
-
-/* The rounding alone. */
-void js_rounding(opened *it, u32 rounding, int position, u32 increment) {
-    it->how.rounding = rounding;
-    it->how.position = (short)position;
-    it->how.increment = increment;
+number js_formatter_open_skeleton(handle *book, u32 n, u32 skeleton, handle *it) {
+    return -legumeyet_formatter_open_skeleton(book, text_in(), n, text_in() + n, skeleton, &fault_place, it);
 }
-
-/* Formatters of plain numbers. */
-number js_decimal_open(opened *book, u32 n, u32 grouping, opened *it) {
-    return -legumeyet_decimal_formatter_open(&book->of, text_in(), n, grouping, &it->of);
-}
-number js_decimal_format(opened *it, u32 n) { WRITTEN(legumeyet_decimal_formatter_format(&it->of, text_in(), n, &it->how, OUT)) }
-number js_decimal_parts(opened *it, u32 n) { WRITTEN(legumeyet_decimal_formatter_format_parts(&it->of, text_in(), n, &it->how, PARTS_OUT)) }
-number js_decimal_read(opened *it, u32 n) { WRITTEN(legumeyet_decimal_formatter_read(&it->of, text_in(), n, OUT)) }
-number js_decimal_read_lenient(opened *it, u32 n) { WRITTEN(legumeyet_decimal_formatter_read_lenient(&it->of, text_in(), n, OUT)) }
-number js_decimal_doubles(opened *it, u32 n) { COLUMN(legumeyet_decimal_formatter_format_doubles(&it->of, column_in.doubles, n, COLUMN_OUT)) }
-number js_decimal_integers(opened *it, u32 n) { COLUMN(legumeyet_decimal_formatter_format_integers(&it->of, column_in.integers, n, 0, COLUMN_OUT)) }
-number js_decimal_texts(opened *it, u32 n) { COLUMN(legumeyet_decimal_formatter_format_texts(&it->of, text_in(), n, COLUMN_OUT)) }
-void js_decimal_close(opened *it) {
-    legumeyet_decimal_formatter_close(&it->of);
+number js_formatter_format(handle *it, u32 n) { WRITTEN(legumeyet_formatter_format(it, text_in(), n, ASKED, OUT)) }
+number js_formatter_parts(handle *it, u32 n) { WRITTEN(legumeyet_formatter_format_parts(it, text_in(), n, ASKED, PARTS_OUT)) }
+number js_formatter_shown(handle *it, u32 n) { WRITTEN(legumeyet_formatter_shown(it, text_in(), n, ASKED, OUT)) }
+number js_formatter_exact(handle *it, u32 n) { WRITTEN(legumeyet_formatter_format_exact(it, text_in(), n, ASKED, OUT)) }
+number js_formatter_read(handle *it, u32 n) { WRITTEN(legumeyet_formatter_read(it, text_in(), n, OUT)) }
+number js_formatter_read_lenient(handle *it, u32 n) { WRITTEN(legumeyet_formatter_read_lenient(it, text_in(), n, OUT)) }
+number js_formatter_doubles(handle *it, u32 n) { COLUMN(legumeyet_formatter_format_doubles(it, column_in.doubles, n, COLUMN_OUT)) }
+number js_formatter_integers(handle *it, u32 n) { COLUMN(legumeyet_formatter_format_integers(it, column_in.integers, n, 0, COLUMN_OUT)) }
+number js_formatter_texts(handle *it, u32 n) { COLUMN(legumeyet_formatter_format_texts(it, text_in(), n, COLUMN_OUT)) }
+void js_formatter_close(handle *it) {
+    legumeyet_formatter_close(it);
     free(it);
 }
-
-/* Formatters of compact numbers. */
-number js_compact_open(opened *book, u32 n, u32 width, u32 grouping, opened *it) {
-    return -legumeyet_compact_formatter_open(&book->of, text_in(), n, width, grouping, &it->of);
-}
-number js_compact_format(opened *it, u32 n) { WRITTEN(legumeyet_compact_formatter_format(&it->of, text_in(), n, &it->how, OUT)) }
-number js_compact_parts(opened *it, u32 n) { WRITTEN(legumeyet_compact_formatter_format_parts(&it->of, text_in(), n, &it->how, PARTS_OUT)) }
-number js_compact_shown(opened *it, u32 n) { WRITTEN(legumeyet_compact_formatter_shown(&it->of, text_in(), n, &it->how, OUT)) }
-number js_compact_exact(opened *it, u32 n) { WRITTEN(legumeyet_compact_formatter_format_exact(&it->of, text_in(), n, &it->how, OUT)) }
-number js_compact_doubles(opened *it, u32 n) { COLUMN(legumeyet_compact_formatter_format_doubles(&it->of, column_in.doubles, n, COLUMN_OUT)) }
-number js_compact_integers(opened *it, u32 n) { COLUMN(legumeyet_compact_formatter_format_integers(&it->of, column_in.integers, n, 0, COLUMN_OUT)) }
-number js_compact_texts(opened *it, u32 n) { COLUMN(legumeyet_compact_formatter_format_texts(&it->of, text_in(), n, COLUMN_OUT)) }
-void js_compact_close(opened *it) {
-    legumeyet_compact_formatter_close(&it->of);
-    free(it);
-}
-
-/* Formatters of percents and of amounts of money; the three bytes of a currency's code are in one number, the first of them lowest. */
-number js_percent_open(opened *book, u32 n, u32 grouping, opened *it) {
-    return -legumeyet_percent_formatter_open(&book->of, text_in(), n, grouping, &it->of);
-}
-number js_currency_open(opened *book, u32 n, u32 code, u32 style, u32 width, u32 grouping, opened *it) {
-    const u8 letters[3] = {(u8)code, (u8)(code >> 8), (u8)(code >> 16)};
-    return -legumeyet_currency_formatter_open(&book->of, text_in(), n, letters, sizeof letters, style, width, grouping, &it->of);
-}
-number js_unit_format(opened *it, u32 n) { WRITTEN(legumeyet_unit_formatter_format(&it->of, text_in(), n, &it->how, OUT)) }
-number js_unit_parts(opened *it, u32 n) { WRITTEN(legumeyet_unit_formatter_format_parts(&it->of, text_in(), n, &it->how, PARTS_OUT)) }
-number js_unit_read(opened *it, u32 n) { WRITTEN(legumeyet_unit_formatter_read(&it->of, text_in(), n, OUT)) }
-number js_unit_read_lenient(opened *it, u32 n) { WRITTEN(legumeyet_unit_formatter_read_lenient(&it->of, text_in(), n, OUT)) }
-number js_unit_doubles(opened *it, u32 n) { COLUMN(legumeyet_unit_formatter_format_doubles(&it->of, column_in.doubles, n, COLUMN_OUT)) }
-number js_unit_integers(opened *it, u32 n) { COLUMN(legumeyet_unit_formatter_format_integers(&it->of, column_in.integers, n, 0, COLUMN_OUT)) }
-number js_unit_texts(opened *it, u32 n) { COLUMN(legumeyet_unit_formatter_format_texts(&it->of, text_in(), n, COLUMN_OUT)) }
-void js_unit_close(opened *it) {
-    legumeyet_unit_formatter_close(&it->of);
-    free(it);
-}
+number js_skeleton_normal(u32 n) { WRITTEN(legumeyet_skeleton_normal(text_in(), n, &fault_place, OUT)) }
+void js_compact(void) {}
+void js_units(void) {}
 
 number js_error_text(number of) { WRITTEN(legumeyet_error_text(of, OUT)) }
 u32 js_version(void) { return legumeyet_version(); }

@@ -6,7 +6,7 @@ import { FieldText, plainOf } from "legumeyet/field";
 import { compare, neighbours, padded, plus } from "../node_modules/legumeyet/field-decimals.js";
 
 function typed(locale, keys, open = (it) => new DecimalFormatter(it)) {
-  const field = new FieldText(open(locale), open(new Intl.Locale(locale, { numberingSystem: "latn" })));
+  const field = new FieldText(open(locale));
   let it = { text: "", caret: 0, value: "" };
   for (const key of keys) {
     const { text, caret } = it;

@@ -6,7 +6,7 @@ import { createRequire } from "node:module";
 import { test } from "node:test";
 import { setFlagsFromString } from "node:v8";
 import { runInNewContext } from "node:vm";
-import { Answers, Book, CompactDecimalFormatter, CurrencyFormatter, DecimalFormatter, LegumeyetError, PercentFormatter } from "legumeyet";
+import { Answers, Book, CompactDecimalFormatter, CurrencyFormatter, DecimalFormatter, LegumeyetError, NumberFormatter, PercentFormatter, normalSkeleton } from "legumeyet";
 import { memorySize } from "legumeyet/core";
 
 // The package's own module of the instance, which is in no export.
@@ -50,6 +50,7 @@ const world = new DecimalFormatter("de", { minimumFractionDigits: 2, maximumFrac
 const short = new CompactDecimalFormatter("en");
 const euros = new CurrencyFormatter("de", { currency: "EUR" });
 const percents = new PercentFormatter("tr");
+const dollars = new NumberFormatter("en", { skeleton: "currency/USD sign-accounting" });
 const own = new DecimalFormatter("en", { book });
 const ofClosed = new Book(JSON_OF_ONE);
 const orphan = new DecimalFormatter("en", { book: ofClosed, useGrouping: false });
@@ -66,6 +67,7 @@ function areWell() {
   assert.equal(short.format("1650"), "1.7K");
   assert.equal(euros.format("1234.5"), "1.234,50\u00a0€");
   assert.equal(percents.read("-%12,5"), "-12.5");
+  assert.equal(dollars.format("-5"), "($5.00)");
   assert.equal(own.format("1234"), "1,234");
   assert.deepEqual(world.formatAll([1234567.5, "2"]), ["1.234.567,50", "2,00"]);
   assert.equal(orphan.format("1234"), "1234");
@@ -75,7 +77,7 @@ function areWell() {
 }
 
 function trap() {
-  assert.throws(() => instance.written(0x7fffff00, instance.calls.js_decimal_format, "1"), WebAssembly.RuntimeError);
+  assert.throws(() => instance.written(0x7fffff00, instance.calls.js_formatter_format, instance.NONE, "1"), WebAssembly.RuntimeError);
 }
 
 test("where the stack runs out inside a call, the next one is well", () => {
@@ -84,6 +86,7 @@ test("where the stack runs out inside a call, the next one is well", () => {
     () => book.answer("en\tplain\tauto\tkeep\t-\t1234"), () => new DecimalFormatter("hi").close(), () => new CompactDecimalFormatter("hi", { compactDisplay: "long" }).close(),
     () => new Book(JSON_OF_ONE).close(), () => orphan.format("1"), () => euros.formatToParts("-1234.5"), () => euros.read("1.234,50\u00a0€"), () => percents.format(5),
     () => new CurrencyFormatter("hi", { currency: "INR" }).close(), () => book.locales(),
+    () => dollars.format("-1234.5"), () => new NumberFormatter("hi", { skeleton: ".00" }).close(), () => normalSkeleton("currency/EUR .00"), () => world.format("1.25", { maximumFractionDigits: 1 }), () => euros.format("1", { currencyDigits: "cash" }),
     () => world.formatAll([1234567.5, 2]), () => euros.formatAll(["1234.5", "2"]), () => percents.formatAll(new BigInt64Array(3)),
     () => answers.answer(LINES), () => few.answer(LINES), () => new Answers(undefined, 1).close(),
   ];

@@ -8,14 +8,13 @@ import { join } from "node:path";
 import { after, test } from "node:test";
 import { fileURLToPath, pathToFileURL } from "node:url";
 import { brotliCompressSync } from "node:zlib";
-import { pageModule } from "legumeyet/pages";
+import { PARTS, pageModule } from "legumeyet/pages";
 import * as page from "legumeyet/page";
 
 const root = pathToFileURL(createRequire(import.meta.url).resolve("legumeyet/legumeyet.wasm"));
 const at = (name) => fileURLToPath(new URL(name, root));
 const world = readFileSync(at("world.json"), "utf8");
 const made = (...tags) => pageModule(readFileSync(at("page.wasm")), world, tags);
-const without = (...parts) => pageModule(readFileSync(at("page.wasm")), world, ["de"], { without: parts });
 const folder = mkdtempSync(join(tmpdir(), "legumeyet "));
 after(() => rmSync(folder, { recursive: true }));
 
@@ -43,21 +42,30 @@ test("a page's module is the same each time", () => {
   for (const [words, status] of [[[], 2], [["-x"], 2], [["zz"], 1], [["--without", "x", "de"], 1]]) assert.equal(spawnSync(process.execPath, [at("make-page.js"), ...words]).status, status);
 });
 
+// What is written by a module without some parts is what the package writes, or is refused for want of a part.
+function agrees(mine, theirs, counts) {
+  if (typeof mine === "string" && mine.startsWith("Error the module of the page was made without js_")) counts.refused += 1;
+  else if (typeof theirs !== "object") {
+    counts.alike += 1;
+    assert.equal(mine, theirs);
+  } else for (const [name, it] of Object.entries(theirs)) agrees(mine[name], it, counts);
+}
+
 test("a page's module may be made without what the page does not use", () => {
-  const module = saved("without.wasm", without("compact", "units", "read"));
-  const code = `
-    import { readFileSync } from "node:fs";
-    import { CompactDecimalFormatter, CurrencyFormatter, DecimalFormatter, PercentFormatter, load } from "legumeyet/page";
-    await load(readFileSync(${JSON.stringify(module)}));
-    const german = new DecimalFormatter("de");
-    const refused = [() => new CompactDecimalFormatter("de"), () => new PercentFormatter("de"), () => new CurrencyFormatter("de", { currency: "EUR" }), () => german.read("1"), () => german.readLenient("1")];
-    console.log(refused.map((call) => { try { return call(); } catch ({ message }) { return /without js_/.test(message); } }).join(), german.format("1234.5"), german.formatToParts("1").length, german.formatAll([1, 2]).join());
-  `;
-  const folder = fileURLToPath(new URL(".", import.meta.url));
-  assert.equal(execFileSync(process.execPath, ["--input-type=module", "--eval", code], { encoding: "utf8", cwd: folder }), "true,true,true,true,true 1.234,5 1 1,2\n");
-  const sizes = [without("compact", "units", "read"), without("read"), without()].map((it) => brotliCompressSync(it).length);
-  assert.ok(sizes[0] < sizes[1] && sizes[1] < sizes[2], String(sizes));
-  assert.throws(() => without("parts"), RangeError);
+  const all = linesOf("de,ar-EG").map((it) => JSON.parse(it));
+  const sizes = [];
+  for (const parts of [PARTS, [], ...PARTS.map((it) => [it]), ["compact", "units"], ["units", "read"], ["compact", "read", "skeletons"]]) {
+    const module = pageModule(readFileSync(at("page.wasm")), world, ["de", "ar-EG"], { without: parts });
+    const counts = { alike: 0, refused: 0 };
+    const lines = linesOf("de,ar-EG", saved("without.wasm", module));
+    assert.equal(lines.length, all.length);
+    for (const [number, line] of lines.entries()) agrees(JSON.parse(line), all[number], counts);
+    assert.ok(counts.alike > 500 && counts.refused > 0 === parts.length > 0, `${parts} ${JSON.stringify(counts)}`);
+    sizes.push(brotliCompressSync(module).length);
+  }
+  const [least, most, ...others] = sizes;
+  assert.ok(others.every((it) => least < it && it < most - 500), String(sizes));
+  assert.throws(() => pageModule(readFileSync(at("page.wasm")), world, ["de"], { without: ["parts"] }), RangeError);
 });
 
 test("what is no module of a page is refused", async () => {

@@ -46,8 +46,9 @@ test("so have those of a book that is not kept", () => {
 });
 
 test("more formatters than are open at once, used in turn", () => {
-  const all = Array.from({ length: 2500 }, (_, at) => new DecimalFormatter("de", { minimumIntegerDigits: 1 + at }));
-  for (let turn = 0; turn < 3; turn += 1) all.forEach((it, at) => assert.equal(it.format(5).replaceAll(".", "").length, 1 + at));
+  const codes = Array.from({ length: 2500 }, (_, at) => [676, 26, 1].map((by) => String.fromCharCode(65 + (Math.floor(at / by) % 26))).join(""));
+  const all = codes.map((currency, at) => new CurrencyFormatter("de", { currency, currencyDisplay: "code", minimumIntegerDigits: 1 + (at % 50), roundingMode: "floor" }));
+  for (let turn = 0; turn < 3; turn += 1) all.forEach((it, at) => assert.deepEqual([it.shown(5).split(".")[0].length, it.format(5).slice(-3)], [1 + (at % 50), codes[at]]));
   const columns = all.slice(0, 1500);
   const meanwhile = { *[Symbol.iterator]() { for (const it of columns) yield it.format(1).length; } };
   assert.equal(new DecimalFormatter("de").formatAll(meanwhile).length, 1500);

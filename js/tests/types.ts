@@ -1,13 +1,13 @@
 // What `tsc --strict` has to take, and what it has to refuse: a line after `@ts-expect-error` is refused.
 import {
-  Answers, Book, CompactDecimalFormatter, CurrencyFormatter, DecimalFormatter, ErrorNumber, LegumeyetError, LoadError, PercentFormatter, version,
+  Answers, Book, CompactDecimalFormatter, CurrencyFormatter, DecimalFormatter, ErrorNumber, LegumeyetError, LoadError, NumberFormatter, PercentFormatter, SkeletonError, normalSkeleton, version,
 } from "legumeyet";
-import type { CurrencyFormatterOptions, DecimalFormatterOptions, Part } from "legumeyet";
+import type { CurrencyCallOptions, CurrencyFormatterOptions, DecimalFormatterOptions, NumberFormatterOptions, Part } from "legumeyet";
 import { load, loadSync, memorySize, setWorld } from "legumeyet/core";
 import { FieldText } from "legumeyet/field";
 import { CurrencyFormatter as Inside, init } from "legumeyet/inline";
 import locales from "legumeyet/locales";
-import { DecimalFormatter as OfPage, load as loadPage, loadSync as loadPageSync } from "legumeyet/page";
+import { DecimalFormatter as OfPage, NumberFormatter as BySkeletonOfPage, load as loadPage, loadSync as loadPageSync } from "legumeyet/page";
 import { pageModule } from "legumeyet/pages";
 import { smallerBook } from "legumeyet/smaller";
 
@@ -29,6 +29,11 @@ const percent: string = new PercentFormatter("tr", options).read(dollars.readLen
 const types: string[] = [...dollars.formatToParts(5), ...new PercentFormatter().formatToParts("1")].filter(({ type }) => type === "currency" || type === "percentSign").map((it) => it.type);
 const listed: string[] = [...new Book("[]").locales(), ...CurrencyFormatter.supportedLocalesOf("de", inAccounts), dollars.resolvedOptions().currency];
 const supported: string[] = DecimalFormatter.supportedLocalesOf(["de"]);
+const bySkeleton: NumberFormatterOptions = { skeleton: normalSkeleton("currency/EUR .00"), fallback: "en" };
+const asked: CurrencyCallOptions = { maximumFractionDigits: 2, signDisplay: "always" };
+const euros = new NumberFormatter("de", bySkeleton);
+texts.push(euros.format(5, asked), euros.resolvedOptions().skeleton, german.shown(5), german.format(5, { position: 2 }), ...dollars.formatAll([1], { currencyDigits: "cash" }));
+const faults: string[] = [new SkeletonError(201, "foo", 0)].map(({ fault, place, number }) => `${fault} ${place + number}`);
 const { value, text, caret } = new FieldText(german).edited("1", 1, { front: 0, back: 0 });
 german[Symbol.dispose]();
 const world: Book = setWorld("[]");
@@ -38,7 +43,7 @@ loadSync(new ArrayBuffer(0));
 loadPageSync(pageModule(new Uint8Array(0), "[]", ["en"]));
 const told: (string | number | null | undefined)[] = [
   digits, locale, answer, value, text, caret, ...supported, ...locales, same.format(5), new OfPage("en").format(5), memorySize(), version(), world.closed ? 1 : 0, ErrorNumber.TAG,
-  new LegumeyetError(5).word, new LoadError("a", "fetch", "b").reason, parts[0]?.type, percent, answered, bytes.length, ...types, ...listed, ErrorNumber.CODE,
+  new LegumeyetError(5).word, new LoadError("a", "fetch", "b").reason, parts[0]?.type, percent, answered, bytes.length, ...types, ...listed, ...faults, new BySkeletonOfPage("en", { skeleton: "percent" }).format(5), ErrorNumber.CODE, ErrorNumber.SKELETON_PAIR,
 ];
 export { told, loaded };
 
@@ -72,6 +77,18 @@ new PercentFormatter("de", { currency: "EUR" });
 new Answers({ capacity: 5 });
 // @ts-expect-error
 new Answers().answer(["x"]);
+// @ts-expect-error
+new NumberFormatter("de");
+// @ts-expect-error
+new NumberFormatter("de", { skeleton: "", signDisplay: "always" });
+// @ts-expect-error
+german.format(5, { useGrouping: false });
+// @ts-expect-error
+german.format(5, "always");
+// @ts-expect-error
+short.format(5, { maximumFractionDigits: 1 });
+// @ts-expect-error
+euros.resolvedOptions().signDisplay;
 // @ts-expect-error
 export { Formatter } from "legumeyet/core";
 // @ts-expect-error

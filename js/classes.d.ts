@@ -1,0 +1,212 @@
+// The classes, and their errors.
+export {}; // so that what has no `export` below, as Open, is not exported
+
+declare global {
+  interface SymbolConstructor {
+    readonly dispose: unique symbol;
+  }
+}
+
+/** A number: its digits as a text, with `e` and an exponent or without, a number of JavaScript, or a bigint. */
+export type Num = string | number | bigint;
+export type UseGrouping = "auto" | "always" | "min2" | boolean;
+export type SignDisplay = "keep" | "auto" | "never" | "always" | "exceptZero" | "negative";
+export type RoundingMode =
+  | "expand" | "trunc" | "ceil" | "floor" | "halfExpand" | "halfTrunc" | "halfCeil" | "halfFloor" | "halfEven";
+export type RoundingIncrement = 1 | 2 | 5 | 10 | 20 | 25 | 50 | 100 | 200 | 250 | 500 | 1000 | 2000 | 2500 | 5000;
+export type Locales = string | Intl.Locale | readonly (string | Intl.Locale)[];
+
+/** The options of a call, which take the place of all that its formatter has. */
+export interface CallOptions {
+  /** `auto` without it; `keep` writes a plus where the text of the number has one. */
+  signDisplay?: SignDisplay;
+  /**
+   * The power of ten that is rounded to: 0 the ones, -2 the hundredths. All digits down to it are shown. A compact number is rounded to the last digit
+   * that is shown, where that is the higher place.
+   */
+  position?: number;
+  /** `halfExpand` without it. Of plain numbers and percents it needs `position` or `maximumFractionDigits`: without these no digit is rounded off. */
+  roundingMode?: RoundingMode;
+  /** The number is rounded to a multiple of this at the last digit that is shown; 1 without it. Compact numbers need `position` for it. */
+  roundingIncrement?: RoundingIncrement;
+}
+
+export interface DecimalCallOptions extends CallOptions {
+  minimumIntegerDigits?: number;
+  minimumFractionDigits?: number;
+  /** Without it, and without `position`, all digits are shown. */
+  maximumFractionDigits?: number;
+}
+
+export interface CurrencyCallOptions extends DecimalCallOptions {
+  /** Where neither `maximumFractionDigits` nor `position` says where to round: `standard` without it, to the digits of the currency; to those in cash; or not. */
+  currencyDigits?: "standard" | "cash" | "given";
+}
+
+interface OpeningOptions {
+  /** The tables; without it those of the world's book, or of `setWorld`. */
+  book?: Book;
+  /** The locale that is taken where there are tables for none of those that are asked for: `en`. Without it the last of these is refused. */
+  fallback?: string | Intl.Locale;
+}
+
+export interface FormatterOptions extends OpeningOptions, CallOptions {
+  /** `auto` without it, and `min2` of compact numbers; `always` and `true` write 1234 as `1.234` in Spanish too, where it is else `1234`. */
+  useGrouping?: UseGrouping;
+}
+
+export interface DecimalFormatterOptions extends FormatterOptions, DecimalCallOptions {}
+
+export interface CompactDecimalFormatterOptions extends FormatterOptions {
+  /** `short` without it. */
+  compactDisplay?: "short" | "long";
+}
+
+export type PercentFormatterOptions = DecimalFormatterOptions;
+
+export interface CurrencyFormatterOptions extends FormatterOptions, CurrencyCallOptions {
+  /** The code of a currency, three capitals: `EUR`. */
+  currency: string;
+  /** `standard` without it; `accounting` writes `($5.00)` in English. */
+  currencySign?: "standard" | "accounting";
+  /** `symbol` without it: the symbol, or the code where there is none. */
+  currencyDisplay?: "symbol" | "code";
+}
+
+export interface NumberFormatterOptions extends OpeningOptions {
+  /** What is written, and how, by ICU's words: `currency/EUR .00`, `compact-short`, `percent .##`. docs/skeletons.md of the repository has them. */
+  skeleton: string;
+}
+
+export type ResolvedOptions<Options> = Omit<Options, "book" | "fallback"> &
+  (Options extends NumberFormatterOptions ? { locale: string } : { locale: string; useGrouping: UseGrouping; signDisplay: SignDisplay });
+
+export interface Part {
+  type: "minusSign" | "plusSign" | "integer" | "group" | "decimal" | "fraction" | "currency" | "percentSign" | "literal";
+  value: string;
+}
+
+declare abstract class Open {
+  readonly closed: boolean;
+  /**
+   * Refuses its calls from then on. A book or answers give their memory back, and do so too when the object is no longer used. Formatters that are
+   * alike share theirs, and a thousand have some at once, however many there are.
+   */
+  close(): void;
+  [Symbol.dispose](): void;
+}
+
+/** A book of tables, of its JSON: a text, or the bytes of one. Its text is kept with it. */
+export class Book extends Open {
+  constructor(json: string | Uint8Array);
+  /** Keeps the book for the rest of the program: formatters that are opened from it afterwards borrow its tables. */
+  keep(): this;
+  /** The answer to a request line, a text or its bytes. */
+  answer(line: string | Uint8Array): string;
+  /** The tags of the locales that the book has symbols of, in its order. Others have the tables of their parents. */
+  locales(): string[];
+}
+
+/**
+ * The answers to many request lines, by the formatters that were used last: who has many lines of few tags does not open a formatter for each, as
+ * `Book.answer` does.
+ */
+export class Answers extends Open {
+  /** By a book that is kept; without it by that of the world, or of `setWorld`. `capacity` is how many formatters are kept, 512 without it. */
+  constructor(book?: Book, capacity?: number);
+  /** The answers to the lines, in order, as `Book.answer` has them, each with a line feed. A last line without one is answered too. */
+  answer(lines: string): string;
+  answer(lines: Uint8Array): Uint8Array;
+}
+
+declare abstract class Formatter<Options, Call> extends Open {
+  /** The text of a number. It may be handed on without its formatter, as `numbers.map(german.format)`: the index of `map` says nothing. */
+  readonly format: (number: Num, options?: Call | number) => string;
+  /** The texts of many numbers, as `format` has each, and sooner: of doubles and integers in a typed array, or of what can be iterated over. */
+  formatAll(numbers: Float64Array | BigInt64Array | Iterable<Num>, options?: Call): string[];
+  /** The parts of a number's text. */
+  formatToParts(number: Num, options?: Call): Part[];
+  /** The value that the text of a number shows: `-1.2c6` is -1.2 times ten to the power 6, of a compact number; `1.50` of any other. */
+  shown(number: Num, options?: Call): string;
+  /** The text of a value as `shown` gives it, its digits as they are: `-1.20c6` is `-1.20M` in short English. */
+  formatExact(value: string, options?: Call): string;
+  /** The digits of the one number that is written so: `-1,234.50` is `-1234.50` in English. No compact number is read. */
+  read(text: string): string;
+  /** The digits of the number that was typed so: in English also `1234.5`, `.5` and ` 5`; `12.5`, `12.5 %` and `%12.5`; `5 €` and `EUR 5`. */
+  readLenient(text: string): string;
+  /** The options, as they were given or as they are without; and the locale that was found. */
+  resolvedOptions(): ResolvedOptions<Options>;
+}
+
+/** Writes numbers as a skeleton says, and reads them back. A skeleton that is none throws a SkeletonError. */
+export class NumberFormatter extends Formatter<NumberFormatterOptions, CurrencyCallOptions> {
+  constructor(locales: Locales | undefined, options: NumberFormatterOptions);
+  /** Those of the locales that the book has tables for. */
+  static supportedLocalesOf(locales: Locales, options: NumberFormatterOptions): string[];
+}
+
+/** Writes plain numbers for a locale, and reads them back. */
+export class DecimalFormatter extends Formatter<DecimalFormatterOptions, DecimalCallOptions> {
+  constructor(locales?: Locales, options?: DecimalFormatterOptions);
+  /** Those of the locales that the book has tables for. */
+  static supportedLocalesOf(locales: Locales, options?: DecimalFormatterOptions): string[];
+}
+
+/** Writes compact numbers for a locale. */
+export class CompactDecimalFormatter extends Formatter<CompactDecimalFormatterOptions, CallOptions> {
+  constructor(locales?: Locales, options?: CompactDecimalFormatterOptions);
+  /** Those of the locales that the book has tables for. */
+  static supportedLocalesOf(locales: Locales, options?: CompactDecimalFormatterOptions): string[];
+}
+
+/** Writes percents for a locale, and reads them back. A percent is written as it is given: a ratio is multiplied by 100 first. */
+export class PercentFormatter extends Formatter<PercentFormatterOptions, DecimalCallOptions> {
+  constructor(locales?: Locales, options?: PercentFormatterOptions);
+  /** Those of the locales that the book has tables for. */
+  static supportedLocalesOf(locales: Locales, options?: PercentFormatterOptions): string[];
+}
+
+/** Writes amounts of money in a currency for a locale, and reads them back. */
+export class CurrencyFormatter extends Formatter<CurrencyFormatterOptions, CurrencyCallOptions> {
+  constructor(locales: Locales | undefined, options: CurrencyFormatterOptions);
+  /** Those of the locales that the book has tables for. */
+  static supportedLocalesOf(locales: Locales, options: CurrencyFormatterOptions): string[];
+}
+
+/** The one text of all skeletons that ask for the same: of `K  sign-auto` it is `compact-short`. Throws a SkeletonError. */
+export function normalSkeleton(skeleton: string): string;
+
+/** The numbers of errors. */
+export const ErrorNumber: Readonly<
+  Record<
+    | "MEMORY" | "CLOSED" | "OPTION" | "TAG" | "TABLE" | "NUMBER" | "LIMIT" | "RANGE" | "UTF8" | "UNREADABLE" | "NOT_WRITTEN" | "EXPONENT"
+    | "BOOK_JSON" | "BOOK_SHAPE" | "BOOK_TAG" | "BOOK_SYSTEM" | "BOOK_TEXT" | "BOOK_DIGITS" | "BOOK_CONDITION" | "BOOK_TYPES"
+    | "BOOK_EXPONENTS" | "BOOK_DUPLICATE" | "BOOK_CYCLE" | "CODE" | "UNKEPT" | "BOOK_UNIT" | "BOOK_CODE"
+    | "SKELETON_UNKNOWN" | "SKELETON_TWICE" | "SKELETON_CODE" | "SKELETON_PAIR" | "SKELETON_SYSTEM" | "SKELETON_LATER" | "SKELETON_UNSUPPORTED",
+    number
+  >
+>;
+
+/** A call was refused: `number` says why, and `word` says it in English. */
+export class LegumeyetError extends RangeError {
+  constructor(number: number, hint?: string);
+  readonly number: number;
+  readonly word: string;
+}
+
+/** A text is no skeleton: why, and where the word begins that is wrong. */
+export class SkeletonError extends LegumeyetError {
+  constructor(number: number, skeleton: string, place: number);
+  readonly fault: "unknown" | "twice" | "code" | "pair" | "system" | "later" | "unsupported";
+  readonly place: number;
+}
+
+/** The library could not be loaded: which file, and why. */
+export class LoadError extends Error {
+  constructor(file: string, reason: LoadError["reason"], message: string, cause?: unknown);
+  readonly file: string;
+  readonly reason: "fetch" | "policy" | "module";
+}
+
+/** The version of the library, with its minor one: `2.0`. */
+export function version(): string;

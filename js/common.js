@@ -1,0 +1,4 @@
+// The formatters, and their errors.
+export { ErrorNumber, LegumeyetError, LoadError, version } from "./instance.js";
+export { CompactDecimalFormatter, CurrencyFormatter, DecimalFormatter, NumberFormatter, PercentFormatter } from "./formatters.js";
+export { SkeletonError, normalSkeleton } from "./skeletons.js";
