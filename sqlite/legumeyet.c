@@ -1,0 +1,358 @@
+/*
+ * Numbers written and read as the readers of a locale do, for SQLite: a loadable extension, docs/databases.md.
+ *
+ * The process has one book of all locales, which is kept, and from which each connection opens its formatters; the linker is told never to
+ * unload this file, so it is opened once. To open a formatter is a call on the book, so it has a lock. A formatter belongs to the statement
+ * that opened it, by sqlite3_set_auxdata, as long as the tag and the format are constants there.
+ */
+#include <sqlite3ext.h>
+SQLITE_EXTENSION_INIT1
+
+#include <legumeyet.h>
+#include <math.h>
+#include <pthread.h>
+#include <stdarg.h>
+#include <string.h>
+
+/* SQLite before 3.31 has no such word. */
+#ifndef SQLITE_INNOCUOUS
+#define SQLITE_INNOCUOUS 0
+#endif
+
+static pthread_mutex_t lock = PTHREAD_MUTEX_INITIALIZER;
+static legumeyet_book world;
+static int has_world;
+
+/* A formatter, and how many arguments of a statement have it. */
+typedef struct {
+    legumeyet_formatter handle;
+    int users;
+} Formatter;
+
+/* A text of a value: no NUL need be at its end. */
+typedef struct {
+    const uint8_t *bytes;
+    size_t length;
+} Text;
+
+static Text text_of(sqlite3_value *value) {
+    Text text = {sqlite3_value_text(value), 0};
+    text.length = (size_t)sqlite3_value_bytes(value);
+    return text;
+}
+
+/* Ends a call by an error whose text is made as that of printf is. */
+static void refuse(sqlite3_context *context, const char *form, ...) {
+    va_list arguments;
+    char *text;
+    va_start(arguments, form);
+    text = sqlite3_vmprintf(form, arguments);
+    va_end(arguments);
+    if (text == NULL)
+        sqlite3_result_error_nomem(context);
+    else
+        sqlite3_result_error(context, text, -1);
+    sqlite3_free(text);
+}
+
+/* How many bytes the character at the front of a text has; 0 where there is none that a message can have: NUL, or what is no UTF-8. */
+static size_t character_length(const uint8_t *at, size_t left) {
+    size_t length = *at == 0 ? 0 : *at < 0x80 ? 1 : *at < 0xc2 ? 0 : *at < 0xe0 ? 2 : *at < 0xf0 ? 3 : *at < 0xf5 ? 4 : 0, next;
+    if (length > left || (*at == 0xe0 && at[1] < 0xa0) || (*at == 0xed && at[1] > 0x9f) || (*at == 0xf0 && at[1] < 0x90) ||
+        (*at == 0xf4 && at[1] > 0x8f))
+        return 0;
+    for (next = 1; next < length; next++)
+        if ((at[next] & 0xc0) != 0x80)
+            return 0;
+    return length;
+}
+
+/* How many bytes of a text are in a message, at most 100. */
+static size_t shown_length(Text given) {
+    size_t shown = 0, next = 1;
+    while (next > 0 && shown < given.length) {
+        next = character_length(given.bytes + shown, given.length - shown);
+        if (shown + next > 100)
+            next = 0;
+        shown += next;
+    }
+    return shown;
+}
+
+/* Ends a call by a number of the library's, of a text that somebody gave. */
+static void refuse_text(sqlite3_context *context, int32_t error, Text given) {
+    char text[200];
+    size_t length = 0;
+    size_t shown = shown_length(given);
+    if (error == LEGUMEYET_MEMORY) {
+        sqlite3_result_error_nomem(context);
+        return;
+    }
+    if (legumeyet_error_text(error, (uint8_t *)text, sizeof text, &length) != LEGUMEYET_OK)
+        length = 0;
+    refuse(context, "legumeyet: %.*s: '%.*s'%s", (int)length, text, (int)shown, given.bytes ? (const char *)given.bytes : "",
+           shown < given.length ? "..." : "");
+}
+
+/* Opens the book, where no connection has yet. */
+static int32_t open_world(void) {
+    int32_t error = LEGUMEYET_OK;
+    pthread_mutex_lock(&lock);
+    if (!has_world) {
+        error = legumeyet_book_open_world(&world);
+        if (error == LEGUMEYET_OK)
+            error = legumeyet_book_keep(&world);
+        has_world = error == LEGUMEYET_OK;
+    }
+    pthread_mutex_unlock(&lock);
+    return error;
+}
+
+/* Whether a format has no word: then numbers are written as they are given. */
+static int is_plain(Text format) {
+    size_t at = 0;
+    while (at < format.length && format.bytes[at] == ' ')
+        at++;
+    return at == format.length;
+}
+
+static int32_t open_handle(Text tag, Text format, size_t *place, legumeyet_formatter *formatter) {
+    int32_t error;
+    pthread_mutex_lock(&lock);
+    if (is_plain(format))
+        error = legumeyet_formatter_open(&world, tag.bytes, tag.length, NULL, 0, NULL, 0, formatter);
+    else
+        error = legumeyet_formatter_open_skeleton(&world, tag.bytes, tag.length, format.bytes, format.length, place, formatter);
+    pthread_mutex_unlock(&lock);
+    return error;
+}
+
+/* Ends what one argument has of a formatter; the last one closes it. */
+static void end_use(void *data) {
+    Formatter *formatter = data;
+    if (--formatter->users > 0)
+        return;
+    legumeyet_formatter_close(&formatter->handle);
+    sqlite3_free(formatter);
+}
+
+/* Opens the formatter of the tag and the format of a call, which has one user then; NULL where the call has ended by an error. */
+static Formatter *opened(sqlite3_context *context, int count, sqlite3_value **arguments) {
+    Text tag = text_of(arguments[1]), format = {NULL, 0};
+    Formatter *formatter = sqlite3_malloc(sizeof *formatter);
+    size_t place = 0;
+    int32_t error;
+    if (count == 3)
+        format = text_of(arguments[2]);
+    if (formatter == NULL) {
+        sqlite3_result_error_nomem(context);
+        return NULL;
+    }
+    memset(formatter, 0, sizeof *formatter);
+    formatter->users = 1;
+    error = open_handle(tag, format, &place, &formatter->handle);
+    if (error == LEGUMEYET_OK)
+        return formatter;
+    if (error >= LEGUMEYET_SKELETON_UNKNOWN && error <= LEGUMEYET_SKELETON_UNSUPPORTED) {
+        Text word = {format.bytes + place, format.length - place};
+        refuse_text(context, error, word);
+    } else if (error == LEGUMEYET_TABLE && !is_plain(format)) {
+        refuse_text(context, error, format);
+    } else {
+        refuse_text(context, error, tag);
+    }
+    sqlite3_free(formatter);
+    return NULL;
+}
+
+/* The formatter that the arguments of a statement have from an earlier row: both have it where neither has changed. */
+static Formatter *kept(sqlite3_context *context, int count) {
+    Formatter *formatter = sqlite3_get_auxdata(context, 1);
+    return formatter != NULL && (count == 2 || sqlite3_get_auxdata(context, 2) == formatter) ? formatter : NULL;
+}
+
+/* Keeps a formatter with each argument that says how it is opened. SQLite ends the use at once where one is no constant. */
+static void keep(sqlite3_context *context, int count, Formatter *formatter) {
+    int at;
+    for (at = 1; at < count; at++) {
+        formatter->users++;
+        sqlite3_set_auxdata(context, at, formatter, end_use);
+    }
+}
+
+/* The formatter of a call, with a use of it that the caller ends; NULL where the call has ended by an error. */
+static Formatter *use_formatter(sqlite3_context *context, int count, sqlite3_value **arguments) {
+    Formatter *formatter = kept(context, count);
+    if (formatter != NULL) {
+        formatter->users++;
+        return formatter;
+    }
+    formatter = opened(context, count, arguments);
+    if (formatter != NULL)
+        keep(context, count, formatter);
+    return formatter;
+}
+
+static int has_null(int count, sqlite3_value **arguments) {
+    int at;
+    for (at = 0; at < count; at++)
+        if (sqlite3_value_type(arguments[at]) == SQLITE_NULL)
+            return 1;
+    return 0;
+}
+
+static int32_t put(legumeyet_formatter *formatter, sqlite3_value *number, uint8_t *out, size_t room, size_t *length) {
+    Text digits;
+    switch (sqlite3_value_type(number)) {
+    case SQLITE_INTEGER:
+        return legumeyet_formatter_format_i64(formatter, sqlite3_value_int64(number), 0, NULL, 0, out, room, length);
+    case SQLITE_FLOAT:
+        return legumeyet_formatter_format_double(formatter, sqlite3_value_double(number), NULL, 0, out, room, length);
+    default:
+        digits = text_of(number);
+        return legumeyet_formatter_format(formatter, digits.bytes, digits.length, NULL, 0, out, room, length);
+    }
+}
+
+/* Writes a number as the result of a call. */
+static void write_number(sqlite3_context *context, legumeyet_formatter *formatter, sqlite3_value *number) {
+    uint8_t room[256], *out = room;
+    size_t length = 0;
+    int32_t error = put(formatter, number, out, sizeof room, &length);
+    if (error == LEGUMEYET_TOO_SMALL) {
+        out = sqlite3_malloc64(length);
+        error = out == NULL ? LEGUMEYET_MEMORY : put(formatter, number, out, length, &length);
+    }
+    if (error != LEGUMEYET_OK)
+        refuse_text(context, error, text_of(number));
+    else
+        sqlite3_result_text64(context, (const char *)out, length, SQLITE_TRANSIENT, SQLITE_UTF8);
+    if (out != room)
+        sqlite3_free(out);
+}
+
+static void format_call(sqlite3_context *context, int count, sqlite3_value **arguments) {
+    Formatter *formatter;
+    if (has_null(count, arguments))
+        return;
+    if (sqlite3_value_type(arguments[0]) == SQLITE_BLOB) {
+        refuse(context, "legumeyet: a blob is no number");
+        return;
+    }
+    if (sqlite3_value_type(arguments[0]) == SQLITE_FLOAT && isinf(sqlite3_value_double(arguments[0]))) {
+        refuse(context, "legumeyet: infinity is no number to write");
+        return;
+    }
+    formatter = use_formatter(context, count, arguments);
+    if (formatter == NULL)
+        return;
+    write_number(context, &formatter->handle, arguments[0]);
+    end_use(formatter);
+}
+
+/*
+ * Gives digits as SQLite has numbers: an integer where they have no point and fit 64 bits, else a real where a double has them all, as it
+ * has fifteen, else the digits as a text. A double of so few digits, and a power of ten up to 22, are exact, so their quotient is nearest.
+ */
+static void give_number(sqlite3_context *context, const char *digits, size_t length) {
+    static const double tens[] = {1e0,  1e1,  1e2,  1e3,  1e4,  1e5,  1e6,  1e7,  1e8,  1e9,  1e10, 1e11,
+                                  1e12, 1e13, 1e14, 1e15, 1e16, 1e17, 1e18, 1e19, 1e20, 1e21, 1e22};
+    const char *point = memchr(digits, '.', length), *it = digits, *end = digits + length;
+    int is_negative = length > 0 && *digits == '-', count = 0;
+    size_t after = point == NULL ? 0 : (size_t)(end - point - 1);
+    uint64_t value = 0;
+    for (; it < end; it++) {
+        if (*it < '0' || *it > '9')
+            continue;
+        count += count > 0 || *it != '0';
+        if (count > 19)
+            break;
+        value = value * 10 + (uint64_t)(*it - '0');
+    }
+    if (it == end && point == NULL && value <= (uint64_t)INT64_MAX + (uint64_t)is_negative)
+        sqlite3_result_int64(context, (sqlite3_int64)(is_negative ? 0 - value : value));
+    else if (it == end && count <= 15 && after <= 22)
+        sqlite3_result_double(context, (is_negative ? -(double)value : (double)value) / tens[after]);
+    else
+        sqlite3_result_text64(context, digits, length, SQLITE_TRANSIENT, SQLITE_UTF8);
+}
+
+/* Reads a text as the result of a call, which stays NULL where no number is written so and `or_null` is. */
+static void read_number(sqlite3_context *context, legumeyet_formatter *formatter, Text typed, int or_null) {
+    uint8_t room[256], *out = room;
+    size_t length = 0;
+    int32_t error = legumeyet_formatter_read_lenient(formatter, typed.bytes, typed.length, out, sizeof room, &length);
+    if (error == LEGUMEYET_TOO_SMALL) {
+        out = sqlite3_malloc64(length);
+        error = out == NULL ? LEGUMEYET_MEMORY
+                            : legumeyet_formatter_read_lenient(formatter, typed.bytes, typed.length, out, length, &length);
+    }
+    if (error == LEGUMEYET_OK)
+        give_number(context, (const char *)out, length);
+    else if (!or_null || (error != LEGUMEYET_NOT_WRITTEN && error != LEGUMEYET_UTF8))
+        refuse_text(context, error, typed);
+    if (out != room)
+        sqlite3_free(out);
+}
+
+static void read_call(sqlite3_context *context, int count, sqlite3_value **arguments) {
+    int or_null = sqlite3_user_data(context) != NULL, type = sqlite3_value_type(arguments[0]);
+    Formatter *formatter;
+    if (has_null(count, arguments))
+        return;
+    if (type == SQLITE_INTEGER || type == SQLITE_FLOAT)
+        sqlite3_result_value(context, arguments[0]);
+    if (type == SQLITE_BLOB && !or_null)
+        refuse(context, "legumeyet: a blob is no text");
+    if (type != SQLITE_TEXT)
+        return;
+    formatter = use_formatter(context, count, arguments);
+    if (formatter == NULL)
+        return;
+    read_number(context, &formatter->handle, text_of(arguments[0]), or_null);
+    end_use(formatter);
+}
+
+static void version_call(sqlite3_context *context, int count, sqlite3_value **arguments) {
+    char *text = sqlite3_mprintf("%u.%u", legumeyet_version(), legumeyet_minor());
+    (void)count;
+    (void)arguments;
+    if (text == NULL)
+        sqlite3_result_error_nomem(context);
+    else
+        sqlite3_result_text(context, text, -1, sqlite3_free);
+}
+
+/* Defines the functions for a connection. SQLite finds this call by the name of the file. */
+int sqlite3_legumeyet_init(sqlite3 *connection, char **message, const sqlite3_api_routines *api);
+int sqlite3_legumeyet_init(sqlite3 *connection, char **message, const sqlite3_api_routines *api) {
+    static int or_null;
+    static const struct {
+        const char *name;
+        int arguments;
+        void *data;
+        void (*call)(sqlite3_context *, int, sqlite3_value **);
+    } calls[] = {
+        {"legumeyet_format", 2, NULL, format_call},
+        {"legumeyet_format", 3, NULL, format_call},
+        {"legumeyet_read", 2, NULL, read_call},
+        {"legumeyet_read", 3, NULL, read_call},
+        {"legumeyet_read_or_null", 2, &or_null, read_call},
+        {"legumeyet_read_or_null", 3, &or_null, read_call},
+        {"legumeyet_version", 0, NULL, version_call},
+    };
+    const int how = SQLITE_UTF8 | SQLITE_DETERMINISTIC | SQLITE_INNOCUOUS;
+    size_t at;
+    SQLITE_EXTENSION_INIT2(api);
+    if (open_world() != LEGUMEYET_OK)
+        return SQLITE_NOMEM;
+    for (at = 0; at < sizeof calls / sizeof *calls; at++) {
+        int result = sqlite3_create_function_v2(connection, calls[at].name, calls[at].arguments, how, calls[at].data, calls[at].call, NULL,
+                                                NULL, NULL);
+        if (result != SQLITE_OK) {
+            *message = sqlite3_mprintf("%s can't be defined", calls[at].name);
+            return result;
+        }
+    }
+    return SQLITE_OK;
+}
