@@ -18,10 +18,8 @@
 enum { ROOM = 128, DIGITS = 18, CALLS = 20000, HANDLES = 64 };
 
 static legumeyet_book book, kept_book;
-static legumeyet_decimal_formatter plain, kept_plain;
-static legumeyet_shared_decimal_formatter shared_plain;
-static legumeyet_compact_formatter compact, kept_compact;
-static const legumeyet_options AS_GIVEN = {0, 0, 0};
+static legumeyet_formatter plain, kept_plain, compact, kept_compact;
+static legumeyet_shared_formatter shared_plain;
 static UNumberFormatter *icu_plain, *icu_compact;
 static UNumberFormat *icu_reader;
 static UFormattedNumber *icu_result;
@@ -41,8 +39,8 @@ static void end(const char *what) {
     exit(1);
 }
 
-static void text_by(legumeyet_decimal_formatter *formatter) {
-    if (legumeyet_decimal_formatter_format(formatter, (const uint8_t *)NUMBER, count, &AS_GIVEN, out, ROOM, &length) != 0) end("format");
+static void text_by(legumeyet_formatter *formatter) {
+    if (legumeyet_formatter_format(formatter, (const uint8_t *)NUMBER, count, NULL, 0, out, ROOM, &length) != 0) end("format");
 }
 
 static void text_here(void) { text_by(&plain); }
@@ -50,7 +48,7 @@ static void text_here(void) { text_by(&plain); }
 static void kept_text_here(void) { text_by(&kept_plain); }
 
 static void shared_text_here(void) {
-    if (legumeyet_shared_decimal_formatter_format(&shared_plain, (const uint8_t *)NUMBER, count, &AS_GIVEN, out, ROOM, &length) != 0)
+    if (legumeyet_shared_formatter_format(&shared_plain, (const uint8_t *)NUMBER, count, NULL, 0, out, ROOM, &length) != 0)
         end("format of a shared one");
 }
 
@@ -60,7 +58,7 @@ static void text_there(void) {
 }
 
 static void integer_here(void) {
-    if (legumeyet_decimal_formatter_format_i64(&plain, integer, 0, &AS_GIVEN, out, ROOM, &length) != 0) end("format_i64");
+    if (legumeyet_formatter_format_i64(&plain, integer, 0, NULL, 0, out, ROOM, &length) != 0) end("format_i64");
 }
 
 static void integer_there(void) {
@@ -68,13 +66,9 @@ static void integer_there(void) {
     unumf_resultToString(icu_result, wide_out, ROOM, &status);
 }
 
-static void short_by(legumeyet_compact_formatter *formatter) {
-    if (legumeyet_compact_formatter_format(formatter, (const uint8_t *)NUMBER, count, &AS_GIVEN, out, ROOM, &length) != 0) end("compact");
-}
+static void short_here(void) { text_by(&compact); }
 
-static void short_here(void) { short_by(&compact); }
-
-static void kept_short_here(void) { short_by(&kept_compact); }
+static void kept_short_here(void) { text_by(&kept_compact); }
 
 static void short_there(void) {
     unumf_formatDecimal(icu_compact, NUMBER, (int32_t)count, icu_result, &status);
@@ -82,7 +76,7 @@ static void short_there(void) {
 }
 
 static void read_here(void) {
-    if (legumeyet_decimal_formatter_read(&plain, written, written_length, out, ROOM, &length) != 0) end("read");
+    if (legumeyet_formatter_read(&plain, written, written_length, out, ROOM, &length) != 0) end("read");
 }
 
 static void read_there(void) { wide_integer = unum_parseInt64(icu_reader, wide_written, (int32_t)written_length, NULL, &status); }
@@ -160,13 +154,13 @@ static void prepare(size_t digits) {
     if (U_FAILURE(status)) end(u_errorName(status));
 }
 
-static void open_plain(legumeyet_book *from, legumeyet_decimal_formatter *formatter) {
-    if (legumeyet_decimal_formatter_open(from, (const uint8_t *)"en", 2, LEGUMEYET_GROUPING_AUTO, formatter) != 0) end("plain");
+static void open_plain(legumeyet_book *from, legumeyet_formatter *formatter) {
+    if (legumeyet_formatter_open(from, LEGUMEYET_TEXT("en"), NULL, 0, NULL, 0, formatter) != 0) end("plain");
 }
 
-static void open_compact(legumeyet_book *from, legumeyet_compact_formatter *formatter) {
-    if (legumeyet_compact_formatter_open(from, (const uint8_t *)"en", 2, LEGUMEYET_WIDTH_SHORT, LEGUMEYET_GROUPING_MIN2, formatter) != 0)
-        end("compact");
+static void open_compact(legumeyet_book *from, legumeyet_formatter *formatter) {
+    const legumeyet_format words = {.notation = LEGUMEYET_NOTATION_COMPACT, .grouping = LEGUMEYET_GROUPING_MIN2};
+    if (legumeyet_formatter_open(from, LEGUMEYET_TEXT("en"), LEGUMEYET_WORDS(words), NULL, 0, formatter) != 0) end("compact");
 }
 
 static void open_all(const char *path) {
@@ -178,7 +172,7 @@ static void open_all(const char *path) {
     fclose(file);
     open_plain(&book, &plain);
     open_plain(&kept_book, &kept_plain);
-    if (legumeyet_decimal_formatter_share(&kept_plain, &shared_plain) != 0) end("share");
+    if (legumeyet_formatter_share(&kept_plain, &shared_plain) != 0) end("share");
     open_plain(&kept_book, &kept_plain);
     open_compact(&book, &compact);
     open_compact(&kept_book, &kept_compact);
@@ -191,8 +185,8 @@ static void open_all(const char *path) {
 
 /* What formatters of a book hold, beside their handles; they stay open, so that no memory is used again. */
 static void print_memory(const char *whose, legumeyet_book *from) {
-    legumeyet_decimal_formatter *plains = calloc(HANDLES, sizeof *plains);
-    legumeyet_compact_formatter *compacts = calloc(HANDLES, sizeof *compacts);
+    legumeyet_formatter *plains = calloc(HANDLES, sizeof *plains);
+    legumeyet_formatter *compacts = calloc(HANDLES, sizeof *compacts);
     size_t start = mallinfo2().uordblks, held;
     int at;
     if (plains == NULL || compacts == NULL) end("memory");

@@ -36,6 +36,7 @@ for (const count of digits) {
     ["short", () => compact.format(text), () => intlCompact.format(text)],
     ["read", () => plain.read(written), null],
     ["read_lenient", () => plain.readLenient(text), null],
+    ["options", () => plain.format(text, { maximumFractionDigits: 2 }), null],
     ["new", () => new DecimalFormatter(locale).format(text), () => new Intl.NumberFormat(locale, { maximumFractionDigits: 20 }).format(text)],
     ["percent", () => percents.format(text), null],
     ["amount", () => euros.format(text), () => intlEuros.format(text)],

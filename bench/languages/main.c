@@ -43,33 +43,31 @@ static void fill_column(size_t digits) {
 }
 
 /* Writes the column of a kind, 0 texts, 1 integers, 2 doubles. */
-static int32_t write_column(legumeyet_decimal_formatter *german, int kind) {
-    static const legumeyet_options as_given;
+static int32_t write_column(legumeyet_formatter *german, int kind) {
     uint8_t *out = column.out;
     size_t room = sizeof column.out, *ends = column.ends, *count = &column.count;
     if (kind == 0)
-        return legumeyet_decimal_formatter_format_texts(german, column.lines, column.length, &as_given, out, room, ends, COLUMN, count);
+        return legumeyet_formatter_format_texts(german, column.lines, column.length, NULL, 0, out, room, ends, COLUMN, count);
     if (kind == 1)
-        return legumeyet_decimal_formatter_format_integers(german, column.integers, COLUMN, 0, &as_given, out, room, ends, COLUMN, count);
-    return legumeyet_decimal_formatter_format_doubles(german, column.doubles, COLUMN, &as_given, out, room, ends, COLUMN, count);
+        return legumeyet_formatter_format_integers(german, column.integers, COLUMN, 0, NULL, 0, out, room, ends, COLUMN, count);
+    return legumeyet_formatter_format_doubles(german, column.doubles, COLUMN, NULL, 0, out, room, ends, COLUMN, count);
 }
 
 /* Writes one number of a kind as many times by a call each. */
-static int32_t write_singles(legumeyet_decimal_formatter *german, int kind, size_t digits) {
-    static const legumeyet_options as_given;
+static int32_t write_singles(legumeyet_formatter *german, int kind, size_t digits) {
     int32_t error = 0;
     uint8_t *out = column.out;
     size_t room = sizeof column.out;
     for (int at = 0; error == 0 && at < COLUMN; at++) {
-        if (kind == 0) error = legumeyet_decimal_formatter_format(german, (const uint8_t *)NUMBER, digits, &as_given, out, room, &column.length_of_one);
-        if (kind == 1) error = legumeyet_decimal_formatter_format_i64(german, column.integers[at], 0, &as_given, out, room, &column.length_of_one);
-        if (kind == 2) error = legumeyet_decimal_formatter_format_double(german, column.doubles[at], &as_given, out, room, &column.length_of_one);
+        if (kind == 0) error = legumeyet_formatter_format(german, (const uint8_t *)NUMBER, digits, NULL, 0, out, room, &column.length_of_one);
+        if (kind == 1) error = legumeyet_formatter_format_i64(german, column.integers[at], 0, NULL, 0, out, room, &column.length_of_one);
+        if (kind == 2) error = legumeyet_formatter_format_double(german, column.doubles[at], NULL, 0, out, room, &column.length_of_one);
     }
     return error;
 }
 
 /* The nanoseconds of a number of a kind, by a call each and in a column: the least of the turns, in which the two take turns. */
-static int32_t time_both(legumeyet_decimal_formatter *german, int kind, size_t digits, int turns, double least[2]) {
+static int32_t time_both(legumeyet_formatter *german, int kind, size_t digits, int turns, double least[2]) {
     least[0] = least[1] = 1e18;
     for (int turn = 0; turn < 2 * turns; turn++) {
         double start = now();
@@ -83,9 +81,9 @@ static int32_t time_both(legumeyet_decimal_formatter *german, int kind, size_t d
 
 int main(int words, char **word) {
     legumeyet_book world = {0};
-    legumeyet_decimal_formatter german = {0};
+    legumeyet_formatter german = {0};
     if (words < 3 || legumeyet_book_open_world(&world) != 0 || legumeyet_book_keep(&world) != 0) return 1;
-    if (legumeyet_decimal_formatter_open(&world, LEGUMEYET_TEXT("de"), LEGUMEYET_GROUPING_AUTO, &german) != 0) return 1;
+    if (legumeyet_formatter_open(&world, LEGUMEYET_TEXT("de"), NULL, 0, NULL, 0, &german) != 0) return 1;
     for (int at = 2; at < words; at++) {
         size_t digits = (size_t)atoi(word[at]);
         double least[3][2];
