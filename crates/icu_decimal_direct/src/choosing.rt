@@ -39,6 +39,7 @@ fn groups_of(strategy: GroupingStrategy, sizes: GroupingSizes) -> Option<Grouped
     }
     let front = match strategy {
         GroupingStrategy::Min2 => sizes.min_grouping.max(2),
+        GroupingStrategy::OnAligned => 1,
         _ => sizes.min_grouping.max(1),
     };
     Some(Grouped {

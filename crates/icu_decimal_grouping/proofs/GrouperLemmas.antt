@@ -8,7 +8,7 @@ use Rattle.std.proofs.Math.Nat.{pos_of_ne-zero}
 use Rattle.std.specs.List.{sum}
 use Rattle.icu_decimal_symbols.specs.declared.grouping_sizes.GroupingSizes.{GroupingSizes}
 use Rattle.icu_decimal_symbols.specs.declared.options.GroupingStrategy.{GroupingStrategy}
-use Rattle.icu_decimal_symbols.specs.declared.options.GroupingStrategy.TheVariants.{Auto, Never, Always, Min2}
+use Rattle.icu_decimal_symbols.specs.declared.options.GroupingStrategy.TheVariants.{Auto, Never, Always, Min2, OnAligned}
 use Rattle.icu_decimal_grouping.specs.GroupLaws.{GroupsAreCut, GroupsAreSeparated, IsCutFromTheRight}
 use Rattle.icu_decimal_grouping.specs.Grouper.{least_front, may_group, middle_size, is_grouped, cut_sizes, group_sizes, cut_by, groups, joined, ends_at, marked, separates}
 
@@ -160,6 +160,7 @@ least_above Auto n = omega arith
 least_above Never n = omega arith
 least_above Always n = omega arith
 least_above Min2 n = omega arith
+least_above OnAligned n = omega arith
 
 middle_above : (s : GroupingSizes) → 0 < s.primary → 0 < middle_size s
 middle_above s last =

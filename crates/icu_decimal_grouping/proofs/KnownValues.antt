@@ -3,7 +3,7 @@ use Rattle.std.proofs.Common.{◌≡◌, ℕ, List, [], ◌∷◌, refl}
 use Rattle.std.specs.Prelude.{codes}
 use Rattle.icu_decimal_symbols.specs.declared.grouping_sizes.GroupingSizes.{GroupingSizes}
 use Rattle.icu_decimal_symbols.specs.declared.options.GroupingStrategy.{GroupingStrategy}
-use Rattle.icu_decimal_symbols.specs.declared.options.GroupingStrategy.TheVariants.{Auto, Never, Always, Min2}
+use Rattle.icu_decimal_symbols.specs.declared.options.GroupingStrategy.TheVariants.{Auto, Never, Always, Min2, OnAligned}
 use Rattle.icu_decimal_grouping.specs.Grouper.{groups, joined, group_sizes}
 
 abbrev pub sizes_of : ℕ → ℕ → ℕ → GroupingSizes
@@ -69,6 +69,19 @@ wide_7 = refl
 
 wide_two_6 : commas Min2 (sizes_of 3 3 3) (codes "100000") ≡ codes "100,000"
 wide_two_6 = refl
+
+-- and one digit with `OnAligned`
+aligned_3 : commas OnAligned (sizes_of 3 3 3) (codes "100") ≡ codes "100"
+aligned_3 = refl
+
+aligned_4 : commas OnAligned (sizes_of 3 3 3) (codes "1000") ≡ codes "1,000"
+aligned_4 = refl
+
+aligned_6 : commas OnAligned (sizes_of 3 2 2) (codes "100000") ≡ codes "1,00,000"
+aligned_6 = refl
+
+aligned_none : commas OnAligned (sizes_of 0 3 1) (codes "1000000") ≡ codes "1000000"
+aligned_none = refl
 
 -- a primary size of 0 gives no groups
 none_7 : commas Auto (sizes_of 0 0 0) (codes "1000000") ≡ codes "1000000"

@@ -4,14 +4,15 @@
 use Rattle.std.specs.Prelude.{ℕ, ◌+◌, ◌-◌, ◌*◌, ◌/◌, ◌%◌, max, Bool, true, false, cond, not, ◌&&◌, ◌||◌, ◌==◌, nat_le, List, [], ◌∷◌, ◌++◌, length, take, drop, replicate, sum, flat_map, ℤ, pos, negsuc}
 use Rattle.icu_decimal_symbols.specs.declared.grouping_sizes.GroupingSizes.{GroupingSizes}
 use Rattle.icu_decimal_symbols.specs.declared.options.GroupingStrategy.{GroupingStrategy}
-use Rattle.icu_decimal_symbols.specs.declared.options.GroupingStrategy.TheVariants.{Auto, Never, Always, Min2}
+use Rattle.icu_decimal_symbols.specs.declared.options.GroupingStrategy.TheVariants.{Auto, Never, Always, Min2, OnAligned}
 
--- the least count of digits before the last separator: at least one, and at least two for `Min2`
+-- the least count of digits before the last separator: at least one, at least two for `Min2`, and one for `OnAligned`, also where the locale asks for more
 abbrev pub least_front : GroupingStrategy → ℕ → ℕ
 least_front Auto n = max 1 n
 least_front Never n = max 1 n
 least_front Always n = max 1 n
 least_front Min2 n = max 2 n
+least_front OnAligned n = 1
 
 -- every strategy but `Never` allows separators
 abbrev pub may_group : GroupingStrategy → Bool
@@ -19,6 +20,7 @@ may_group Auto = true
 may_group Never = false
 may_group Always = true
 may_group Min2 = true
+may_group OnAligned = true
 
 -- the size of a group that is neither the first nor the last: the secondary size, or the primary where that is 0
 abbrev pub middle_size : GroupingSizes → ℕ

@@ -69,6 +69,7 @@ fn least_before(strategy: GroupingStrategy, min_grouping: u8) -> u8
 {
     match strategy {
         GroupingStrategy::Min2 => min_grouping.max(2),
+        GroupingStrategy::OnAligned => 1,
         _ => min_grouping.max(1),
     }
 }

@@ -6,7 +6,7 @@ use Rattle.fixed_decimal.specs.Number.{Number}
 use Rattle.fixed_decimal.specs.SignedEquality.{are_equal_decimals}
 use Rattle.fixed_decimal.specs.SignedValue.{SignedValue}
 use Rattle.icu_decimal_symbols.specs.declared.options.GroupingStrategy.{GroupingStrategy}
-use Rattle.icu_decimal_symbols.specs.declared.options.GroupingStrategy.TheVariants.{Auto, Never, Always, Min2}
+use Rattle.icu_decimal_symbols.specs.declared.options.GroupingStrategy.TheVariants.{Auto, Never, Always, Min2, OnAligned}
 use Rattle.icu_decimal_plain.specs.PlainText.{Tables, decimal_text}
 use Rattle.icu_decimal_reading.specs.DecimalOfText.{IsAnswered, PlainReading, decimal, not_written, unreadable}
 use Rattle.icu_decimal_reading.specs.PlainReading.{is_text_of, plain_reading}
@@ -22,20 +22,31 @@ use Rattle.icu_decimal_lenient.proofs.LenientLemmas.{each_grouping_is_lenient, e
 is_text : (t : Tables) (text : List ℕ) (v : SignedValue Number) → decimal_text t v ≡ text → is_text_of t text v ≡ true
 is_text t text v written = (bytes_decides (decimal_text t v) text).1 written
 
+-- a text of two groupings, and of three
+abbrev by_two : Tables → List ℕ → SignedValue Number → Bool
+by_two t text v = is_text_of (under Min2 t) text v || is_text_of (under OnAligned t) text v
+
+abbrev by_three : Tables → List ℕ → SignedValue Number → Bool
+by_three t text v = is_text_of (under Always t) text v || by_two t text v
+
+of_three : (t : Tables) (text : List ℕ) (v : SignedValue Number) → by_three t text v ≡ true → is_own_text t text v ≡ true
+of_three t text v is = or_right (is_text_of (under Never t) text v) (by_three t text v) is
+
+of_two : (t : Tables) (text : List ℕ) (v : SignedValue Number) → by_two t text v ≡ true → is_own_text t text v ≡ true
+of_two t text v is = of_three t text v (or_right (is_text_of (under Always t) text v) (by_two t text v) is)
+
 as_always : (t : Tables) (text : List ℕ) (v : SignedValue Number) → decimal_text (under Always t) v ≡ text → is_own_text t text v ≡ true
 as_always t text v written =
-    or_right (is_text_of (under Never t) text v) (is_text_of (under Always t) text v || is_text_of (under Min2 t) text v)
-    (or_left (is_text_of (under Always t) text v) (is_text_of (under Min2 t) text v) (is_text (under Always t) text v written))
+    of_three t text v (or_left (is_text_of (under Always t) text v) (by_two t text v) (is_text (under Always t) text v written))
 
 pub own_under : (t : Tables) (strategy : GroupingStrategy) (text : List ℕ) (v : SignedValue Number) → decimal_text (under strategy t) v ≡ text → is_own_text t text v ≡ true
 own_under t Auto text v written = as_always t text v written
-own_under t Never text v written =
-    or_left (is_text_of (under Never t) text v) (is_text_of (under Always t) text v || is_text_of (under Min2 t) text v)
-    (is_text (under Never t) text v written)
+own_under t Never text v written = or_left (is_text_of (under Never t) text v) (by_three t text v) (is_text (under Never t) text v written)
 own_under t Always text v written = as_always t text v written
 own_under t Min2 text v written =
-    or_right (is_text_of (under Never t) text v) (is_text_of (under Always t) text v || is_text_of (under Min2 t) text v)
-    (or_right (is_text_of (under Always t) text v) (is_text_of (under Min2 t) text v) (is_text (under Min2 t) text v written))
+    of_two t text v (or_left (is_text_of (under Min2 t) text v) (is_text_of (under OnAligned t) text v) (is_text (under Min2 t) text v written))
+own_under t OnAligned text v written =
+    of_two t text v (or_right (is_text_of (under Min2 t) text v) (is_text_of (under OnAligned t) text v) (is_text (under OnAligned t) text v written))
 
 -- ---- two readings
 

@@ -13,7 +13,7 @@ use Rattle.fixed_decimal.specs.declared.Sign.TheVariants.{None as NoSign}
 use Rattle.fixed_decimal.proofs.SignedReadOnceLemmas.{same_signed, signed_reads_once}
 use Rattle.icu_decimal_symbols.specs.declared.grouping_sizes.GroupingSizes.{GroupingSizes}
 use Rattle.icu_decimal_symbols.specs.declared.options.GroupingStrategy.{GroupingStrategy}
-use Rattle.icu_decimal_symbols.specs.declared.options.GroupingStrategy.TheVariants.{Auto, Never, Always, Min2}
+use Rattle.icu_decimal_symbols.specs.declared.options.GroupingStrategy.TheVariants.{Auto, Never, Always, Min2, OnAligned}
 use Rattle.icu_decimal_plain.specs.Affixes.{affixes_of}
 use Rattle.icu_decimal_plain.specs.Grouper.{cut_by, cut_sizes, group_sizes, is_grouped, joined, least_front, marked, may_group, middle_size}
 use Rattle.icu_decimal_plain.specs.PlainText.{Tables, chained, decimal_text, digit_text, fraction_text, prefix_text, suffix_text}
@@ -54,6 +54,7 @@ some_front Auto n = omega arith
 some_front Never n = omega arith
 some_front Always n = omega arith
 some_front Min2 n = omega arith
+some_front OnAligned n = omega arith
 
 -- what is in groups is so under `Always`, where they begin with the first digit before them
 always_groups : (strategy : GroupingStrategy) (s : GroupingSizes) (d : ℕ) → is_grouped strategy s d ≡ true → is_grouped Always (record s { min_grouping = 1 }) d ≡ true

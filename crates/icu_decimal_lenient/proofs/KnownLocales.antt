@@ -1,5 +1,5 @@
 -- Values from outside that a wrong definition of lenient reading does not survive: the samples of docs/reading.md in other locales.
-use Rattle.std.proofs.Common.{◌≡◌, false, [], ◌∷◌, refl}
+use Rattle.std.proofs.Common.{◌≡◌, ◌*◌, ◌^◌, true, false, [], ◌∷◌, refl}
 use Rattle.std.specs.Prelude.{codes}
 use Rattle.std.specs.Str.{chars, encode_utf8_all, trim_start, trim_end}
 use Rattle.fixed_decimal.specs.declared.Sign.TheVariants.{None as NoSign, Negative}
@@ -10,7 +10,7 @@ use lib.Utf8.{encode}
 use Rattle.icu_decimal_reading.specs.DecimalOfText.{not_written}
 use Rattle.icu_decimal_reading.specs.PlainReading.{plain_reading}
 use Rattle.icu_decimal_lenient.specs.Folding.{fold_of}
-use Rattle.icu_decimal_lenient.specs.LenientReading.{filled, is_leniently_readable_by, lenient_reading, read_either, reading_by_both}
+use Rattle.icu_decimal_lenient.specs.LenientReading.{filled, is_leniently_readable_by, is_own_text, lenient_reading, read_either, reading_by_both}
 use Rattle.icu_decimal_lenient.proofs.KnownLenient.{english, latin, number, with_strings}
 
 -- German
@@ -49,6 +49,11 @@ spanish = record { symbols = record { strings = german.symbols.strings; grouping
 four_grouped : lenient_reading spanish (codes "1.234") ≡ number NoSign 1234 4 0
 unfolding fold_of chars trim_start trim_end encode
 four_grouped = refl
+
+-- 1.234 is what it writes under `OnAligned`
+four_aligned : is_own_text spanish (codes "1.234") (record { sign = NoSign; absolute = record { count = 1234 * 10 ^ 32768; low = 32768; high = 32771 } }) ≡ true
+unfolding fold_of chars trim_start trim_end encode
+four_aligned = refl
 
 four_whole : lenient_reading spanish (codes "1234") ≡ number NoSign 1234 4 0
 unfolding fold_of chars trim_start trim_end encode

@@ -8,7 +8,7 @@ use Rattle.fixed_decimal.specs.Number.{Number}
 use Rattle.fixed_decimal.specs.SignedEquality.{are_equal_decimals}
 use Rattle.fixed_decimal.specs.SignedValue.{SignedValue}
 use Rattle.icu_decimal_symbols.specs.declared.options.GroupingStrategy.{GroupingStrategy}
-use Rattle.icu_decimal_symbols.specs.declared.options.GroupingStrategy.TheVariants.{Never, Always, Min2}
+use Rattle.icu_decimal_symbols.specs.declared.options.GroupingStrategy.TheVariants.{Never, Always, Min2, OnAligned}
 use Rattle.icu_decimal_symbols.specs.Symbols.{Symbols}
 use Rattle.icu_decimal_plain.specs.PlainText.{Tables}
 use Rattle.icu_decimal_reading.specs.DecimalOfText.{HasManyDigits, IsPlainText, PlainReading, decimal, not_written, unreadable}
@@ -116,7 +116,8 @@ under strategy t = record t { strategy = strategy }
 -- the text is what the formatter writes of the decimal, under any grouping: `Auto` writes it as `Always` does
 abbrev pub is_own_text : Tables → List ℕ → SignedValue Number → Bool
 is_own_text t text v =
-    is_text_of (under Never t) text v || (is_text_of (under Always t) text v || is_text_of (under Min2 t) text v)
+    is_text_of (under Never t) text v
+    || (is_text_of (under Always t) text v || (is_text_of (under Min2 t) text v || is_text_of (under OnAligned t) text v))
 
 -- a decimal, where a second reading is no other one
 abbrev pub unless_other : SignedValue Number → PlainReading → PlainReading

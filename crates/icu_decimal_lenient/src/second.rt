@@ -33,7 +33,8 @@ pub fn is_own_text(tables: &DecimalTables<'_>, value: &Decimal, text: &str) -> b
 {
     is_text_under(tables, GroupingStrategy::Never, value, text)
         || (is_text_under(tables, GroupingStrategy::Always, value, text)
-            || is_text_under(tables, GroupingStrategy::Min2, value, text))
+            || (is_text_under(tables, GroupingStrategy::Min2, value, text)
+                || is_text_under(tables, GroupingStrategy::OnAligned, value, text)))
 }
 
 /// The decimal that was read first, where a second reading is no other decimal: 1.234 beside 1234 is refused, 1234 beside

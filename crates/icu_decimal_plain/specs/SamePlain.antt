@@ -8,7 +8,7 @@ use Rattle.std.specs.Cmp.Lexicographic.{pointwise, bytes_decides}
 use Rattle.std.proofs.lemmas.Bool.Decides.{Decides-and, Decides-like}
 use Rattle.fixed_decimal.specs.Number.{Number}
 use Rattle.icu_decimal_symbols.specs.declared.options.GroupingStrategy.{GroupingStrategy}
-use Rattle.icu_decimal_symbols.specs.declared.options.GroupingStrategy.TheVariants.{Auto, Never, Always, Min2}
+use Rattle.icu_decimal_symbols.specs.declared.options.GroupingStrategy.TheVariants.{Auto, Never, Always, Min2, OnAligned}
 use Rattle.icu_decimal_symbols.specs.SameSymbols.{same_symbols}
 use Rattle.icu_decimal_symbols.specs.SameSymbolsLaws.{same_symbols_decides}
 use Rattle.icu_decimal_plain.specs.PlainText.{PlainNumber, Tables}
@@ -19,18 +19,21 @@ strategy_number Auto = 0
 strategy_number Never = 1
 strategy_number Always = 2
 strategy_number Min2 = 3
+strategy_number OnAligned = 4
 
 abbrev strategy_of : ℕ → GroupingStrategy
 strategy_of zero = Auto
 strategy_of (suc zero) = Never
 strategy_of (suc (suc zero)) = Always
-strategy_of (suc (suc (suc n))) = Min2
+strategy_of (suc (suc (suc zero))) = Min2
+strategy_of (suc (suc (suc (suc n)))) = OnAligned
 
 there_and_back : (t : GroupingStrategy) → strategy_of (strategy_number t) ≡ t
 there_and_back Auto = refl
 there_and_back Never = refl
 there_and_back Always = refl
 there_and_back Min2 = refl
+there_and_back OnAligned = refl
 
 abbrev pub same_number : Number → Number → Bool
 same_number a b = a.count == b.count && (a.low == b.low && a.high == b.high)

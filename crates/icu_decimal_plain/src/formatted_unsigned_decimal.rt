@@ -128,6 +128,7 @@ fn is_same_strategy(one: GroupingStrategy, other: GroupingStrategy) -> bool
         GroupingStrategy::Never => matches!(other, GroupingStrategy::Never),
         GroupingStrategy::Always => matches!(other, GroupingStrategy::Always),
         GroupingStrategy::Min2 => matches!(other, GroupingStrategy::Min2),
+        GroupingStrategy::OnAligned => matches!(other, GroupingStrategy::OnAligned),
     }
 }
 

@@ -57,6 +57,13 @@ impl<'b> DecimalTables<'b> {
         self.digits.chars
     }
 
+    /// When separators are written: `Auto`, where nothing else was asked. It does not allocate.
+    pub fn strategy(&self) -> GroupingStrategy
+        ensures { result ≡ (borrowed_tables self.now).strategy }
+    {
+        self.strategy
+    }
+
     /// The number without a sign as it is written with these tables: 1234.5 as `1,234.5` in English. It does not
     /// allocate.
     ///

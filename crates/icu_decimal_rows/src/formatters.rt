@@ -38,6 +38,7 @@ pub fn strategy_of(word: &str) -> Result<GroupingStrategy, Stop> {
         "never" => Ok(GroupingStrategy::Never),
         "always" => Ok(GroupingStrategy::Always),
         "min2" => Ok(GroupingStrategy::Min2),
+        "on-aligned" => Ok(GroupingStrategy::OnAligned),
         _ => Err(Stop::Unknown),
     }
 }

@@ -8,3 +8,6 @@ nothing_is_auto = refl
 
 option_stays : strategy_in (Some GroupingStrategy.Min2) ≡ GroupingStrategy.Min2
 option_stays = refl
+
+aligned_stays : strategy_in (Some GroupingStrategy.OnAligned) ≡ GroupingStrategy.OnAligned
+aligned_stays = refl

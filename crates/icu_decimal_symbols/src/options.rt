@@ -3,8 +3,8 @@
 ghost use Rattle.std.specs.Prelude.{◌≡◌, Some};
 ghost use Rattle.icu_decimal_symbols.specs.Options.{strategy_in};
 
-/// When grouping separators are written: with `Never`, 1000 is `1000`. The names are ICU4X's; source: UTS 35, part 3
-/// (numbers), grouping of number patterns.
+/// When grouping separators are written: with `Never`, 1000 is `1000`. The names are ICU4X's, that of `OnAligned`
+/// ICU4C's; source: UTS 35, part 3 (numbers), grouping of number patterns.
 #[derive(Clone, Copy, Debug, Default, PartialEq, Eq, Hash)]
 pub enum GroupingStrategy {
     /// Where the sizes of the locale place them: `1,234,567`.
@@ -16,6 +16,8 @@ pub enum GroupingStrategy {
     Always,
     /// As `Auto`, but only with at least two digits before the last separator: `1000`, `10,000`.
     Min2,
+    /// As `Auto`, but after one digit too: `1.234` in Spanish, where `Auto` gives `1234`.
+    OnAligned,
 }
 
 /// How plain numbers are written. The default is `Auto`: `1,000`. With `Never` it is `1000`.

@@ -73,6 +73,8 @@ const ALWAYS: GroupingStrategy = GroupingStrategy::Always;
 
 const MIN2: GroupingStrategy = GroupingStrategy::Min2;
 
+const ON_ALIGNED: GroupingStrategy = GroupingStrategy::OnAligned;
+
 const NEVER: GroupingStrategy = GroupingStrategy::Never;
 
 const NOT_SO: &str = "not written so";
@@ -248,13 +250,15 @@ fn english_texts_read_back(rt: HostRuntime) -> Result<(), Fail> {
     Ok(())
 }
 
-const OTHER_TEXTS: [(&str, Digits, GroupingStrategy, &str, &str); 23] = [
+const OTHER_TEXTS: [(&str, Digits, GroupingStrategy, &str, &str); 25] = [
     // other groupings
     (ENGLISH, Digits::Latin, ALWAYS, "1,234,567", "1234567"),
     (ENGLISH, Digits::Latin, MIN2, "1,234", NOT_SO),
     (ENGLISH, Digits::Latin, MIN2, "1234", "1234"),
     (ENGLISH, Digits::Latin, MIN2, "12,345", "12345"),
     (ENGLISH, Digits::Latin, MIN2, "12345", NOT_SO),
+    (ENGLISH, Digits::Latin, ON_ALIGNED, "1,234", "1234"),
+    (ENGLISH, Digits::Latin, ON_ALIGNED, "1234", NOT_SO),
     (ENGLISH, Digits::Latin, NEVER, "1234567", "1234567"),
     (ENGLISH, Digits::Latin, NEVER, "1,234", NOT_SO),
     // digits of another table, and of two tables

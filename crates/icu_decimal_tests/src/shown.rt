@@ -21,6 +21,8 @@ const AUTO: GroupingStrategy = GroupingStrategy::Auto;
 
 const MIN2: GroupingStrategy = GroupingStrategy::Min2;
 
+const ON_ALIGNED: GroupingStrategy = GroupingStrategy::OnAligned;
+
 // Whose digits a number is written in.
 #[derive(Clone, Copy)]
 enum Digits {
@@ -155,7 +157,7 @@ fn shown_after_shift(alloc: Global, text: &str, delta: i16) -> Result<String, Fa
     shown
 }
 
-const TEXTS_AND_PARTS: [([u8; 3], Digits, GroupingStrategy, &str, &str); 11] = [
+const TEXTS_AND_PARTS: [([u8; 3], Digits, GroupingStrategy, &str, &str); 13] = [
     (
         [3, 3, 1],
         Digits::Latin,
@@ -220,6 +222,20 @@ const TEXTS_AND_PARTS: [([u8; 3], Digits, GroupingStrategy, &str, &str); 11] = [
         MIN2,
         "10000",
         "10,000 0-6integer 2-3group",
+    ),
+    (
+        [3, 3, 2],
+        Digits::Latin,
+        AUTO,
+        "1234.5",
+        "1234.5 0-4integer 4-5decimal 5-6fraction",
+    ),
+    (
+        [3, 3, 2],
+        Digits::Latin,
+        ON_ALIGNED,
+        "1234.5",
+        "1,234.5 0-5integer 1-2group 5-6decimal 6-7fraction",
     ),
     (
         [1, 0, 0],

@@ -7,7 +7,7 @@ use Rattle.std.specs.Str.{bytes_eq}
 use Rattle.fixed_decimal.specs.Number.{Number}
 use Rattle.fixed_decimal.specs.SignedValue.{SignedValue}
 use Rattle.icu_decimal_symbols.specs.declared.options.GroupingStrategy.{GroupingStrategy}
-use Rattle.icu_decimal_symbols.specs.declared.options.GroupingStrategy.TheVariants.{Auto, Never, Always, Min2}
+use Rattle.icu_decimal_symbols.specs.declared.options.GroupingStrategy.TheVariants.{Auto, Never, Always, Min2, OnAligned}
 use Rattle.icu_decimal_plain.specs.PlainText.{Tables, decimal_text, unsigned_text}
 use Rattle.icu_decimal_reading.specs.DecimalOfText.{decimal}
 use Rattle.icu_decimal_reading.specs.PlainReading.{is_text_of, plain_reading}
@@ -60,38 +60,53 @@ own_nothing r text v strategy none = by (is_unit_text_of (reader_under strategy 
         absurd (none_some (unsigned_text (under strategy r.tables) v.absolute)
         (none ∙ ap (between (pair_for r.pairs v.sign)) (sym ((bytes_decides (text_by (reader_under strategy r) v) text).0 is)) ∙ between_some (pair_for r.pairs v.sign) (unsigned_text (under strategy r.tables) v.absolute)))
 
+-- a text of two groupings, and of three
+abbrev by_two : ReaderTexts → List ℕ → SignedValue Number → Bool
+by_two r text v = is_unit_text_of (reader_under Min2 r) text v || is_unit_text_of (reader_under OnAligned r) text v
+
+abbrev by_three : ReaderTexts → List ℕ → SignedValue Number → Bool
+by_three r text v = is_unit_text_of (reader_under Always r) text v || by_two r text v
+
 -- under any grouping
 pub own_between : (r : ReaderTexts) (text inner : List ℕ) (v : SignedValue Number) → Some inner ≡ between (pair_for r.pairs v.sign) text
     → is_own_text r.tables inner (unsigned v) ≡ is_own_unit_text r text v
 own_between r text inner v is =
-    sym (ap (λ b. b || (is_unit_text_of (reader_under Always r) text v || is_unit_text_of (reader_under Min2 r) text v)) (own_inner r text inner v Never is)
-    ∙ ap (λ b. is_text_of (under Never r.tables) inner (unsigned v) || (b || is_unit_text_of (reader_under Min2 r) text v)) (own_inner r text inner v Always is)
-    ∙ ap (λ b. is_text_of (under Never r.tables) inner (unsigned v) || (is_text_of (under Always r.tables) inner (unsigned v) || b)) (own_inner r text inner v Min2 is))
+    sym (ap (λ b. b || by_three r text v) (own_inner r text inner v Never is)
+    ∙ ap (λ b. is_text_of (under Never r.tables) inner (unsigned v) || (b || by_two r text v)) (own_inner r text inner v Always is)
+    ∙ ap (λ b. is_text_of (under Never r.tables) inner (unsigned v) || (is_text_of (under Always r.tables) inner (unsigned v) || (b || is_unit_text_of (reader_under OnAligned r) text v))) (own_inner r text inner v Min2 is)
+    ∙ ap (λ b. is_text_of (under Never r.tables) inner (unsigned v) || (is_text_of (under Always r.tables) inner (unsigned v) || (is_text_of (under Min2 r.tables) inner (unsigned v) || b))) (own_inner r text inner v OnAligned is))
 
 pub own_without : (r : ReaderTexts) (text : List ℕ) (v : SignedValue Number) → None ≡ between (pair_for r.pairs v.sign) text → is_own_unit_text r text v ≡ false
 own_without r text v none =
-    ap (λ b. b || (is_unit_text_of (reader_under Always r) text v || is_unit_text_of (reader_under Min2 r) text v)) (own_nothing r text v Never none)
-    ∙ ap (λ b. b || is_unit_text_of (reader_under Min2 r) text v) (own_nothing r text v Always none)
-    ∙ own_nothing r text v Min2 none
+    ap (λ b. b || by_three r text v) (own_nothing r text v Never none)
+    ∙ ap (λ b. b || by_two r text v) (own_nothing r text v Always none)
+    ∙ ap (λ b. b || is_unit_text_of (reader_under OnAligned r) text v) (own_nothing r text v Min2 none)
+    ∙ own_nothing r text v OnAligned none
 
 -- ---- what is written
 
+is_written : (r : ReaderTexts) (text : List ℕ) (v : SignedValue Number) → text_by r v ≡ text → is_unit_text_of r text v ≡ true
+is_written r text v written = (bytes_decides (text_by r v) text).1 written
+
+of_three : (r : ReaderTexts) (text : List ℕ) (v : SignedValue Number) → by_three r text v ≡ true → is_own_unit_text r text v ≡ true
+of_three r text v is = or_right (is_unit_text_of (reader_under Never r) text v) (by_three r text v) is
+
+of_two : (r : ReaderTexts) (text : List ℕ) (v : SignedValue Number) → by_two r text v ≡ true → is_own_unit_text r text v ≡ true
+of_two r text v is = of_three r text v (or_right (is_unit_text_of (reader_under Always r) text v) (by_two r text v) is)
+
 as_always : (r : ReaderTexts) (text : List ℕ) (v : SignedValue Number) → text_by (reader_under Always r) v ≡ text → is_own_unit_text r text v ≡ true
 as_always r text v written =
-    or_right (is_unit_text_of (reader_under Never r) text v) (is_unit_text_of (reader_under Always r) text v || is_unit_text_of (reader_under Min2 r) text v)
-    (or_left (is_unit_text_of (reader_under Always r) text v) (is_unit_text_of (reader_under Min2 r) text v)
-    ((bytes_decides (text_by (reader_under Always r) v) text).1 written))
+    of_three r text v (or_left (is_unit_text_of (reader_under Always r) text v) (by_two r text v) (is_written (reader_under Always r) text v written))
 
 pub own_under : (r : ReaderTexts) (strategy : GroupingStrategy) (text : List ℕ) (v : SignedValue Number) → text_by (reader_under strategy r) v ≡ text → is_own_unit_text r text v ≡ true
 own_under r Auto text v written = as_always r text v written
 own_under r Never text v written =
-    or_left (is_unit_text_of (reader_under Never r) text v) (is_unit_text_of (reader_under Always r) text v || is_unit_text_of (reader_under Min2 r) text v)
-    ((bytes_decides (text_by (reader_under Never r) v) text).1 written)
+    or_left (is_unit_text_of (reader_under Never r) text v) (by_three r text v) (is_written (reader_under Never r) text v written)
 own_under r Always text v written = as_always r text v written
 own_under r Min2 text v written =
-    or_right (is_unit_text_of (reader_under Never r) text v) (is_unit_text_of (reader_under Always r) text v || is_unit_text_of (reader_under Min2 r) text v)
-    (or_right (is_unit_text_of (reader_under Always r) text v) (is_unit_text_of (reader_under Min2 r) text v)
-    ((bytes_decides (text_by (reader_under Min2 r) v) text).1 written))
+    of_two r text v (or_left (is_unit_text_of (reader_under Min2 r) text v) (is_unit_text_of (reader_under OnAligned r) text v) (is_written (reader_under Min2 r) text v written))
+own_under r OnAligned text v written =
+    of_two r text v (or_right (is_unit_text_of (reader_under Min2 r) text v) (is_unit_text_of (reader_under OnAligned r) text v) (is_written (reader_under OnAligned r) text v written))
 
 -- a number that is read without a unit is written so
 pub plain_written : (t : Tables) (text : List ℕ) (v : SignedValue Number) → plain_reading t text ≡ decimal v → decimal_text t v ≡ text

@@ -1,6 +1,6 @@
 -- What a typed text with a unit is read as in all: as it is, exactly or else leniently; else with its native digits in ASCII; else so, with the separators of Arabic digits where it has these.
 -- Defined in docs/units.md, "Lenient reading", and docs/reading.md, "Native digits".
--- Cited by the calls of `LenientUnitReader`, by the laws, and by the reading in turn of `locale_numbers_answers`.
+-- Cited by the calls of `LenientUnitReader`, by the laws, and by the reading in turn of `locale_numbers_formatter`.
 use Rattle.std.specs.Prelude.{◌≡◌, ◌⊎◌, ℕ, true, List, Some}
 use Rattle.fixed_decimal.specs.Number.{Number}
 use Rattle.fixed_decimal.specs.SignedValue.{SignedValue}
