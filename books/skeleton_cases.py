@@ -11,6 +11,21 @@ SKELETONS = [
     ".00##",
     ".0*",
     ".00/w",
+    ".0#/w",
+    "@@@",
+    "@@#",
+    "@@##/w",
+    "@*",
+    "@@+",
+    "@@/w rounding-mode-up",
+    ".0#/@@r",
+    ".0#/@@s",
+    ".00##/@@#s/w",
+    ".00/@##r rounding-mode-floor",
+    ".##/@@@+",
+    ".##/@##",
+    "precision-integer/@@#r",
+    "./@@s",
     ".+",
     ". rounding-mode-ceiling",
     ". rounding-mode-floor",
@@ -24,6 +39,8 @@ SKELETONS = [
     ",_",
     ",?",
     ",? .0",
+    ",!",
+    ",! .00",
     "000",
     "0000000 .0",
     "+!",
@@ -37,6 +54,9 @@ SKELETONS = [
     "% .0#",
     "% .00/w",
     "% .+",
+    "% @@#",
+    "% .0/@@r",
+    "% ,!",
     "% ,_",
     "% ,?",
     "% +!",
@@ -55,11 +75,15 @@ SKELETONS = [
     "currency/EUR .",
     "currency/EUR .0#",
     "currency/EUR .00/w",
+    "currency/EUR @@#",
+    "currency/USD @@@/w",
+    "currency/CHF .00/@@@@r",
     "currency/JPY .00*",
     "currency/GBP .+",
     "currency/EUR .0 rounding-mode-up",
     "currency/BRL ,_",
     "currency/EUR ,?",
+    "currency/EUR ,!",
     "currency/USD 0000",
     "currency/USD +_",
     "currency/TRY +? .",
@@ -75,6 +99,7 @@ SKELETONS = [
     "K group-auto",
     "K ,_",
     "KK ,_",
+    "K ,!",
     "K 000",
     "KK 00",
     "KK +!",
@@ -87,9 +112,11 @@ WORDS = """\
 numbering-system/thai numbering-system/foo! scale/100 scale/0.5 scale/x scale/ %x1 %x precision-increment/0.05 precision-increment/0.50
 precision-increment/0.5/w precision-increment/x precision-increment/0 unit/kilometer unit/foo unit/ unit/kilometer-per-hour
 measure-unit/length-kilometer measure-unit/foo per-measure-unit/duration-hour usage/road usage/foo scientific/*ee
-scientific/+ee/sign-always engineering/sign-never E+!00 E+?0 EE+!00 E00 EEE0 currency/EUR currency/usd currency/EURO currency/E
+scientific/+ee/sign-always engineering/sign-never E+!00 E+?0 EE+!00 E00 EEE0 E E+0 E+! E0x currency/EUR currency/usd currency/EURO currency/E
 currency/ currency currency/US1 currency/ÄÖÜ integer-width/+000 integer-width/*0 integer-width/##00 integer-width/00##
 integer-width/+ integer-width/* integer-width/ integer-width integer-width/0 integer-width/+#0 0 000 0# +0 00x . .. .0x .#0
 .00 .## .0## .#* .0#* .00* .00+ .00/w ./w .##/w .00*/w .+/w precision-integer/w precision-unlimited/w .00/@@ .00/@@* .00/@@+ .00/@@#
-.00/@@#r .00/@@s .00/@@/w .00/@@x .00/w/@@ @ @@@ @@# @@* @@+ @/w @#0 precision-currency/w +!! ()x ,= , + - %% foo sign-foo group-foo
+.00/@@#r .00/@@s .00/@@/w .00/@@x .00/w/@@ .00/@## .##/@@@+ .##/@@*/w .#/@##/w .0#/@@r/w .0#/@@#s/w .0#/r .0#/ .0#/w ./@@r
+precision-integer/@@#s precision-integer/@@* precision-integer/@ precision-integer/ precision-unlimited/@@r .0*/@@r
+@@/@@r @@#/w @*/w @@/r @ @@@ @@# @@* @@+ @/w @#0 precision-currency/w +!! ()x ,= , + - %% foo sign-foo group-foo
 rounding-mode-foo percent/x permille/x compact-short/x K/w unit-width-hidden/x percent\N{LEFT-TO-RIGHT MARK}.00""".split()

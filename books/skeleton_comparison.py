@@ -5,12 +5,13 @@ import re
 import tempfile
 import typing
 
-from comparison import LIKELY, NEGATIVE, answers, causes_of, text
+from comparison import LIKELY, NEGATIVE, answers, causes_of, locale_and_system, text
 from look_up import locale_of, read_book
 from peers import NODE, NOT_IN_ICU, NOT_IN_NODE, VERSION, book_of_peer, known, with_tags_cut
 from skeleton_cases import NUMBERS, SKELETONS, WORDS
 from skeletons import REFUSED, SPELLINGS, Refused, Skeleton, is_amount, line_of, options_of, read_skeleton
 from unit_comparison import cause_of
+from unit_text import Symbols
 
 NO_PLACE = -1  # of a fault that ICU4C finds when all words are read
 CAPACITY = "64"  # formatters that are kept: all of a locale
@@ -18,12 +19,12 @@ AT_A_TIME = 100_000  # lines that a peer is asked
 KINDS = ("numbers", "percents", "amounts", "compact")
 PADDED = "an integer width of a compact number: digits of the number here, of what is shown before the pattern there"
 GROUPED = "group-auto beside a compact notation: taken here, and there the usual grouping is"
+UNGROUPED = "group-on-aligned in a locale without groups: none here, groups of three there"
 # Words without which a normal text may be the same here and there.
 LEFT_OUT = ("integer-width/*0", "group-auto", "group-min2")
 # What is an unknown word here and none there.
 TAKEN_THERE = {
-    "short forms of scientific notation: unknown words here, taken there": re.compile("E+[+!?0]*0").fullmatch,
-    "`/w` after an integer or digits without end: unknown words here, taken there": re.compile("(precision-(integer|unlimited)|[.]0*[*+])/w").fullmatch,
+    "a part behind digits of a fraction without end: unknown words here, taken there": re.compile("(precision-unlimited|[.]0*[*+])/.*").fullmatch,
     "words with a mark of direction between them: one word here, two there": re.compile(".*\\u200e.*").fullmatch,
 }
 
@@ -50,14 +51,23 @@ def word_at(skeleton, place):
     return skeleton.encode()[place:].decode().partition(" ")[0]
 
 
+def without_priority(found):
+    """The word with a priority that is the same as one without."""
+    fraction, digits, end, whole = found.groups("")
+    return f".{fraction}/@{'#' * (len(digits) - 1)}{'r' if end else 's'}{whole}"
+
+
 def cause_of_text(here, there):
     """The name of the cause for two other normal texts, or None."""
-    bare = [[word for word in normal.replace("precision-integer/w", "./w").split() if word not in LEFT_OUT] for normal in (here, there)]
+    prioritized = re.sub(r"\.(#*)/(@#*|@+(?=[*]))([*]?)(/w)?(?= |$)", without_priority, there.replace("precision-integer/", "./"))
+    bare = [[word for word in normal.split() if word not in LEFT_OUT] for normal in (here, prioritized)]
     if bare[0] != bare[1]:
         return None
+    if prioritized != there.replace("precision-integer/", "./"):
+        return "significant digits without a priority: one with it here"
     if "compact-" in here and "group-" in here + there:
         return "a compact notation: no word for group-min2 here, for group-auto there"
-    return "./w: precision-integer/w there" if "./w" in here else "integer-width/*0: usual there"
+    return "./w and the like: precision-integer/w there" if "./" in here else "integer-width/*0: usual there"
 
 
 def cause_of_fault(word, fault, place, there, is_taken):
@@ -224,6 +234,20 @@ def causes_of_compact(book, ours, peer, found):
     return named
 
 
+def has_groups(book, tag):
+    """Whether the locale's symbols, where the book has some, have a size of groups."""
+    locale, system = locale_and_system(tag)
+    found = book.find("symbols", book.chain(locale), system)
+    return found is None or Symbols(*found).primary != 0
+
+
+def causes_of_groups(book, ours, peer, found):
+    """The same of numbers that are grouped there alone."""
+    aligned = [it for it in found if it.its.grouping == "group-on-aligned" and not has_groups(book, it.tag)]
+    usual = asked_with(book, ours, peer, aligned, grouping="")
+    return {it: UNGROUPED for it, its in zip(aligned, usual) if agrees(its) and text(its.here) == text(it.here)}
+
+
 def causes_by_rule(book, ours, peer, found):
     """The cause of each of these where one is known: what is done otherwise there under the same data. A cause is that of the line
     of other words, so what is not answered as that line has none."""
@@ -236,6 +260,7 @@ def causes_by_rule(book, ours, peer, found):
         if agrees(its) or named.get(its):
             named[it] = PADDED if agrees(its) else f"{PADDED}; and {named[its]}"
     named.update((it, cause_of(book, line_by_words(book, it), it.there)) for it in found if is_amount(it.its))
+    named.update(causes_of_groups(book, ours, peer, found))
     return {it: name for it, name in named.items() if name}
 
 

@@ -25,8 +25,15 @@ percent latin | System at 8
 numbering-system/thai | System at 0
 KK .00 | Later at 3
 currency/EUR rounding-mode-up | Later at 13
-.##/@@@+ | Later at 0
+.##/@@@+ | .##/@##r
+.00/@@@+ | Later at 0
+K @@ | Later at 2
+.0#/@@x | Unknown at 0
+@@#/w ,! | @@#/w group-on-aligned
+precision-integer/@@#s/w | ./@@#s/w
 unit/kilometer | Later at 0
+E+!00 | Later at 0
+E+0 | Unknown at 0
 %x100 | Later at 0
 integer-width/##00 | Unsupported at 0
 usage/road | Unsupported at 0""".split("\n")
@@ -40,6 +47,13 @@ base-unit | -1.23456789 | - | plain auto auto - -1.234568
 . | -0.001 | - | plain auto auto - -0
 .00## +! | 1.5 | - | plain auto always - 1.50
 .00/w 000 | 3 | - | plain auto auto - 003
+.0#/w | 3 | - | plain auto auto - 3
+@@# ,! | 1234.5 | - | plain on-aligned auto - 1230
+@@@ | 9.996 | - | plain auto auto - 10.0
+@@+ | 0 | - | plain auto auto - 0.0
+.0#/@@r | 0.00123 | - | plain auto auto - 0.0012
+.0#/@@s | 0.00123 | - | plain auto auto - 0.0
+.0#/@@s/w | 0.00123 | - | plain auto auto - 0
 .00* ,_ | 1.2345 | - | plain never auto - 1.2345
 .0 rounding-mode-half-ceiling | -0.25 | - | plain auto auto - -0.2
 .0 rounding-mode-half-floor | -0.25 | - | plain auto auto - -0.3

@@ -33,6 +33,7 @@ mode rounding-mode-half-floor
 grouping group-auto
 grouping group-off ,_
 grouping group-min2 ,?
+grouping group-on-aligned ,!
 width = unit-width-short
 width unit-width-iso-code
 sign = sign-auto
@@ -47,17 +48,27 @@ sign sign-accounting-negative ()-
 """
 REFUSED = {
     "System": ("latin", "numbering-system/"),
-    "Later": ("permille scientific E0 engineering EE0 unit-width-narrow unit-width-full-name group-on-aligned ,! %x100 scale/ "
+    "Later": ("permille scientific E0 engineering EE0 unit-width-narrow unit-width-full-name %x100 scale/ "
               "precision-increment/ unit/ measure-unit/ scientific/ engineering/").split(),
     "Unsupported": ("decimal-auto decimal-always integer-width-trunc unit-width-hidden unit-width-formal unit-width-variant group-thousands "
                     "rounding-mode-half-odd rounding-mode-unnecessary per-measure-unit/ usage/").split(),
 }
-MOST = 100  # marks of a word
-FRACTION = re.compile(r"\.(0*)(#*)")
-AT_LEAST = re.compile(r"\.(0+)[*+]")
-WHOLE = re.compile(r"\.(0*)/w")
-LATER_DIGITS = re.compile(r"\.0*#*/.*|@.*")
+MOST = 100  # digits of a word
+# A word of digits, with the digits of a fraction and the significant ones each in a group of its own, and its normal text.
+DIGITS = [
+    (re.compile(r"\.(0*#*)()(/w)?"), ".{0}{2}"),
+    (re.compile(r"\.(0+)()[*+]"), ".{0}*"),
+    (re.compile(r"()(@+#*)(/w)?"), "{1}{2}"),
+    (re.compile(r"()(@+)[*+](/w)?"), "{1}*{2}"),
+    (re.compile(r"\.(0*#*)/(@+#*)([rs](?:/w)?)"), ".{0}/{1}{2}"),
+]
+# The same without a priority: at least, or at most, so many significant digits, and those of the fraction in any case.
+OLD_DIGITS = [
+    (re.compile(r"\.(0*#*)/(@+)[*+](/w)?"), "r"),
+    (re.compile(r"\.(0*#*)/(@#*)(/w)?"), "s"),
+]
 PADDED = re.compile(r"integer-width/[*+](0+)|(0+)")
+SCIENTIFIC = re.compile(r"EE?(\+[!?])?0+")
 EXACT = decimal.Context(prec=200)
 MODES = {
     "": decimal.ROUND_HALF_EVEN,
@@ -106,28 +117,38 @@ SPELLINGS = spellings()
 
 def fault_named(word):
     """The name of the fault that a word is."""
+    if SCIENTIFIC.fullmatch(word):
+        return "Later"
     front, slash, _ = word.partition("/")
     return next((name for name, words in REFUSED.items() if front + slash in words), "Unknown")
 
 
+def precision_setting(word):
+    """The normal text of a word of digits, or None where it is no such word."""
+    for pattern, normal in DIGITS:
+        found = pattern.fullmatch(word)
+        if found and max(map(len, found.groups("")[:2])) <= MOST:
+            return normal.format(*found.groups(""))
+    for pattern, priority in OLD_DIGITS:
+        found = pattern.fullmatch(word)
+        if found and max(map(len, found.groups("")[:2])) <= MOST:
+            fraction, digits, whole = found.groups("")
+            if "0" in fraction:
+                raise Refused("Later")
+            return f".{fraction}/{digits[0]}{'#' * (len(digits) - 1)}{priority}{whole}"
+    return None
+
+
 def digits_setting(word):
     """What a word of marks sets, or None where it is no such word."""
-    if len(word) > MOST + 1 and word[0] == ".":
-        raise Refused("Unknown")
-    fraction, least, whole, padded = (it.fullmatch(word) for it in (FRACTION, AT_LEAST, WHOLE, PADDED))
-    if fraction:
-        return "precision", word
-    if least:
-        return "precision", f".{least[1]}*"
-    if whole:
-        return "precision", word
+    normal, padded = precision_setting(re.sub("^precision-integer/", "./", word)), PADDED.fullmatch(word)
+    if normal:
+        return "precision", normal
     if padded:
         zeros = padded[1] or padded[2]
         if len(zeros) > MOST:
             raise Refused("Unsupported" if padded[1] else "Unknown")
         return "integer", f"integer-width/*{zeros}"
-    if LATER_DIGITS.fullmatch(word):
-        raise Refused("Later")
     return None
 
 
@@ -188,13 +209,15 @@ def read_skeleton(text):
 
 
 class Digits(typing.NamedTuple):
-    """How many digits a fraction has at least and at most, or None, of what the last of them is a multiple, and whether a whole
-    number has none."""
+    """How many digits are shown at least and at most, or None: of a fraction, with the increment of the last of them, and significant
+    ones; which of the two count, and whether a whole number has no zeros after its point."""
 
     least: int
     most: typing.Optional[int]
     increment: int = 1
     hides_zeros: bool = False
+    significant: typing.Optional[tuple] = None
+    priority: str = ""
 
 
 def is_amount(its):
@@ -205,18 +228,27 @@ def is_amount(its):
 def digits_asked(its, of_currency):
     """The digits of a fraction that a skeleton asks for, or None where a compact pattern says which; those of the currency are its
     digits, its increment, its digits of cash and their increment."""
-    word, _, option = its.precision.partition("/")
+    word, *options = its.precision.split("/")
+    is_whole = "w" in options
     if its.notation:
         return None
     if word.startswith("precision-currency") or (is_amount(its) and not word):
         digits, increment = of_currency[2:] if word.endswith("cash") else of_currency[:2]
-        return Digits(digits, digits, increment, option == "w")
+        return Digits(digits, digits, increment, is_whole)
     if not word:
         return Digits(0, 6)
     if word in ("precision-unlimited", "precision-integer"):
         return Digits(0, None if word == "precision-unlimited" else 0)
-    least = word.count("0")
-    return Digits(least, None if word.endswith("*") else least + word.count("#"), 1, option == "w")
+    if word[0] == "@":
+        return Digits(0, 0, 1, is_whole, counted(word, "@"))
+    both = next((it for it in options if it[0] == "@"), None)
+    return Digits(*counted(word, "0"), 1, is_whole, both and counted(both, "@"), both[-1] if both else "")
+
+
+def counted(word, mark):
+    """How many digits are shown at least, one for each such mark, and at most, one for each hash more, or None."""
+    least = word.count(mark)
+    return least, None if word.endswith("*") else least + word.count("#")
 
 
 def mode_of(its, is_negative):
@@ -227,22 +259,48 @@ def mode_of(its, is_negative):
     return decimal.ROUND_HALF_UP if is_away else decimal.ROUND_HALF_DOWN
 
 
+def magnitude(value):
+    """The place of the first digit that is not zero, or of the ones."""
+    return value.adjusted() if value else 0
+
+
+def rounded_at(value, place, increment, mode):
+    """A number rounded to multiples of an increment at a place."""
+    step = decimal.Decimal(increment).scaleb(place)
+    return EXACT.multiply(EXACT.divide(value, step).quantize(decimal.Decimal(1), mode, EXACT), step)
+
+
+def rounded(value, asked, mode):
+    """A number rounded to digits that are asked for, and how many of its fraction are shown at least: of two choices those that
+    count."""
+    found = []
+    if asked.priority or not asked.significant:
+        place = None if asked.most is None else -asked.most
+        found.append((place, value if place is None else rounded_at(value, place, asked.increment, mode), asked.least))
+    if asked.significant:
+        least, most = asked.significant
+        its = value if most is None else rounded_at(value, magnitude(value) - most + 1, 1, mode)
+        found.append((None if most is None else magnitude(its) - most + 1, its, least - 1 - magnitude(its)))
+    if asked.priority:
+        is_significant = (found[1][0] <= found[0][0]) == (asked.priority == "r")
+        found = [found[is_significant]]
+    return found[0][1:]
+
+
 def shown(its, number, of_currency):
     """The text of what a skeleton shows of a number before it is written in a locale: its digits and its minus sign."""
     value, asked = decimal.Decimal(number), digits_asked(its, of_currency)
-    if asked and asked.most is not None:
-        step = decimal.Decimal(asked.increment).scaleb(-asked.most)
-        mode = mode_of(its, value.is_signed())
-        value = EXACT.multiply(EXACT.divide(value, step).quantize(decimal.Decimal(1), mode, EXACT), step)
+    if asked:
+        value, least = rounded(value, asked, mode_of(its, value.is_signed()))
     whole, _, fraction = f"{value.copy_abs():f}".partition(".")
     fraction = fraction.rstrip("0")
     if asked and not (asked.hides_zeros and not fraction):
-        fraction = fraction.ljust(asked.least, "0")
+        fraction = fraction.ljust(least, "0")
     whole = (whole.lstrip("0") or "0").rjust(its.integer.count("0"), "0")
     return f"{'-' if value.is_signed() else ''}{whole}{'.' if fraction else ''}{fraction}"
 
 
-GROUPINGS = {"group-auto": "auto", "group-off": "never", "group-min2": "min2"}
+GROUPINGS = {"group-auto": "auto", "group-off": "never", "group-min2": "min2", "group-on-aligned": "on-aligned"}
 
 
 def grouping_of(its):
@@ -281,10 +339,14 @@ def options_of(its, of_currency=None):
     modes = {"": "half-even", "up": "expand", "down": "trunc", "half-up": "half-expand", "half-down": "half-trunc",
              "ceiling": "ceil", "half-ceiling": "half-ceil"}
     found = {"roundingMode": camel(modes.get(mode, mode)), "signDisplay": camel(sign_of(its)),
-             "useGrouping": {"never": False}.get(grouping_of(its), grouping_of(its))}
-    if asked:
+             "useGrouping": {"never": False, "on-aligned": "always"}.get(grouping_of(its), grouping_of(its))}
+    if asked and (asked.priority or not asked.significant):
         found |= {"minimumFractionDigits": asked.least, "maximumFractionDigits": max(20, asked.least) if asked.most is None else asked.most}
         found |= {"roundingIncrement": asked.increment} if asked.increment != 1 else {}
+    if asked and asked.significant:
+        found |= {"minimumSignificantDigits": asked.significant[0], "maximumSignificantDigits": asked.significant[1] or 21}
+        found |= {"roundingPriority": {"r": "morePrecision", "s": "lessPrecision"}[asked.priority]} if asked.priority else {}
+    if asked:
         found |= {"trailingZeroDisplay": "stripIfInteger"} if asked.hides_zeros else {}
     if its.integer:
         found["minimumIntegerDigits"] = its.integer.count("0")

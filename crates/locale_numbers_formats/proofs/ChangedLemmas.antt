@@ -7,9 +7,8 @@ use Rattle.std.proofs.lemmas.Bool.Decides.{nat_tests}
 use Rattle.fixed_decimal.specs.Number.{IsNumber, Number, place}
 use Rattle.fixed_decimal.specs.Range.{IsHighest, IsLowest}
 use Rattle.fixed_decimal.specs.Shifts.{PadsEnd, PadsStart, TrimsEnd, TrimsStart, TrimsWhole}
-use Rattle.locale_numbers_formats.specs.Changed.{end_trimmed, front_padded, padded_down, start_trimmed, whole_from}
+use Rattle.locale_numbers_formats.specs.Changed.{fraction_trimmed, front_padded, padded_down, start_trimmed, whole_from, whole_trimmed}
 use Rattle.locale_numbers_formats.specs.Rounded.{holding_from}
-use Rattle.locale_numbers_formats.specs.declared.options.TrailingZeros.TheVariants.{TrimWhole}
 use Rattle.locale_numbers_formats.proofs.RoundedLemmas.{holding_holds, holding_keeps, holding_lowest}
 
 -- two numbers with the same fields are one
@@ -79,12 +78,12 @@ lowest_is most count from low inside whole is =
     let over = is.highest (whole_from (most - from) from count) (omega (arith, bound, inside)) (whole_whole (most - from) from count whole) in
     omega (arith, under, over)
 
-pub trims_end_is : (old new : Number) → IsNumber old → TrimsEnd old new → new ≡ record old { low = whole_from (32768 - old.low) old.low old.count }
+pub trims_end_is : (old new : Number) → IsNumber old → TrimsEnd old new → new ≡ fraction_trimmed old
 trims_end_is old new number trims =
-    same_fields new (record old { low = whole_from (32768 - old.low) old.low old.count }) trims.count
+    same_fields new (fraction_trimmed old) trims.count
     (lowest_is 32768 old.count old.low new.low number.low number.whole trims.low) trims.high
 
-pub trims_whole_is : (old new : Number) → TrimsWhole old new → new ≡ end_trimmed TrimWhole old
+pub trims_whole_is : (old new : Number) → TrimsWhole old new → new ≡ whole_trimmed old
 trims_whole_is old new trims = at (old.count % 10 ^ 32768 == 0) refl
   where
     at : (b : Bool) → (old.count % 10 ^ 32768 == 0) ≡ b → new ≡ cond b (record old { low = 32768 }) old
@@ -115,7 +114,7 @@ pads_start_is digits old new number above pads =
     same_fields new (front_padded digits old) pads.count pads.low
     (padded_highest 32768 (place digits) old.count old.high new.high number.below above number.ones (pads.high beyond))
 
-pub pads_down_is : (position : ℤ) (old new : Number) → IsNumber old → place position ≤ old.low → PadsEnd (place position) old new → new ≡ padded_down position old
-pads_down_is position old new number under pads =
-    same_fields new (padded_down position old) pads.count
-    (padded_lowest (place position) old.count old.low new.low number.whole under (pads.low (omega (arith, number.low, under)))) pads.high
+pub pads_down_is : (at : ℕ) (old new : Number) → IsNumber old → at ≤ old.low → PadsEnd at old new → new ≡ padded_down at old
+pads_down_is at old new number under pads =
+    same_fields new (padded_down at old) pads.count
+    (padded_lowest at old.count old.low new.low number.whole under (pads.low (omega (arith, number.low, under)))) pads.high

@@ -14,8 +14,9 @@ use Rattle.locale_numbers_formats.specs.SkeletonFormats.{format_of}
 use Rattle.locale_numbers_formats.specs.Skeletons.{no_words, settled, skeleton_of}
 use Rattle.locale_numbers_formats.specs.declared.options.LeadingZeros.TheVariants as leading
 use Rattle.locale_numbers_formats.specs.declared.options.Rounding.TheVariants as rounding
+use Rattle.locale_numbers_formats.specs.declared.options.RoundingPriority.TheVariants.{MorePrecision, LessPrecision}
 use Rattle.locale_numbers_formats.specs.declared.options.SignAsked.TheVariants.{Show}
-use Rattle.locale_numbers_formats.specs.declared.options.TrailingZeros.TheVariants.{Keep, Trim, TrimWhole}
+use Rattle.locale_numbers_formats.specs.declared.options.TrailingZeros.TheVariants.{Keep, Trim, TrimAll}
 use Rattle.locale_numbers_formats.specs.declared.shape.CompactWidth.TheVariants.{Short, Long}
 use Rattle.locale_numbers_formats.specs.declared.shape.Notation.TheVariants as notation
 use Rattle.locale_numbers_formats.specs.declared.shape.Notation.TheVariants.{Compact}
@@ -23,9 +24,10 @@ use Rattle.locale_numbers_formats.specs.declared.shape.NumberUnit.TheVariants as
 use Rattle.locale_numbers_formats.specs.declared.skeleton.Skeleton.{Skeleton}
 use Rattle.locale_numbers_formats.specs.declared.skeleton_error.SkeletonError.TheVariants.{Unknown, Twice, Code, Pair, System, Later, Unsupported}
 use Rattle.locale_numbers_formats.specs.declared.stems.Precision.TheVariants as precision
-use Rattle.locale_numbers_formats.specs.declared.stems.Precision.TheVariants.{Unlimited, Fraction, AtLeast, Whole, WholeCurrency}
+use Rattle.locale_numbers_formats.specs.declared.stems.Precision.TheVariants.{Unlimited, Fraction, AtLeast, Whole, Significant, SignificantAtLeast, Either, WholeCurrency}
 use Rattle.locale_numbers_formats.specs.declared.stems.SkeletonGrouping.TheVariants as grouping
 use Rattle.locale_numbers_formats.specs.declared.stems.SkeletonUnit.TheVariants.{Percent, Currency}
+use Rattle.locale_numbers_formats.specs.declared.stems.WholeZeros.TheVariants.{Shown, Hidden}
 
 -- what no word asks for
 abbrev plain : Skeleton
@@ -42,7 +44,7 @@ is_spaced = refl
 is_franc : skeleton_of (codes "currency/CHF precision-currency-cash") ≡ Ok (record plain { unit = Currency (codes "CHF"); precision = precision.Currency Cash })
 is_franc = refl
 
-is_whole_cents : skeleton_of (codes "currency/USD .00/w") ≡ Ok (record plain { unit = Currency (codes "USD"); precision = Whole 2 })
+is_whole_cents : skeleton_of (codes "currency/USD .00/w") ≡ Ok (record plain { unit = Currency (codes "USD"); precision = Whole 2 0 })
 is_whole_cents = refl
 
 is_whole_currency : skeleton_of (codes "precision-currency-standard/w currency/USD") ≡ Ok (record plain { unit = Currency (codes "USD"); precision = WholeCurrency Standard })
@@ -83,6 +85,46 @@ is_off = refl
 
 is_min2 : skeleton_of (codes ",?") ≡ Ok (record plain { grouping = grouping.Min2 })
 is_min2 = refl
+
+is_aligned : skeleton_of (codes ",!") ≡ Ok (record plain { grouping = grouping.OnAligned })
+is_aligned = refl
+
+is_whole_one_to_two : skeleton_of (codes ".0#/w") ≡ Ok (record plain { precision = Whole 1 1 })
+is_whole_one_to_two = refl
+
+is_whole_integer : skeleton_of (codes "precision-integer/w") ≡ Ok (record plain { precision = Whole 0 0 })
+is_whole_integer = refl
+
+is_three_significant : skeleton_of (codes "@@@") ≡ Ok (record plain { precision = Significant 3 0 Shown })
+is_three_significant = refl
+
+is_two_to_three_significant : skeleton_of (codes "@@#") ≡ Ok (record plain { precision = Significant 2 1 Shown })
+is_two_to_three_significant = refl
+
+is_whole_significant : skeleton_of (codes "@@#/w") ≡ Ok (record plain { precision = Significant 2 1 Hidden })
+is_whole_significant = refl
+
+is_two_significant_on : skeleton_of (codes "@@+") ≡ Ok (record plain { precision = SignificantAtLeast 2 Shown })
+is_two_significant_on = refl
+
+is_whole_significant_on : skeleton_of (codes "@*/w") ≡ Ok (record plain { precision = SignificantAtLeast 1 Hidden })
+is_whole_significant_on = refl
+
+is_relaxed : skeleton_of (codes ".0#/@@r") ≡ Ok (record plain { precision = Either 1 1 2 0 MorePrecision Shown })
+is_relaxed = refl
+
+is_strict : skeleton_of (codes ".0#/@@#s/w") ≡ Ok (record plain { precision = Either 1 1 2 1 LessPrecision Hidden })
+is_strict = refl
+
+is_relaxed_integer : skeleton_of (codes "precision-integer/@@r") ≡ Ok (record plain { precision = Either 0 0 2 0 MorePrecision Shown })
+is_relaxed_integer = refl
+
+-- three significant digits at least are one of at most three, where more digits count
+is_at_least_significant : skeleton_of (codes ".##/@@@+") ≡ Ok (record plain { precision = Either 0 2 1 2 MorePrecision Shown })
+is_at_least_significant = refl
+
+is_at_most_significant : skeleton_of (codes ".##/@##/w") ≡ Ok (record plain { precision = Either 0 2 1 2 LessPrecision Hidden })
+is_at_most_significant = refl
 
 is_up : skeleton_of (codes ".0 rounding-mode-up") ≡ Ok (record plain { precision = Fraction 1 0; mode = Unsigned Expand })
 is_up = refl
@@ -164,17 +206,39 @@ is_latin_system = refl
 is_scientific : skeleton_of (codes "E0") ≡ Err (Later 0)
 is_scientific = refl
 
+is_signed_exponent : skeleton_of (codes "E+!00") ≡ Err (Later 0)
+is_signed_exponent = refl
+
+is_engineering : skeleton_of (codes "EE+?0") ≡ Err (Later 0)
+is_engineering = refl
+
+is_exponent_without_digits : skeleton_of (codes "E+!") ≡ Err (Unknown 0)
+is_exponent_without_digits = refl
+
 is_permille : skeleton_of (codes "permille") ≡ Err (Later 0)
 is_permille = refl
 
-is_significant : skeleton_of (codes "@@#") ≡ Err (Later 0)
-is_significant = refl
+is_no_signs : skeleton_of (codes "@#@") ≡ Err (Unknown 0)
+is_no_signs = refl
 
-is_both_digits : skeleton_of (codes ".##/@@@+") ≡ Err (Later 0)
-is_both_digits = refl
+is_no_priority : skeleton_of (codes ".00/@@") ≡ Err (Unknown 0)
+is_no_priority = refl
 
-is_aligned : skeleton_of (codes ",!") ≡ Err (Later 0)
-is_aligned = refl
+is_endless_priority : skeleton_of (codes ".00/@@*r") ≡ Err (Unknown 0)
+is_endless_priority = refl
+
+-- ICU shows the fraction's digits in any case
+is_old_most : skeleton_of (codes ".00/@##") ≡ Err (Later 0)
+is_old_most = refl
+
+is_old_least : skeleton_of (codes ".00/@@@*") ≡ Err (Later 0)
+is_old_least = refl
+
+is_digits_twice : skeleton_of (codes ".00 @@") ≡ Err (Twice 4)
+is_digits_twice = refl
+
+is_compact_significant : skeleton_of (codes "K @@#") ≡ Err (Later 2)
+is_compact_significant = refl
 
 is_scaled : skeleton_of (codes "percent scale/100") ≡ Err (Later 8)
 is_scaled = refl
@@ -235,8 +299,28 @@ digits_least : (format_of (record plain { precision = Fraction 2 2 })).options.f
 digits_least = refl
 
 -- `.00/w`
-whole_zeros : (format_of (record plain { precision = Whole 2 })).options.zeros ≡ TrimWhole
+whole_zeros : (format_of (record plain { precision = Whole 2 0 })).options.zeros ≡ TrimAll
 whole_zeros = refl
+
+-- `@@#`: two digits at least, three at most, from the first that is not zero on
+significant_rounding : (format_of (record plain { precision = Significant 2 1 Shown })).options.rounding ≡ rounding.Significant (record { least = 2; most = 3 }) (Unsigned HalfEven)
+significant_rounding = refl
+
+-- `@@*`: nothing is rounded, as no number has more digits
+significant_on_rounding : (format_of (record plain { precision = SignificantAtLeast 2 Shown })).options.rounding ≡ rounding.Significant (record { least = 2; most = 65535 }) (Unsigned HalfEven)
+significant_on_rounding = refl
+
+-- `.0#/@@r`
+either_rounding : (format_of (record plain { precision = Either 1 1 2 0 MorePrecision Shown })).options.rounding
+    ≡ rounding.Either MorePrecision (negsuc 1) (record { least = 2; most = 2 }) (Unsigned HalfEven)
+either_rounding = refl
+
+either_least : (format_of (record plain { precision = Either 1 1 2 0 MorePrecision Shown })).options.fraction_digits ≡ pos 1
+either_least = refl
+
+-- `group-on-aligned`
+aligned_grouping : (format_of (record plain { grouping = grouping.OnAligned })).shape.grouping ≡ strategy.OnAligned
+aligned_grouping = refl
 
 -- a compact pattern rounds by itself
 compact_rounding : (format_of (record plain { notation = Compact Short })).options.rounding ≡ rounding.AsGiven

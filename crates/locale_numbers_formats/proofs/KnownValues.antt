@@ -11,13 +11,15 @@ use Rattle.fixed_decimal.specs.declared.UnsignedRoundingMode.TheVariants.{HalfEv
 use Rattle.icu_dimension_fractions.specs.declared.FractionIncrement.TheVariants as increment
 use Rattle.icu_dimension_fractions.specs.declared.FractionInfo.{FractionInfo}
 use Rattle.locale_numbers_formats.specs.AmountRounding.{amount_rounded}
-use Rattle.locale_numbers_formats.specs.Changed.{changed, rounded_by, shown, shown_signed}
+use Rattle.locale_numbers_formats.specs.Changed.{changed, rounded_by, settled_by, shown, shown_signed, significant_place}
 use Rattle.locale_numbers_formats.specs.Rounded.{rounded}
 use Rattle.locale_numbers_formats.specs.declared.options.LeadingZeros.TheVariants as leading
 use Rattle.locale_numbers_formats.specs.declared.options.NumberOptions.{NumberOptions}
 use Rattle.locale_numbers_formats.specs.declared.options.Rounding.{Rounding}
 use Rattle.locale_numbers_formats.specs.declared.options.Rounding.TheVariants as rounding
+use Rattle.locale_numbers_formats.specs.declared.options.RoundingPriority.TheVariants.{MorePrecision, LessPrecision}
 use Rattle.locale_numbers_formats.specs.declared.options.SignAsked.TheVariants.{Keep, Show}
+use Rattle.locale_numbers_formats.specs.declared.options.SignificantDigits.{SignificantDigits}
 use Rattle.locale_numbers_formats.specs.declared.options.TrailingZeros.TheVariants as trailing
 
 -- a count of the least unit shown, with so many digits after the point, and so many before it
@@ -61,21 +63,24 @@ to_tenths value = refl
 abbrev to_thousands : NumberOptions
 to_thousands = asked (rounding.At (pos 3) (Unsigned HalfEven) MultiplesOf1)
 
+abbrev to_ones : Rounding
+to_ones = rounding.At (pos 0) (Unsigned Trunc) MultiplesOf1
+
 -- 400 rounded to thousands is `000` as a line has it, and `0` as ICU has it
-zeros_of_a_line : shown to_thousands (number 0 0 3) ≡ number 0 0 3
+zeros_of_a_line : shown to_thousands.rounding to_thousands (number 0 0 3) ≡ number 0 0 3
 zeros_of_a_line = refl
 
-one_zero : shown (record to_thousands { leading_zeros = leading.TrimRoundedZero }) (number 0 0 3) ≡ number 0 0 1
+one_zero : shown to_thousands.rounding (record to_thousands { leading_zeros = leading.TrimRoundedZero }) (number 0 0 3) ≡ number 0 0 1
 one_zero = refl
 
 -- zeros before another number stay, `0001000` of 0001400, and those of a zero that was rounded elsewhere, or not
-other_zeros : shown (record to_thousands { leading_zeros = leading.TrimRoundedZero }) (number 1000 0 7) ≡ number 1000 0 7
+other_zeros : shown to_thousands.rounding (record to_thousands { leading_zeros = leading.TrimRoundedZero }) (number 1000 0 7) ≡ number 1000 0 7
 other_zeros = refl
 
 given_zeros : changed (record (asked rounding.Usual) { leading_zeros = leading.TrimRoundedZero }) None (plain 0 0 3) ≡ plain 0 0 3
 given_zeros = refl
 
-ones_of_zeros : shown (record (asked (rounding.At (pos 0) (Unsigned HalfEven) MultiplesOf1)) { leading_zeros = leading.TrimRoundedZero }) (number 0 0 3) ≡ number 0 0 3
+ones_of_zeros : shown to_ones (record (asked to_ones) { leading_zeros = leading.TrimRoundedZero }) (number 0 0 3) ≡ number 0 0 3
 ones_of_zeros = refl
 
 -- `7` of `007`, and `0.5` of `00.5`
@@ -100,6 +105,51 @@ fraction_stays = refl
 fraction_goes : changed (record (asked rounding.Usual) { zeros = trailing.TrimWhole }) None (plain 200 2 1) ≡ plain 2 0 1
 fraction_goes = refl
 
+-- by two fraction digits 2 is `2` where a fraction of zeros alone is not shown, and 1.5 is `1.50`
+whole_after_pad : changed (record (asked rounding.Usual) { zeros = trailing.TrimWhole; fraction_digits = pos 2 }) None (plain 2 0 1) ≡ plain 2 0 1
+whole_after_pad = refl
+
+trimmed_and_whole : changed (record (asked rounding.Usual) { zeros = trailing.TrimAll; fraction_digits = pos 2 }) None (plain 2000 3 1) ≡ plain 2 0 1
+trimmed_and_whole = refl
+
+trimmed_and_padded : changed (record (asked rounding.Usual) { zeros = trailing.TrimAll; fraction_digits = pos 2 }) None (plain 1500 3 1) ≡ plain 150 2 1
+trimmed_and_padded = refl
+
+-- ---- significant digits: what they show is rows of `locale_numbers_rows`
+
+-- of 12345 three digits end at the hundreds, and one at the first; none counts as one
+three_of_five : significant_place 3 32772 ≡ 32770
+three_of_five = refl
+
+one_of_five : significant_place 1 32772 ≡ 32772
+one_of_five = refl
+
+none_is_one : significant_place 0 32772 ≡ 32772
+none_is_one = refl
+
+abbrev three_at_most : SignificantDigits
+three_at_most = record { least = 1; most = 3 }
+
+-- of 12345.678, position -2 and three digits, more precision takes the position, less the digits
+more_of_large : settled_by MorePrecision 32770 (negsuc 1) three_at_most (Unsigned HalfEven) ≡ rounding.At (negsuc 1) (Unsigned HalfEven) MultiplesOf1
+more_of_large = refl
+
+less_of_large : settled_by LessPrecision 32770 (negsuc 1) three_at_most (Unsigned HalfEven) ≡ rounding.Significant three_at_most (Unsigned HalfEven)
+less_of_large = refl
+
+-- of 0.012345 it is the other way round, and where both end at one place more precision takes the digits
+more_of_small : settled_by MorePrecision 32764 (negsuc 1) three_at_most (Unsigned HalfEven) ≡ rounding.Significant three_at_most (Unsigned HalfEven)
+more_of_small = refl
+
+less_of_small : settled_by LessPrecision 32764 (negsuc 1) three_at_most (Unsigned HalfEven) ≡ rounding.At (negsuc 1) (Unsigned HalfEven) MultiplesOf1
+less_of_small = refl
+
+more_of_same : settled_by MorePrecision 32766 (negsuc 1) three_at_most (Unsigned HalfEven) ≡ rounding.Significant three_at_most (Unsigned HalfEven)
+more_of_same = refl
+
+less_of_same : settled_by LessPrecision 32766 (negsuc 1) three_at_most (Unsigned HalfEven) ≡ rounding.At (negsuc 1) (Unsigned HalfEven) MultiplesOf1
+less_of_same = refl
+
 -- ---- pads
 
 -- 7 with three digits before the point and two after it is `007.00`
@@ -123,7 +173,7 @@ whole_of_two = refl
 -- ---- signs
 
 -- the sign is chosen by what the rounding left: -0.4 by `trunc` and `except-zero` is `0`, and 9.8 with `always` is `+9.8`
-zero_has_none : shown_signed (record (asked (rounding.At (pos 0) (Unsigned Trunc) MultiplesOf1)) { sign = Show display.ExceptZero }) (minus 0 0 1) ≡ plain 0 0 1
+zero_has_none : shown_signed to_ones (record (asked to_ones) { sign = Show display.ExceptZero }) (minus 0 0 1) ≡ plain 0 0 1
 zero_has_none = refl
 
 always_plus : changed (record (asked rounding.Usual) { sign = Show display.Always }) None (plain 98 1 1) ≡ record { sign = sign.Positive; absolute = number 98 1 1 }

@@ -1,9 +1,13 @@
 pub mod AmountLemmas
 pub mod ChangedLemmas
 pub mod CuttingLemmas
+pub mod DigitOrderLemmas
+pub mod DigitShownLemmas
+pub mod EitherLemmas
 mod KnownSkeletons
 mod KnownValues
 pub mod NormalLemmas
+pub mod OlderLemmas
 pub mod PieceLemmas
 pub mod ReadLemmas
 pub mod RoundTrip

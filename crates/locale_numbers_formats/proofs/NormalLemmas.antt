@@ -5,7 +5,7 @@ use Rattle.writeable.specs.AnnotatedText.{Event, bytes}
 use Rattle.writeable.specs.Taking.{HasBegun, IsWriting}
 use Rattle.writeable.proofs.WritingLemmas.{writing_goes_on, writing_stops}
 pub use Rattle.writeable.proofs.AnnotatedTextLemmas.{bytes_joined, no_bytes}
-use Rattle.locale_numbers_formats.specs.NormalText.{gap, joined, marks, word_after, word_events, word_of}
+use Rattle.locale_numbers_formats.specs.NormalText.{gap, joined, marks, at_signs, at_sign_events, word_after, word_events, word_of}
 use Rattle.locale_numbers_formats.specs.declared.normal_text.NormalWord.{NormalWord}
 
 pub no_gap : bytes (gap false) ≡ []
@@ -19,18 +19,34 @@ no_word spaced (Some word) none = absurd (cc)
 pub fixed_is : (word : List ℕ) → word ++ ([] ++ ([] ++ [])) ≡ word
 fixed_is word = append-nil word
 
+at_sign_events_are : (w : NormalWord) → bytes (w.slash.now ++ at_signs w.signs w.others w.behind.now) ≡ at_sign_events w
+at_sign_events_are w =
+    bytes_joined w.slash.now (signs ++ (others ++ w.behind.now))
+    ∙ ap (λ (es : List Event). bytes w.slash.now ++ es) (bytes_joined signs (others ++ w.behind.now)
+    ∙ ap (λ (es : List Event). bytes signs ++ es) (bytes_joined others w.behind.now))
+  where
+    signs : List ℕ
+    signs = marks w.signs (64 ∷ [])
+
+    others : List ℕ
+    others = marks w.others (35 ∷ [])
+
 pub word_events_are : (spaced : Bool) (w : NormalWord) → bytes (word_after spaced (option_map word_of (Some w))) ≡ word_events spaced w
 word_events_are spaced w =
     bytes_joined (gap spaced) (word_of w)
-    ∙ ap (λ (es : List Event). bytes (gap spaced) ++ es) (bytes_joined w.front.now (zeros ++ (hashes ++ w.behind.now))
-    ∙ ap (λ (es : List Event). bytes w.front.now ++ es) (bytes_joined zeros (hashes ++ w.behind.now)
-    ∙ ap (λ (es : List Event). bytes zeros ++ es) (bytes_joined hashes w.behind.now)))
+    ∙ ap (λ (es : List Event). bytes (gap spaced) ++ es) (bytes_joined w.front.now (zeros ++ (hashes ++ rest))
+    ∙ ap (λ (es : List Event). bytes w.front.now ++ es) (bytes_joined zeros (hashes ++ rest)
+    ∙ ap (λ (es : List Event). bytes zeros ++ es) (bytes_joined hashes rest
+    ∙ ap (λ (es : List Event). bytes hashes ++ es) (at_sign_events_are w))))
   where
     zeros : List ℕ
     zeros = marks w.zeros (48 ∷ [])
 
     hashes : List ℕ
     hashes = marks w.hashes (35 ∷ [])
+
+    rest : List ℕ
+    rest = w.slash.now ++ at_signs w.signs w.others w.behind.now
 
 -- one mark more
 marks_suc : (left : ℕ) (mark : List ℕ) → marks (suc left) mark ≡ mark ++ marks left mark

@@ -1,22 +1,23 @@
 -- What is read of a skeleton can be asked for by words: the code is one, and there are not too many marks.
-use Rattle.std.proofs.Common.{◌≡◌, ℕ, ◌+◌, ◌-◌, ◌≤◌, nat_le, nat_lt, Bool, true, false, ◌&&◌, ◌||◌, ◌==◌, List, [], ◌∷◌, length, drop, take, position, Option, Some, None, unwrap_or, Result, Ok, Err, codes, cond, refl, ap, subst, length-drop, arith}
+use Rattle.std.proofs.Common.{◌≡◌, ℕ, ◌+◌, ◌-◌, ◌<◌, ◌≤◌, nat_le, nat_lt, Bool, true, false, ◌&&◌, ◌||◌, ◌==◌, List, [], ◌∷◌, length, drop, take, position, Option, Some, None, unwrap_or, Result, Ok, Err, codes, cond, refl, subst, arith}
 use Rattle.std.specs.List.{list_all}
 use Rattle.std.specs.Str.{bytes_eq}
 use Rattle.std.specs.Char.{to_ascii_uppercase}
 use Rattle.std.specs.Prelude.{slice_index}
-use Rattle.std.proofs.lemmas.Bool.{and_parts, false≢true, le-leb, leb-true, ltb-false, ltb-true}
-use Rattle.std.proofs.lemmas.Slice.Eq.{bytes_eq-Decides}
+use Rattle.std.proofs.lemmas.Bool.{and_parts, false≢true, le-leb, leb-true, lt-ltb, ltb-false, ltb-true}
 use Rattle.fixed_decimal.specs.declared.SignDisplay.{SignDisplay}
 use Rattle.fixed_decimal.specs.declared.SignDisplay.TheVariants as display
 use Rattle.icu_dimension_fractions.specs.CurrencyCodes.{is_currency_code}
 use Rattle.icu_dimension_fractions.specs.declared.CurrencyStyle.{CurrencyStyle}
 use Rattle.icu_dimension_fractions.specs.declared.CurrencyStyle.TheVariants as style
 use Rattle.locale_numbers_formats.specs.Cutting.{cut_at, is_separator}
-use Rattle.locale_numbers_formats.specs.Marks.{fraction_end, fraction_setting, leading, marked, padded_setting, zeros_or}
+use Rattle.locale_numbers_formats.specs.Marks.{digits_end, digits_setting, either_end, either_setting, exponent_digits, exponent_setting, exponent_sign, exponent_signed, fraction_end, fraction_setting, leading, marked, old_end, old_form, option_setting, padded_setting, zeros_or}
 use Rattle.locale_numbers_formats.specs.SkeletonLaws.{HasCode, HasMarks, IsSkeleton}
 use Rattle.locale_numbers_formats.specs.Skeletons.{at_place, checked, checked_by, no_words, once, pair_fault, read_word, read_words, set, settled, skeleton_of, space, then_read}
 use Rattle.locale_numbers_formats.specs.Stems.{capital_code, coded, fronts, optioned, or_marked, or_slashed, or_unknown, setting_named, slashed_at, slash, stems}
 use Rattle.locale_numbers_formats.specs.WordTable.{value_beside}
+use Rattle.locale_numbers_formats.specs.declared.options.RoundingPriority.{RoundingPriority}
+use Rattle.locale_numbers_formats.specs.declared.options.RoundingPriority.TheVariants.{MorePrecision, LessPrecision}
 use Rattle.locale_numbers_formats.specs.declared.skeleton.SettingKind.{SettingKind}
 use Rattle.locale_numbers_formats.specs.declared.skeleton.Skeleton.{Skeleton}
 use Rattle.locale_numbers_formats.specs.declared.skeleton.Words.{Words}
@@ -30,6 +31,8 @@ use Rattle.locale_numbers_formats.specs.declared.stems.Setting.TheVariants.{OfNo
 use Rattle.locale_numbers_formats.specs.declared.stems.SkeletonSign.{SkeletonSign}
 use Rattle.locale_numbers_formats.specs.declared.stems.SkeletonUnit.{SkeletonUnit}
 use Rattle.locale_numbers_formats.specs.declared.stems.SkeletonUnit.TheVariants as unit
+use Rattle.locale_numbers_formats.specs.declared.stems.WholeZeros.{WholeZeros}
+use Rattle.locale_numbers_formats.specs.declared.stems.WholeZeros.TheVariants.{Shown, Hidden}
 
 -- ---- whether a word can ask for a thing
 
@@ -42,8 +45,11 @@ abbrev is_precision : Precision → Bool
 is_precision precision.Usual = true
 is_precision precision.Unlimited = true
 is_precision (precision.Fraction least more) = nat_le (least + more) 100
-is_precision (precision.AtLeast least) = nat_lt 0 least && nat_le (least + 1) 100
-is_precision (precision.Whole least) = nat_le (least + 2) 100
+is_precision (precision.AtLeast least) = nat_lt 0 least && nat_le least 100
+is_precision (precision.Whole least more) = nat_le (least + more) 100
+is_precision (precision.Significant least more zeros) = nat_lt 0 least && nat_le (least + more) 100
+is_precision (precision.SignificantAtLeast least zeros) = nat_lt 0 least && nat_le least 100
+is_precision (precision.Either least more digits others priority zeros) = nat_le (least + more) 100 && (nat_lt 0 digits && nat_le (digits + others) 100)
 is_precision (precision.Currency usage) = true
 is_precision (precision.WholeCurrency usage) = true
 
@@ -120,78 +126,188 @@ padded_is (c ∷ zeros) = at ((c == 42) || (c == 43))
     at true = zeros_is fault.Unsupported zeros
     at false = refl
 
-optioned_is : (front option : List ℕ) → is_setting (optioned front option) ≡ true
-optioned_is front option = at (bytes_eq front (codes "currency")) (bytes_eq front (codes "integer-width"))
+both : (a b : Bool) → a ≡ true → b ≡ true → (a && b) ≡ true
+both true b one other = other
+both false b one other = one
+
+some_of : (least most : ℕ) → 0 < least → most ≤ 100 → (nat_lt 0 least && nat_le most 100) ≡ true
+some_of least most some few = both (nat_lt 0 least) (nat_le most 100) (lt-ltb 0 least some) (le-leb most 100 few)
+
+digits_end_is : (least more : ℕ) (end : List ℕ) → 0 < least → least + more ≤ 100 → is_setting (digits_end least more end) ≡ true
+digits_end_is least more end some few =
+    at (bytes_eq end []) (bytes_eq end (codes "/w")) ((more == 0) && (bytes_eq end (codes "*") || bytes_eq end (codes "+"))) ((more == 0) && (bytes_eq end (codes "*/w") || bytes_eq end (codes "+/w")))
   where
-    at : (b d : Bool) → is_setting (cond b (coded option) (cond d (padded_setting option) (or_unknown (value_beside fronts front)))) ≡ true
-    at true d = coded_is option
-    at false true = padded_is option
-    at false false = or_unknown_is (value_beside fronts front) (λ v some. beside_is fronts front v refl some)
+    at : (a b d e : Bool)
+        → is_setting (cond a (OfPrecision (precision.Significant least more Shown)) (cond b (OfPrecision (precision.Significant least more Hidden)) (cond d (OfPrecision (precision.SignificantAtLeast least Shown))
+        (cond e (OfPrecision (precision.SignificantAtLeast least Hidden)) (Refused fault.Unknown))))) ≡ true
+    at true b d e = some_of least (least + more) some few
+    at false true d e = some_of least (least + more) some few
+    at false false true e = some_of least least some (omega (arith, few))
+    at false false false true = some_of least least some (omega (arith, few))
+    at false false false false = refl
+
+digits_setting_is : (marks : List ℕ) → is_setting (digits_setting marks) ≡ true
+digits_setting_is marks = at (nat_lt 100 (signs + leading 35 rest)) refl
+  where
+    signs : ℕ
+    signs = 1 + leading 64 marks
+
+    rest : List ℕ
+    rest = drop (leading 64 marks) marks
+
+    at : (b : Bool) → nat_lt 100 (signs + leading 35 rest) ≡ b → is_setting (cond b (Refused fault.Unknown) (digits_end signs (leading 35 rest) (drop (leading 35 rest) rest))) ≡ true
+    at true is = refl
+    at false is = digits_end_is signs (leading 35 rest) (drop (leading 35 rest) rest) (omega arith) (ltb-false 100 (signs + leading 35 rest) is)
+
+old_form_is : (least : ℕ) (setting : Setting) → is_setting setting ≡ true → is_setting (old_form least setting) ≡ true
+old_form_is least setting is = at (least == 0)
+  where
+    at : (b : Bool) → is_setting (cond b setting (Refused fault.Later)) ≡ true
+    at true = is
+    at false = refl
+
+module _ (least more digits others : ℕ) (few : least + more ≤ 100) (some : 0 < digits) (most : digits + others ≤ 100) where
+  either_has : (one rest : ℕ) (p : RoundingPriority) (z : WholeZeros) → 0 < one → one + rest ≤ 100 → is_setting (OfPrecision (precision.Either least more one rest p z)) ≡ true
+  either_has one rest p z first last = both (nat_le (least + more) 100) (nat_lt 0 one && nat_le (one + rest) 100) (le-leb (least + more) 100 few) (some_of one (one + rest) first last)
+
+  old_end_is : (end : List ℕ) → is_setting (old_end least more digits others end) ≡ true
+  old_end_is end =
+      at ((others == 0) && (bytes_eq end (codes "*") || bytes_eq end (codes "+"))) ((others == 0) && (bytes_eq end (codes "*/w") || bytes_eq end (codes "+/w"))) ((digits == 1) && bytes_eq end []) refl
+      ((digits == 1) && bytes_eq end (codes "/w")) refl
+    where
+      relaxed : WholeZeros → Setting
+      relaxed z = old_form least (OfPrecision (precision.Either least more 1 (digits - 1) MorePrecision z))
+
+      strict : WholeZeros → Setting
+      strict z = old_form least (OfPrecision (precision.Either least more 1 others LessPrecision z))
+
+      fits : 1 + (digits - 1) ≤ 100
+      fits = omega (arith, some, most)
+
+      fits_strict : 1 + others ≤ 100
+      fits_strict = omega (arith, some, most)
+
+      at : (a b d : Bool) → ((digits == 1) && bytes_eq end []) ≡ d → (e : Bool) → ((digits == 1) && bytes_eq end (codes "/w")) ≡ e
+          → is_setting (cond a (relaxed Shown) (cond b (relaxed Hidden) (cond d (strict Shown) (cond e (strict Hidden) (Refused fault.Unknown))))) ≡ true
+      at true b d _ e _ = old_form_is least _ (either_has 1 (digits - 1) MorePrecision Shown (omega arith) fits)
+      at false true d _ e _ = old_form_is least _ (either_has 1 (digits - 1) MorePrecision Hidden (omega arith) fits)
+      at false false true _ e _ = old_form_is least _ (either_has 1 others LessPrecision Shown (omega arith) fits_strict)
+      at false false false _ true _ = old_form_is least _ (either_has 1 others LessPrecision Hidden (omega arith) fits_strict)
+      at false false false _ false _ = refl
+
+  either_end_is : (end : List ℕ) → is_setting (either_end least more digits others end) ≡ true
+  either_end_is end = at (bytes_eq end (codes "r")) (bytes_eq end (codes "r/w")) (bytes_eq end (codes "s")) (bytes_eq end (codes "s/w"))
+    where
+      at : (a b d e : Bool)
+          → is_setting (cond a (OfPrecision (precision.Either least more digits others MorePrecision Shown)) (cond b (OfPrecision (precision.Either least more digits others MorePrecision Hidden))
+          (cond d (OfPrecision (precision.Either least more digits others LessPrecision Shown)) (cond e (OfPrecision (precision.Either least more digits others LessPrecision Hidden)) (old_end least more digits others end))))) ≡ true
+      at true b d e = either_has digits others MorePrecision Shown some most
+      at false true d e = either_has digits others MorePrecision Hidden some most
+      at false false true e = either_has digits others LessPrecision Shown some most
+      at false false false true = either_has digits others LessPrecision Hidden some most
+      at false false false false = old_end_is end
+
+either_setting_is : (least more : ℕ) (marks : List ℕ) → least + more ≤ 100 → is_setting (either_setting least more marks) ≡ true
+either_setting_is least more marks few = at (nat_lt 100 (signs + leading 35 rest)) refl
+  where
+    signs : ℕ
+    signs = 1 + leading 64 marks
+
+    rest : List ℕ
+    rest = drop (leading 64 marks) marks
+
+    at : (b : Bool) → nat_lt 100 (signs + leading 35 rest) ≡ b → is_setting (cond b (Refused fault.Unknown) (either_end least more signs (leading 35 rest) (drop (leading 35 rest) rest))) ≡ true
+    at true is = refl
+    at false is = either_end_is least more signs (leading 35 rest) few (omega arith) (ltb-false 100 (signs + leading 35 rest) is) (drop (leading 35 rest) rest)
+
+option_is : (least more : ℕ) (option : List ℕ) → least + more ≤ 100 → is_setting (option_setting least more option) ≡ true
+option_is least more [] few = refl
+option_is least more (c ∷ cs) few = at (c == 64) (bytes_eq (c ∷ cs) (codes "w"))
+  where
+    at : (a b : Bool) → is_setting (cond a (either_setting least more cs) (cond b (OfPrecision (precision.Whole least more)) (Refused fault.Unknown))) ≡ true
+    at true b = either_setting_is least more cs few
+    at false true = le-leb (least + more) 100 few
+    at false false = refl
+
+optioned_is : (front option : List ℕ) → is_setting (optioned front option) ≡ true
+optioned_is front option = at (bytes_eq front (codes "currency")) (bytes_eq front (codes "integer-width")) (bytes_eq front (codes "precision-integer"))
+  where
+    at : (b d e : Bool) → is_setting (cond b (coded option) (cond d (padded_setting option) (cond e (option_setting 0 0 option) (or_unknown (value_beside fronts front))))) ≡ true
+    at true d e = coded_is option
+    at false true e = padded_is option
+    at false false true = option_is 0 0 option (omega arith)
+    at false false false = or_unknown_is (value_beside fronts front) (λ v some. beside_is fronts front v refl some)
 
 slashed_is : (o : Option ℕ) (word : List ℕ) → is_setting (slashed_at o word) ≡ true
 slashed_is None word = refl
 slashed_is (Some end) word = optioned_is (take end word) (drop (end + 1) word)
 
-leading_most : (mark : ℕ) (text : List ℕ) → leading mark text ≤ length text
-leading_most mark [] = omega arith
-leading_most mark (c ∷ cs) = at (c == mark) (leading_most mark cs)
+end_is : (least more : ℕ) (end : List ℕ) → least + more ≤ 100 → is_setting (fraction_end least more end) ≡ true
+end_is least more [] few = le-leb (least + more) 100 few
+end_is least more (c ∷ cs) few = at (c == 47) ((more == 0) && (nat_lt 0 least && (bytes_eq (c ∷ cs) (codes "*") || bytes_eq (c ∷ cs) (codes "+")))) refl
   where
-    at : (b : Bool) → leading mark cs ≤ length cs → cond b (1 + leading mark cs) 0 ≤ length (c ∷ cs)
-    at true most = omega (arith, most)
-    at false most = omega arith
-
-both : (a b : Bool) → a ≡ true → b ≡ true → (a && b) ≡ true
-both true b one other = other
-both false b one other = one
-
-end_is : (least more : ℕ) (end : List ℕ) → least + (more + length end) ≤ 100 → is_setting (fraction_end least more end) ≡ true
-end_is least more [] few = le-leb (least + more) 100 (omega (arith, few))
-end_is least more (c ∷ cs) few =
-    at ((more == 0) && (nat_lt 0 least && (bytes_eq (c ∷ cs) (codes "*") || bytes_eq (c ∷ cs) (codes "+")))) refl ((more == 0) && bytes_eq (c ∷ cs) (codes "/w")) refl (c == 47)
-  where
-    at : (a : Bool) → ((more == 0) && (nat_lt 0 least && (bytes_eq (c ∷ cs) (codes "*") || bytes_eq (c ∷ cs) (codes "+")))) ≡ a
-        → (b : Bool) → ((more == 0) && bytes_eq (c ∷ cs) (codes "/w")) ≡ b → (d : Bool)
-        → is_setting (cond a (OfPrecision (precision.AtLeast least)) (cond b (OfPrecision (precision.Whole least)) (cond d (Refused fault.Later) (Refused fault.Unknown)))) ≡ true
-    at true is b w d =
+    at : (a b : Bool) → ((more == 0) && (nat_lt 0 least && (bytes_eq (c ∷ cs) (codes "*") || bytes_eq (c ∷ cs) (codes "+")))) ≡ b
+        → is_setting (cond a (option_setting least more cs) (cond b (OfPrecision (precision.AtLeast least)) (Refused fault.Unknown))) ≡ true
+    at true b is = option_is least more cs few
+    at false true is =
         let p = and_parts (more == 0) (nat_lt 0 least && (bytes_eq (c ∷ cs) (codes "*") || bytes_eq (c ∷ cs) (codes "+"))) is in
         let q = and_parts (nat_lt 0 least) (bytes_eq (c ∷ cs) (codes "*") || bytes_eq (c ∷ cs) (codes "+")) p.1 in
-        both (nat_lt 0 least) (nat_le (least + 1) 100) q.0 (le-leb (least + 1) 100 (omega (arith, few)))
-    at false is true w d =
-        let p = and_parts (more == 0) (bytes_eq (c ∷ cs) (codes "/w")) w in
-        let same : c ∷ cs ≡ codes "/w" = (bytes_eq-Decides (c ∷ cs) (codes "/w")).0 p.1 in
-        let long : length (c ∷ cs) ≡ 2 = ap length same in
-        le-leb (least + 2) 100 (omega (arith, few, long))
-    at false is false w true = refl
-    at false is false w false = refl
+        both (nat_lt 0 least) (nat_le least 100) q.0 (le-leb least 100 (omega (arith, few)))
+    at false false is = refl
 
 fraction_setting_is : (marks : List ℕ) → is_setting (fraction_setting marks) ≡ true
-fraction_setting_is marks = at (nat_lt 100 (length marks)) refl
+fraction_setting_is marks = at (nat_lt 100 (leading 48 marks + leading 35 rest)) refl
   where
     rest : List ℕ
     rest = drop (leading 48 marks) marks
 
-    end : List ℕ
-    end = drop (leading 35 rest) rest
-
-    at : (b : Bool) → nat_lt 100 (length marks) ≡ b → is_setting (cond b (Refused fault.Unknown) (fraction_end (leading 48 marks) (leading 35 rest) end)) ≡ true
+    at : (b : Bool) → nat_lt 100 (leading 48 marks + leading 35 rest) ≡ b → is_setting (cond b (Refused fault.Unknown) (fraction_end (leading 48 marks) (leading 35 rest) (drop (leading 35 rest) rest))) ≡ true
     at true is = refl
-    at false is =
-        let most = ltb-false 100 (length marks) is in
-        let first = leading_most 48 marks in
-        let second = leading_most 35 rest in
-        let long : length rest ≡ length marks - leading 48 marks = length-drop (leading 48 marks) marks in
-        let last : length end ≡ length rest - leading 35 rest = length-drop (leading 35 rest) rest in
-        end_is (leading 48 marks) (leading 35 rest) end (omega (arith, most, first, second, long, last))
+    at false is = end_is (leading 48 marks) (leading 35 rest) (drop (leading 35 rest) rest) (ltb-false 100 (leading 48 marks + leading 35 rest) is)
+
+exponent_digits_is : (text : List ℕ) → is_setting (exponent_digits text) ≡ true
+exponent_digits_is [] = refl
+exponent_digits_is (c ∷ cs) = at (nat_lt (leading 48 (c ∷ cs)) (length (c ∷ cs)))
+  where
+    at : (b : Bool) → is_setting (cond b (Refused fault.Unknown) (Refused fault.Later)) ≡ true
+    at true = refl
+    at false = refl
+
+exponent_sign_is : (text : List ℕ) → is_setting (exponent_sign text) ≡ true
+exponent_sign_is [] = refl
+exponent_sign_is (c ∷ cs) = at ((c == 33) || (c == 63))
+  where
+    at : (b : Bool) → is_setting (cond b (exponent_digits cs) (Refused fault.Unknown)) ≡ true
+    at true = exponent_digits_is cs
+    at false = refl
+
+exponent_signed_is : (text : List ℕ) → is_setting (exponent_signed text) ≡ true
+exponent_signed_is [] = refl
+exponent_signed_is (c ∷ cs) = at (c == 43)
+  where
+    at : (b : Bool) → is_setting (cond b (exponent_sign cs) (exponent_digits (c ∷ cs))) ≡ true
+    at true = exponent_sign_is cs
+    at false = exponent_digits_is (c ∷ cs)
+
+exponent_setting_is : (marks : List ℕ) → is_setting (exponent_setting marks) ≡ true
+exponent_setting_is [] = refl
+exponent_setting_is (c ∷ cs) = at (c == 69)
+  where
+    at : (b : Bool) → is_setting (cond b (exponent_signed cs) (exponent_signed (c ∷ cs))) ≡ true
+    at true = exponent_signed_is cs
+    at false = exponent_signed_is (c ∷ cs)
 
 marked_is : (word : List ℕ) (v : Setting) → marked word ≡ Some v → is_setting v ≡ true
 marked_is [] v same = absurd (cc)
-marked_is (c ∷ marks) v same = at (c == 46) (c == 48) (c == 64) same
+marked_is (c ∷ marks) v same = at (c == 46) (c == 48) (c == 64) (c == 69) same
   where
-    at : (a b d : Bool) → cond a (Some (fraction_setting marks)) (cond b (Some (zeros_or fault.Unknown (c ∷ marks))) (cond d (Some (Refused fault.Later)) None)) ≡ Some v → is_setting v ≡ true
-    at true b d is = subst (λ (x : Setting). is_setting x ≡ true) (some_is (fraction_setting marks) v is) (fraction_setting_is marks)
-    at false true d is = subst (λ (x : Setting). is_setting x ≡ true) (some_is (zeros_or fault.Unknown (c ∷ marks)) v is) (zeros_is fault.Unknown (c ∷ marks))
-    at false false true is = subst (λ (x : Setting). is_setting x ≡ true) (some_is (Refused fault.Later) v is) refl
-    at false false false is = absurd (cc)
+    at : (a b d e : Bool)
+        → cond a (Some (fraction_setting marks)) (cond b (Some (zeros_or fault.Unknown (c ∷ marks))) (cond d (Some (digits_setting marks)) (cond e (Some (exponent_setting marks)) None))) ≡ Some v → is_setting v ≡ true
+    at true b d e is = subst (λ (x : Setting). is_setting x ≡ true) (some_is (fraction_setting marks) v is) (fraction_setting_is marks)
+    at false true d e is = subst (λ (x : Setting). is_setting x ≡ true) (some_is (zeros_or fault.Unknown (c ∷ marks)) v is) (zeros_is fault.Unknown (c ∷ marks))
+    at false false true e is = subst (λ (x : Setting). is_setting x ≡ true) (some_is (digits_setting marks) v is) (digits_setting_is marks)
+    at false false false true is = subst (λ (x : Setting). is_setting x ≡ true) (some_is (exponent_setting marks) v is) (exponent_setting_is marks)
+    at false false false false is = absurd (cc)
 
 setting_is : (word : List ℕ) → is_setting (setting_named word) ≡ true
 setting_is word = at (value_beside stems word) (λ v some. beside_is stems word v refl some)
@@ -267,14 +383,21 @@ unit_has (Some unit.None) is = tt
 unit_has (Some unit.Percent) is = tt
 unit_has (Some (unit.Currency code)) is = is (unit.Currency code) refl
 
+some_from : (least most : ℕ) → (nat_lt 0 least && nat_le most 100) ≡ true → (0 < least) × (most ≤ 100)
+some_from least most is = let p = and_parts (nat_lt 0 least) (nat_le most 100) is in (ltb-true 0 least p.0, leb-true most 100 p.1)
+
 precision_has : (o : Option Precision) → ((x : Precision) → o ≡ Some x → is_precision x ≡ true) → HasMarks (unwrap_or o precision.Usual)
 precision_has None is = tt
 precision_has (Some precision.Usual) is = tt
 precision_has (Some precision.Unlimited) is = tt
 precision_has (Some (precision.Fraction least more)) is = leb-true (least + more) 100 (is (precision.Fraction least more) refl)
-precision_has (Some (precision.AtLeast least)) is =
-    let p = and_parts (nat_lt 0 least) (nat_le (least + 1) 100) (is (precision.AtLeast least) refl) in (ltb-true 0 least p.0, leb-true (least + 1) 100 p.1)
-precision_has (Some (precision.Whole least)) is = leb-true (least + 2) 100 (is (precision.Whole least) refl)
+precision_has (Some (precision.AtLeast least)) is = some_from least least (is (precision.AtLeast least) refl)
+precision_has (Some (precision.Whole least more)) is = leb-true (least + more) 100 (is (precision.Whole least more) refl)
+precision_has (Some (precision.Significant least more z)) is = some_from least (least + more) (is (precision.Significant least more z) refl)
+precision_has (Some (precision.SignificantAtLeast least z)) is = some_from least least (is (precision.SignificantAtLeast least z) refl)
+precision_has (Some (precision.Either least more digits others p z)) is =
+    let q = and_parts (nat_le (least + more) 100) (nat_lt 0 digits && nat_le (digits + others) 100) (is (precision.Either least more digits others p z) refl) in
+    (leb-true (least + more) 100 q.0, some_from digits (digits + others) q.1)
 precision_has (Some (precision.Currency usage)) is = tt
 precision_has (Some (precision.WholeCurrency usage)) is = tt
 

@@ -17,11 +17,13 @@ use Rattle.icu_dimension_fractions.specs.declared.CurrencyUsage.TheVariants.{Sta
 use Rattle.icu_dimension_fractions.specs.declared.CurrencyWidth.{CurrencyWidth}
 use Rattle.icu_dimension_fractions.specs.declared.CurrencyWidth.TheVariants as width
 use Rattle.locale_numbers_formats.specs.Cutting.{cut_at, is_separator}
-use Rattle.locale_numbers_formats.specs.Marks.{fraction_end, fraction_hashes, leading, zeros_or}
-use Rattle.locale_numbers_formats.specs.NormalText.{digits_word, grouping_word, joined, marks, mode_word, normal_words, notation_word, pointed, precision_word, sign_word, sign_word_by, skeleton_text, unit_word, width_word}
+use Rattle.locale_numbers_formats.specs.Marks.{digits_counted, digits_end, digits_hashes, digits_setting, either_counted, either_end, either_hashes, either_setting, fraction_counted, fraction_end, fraction_hashes, fraction_setting, leading, option_setting, zeros_or}
+use Rattle.locale_numbers_formats.specs.NormalText.{digits_word, grouping_word, joined, marks, mode_word, normal_words, notation_word, pointed, precision_word, priority_mark, sign_word, sign_word_by, at_signs, skeleton_text, unit_word, whole_mark, width_word}
 use Rattle.locale_numbers_formats.specs.SkeletonLaws.{HasCode, HasMarks, IsSkeleton, NormalTextReadsBack}
 use Rattle.locale_numbers_formats.specs.Skeletons.{at_place, checked, checked_by, no_words, pair_fault, read_words, set, settled, skeleton_of, space, then_read, usual_grouping}
 use Rattle.locale_numbers_formats.specs.Stems.{capital_code, coded, setting_named, slashed_at}
+use Rattle.locale_numbers_formats.specs.declared.options.RoundingPriority.{RoundingPriority}
+use Rattle.locale_numbers_formats.specs.declared.options.RoundingPriority.TheVariants.{MorePrecision, LessPrecision}
 use Rattle.locale_numbers_formats.specs.declared.shape.CompactWidth.TheVariants.{Short, Long}
 use Rattle.locale_numbers_formats.specs.declared.shape.Notation.{Notation}
 use Rattle.locale_numbers_formats.specs.declared.shape.Notation.TheVariants as notation
@@ -39,6 +41,8 @@ use Rattle.locale_numbers_formats.specs.declared.stems.SkeletonGrouping.TheVaria
 use Rattle.locale_numbers_formats.specs.declared.stems.SkeletonSign.{SkeletonSign}
 use Rattle.locale_numbers_formats.specs.declared.stems.SkeletonUnit.{SkeletonUnit}
 use Rattle.locale_numbers_formats.specs.declared.stems.SkeletonUnit.TheVariants as unit
+use Rattle.locale_numbers_formats.specs.declared.stems.WholeZeros.{WholeZeros}
+use Rattle.locale_numbers_formats.specs.declared.stems.WholeZeros.TheVariants.{Shown, Hidden}
 
 -- ---- words without spaces
 
@@ -121,6 +125,22 @@ clear_hashes : (count : ℕ) → is_clear_word (marks count (35 ∷ [])) ≡ tru
 clear_hashes zero = refl
 clear_hashes (suc count) = clear_hashes count
 
+clear_signs : (count : ℕ) → is_clear_word (marks count (64 ∷ [])) ≡ true
+clear_signs zero = refl
+clear_signs (suc count) = clear_signs count
+
+clear_at_signs : (signs hashes : ℕ) (behind : List ℕ) → is_clear_word behind ≡ true → is_clear_word (at_signs signs hashes behind) ≡ true
+clear_at_signs signs hashes behind clear =
+    clear_append (marks signs (64 ∷ [])) (marks hashes (35 ∷ []) ++ behind) (clear_signs signs) (clear_append (marks hashes (35 ∷ [])) behind (clear_hashes hashes) clear)
+
+clear_whole : (z : WholeZeros) → is_clear_word (whole_mark z) ≡ true
+clear_whole Shown = refl
+clear_whole Hidden = refl
+
+clear_priority : (p : RoundingPriority) (z : WholeZeros) → is_clear_word (priority_mark p ++ whole_mark z) ≡ true
+clear_priority MorePrecision z = clear_whole z
+clear_priority LessPrecision z = clear_whole z
+
 clear_pointed : (zeros hashes : ℕ) (behind : List ℕ) → is_clear_word behind ≡ true → is_clear_word (pointed zeros hashes behind) ≡ true
 clear_pointed zeros hashes behind clear =
     clear_append (marks zeros (48 ∷ [])) (marks hashes (35 ∷ []) ++ behind) (clear_zeros zeros) (clear_append (marks hashes (35 ∷ [])) behind (clear_hashes hashes) clear)
@@ -144,7 +164,11 @@ clear_precision (precision.Fraction least more) = at ((least == 0) && (more == 0
     at true = refl
     at false = clear_pointed least more [] refl
 clear_precision (precision.AtLeast least) = clear_pointed least 0 (codes "*") refl
-clear_precision (precision.Whole least) = clear_pointed least 0 (codes "/w") refl
+clear_precision (precision.Whole least more) = clear_pointed least more (codes "/w") refl
+clear_precision (precision.Significant least more z) = clear_at_signs least more (whole_mark z) (clear_whole z)
+clear_precision (precision.SignificantAtLeast least z) = clear_at_signs least 0 (codes "*" ++ whole_mark z) (clear_whole z)
+clear_precision (precision.Either least more digits others p z) =
+    clear_pointed least more (codes "/" ++ at_signs digits others (priority_mark p ++ whole_mark z)) (clear_at_signs digits others (priority_mark p ++ whole_mark z) (clear_priority p z))
 clear_precision (precision.Currency Standard) = refl
 clear_precision (precision.Currency Cash) = refl
 clear_precision (precision.WholeCurrency Standard) = refl
@@ -165,9 +189,11 @@ clear_grouping : (n : Notation) (g : SkeletonGrouping) → is_clear_option (grou
 clear_grouping notation.Standard grouping.Auto = refl
 clear_grouping notation.Standard grouping.Off = refl
 clear_grouping notation.Standard grouping.Min2 = refl
+clear_grouping notation.Standard grouping.OnAligned = refl
 clear_grouping (notation.Compact p) grouping.Auto = refl
 clear_grouping (notation.Compact p) grouping.Off = refl
 clear_grouping (notation.Compact p) grouping.Min2 = refl
+clear_grouping (notation.Compact p) grouping.OnAligned = refl
 
 clear_digits : (digits : ℕ) → is_clear_option (digits_word digits) ≡ true
 clear_digits zero = refl
@@ -220,6 +246,10 @@ leading_hashes : (count : ℕ) (rest : List ℕ) → leading 35 rest ≡ 0 → l
 leading_hashes zero rest none = none
 leading_hashes (suc count) rest none = omega (arith, leading_hashes count rest none)
 
+leading_signs : (count : ℕ) (rest : List ℕ) → leading 64 rest ≡ 0 → leading 64 (marks count (64 ∷ []) ++ rest) ≡ count
+leading_signs zero rest none = none
+leading_signs (suc count) rest none = omega (arith, leading_signs count rest none)
+
 drop_marks : (count mark : ℕ) (rest : List ℕ) → drop count (marks count (mark ∷ []) ++ rest) ≡ rest
 drop_marks zero mark rest = refl
 drop_marks (suc count) mark rest = drop_marks count mark rest
@@ -232,17 +262,19 @@ no_zero : (hashes : ℕ) (behind : List ℕ) → leading 48 behind ≡ 0 → lea
 no_zero zero behind none = none
 no_zero (suc hashes) behind none = refl
 
+no_sign : (hashes : ℕ) (behind : List ℕ) → leading 64 behind ≡ 0 → leading 64 (marks hashes (35 ∷ []) ++ behind) ≡ 0
+no_sign zero behind none = none
+no_sign (suc hashes) behind none = refl
+
 -- what a point sets
-fraction_is : (least more : ℕ) (behind : List ℕ) → leading 48 behind ≡ 0 → leading 35 behind ≡ 0 → least + (more + length behind) ≤ 100
-    → cond (nat_lt 100 (length (marks least (48 ∷ []) ++ (marks more (35 ∷ []) ++ behind)))) (Refused Unknown)
-    (fraction_hashes (leading 48 (marks least (48 ∷ []) ++ (marks more (35 ∷ []) ++ behind))) (drop (leading 48 (marks least (48 ∷ []) ++ (marks more (35 ∷ []) ++ behind))) (marks least (48 ∷ []) ++ (marks more (35 ∷ []) ++ behind))))
-    ≡ fraction_end least more behind
+fraction_is : (least more : ℕ) (behind : List ℕ) → leading 48 behind ≡ 0 → leading 35 behind ≡ 0 → least + more ≤ 100
+    → fraction_setting (marks least (48 ∷ []) ++ (marks more (35 ∷ []) ++ behind)) ≡ fraction_end least more behind
 fraction_is least more behind zeros hashes few =
-    ap (λ (b : Bool). cond b (Refused Unknown) (fraction_hashes (leading 48 whole) (drop (leading 48 whole) whole))) short
-    ∙ ap (λ (n : ℕ). fraction_hashes n (drop n whole)) (leading_zeros least tail (no_zero more behind zeros))
+    ap (λ (n : ℕ). fraction_hashes n (drop n whole)) (leading_zeros least tail (no_zero more behind zeros))
     ∙ ap (fraction_hashes least) (drop_marks least 48 tail)
-    ∙ ap (λ (n : ℕ). fraction_end least n (drop n tail)) (leading_hashes more behind hashes)
-    ∙ ap (fraction_end least more) (drop_marks more 35 behind)
+    ∙ ap (λ (n : ℕ). fraction_counted least n (drop n tail)) (leading_hashes more behind hashes)
+    ∙ ap (fraction_counted least more) (drop_marks more 35 behind)
+    ∙ ap (λ (b : Bool). cond b (Refused Unknown) (fraction_end least more behind)) (le-ltb 100 (least + more) few)
   where
     tail : List ℕ
     tail = marks more (35 ∷ []) ++ behind
@@ -250,8 +282,36 @@ fraction_is least more behind zeros hashes few =
     whole : List ℕ
     whole = marks least (48 ∷ []) ++ tail
 
-    short : nat_lt 100 (length whole) ≡ false
-    short = le-ltb 100 (length whole) (let first = length_marks least 48 tail in let second = length_marks more 35 behind in omega (arith, first, second, few))
+one_more : (n : ℕ) → 1 + n ≡ suc n
+one_more n = omega arith
+
+-- what an at-sign sets
+digits_is : (signs more : ℕ) (behind : List ℕ) → leading 64 behind ≡ 0 → leading 35 behind ≡ 0 → suc signs + more ≤ 100
+    → digits_setting (at_signs signs more behind) ≡ digits_end (suc signs) more behind
+digits_is signs more behind none hashes few =
+    ap (λ (n : ℕ). digits_hashes (1 + n) (drop n (at_signs signs more behind))) (leading_signs signs tail (no_sign more behind none))
+    ∙ ap (λ (n : ℕ). digits_hashes n (drop signs (at_signs signs more behind))) (one_more signs)
+    ∙ ap (digits_hashes (suc signs)) (drop_marks signs 64 tail)
+    ∙ ap (λ (n : ℕ). digits_counted (suc signs) n (drop n tail)) (leading_hashes more behind hashes)
+    ∙ ap (digits_counted (suc signs) more) (drop_marks more 35 behind)
+    ∙ ap (λ (b : Bool). cond b (Refused Unknown) (digits_end (suc signs) more behind)) (le-ltb 100 (suc signs + more) few)
+  where
+    tail : List ℕ
+    tail = marks more (35 ∷ []) ++ behind
+
+-- what one beside a fraction sets
+either_is : (least more signs others : ℕ) (behind : List ℕ) → leading 64 behind ≡ 0 → leading 35 behind ≡ 0 → suc signs + others ≤ 100
+    → either_setting least more (at_signs signs others behind) ≡ either_end least more (suc signs) others behind
+either_is least more signs others behind none hashes few =
+    ap (λ (n : ℕ). either_hashes least more (1 + n) (drop n (at_signs signs others behind))) (leading_signs signs tail (no_sign others behind none))
+    ∙ ap (λ (n : ℕ). either_hashes least more n (drop signs (at_signs signs others behind))) (one_more signs)
+    ∙ ap (either_hashes least more (suc signs)) (drop_marks signs 64 tail)
+    ∙ ap (λ (n : ℕ). either_counted least more (suc signs) n (drop n tail)) (leading_hashes others behind hashes)
+    ∙ ap (either_counted least more (suc signs) others) (drop_marks others 35 behind)
+    ∙ ap (λ (b : Bool). cond b (Refused Unknown) (either_end least more (suc signs) others behind)) (le-ltb 100 (suc signs + others) few)
+  where
+    tail : List ℕ
+    tail = marks others (35 ∷ []) ++ behind
 
 -- ---- words with a slash
 
@@ -312,17 +372,43 @@ fraction_named zero zero some few = absurd (omega (arith, some))
 fraction_named zero (suc more) some few = fraction_is zero (suc more) [] refl refl (omega (arith, few))
 fraction_named (suc least) more some few = fraction_is (suc least) more [] refl refl (omega (arith, few))
 
-at_least_named : (least : ℕ) → 0 < least → least + 1 ≤ 100 → setting_named (pointed least 0 (codes "*")) ≡ OfPrecision (precision.AtLeast least)
+at_least_named : (least : ℕ) → 0 < least → least ≤ 100 → setting_named (pointed least 0 (codes "*")) ≡ OfPrecision (precision.AtLeast least)
 at_least_named zero some few = absurd (omega (arith, some))
 at_least_named (suc least) some few =
     fraction_is (suc least) 0 (codes "*") refl refl (omega (arith, few))
     ∙ ap (λ (b : Bool). cond (b && true) (OfPrecision (precision.AtLeast (suc least))) (Refused Unknown)) (lt-ltb 0 (suc least) some)
 
-whole_named : (least : ℕ) → least + 2 ≤ 100 → setting_named (pointed least 0 (codes "/w")) ≡ OfPrecision (precision.Whole least)
-whole_named zero few = refl
-whole_named (suc least) few =
-    fraction_is (suc least) 0 (codes "/w") refl refl (omega (arith, few))
-    ∙ ap (λ (b : Bool). cond (b && false) (OfPrecision (precision.AtLeast (suc least))) (OfPrecision (precision.Whole (suc least)))) (lt-ltb 0 (suc least) (omega arith))
+whole_named : (least more : ℕ) → least + more ≤ 100 → setting_named (pointed least more (codes "/w")) ≡ OfPrecision (precision.Whole least more)
+whole_named zero zero few = refl
+whole_named zero (suc more) few = fraction_is zero (suc more) (codes "/w") refl refl few
+whole_named (suc least) more few = fraction_is (suc least) more (codes "/w") refl refl few
+
+-- ---- words of at-signs
+
+significant_named : (signs more : ℕ) (z : WholeZeros) → suc signs + more ≤ 100 → setting_named (at_signs (suc signs) more (whole_mark z)) ≡ OfPrecision (precision.Significant (suc signs) more z)
+significant_named signs more Shown few = digits_is signs more [] refl refl few
+significant_named signs more Hidden few = digits_is signs more (codes "/w") refl refl few
+
+endless_named : (signs : ℕ) (z : WholeZeros) → suc signs ≤ 100 → setting_named (at_signs (suc signs) 0 (codes "*" ++ whole_mark z)) ≡ OfPrecision (precision.SignificantAtLeast (suc signs) z)
+endless_named signs Shown few = digits_is signs 0 (codes "*") refl refl (omega (arith, few))
+endless_named signs Hidden few = digits_is signs 0 (codes "*/w") refl refl (omega (arith, few))
+
+-- behind a slash
+option_named : (least more signs others : ℕ) (p : RoundingPriority) (z : WholeZeros) → suc signs + others ≤ 100
+    → option_setting least more (at_signs (suc signs) others (priority_mark p ++ whole_mark z)) ≡ OfPrecision (precision.Either least more (suc signs) others p z)
+option_named least more signs others MorePrecision Shown few = either_is least more signs others (codes "r") refl refl few
+option_named least more signs others MorePrecision Hidden few = either_is least more signs others (codes "r/w") refl refl few
+option_named least more signs others LessPrecision Shown few = either_is least more signs others (codes "s") refl refl few
+option_named least more signs others LessPrecision Hidden few = either_is least more signs others (codes "s/w") refl refl few
+
+either_named : (least more signs others : ℕ) (p : RoundingPriority) (z : WholeZeros) → least + more ≤ 100 → suc signs + others ≤ 100
+    → setting_named (pointed least more (codes "/" ++ at_signs (suc signs) others (priority_mark p ++ whole_mark z))) ≡ OfPrecision (precision.Either least more (suc signs) others p z)
+either_named zero zero signs others p z few digits =
+    fraction_is zero zero (codes "/" ++ at_signs (suc signs) others (priority_mark p ++ whole_mark z)) refl refl few ∙ option_named zero zero signs others p z digits
+either_named zero (suc more) signs others p z few digits =
+    fraction_is zero (suc more) (codes "/" ++ at_signs (suc signs) others (priority_mark p ++ whole_mark z)) refl refl few ∙ option_named zero (suc more) signs others p z digits
+either_named (suc least) more signs others p z few digits =
+    fraction_is (suc least) more (codes "/" ++ at_signs (suc signs) others (priority_mark p ++ whole_mark z)) refl refl few ∙ option_named (suc least) more signs others p z digits
 
 -- ---- what each word sets, where it is not usual
 
@@ -340,7 +426,10 @@ asked_precision precision.Usual = None
 asked_precision precision.Unlimited = Some precision.Unlimited
 asked_precision (precision.Fraction least more) = Some (precision.Fraction least more)
 asked_precision (precision.AtLeast least) = Some (precision.AtLeast least)
-asked_precision (precision.Whole least) = Some (precision.Whole least)
+asked_precision (precision.Whole least more) = Some (precision.Whole least more)
+asked_precision (precision.Significant least more z) = Some (precision.Significant least more z)
+asked_precision (precision.SignificantAtLeast least z) = Some (precision.SignificantAtLeast least z)
+asked_precision (precision.Either least more digits others p z) = Some (precision.Either least more digits others p z)
 asked_precision (precision.Currency usage) = Some (precision.Currency usage)
 asked_precision (precision.WholeCurrency usage) = Some (precision.WholeCurrency usage)
 
@@ -359,9 +448,11 @@ abbrev asked_grouping : Notation → SkeletonGrouping → Option SkeletonGroupin
 asked_grouping notation.Standard grouping.Auto = None
 asked_grouping notation.Standard grouping.Off = Some grouping.Off
 asked_grouping notation.Standard grouping.Min2 = Some grouping.Min2
+asked_grouping notation.Standard grouping.OnAligned = Some grouping.OnAligned
 asked_grouping (notation.Compact p) grouping.Auto = Some grouping.Auto
 asked_grouping (notation.Compact p) grouping.Off = Some grouping.Off
 asked_grouping (notation.Compact p) grouping.Min2 = None
+asked_grouping (notation.Compact p) grouping.OnAligned = Some grouping.OnAligned
 
 abbrev asked_digits : ℕ → Option ℕ
 asked_digits zero = None
@@ -435,8 +526,18 @@ step_precision place n u (precision.Fraction zero (suc more)) rest has = step_fr
 step_precision place n u (precision.Fraction (suc least) more) rest has = step_fraction place n u (suc least) more rest (omega arith) has
 step_precision place n u (precision.AtLeast least) rest has =
     read_known place 46 (marks least (48 ∷ []) ++ ([] ++ codes "*")) (present rest) (asked n u None None None None None None) (OfPrecision (precision.AtLeast least)) (at_least_named least has.0 has.1)
-step_precision place n u (precision.Whole least) rest has =
-    read_known place 46 (marks least (48 ∷ []) ++ ([] ++ codes "/w")) (present rest) (asked n u None None None None None None) (OfPrecision (precision.Whole least)) (whole_named least has)
+step_precision place n u (precision.Whole least more) rest has =
+    read_known place 46 (marks least (48 ∷ []) ++ (marks more (35 ∷ []) ++ codes "/w")) (present rest) (asked n u None None None None None None) (OfPrecision (precision.Whole least more)) (whole_named least more has)
+step_precision place n u (precision.Significant zero more z) rest has = absurd (omega (arith, has.0))
+step_precision place n u (precision.Significant (suc signs) more z) rest has =
+    read_known place 64 (at_signs signs more (whole_mark z)) (present rest) (asked n u None None None None None None) (OfPrecision (precision.Significant (suc signs) more z)) (significant_named signs more z has.1)
+step_precision place n u (precision.SignificantAtLeast zero z) rest has = absurd (omega (arith, has.0))
+step_precision place n u (precision.SignificantAtLeast (suc signs) z) rest has =
+    read_known place 64 (at_signs signs 0 (codes "*" ++ whole_mark z)) (present rest) (asked n u None None None None None None) (OfPrecision (precision.SignificantAtLeast (suc signs) z)) (endless_named signs z has.1)
+step_precision place n u (precision.Either least more zero others p z) rest has = absurd (omega (arith, has.1.0))
+step_precision place n u (precision.Either least more (suc signs) others p z) rest has =
+    read_known place 46 (marks least (48 ∷ []) ++ (marks more (35 ∷ []) ++ (codes "/" ++ at_signs (suc signs) others (priority_mark p ++ whole_mark z)))) (present rest) (asked n u None None None None None None)
+    (OfPrecision (precision.Either least more (suc signs) others p z)) (either_named least more signs others p z has.0 has.1.1)
 step_precision place n u (precision.Currency Standard) rest has = refl
 step_precision place n u (precision.Currency Cash) rest has = refl
 step_precision place n u (precision.WholeCurrency Standard) rest has = refl
@@ -460,9 +561,11 @@ module _ (place : ℕ) (n : Option Notation) (u : Option SkeletonUnit) (p : Opti
   step_grouping m notation.Standard grouping.Auto = refl
   step_grouping m notation.Standard grouping.Off = refl
   step_grouping m notation.Standard grouping.Min2 = refl
+  step_grouping m notation.Standard grouping.OnAligned = refl
   step_grouping m (notation.Compact q) grouping.Auto = refl
   step_grouping m (notation.Compact q) grouping.Off = refl
   step_grouping m (notation.Compact q) grouping.Min2 = refl
+  step_grouping m (notation.Compact q) grouping.OnAligned = refl
 
   step_digits : (m : Option SignedRoundingMode) (g : Option SkeletonGrouping) (d : ℕ) → d ≤ 100
       → read_words place (present (digits_word d ∷ rest)) (asked n u p m g None None None) ≡ read_words (after place (digits_word d)) (present rest) (asked n u p m g (asked_digits d) None None)
@@ -504,7 +607,10 @@ precision_back precision.Usual = refl
 precision_back precision.Unlimited = refl
 precision_back (precision.Fraction least more) = refl
 precision_back (precision.AtLeast least) = refl
-precision_back (precision.Whole least) = refl
+precision_back (precision.Whole least more) = refl
+precision_back (precision.Significant least more z) = refl
+precision_back (precision.SignificantAtLeast least z) = refl
+precision_back (precision.Either least more digits others p z) = refl
 precision_back (precision.Currency usage) = refl
 precision_back (precision.WholeCurrency usage) = refl
 
@@ -523,9 +629,11 @@ grouping_back : (n : Notation) (g : SkeletonGrouping) → unwrap_or (asked_group
 grouping_back notation.Standard grouping.Auto = refl
 grouping_back notation.Standard grouping.Off = refl
 grouping_back notation.Standard grouping.Min2 = refl
+grouping_back notation.Standard grouping.OnAligned = refl
 grouping_back (notation.Compact p) grouping.Auto = refl
 grouping_back (notation.Compact p) grouping.Off = refl
 grouping_back (notation.Compact p) grouping.Min2 = refl
+grouping_back (notation.Compact p) grouping.OnAligned = refl
 
 digits_back : (d : ℕ) → unwrap_or (asked_digits d) 0 ≡ d
 digits_back zero = refl

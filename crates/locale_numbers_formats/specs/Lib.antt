@@ -1,5 +1,7 @@
 -- What a reader must believe: what is made of a number before it is written.
 pub mod Changed
+pub mod DigitLaws
+pub mod OlderOptions
 -- And what the words of a skeleton ask for.
 pub mod Marks
 pub mod NormalText

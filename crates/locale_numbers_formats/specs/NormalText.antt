@@ -16,6 +16,8 @@ use Rattle.icu_dimension_fractions.specs.declared.CurrencyWidth.TheVariants as w
 use Rattle.writeable.specs.AnnotatedText.{Event, bytes}
 use Rattle.locale_numbers_formats.specs.Skeletons.{space}
 use Rattle.locale_numbers_formats.specs.declared.normal_text.NormalWord.{NormalWord}
+use Rattle.locale_numbers_formats.specs.declared.options.RoundingPriority.{RoundingPriority}
+use Rattle.locale_numbers_formats.specs.declared.options.RoundingPriority.TheVariants.{MorePrecision, LessPrecision}
 use Rattle.locale_numbers_formats.specs.declared.shape.CompactWidth.TheVariants.{Short, Long}
 use Rattle.locale_numbers_formats.specs.declared.shape.Notation.{Notation}
 use Rattle.locale_numbers_formats.specs.declared.shape.Notation.TheVariants as notation
@@ -27,6 +29,8 @@ use Rattle.locale_numbers_formats.specs.declared.stems.SkeletonGrouping.TheVaria
 use Rattle.locale_numbers_formats.specs.declared.stems.SkeletonSign.{SkeletonSign}
 use Rattle.locale_numbers_formats.specs.declared.stems.SkeletonUnit.{SkeletonUnit}
 use Rattle.locale_numbers_formats.specs.declared.stems.SkeletonUnit.TheVariants as unit
+use Rattle.locale_numbers_formats.specs.declared.stems.WholeZeros.{WholeZeros}
+use Rattle.locale_numbers_formats.specs.declared.stems.WholeZeros.TheVariants.{Shown, Hidden}
 
 -- ---- the word of each thing, where it is not usual
 
@@ -49,6 +53,20 @@ marks (suc count) mark = mark ++ marks count mark
 abbrev pub pointed : ℕ → ℕ → List ℕ → List ℕ
 pointed zeros hashes behind = codes "." ++ (marks zeros (codes "0") ++ (marks hashes (codes "#") ++ behind))
 
+-- at-signs and hashes, and what is behind these
+abbrev pub at_signs : ℕ → ℕ → List ℕ → List ℕ
+at_signs signs hashes behind = marks signs (codes "@") ++ (marks hashes (codes "#") ++ behind)
+
+-- what says that a whole number has no zeros after its point
+abbrev pub whole_mark : WholeZeros → List ℕ
+whole_mark Shown = []
+whole_mark Hidden = codes "/w"
+
+-- relaxed or strict
+abbrev pub priority_mark : RoundingPriority → List ℕ
+priority_mark MorePrecision = codes "r"
+priority_mark LessPrecision = codes "s"
+
 abbrev pub fraction_word : ℕ → ℕ → List ℕ
 fraction_word least more = if (least == 0) && (more == 0) then codes "precision-integer" else pointed least more []
 
@@ -57,7 +75,10 @@ precision_word precision.Usual = None
 precision_word precision.Unlimited = Some (codes "precision-unlimited")
 precision_word (precision.Fraction least more) = Some (fraction_word least more)
 precision_word (precision.AtLeast least) = Some (pointed least 0 (codes "*"))
-precision_word (precision.Whole least) = Some (pointed least 0 (codes "/w"))
+precision_word (precision.Whole least more) = Some (pointed least more (codes "/w"))
+precision_word (precision.Significant least more zeros) = Some (at_signs least more (whole_mark zeros))
+precision_word (precision.SignificantAtLeast least zeros) = Some (at_signs least 0 (codes "*" ++ whole_mark zeros))
+precision_word (precision.Either least more digits others priority zeros) = Some (pointed least more (codes "/" ++ at_signs digits others (priority_mark priority ++ whole_mark zeros)))
 precision_word (precision.Currency Standard) = Some (codes "precision-currency-standard")
 precision_word (precision.Currency Cash) = Some (codes "precision-currency-cash")
 precision_word (precision.WholeCurrency Standard) = Some (codes "precision-currency-standard/w")
@@ -79,9 +100,11 @@ abbrev pub grouping_word : Notation → SkeletonGrouping → Option (List ℕ)
 grouping_word notation.Standard grouping.Auto = None
 grouping_word notation.Standard grouping.Off = Some (codes "group-off")
 grouping_word notation.Standard grouping.Min2 = Some (codes "group-min2")
+grouping_word notation.Standard grouping.OnAligned = Some (codes "group-on-aligned")
 grouping_word (notation.Compact pattern) grouping.Auto = Some (codes "group-auto")
 grouping_word (notation.Compact pattern) grouping.Off = Some (codes "group-off")
 grouping_word (notation.Compact pattern) grouping.Min2 = None
+grouping_word (notation.Compact pattern) grouping.OnAligned = Some (codes "group-on-aligned")
 
 abbrev pub digits_word : ℕ → Option (List ℕ)
 digits_word zero = None
@@ -133,7 +156,10 @@ skeleton_text s = joined false (normal_words s)
 -- ---- the pieces that the code writes
 
 abbrev pub word_of : NormalWord → List ℕ
-word_of w = w.front.now ++ (marks w.zeros (codes "0") ++ (marks w.hashes (codes "#") ++ w.behind.now))
+word_of w = w.front.now ++ (marks w.zeros (codes "0") ++ (marks w.hashes (codes "#") ++ (w.slash.now ++ at_signs w.signs w.others w.behind.now)))
+
+abbrev pub at_sign_events : NormalWord → List Event
+at_sign_events w = bytes w.slash.now ++ (bytes (marks w.signs (codes "@")) ++ (bytes (marks w.others (codes "#")) ++ bytes w.behind.now))
 
 abbrev pub word_events : Bool → NormalWord → List Event
-word_events spaced w = bytes (gap spaced) ++ (bytes w.front.now ++ (bytes (marks w.zeros (codes "0")) ++ (bytes (marks w.hashes (codes "#")) ++ bytes w.behind.now)))
+word_events spaced w = bytes (gap spaced) ++ (bytes w.front.now ++ (bytes (marks w.zeros (codes "0")) ++ (bytes (marks w.hashes (codes "#")) ++ at_sign_events w)))

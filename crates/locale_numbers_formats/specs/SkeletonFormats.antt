@@ -13,23 +13,34 @@ use Rattle.locale_numbers_formats.specs.Skeletons.{is_compact, is_currency}
 use Rattle.locale_numbers_formats.specs.declared.options.LeadingZeros.TheVariants as leading
 use Rattle.locale_numbers_formats.specs.declared.options.Rounding.{Rounding}
 use Rattle.locale_numbers_formats.specs.declared.options.Rounding.TheVariants as rounding
+use Rattle.locale_numbers_formats.specs.declared.options.SignificantDigits.{SignificantDigits}
 use Rattle.locale_numbers_formats.specs.declared.options.SignAsked.TheVariants.{Show}
 use Rattle.locale_numbers_formats.specs.declared.options.TrailingZeros.{TrailingZeros}
-use Rattle.locale_numbers_formats.specs.declared.options.TrailingZeros.TheVariants.{Keep, Trim, TrimWhole}
+use Rattle.locale_numbers_formats.specs.declared.options.TrailingZeros.TheVariants.{Keep, Trim, TrimWhole, TrimAll}
 use Rattle.locale_numbers_formats.specs.declared.shape.NumberFormat.{NumberFormat}
 use Rattle.locale_numbers_formats.specs.declared.shape.NumberUnit.{NumberUnit}
 use Rattle.locale_numbers_formats.specs.declared.shape.NumberUnit.TheVariants as beside
 use Rattle.locale_numbers_formats.specs.declared.skeleton.Skeleton.{Skeleton}
 use Rattle.locale_numbers_formats.specs.declared.stems.Precision.{Precision}
-use Rattle.locale_numbers_formats.specs.declared.stems.Precision.TheVariants.{Usual, Unlimited, Fraction, AtLeast, Whole, Currency, WholeCurrency}
+use Rattle.locale_numbers_formats.specs.declared.stems.Precision.TheVariants.{Usual, Unlimited, Fraction, AtLeast, Whole, Significant, SignificantAtLeast, Either, Currency, WholeCurrency}
 use Rattle.locale_numbers_formats.specs.declared.stems.SkeletonGrouping.{SkeletonGrouping}
 use Rattle.locale_numbers_formats.specs.declared.stems.SkeletonGrouping.TheVariants as grouping
 use Rattle.locale_numbers_formats.specs.declared.stems.SkeletonUnit.{SkeletonUnit}
 use Rattle.locale_numbers_formats.specs.declared.stems.SkeletonUnit.TheVariants as unit
+use Rattle.locale_numbers_formats.specs.declared.stems.WholeZeros.{WholeZeros}
+use Rattle.locale_numbers_formats.specs.declared.stems.WholeZeros.TheVariants.{Shown, Hidden}
 
 -- to so many digits after the point
 abbrev pub to_digits : ℕ → SignedRoundingMode → Rounding
 to_digits digits mode = rounding.At (neg_ℤ (pos digits)) mode MultiplesOf1
+
+-- so many digits at least, and so many more at most
+abbrev pub digits_from : ℕ → ℕ → SignificantDigits
+digits_from least more = record { least = least; most = least + more }
+
+-- so many digits at least, and as many as a number has
+abbrev pub digits_on : ℕ → SignificantDigits
+digits_on least = record { least = least; most = 65535 }
 
 -- to the digits of a currency
 abbrev pub by_usage : CurrencyUsage → Rounding
@@ -42,7 +53,10 @@ rounding_by amount mode Usual = if amount then rounding.Usual else to_digits 6 m
 rounding_by amount mode Unlimited = rounding.AsGiven
 rounding_by amount mode (Fraction least more) = to_digits (least + more) mode
 rounding_by amount mode (AtLeast least) = rounding.AsGiven
-rounding_by amount mode (Whole least) = to_digits least mode
+rounding_by amount mode (Whole least more) = to_digits (least + more) mode
+rounding_by amount mode (Significant least more zeros) = rounding.Significant (digits_from least more) mode
+rounding_by amount mode (SignificantAtLeast least zeros) = rounding.Significant (digits_on least) mode
+rounding_by amount mode (Either least more digits others priority zeros) = rounding.Either priority (neg_ℤ (pos (least + more))) (digits_from digits others) mode
 rounding_by amount mode (Currency usage) = by_usage usage
 rounding_by amount mode (WholeCurrency usage) = by_usage usage
 
@@ -50,13 +64,21 @@ rounding_by amount mode (WholeCurrency usage) = by_usage usage
 abbrev pub rounding_of : Skeleton → Rounding
 rounding_of s = if is_compact s.notation then rounding.AsGiven else rounding_by (is_currency s.unit) s.mode s.precision
 
+-- zeros after the point of a whole number
+abbrev pub whole_zeros : WholeZeros → TrailingZeros
+whole_zeros Shown = Trim
+whole_zeros Hidden = TrimAll
+
 -- a number is a value, so that zeros that it was given with are not shown
 abbrev pub zeros_by : Bool → Precision → TrailingZeros
 zeros_by amount Usual = if amount then Keep else Trim
 zeros_by amount Unlimited = Trim
 zeros_by amount (Fraction least more) = Trim
 zeros_by amount (AtLeast least) = Trim
-zeros_by amount (Whole least) = TrimWhole
+zeros_by amount (Whole least more) = TrimAll
+zeros_by amount (Significant least more zeros) = whole_zeros zeros
+zeros_by amount (SignificantAtLeast least zeros) = whole_zeros zeros
+zeros_by amount (Either least more digits others priority zeros) = whole_zeros zeros
 zeros_by amount (Currency usage) = Keep
 zeros_by amount (WholeCurrency usage) = TrimWhole
 
@@ -68,7 +90,10 @@ digits_of Usual = 0
 digits_of Unlimited = 0
 digits_of (Fraction least more) = least
 digits_of (AtLeast least) = least
-digits_of (Whole least) = 0
+digits_of (Whole least more) = least
+digits_of (Significant least more zeros) = 0
+digits_of (SignificantAtLeast least zeros) = 0
+digits_of (Either least more digits others priority zeros) = least
 digits_of (Currency usage) = 0
 digits_of (WholeCurrency usage) = 0
 
@@ -84,6 +109,7 @@ abbrev pub strategy_of : SkeletonGrouping → GroupingStrategy
 strategy_of grouping.Auto = strategy.Auto
 strategy_of grouping.Off = strategy.Never
 strategy_of grouping.Min2 = strategy.Min2
+strategy_of grouping.OnAligned = strategy.OnAligned
 
 abbrev pub format_of : Skeleton → NumberFormat
 format_of s = record {

@@ -19,13 +19,16 @@ HasCode unit.None = Unit {0}
 HasCode unit.Percent = Unit {0}
 HasCode (unit.Currency code) = is_currency_code code ≡ true
 
--- so many marks as a word may have
+-- as many digits as a word may have, and one significant one at least
 abbrev pub HasMarks : Precision → Type 0
 HasMarks precision.Usual = Unit {0}
 HasMarks precision.Unlimited = Unit {0}
 HasMarks (precision.Fraction least more) = least + more ≤ 100
-HasMarks (precision.AtLeast least) = (0 < least) × (least + 1 ≤ 100)
-HasMarks (precision.Whole least) = least + 2 ≤ 100
+HasMarks (precision.AtLeast least) = (0 < least) × (least ≤ 100)
+HasMarks (precision.Whole least more) = least + more ≤ 100
+HasMarks (precision.Significant least more zeros) = (0 < least) × (least + more ≤ 100)
+HasMarks (precision.SignificantAtLeast least zeros) = (0 < least) × (least ≤ 100)
+HasMarks (precision.Either least more digits others priority zeros) = (least + more ≤ 100) × ((0 < digits) × (digits + others ≤ 100))
 HasMarks (precision.Currency usage) = Unit {0}
 HasMarks (precision.WholeCurrency usage) = Unit {0}
 

@@ -113,7 +113,10 @@ has_currency_digits precision.Usual = false
 has_currency_digits precision.Unlimited = false
 has_currency_digits (precision.Fraction least more) = false
 has_currency_digits (precision.AtLeast least) = false
-has_currency_digits (precision.Whole least) = false
+has_currency_digits (precision.Whole least more) = false
+has_currency_digits (precision.Significant least more zeros) = false
+has_currency_digits (precision.SignificantAtLeast least zeros) = false
+has_currency_digits (precision.Either least more digits others priority zeros) = false
 has_currency_digits (precision.Currency usage) = true
 has_currency_digits (precision.WholeCurrency usage) = true
 
@@ -122,7 +125,10 @@ says_precision precision.Usual = false
 says_precision precision.Unlimited = true
 says_precision (precision.Fraction least more) = true
 says_precision (precision.AtLeast least) = true
-says_precision (precision.Whole least) = true
+says_precision (precision.Whole least more) = true
+says_precision (precision.Significant least more zeros) = true
+says_precision (precision.SignificantAtLeast least zeros) = true
+says_precision (precision.Either least more digits others priority zeros) = true
 says_precision (precision.Currency usage) = true
 says_precision (precision.WholeCurrency usage) = true
 

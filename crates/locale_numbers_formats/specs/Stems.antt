@@ -14,7 +14,7 @@ use Rattle.icu_dimension_fractions.specs.declared.CurrencyUsage.TheVariants as u
 use Rattle.icu_dimension_fractions.specs.declared.CurrencyWidth.TheVariants as width
 use Rattle.icu_dimension_fractions.specs.declared.CurrencyWidth.TheVariants.{IsoCode}
 use Rattle.locale_numbers_formats.specs.Cutting.{is_separator}
-use Rattle.locale_numbers_formats.specs.Marks.{marked, padded_setting}
+use Rattle.locale_numbers_formats.specs.Marks.{marked, option_setting, padded_setting}
 use Rattle.locale_numbers_formats.specs.WordTable.{value_beside}
 use Rattle.locale_numbers_formats.specs.declared.shape.CompactWidth.TheVariants.{Short, Long}
 use Rattle.locale_numbers_formats.specs.declared.shape.Notation.TheVariants as notation
@@ -62,6 +62,8 @@ stems =
     ∷ (codes "group-min2", OfGrouping grouping.Min2)
     ∷ (codes ",?", OfGrouping grouping.Min2)
     ∷ (codes "group-auto", OfGrouping grouping.Auto)
+    ∷ (codes "group-on-aligned", OfGrouping grouping.OnAligned)
+    ∷ (codes ",!", OfGrouping grouping.OnAligned)
     ∷ (codes "unit-width-iso-code", OfWidth IsoCode)
     ∷ (codes "unit-width-short", OfWidth width.Short)
     ∷ (codes "sign-auto", OfSign (record { display = display.Auto; style = style.Standard }))
@@ -83,13 +85,9 @@ stems =
     ∷ (codes "()-", OfSign (record { display = display.Negative; style = style.Accounting }))
     ∷ (codes "permille", Refused fault.Later)
     ∷ (codes "scientific", Refused fault.Later)
-    ∷ (codes "E0", Refused fault.Later)
     ∷ (codes "engineering", Refused fault.Later)
-    ∷ (codes "EE0", Refused fault.Later)
     ∷ (codes "unit-width-narrow", Refused fault.Later)
     ∷ (codes "unit-width-full-name", Refused fault.Later)
-    ∷ (codes "group-on-aligned", Refused fault.Later)
-    ∷ (codes ",!", Refused fault.Later)
     ∷ (codes "%x100", Refused fault.Later)
     ∷ (codes "latin", Refused fault.System)
     ∷ (codes "decimal-always", Refused fault.Unsupported)
@@ -137,6 +135,7 @@ abbrev pub optioned : List ℕ → List ℕ → Setting
 optioned front option =
     if bytes_eq front (codes "currency") then coded option
     else if bytes_eq front (codes "integer-width") then padded_setting option
+    else if bytes_eq front (codes "precision-integer") then option_setting 0 0 option
     else or_unknown (value_beside fronts front)
 
 abbrev pub slash : ℕ

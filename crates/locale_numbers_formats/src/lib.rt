@@ -23,15 +23,19 @@ mod normal_text;
 mod options;
 mod padding;
 mod shape;
+mod significant;
 mod skeleton;
 mod skeleton_error;
 mod stems;
 mod word_table;
 
 pub use cutting::{cut_field, cut_last};
-pub use options::{LeadingZeros, NumberOptions, Rounding, SignAsked, TrailingZeros};
+pub use options::{
+    LeadingZeros, NumberOptions, Rounding, RoundingPriority, SignAsked, SignificantDigits,
+    TrailingZeros,
+};
 pub use shape::{CompactWidth, CurrencyUnit, Notation, NumberFormat, NumberShape, NumberUnit};
 pub use skeleton::Skeleton;
 pub use skeleton_error::SkeletonError;
-pub use stems::{Precision, SkeletonGrouping, SkeletonSign, SkeletonUnit};
+pub use stems::{Precision, SkeletonGrouping, SkeletonSign, SkeletonUnit, WholeZeros};
 pub use word_table::value_beside;

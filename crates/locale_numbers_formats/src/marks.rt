@@ -1,12 +1,14 @@
 //! Words of digits: zeros for each that is shown, hashes for each that may be.
 
-ghost use Rattle.std.specs.Prelude.{◌≡◌, ◌≤◌, length};
-ghost use Rattle.locale_numbers_formats.specs.Marks.{fraction_end, fraction_setting, leading, marked, padded_setting, zeros_or};
+ghost use Rattle.std.specs.Prelude.{◌≡◌, ◌<◌, ◌≤◌, length};
+ghost use Rattle.locale_numbers_formats.specs.declared.stems.Setting.TheVariants.{OfPrecision};
+ghost use Rattle.locale_numbers_formats.specs.Marks.{digits_end, digits_setting, either_end, either_setting, exponent_digits, exponent_setting, exponent_sign, exponent_signed, fraction_end, fraction_setting, leading, marked, old_end, old_form, option_setting, padded_setting, zeros_or};
 
+use crate::options::RoundingPriority;
 use crate::skeleton_error::WordFault;
-use crate::stems::{Precision, Setting};
+use crate::stems::{Precision, Setting, WholeZeros};
 
-// How many marks a word may have.
+// How many digits a word may ask for.
 const MOST: usize = 100;
 
 // How many marks of a kind a text begins with.
@@ -48,19 +50,200 @@ pub(crate) fn padded_setting(option: &[u8]) -> Setting
     }
 }
 
+// What the digits of an exponent set.
+fn exponent_digits(text: &[u8]) -> Setting
+    ensures { result ≡ exponent_digits text.now }
+{
+    if text.is_empty() || leading(text, b'0') < text.len() {
+        Setting::Refused(WordFault::Unknown)
+    } else {
+        Setting::Refused(WordFault::Later)
+    }
+}
+
+// What the sign of an exponent sets after its plus, by what follows it.
+fn exponent_sign(text: &[u8]) -> Setting
+    ensures { result ≡ exponent_sign text.now }
+{
+    match text.split_first() {
+        None => Setting::Refused(WordFault::Unknown),
+        Some((first, digits)) => {
+            if *first == b'!' || *first == b'?' {
+                exponent_digits(digits)
+            } else {
+                Setting::Refused(WordFault::Unknown)
+            }
+        }
+    }
+}
+
+// What an exponent sets, with a sign or without.
+fn exponent_signed(text: &[u8]) -> Setting
+    ensures { result ≡ exponent_signed text.now }
+{
+    match text.split_first() {
+        None => Setting::Refused(WordFault::Unknown),
+        Some((first, sign)) => {
+            if *first == b'+' {
+                exponent_sign(sign)
+            } else {
+                exponent_digits(text)
+            }
+        }
+    }
+}
+
+// What an `E` sets, by the marks after it.
+fn exponent_setting(marks: &[u8]) -> Setting
+    ensures { result ≡ exponent_setting marks.now }
+{
+    match marks.split_first() {
+        None => Setting::Refused(WordFault::Unknown),
+        Some((first, exponent)) => {
+            if *first == b'E' {
+                exponent_signed(exponent)
+            } else {
+                exponent_signed(marks)
+            }
+        }
+    }
+}
+
+// What at-signs and hashes set, by what follows these.
+fn digits_end(least: u8, more: u8, end: &[u8]) -> Setting
+    ensures { result ≡ digits_end least more end.now }
+{
+    if end == b"".as_slice() {
+        Setting::OfPrecision(Precision::Significant(least, more, WholeZeros::Shown))
+    } else if end == b"/w".as_slice() {
+        Setting::OfPrecision(Precision::Significant(least, more, WholeZeros::Hidden))
+    } else if more == 0 && (end == b"*".as_slice() || end == b"+".as_slice()) {
+        Setting::OfPrecision(Precision::SignificantAtLeast(least, WholeZeros::Shown))
+    } else if more == 0 && (end == b"*/w".as_slice() || end == b"+/w".as_slice()) {
+        Setting::OfPrecision(Precision::SignificantAtLeast(least, WholeZeros::Hidden))
+    } else {
+        Setting::Refused(WordFault::Unknown)
+    }
+}
+
+// What an at-sign sets, by the marks after it.
+fn digits_setting(marks: &[u8]) -> Setting
+    ensures { result ≡ digits_setting marks.now }
+{
+    let others = leading(marks, b'@');
+    let rest = &marks[others..];
+    let more = leading(rest, b'#');
+    if 1 + others + more > MOST {
+        return Setting::Refused(WordFault::Unknown);
+    }
+    digits_end(1 + others as u8, more as u8, &rest[more..])
+}
+
+// What a form without a priority sets: it shows the fraction's digits in any case, so that it is one with a priority only
+// where there are none.
+fn old_form(least: u8, precision: Precision) -> Setting
+    ensures { result ≡ old_form least (OfPrecision precision) }
+{
+    if least == 0 {
+        Setting::OfPrecision(precision)
+    } else {
+        Setting::Refused(WordFault::Later)
+    }
+}
+
+// What significant digits beside a fraction set without a priority, by what follows them.
+fn old_end(least: u8, more: u8, digits: u8, others: u8, end: &[u8]) -> Setting
+    requires { 0 < digits }
+    ensures { result ≡ old_end least more digits others end.now }
+{
+    let relaxed = RoundingPriority::MorePrecision;
+    let strict = RoundingPriority::LessPrecision;
+    if others == 0 && (end == b"*".as_slice() || end == b"+".as_slice()) {
+        old_form(
+            least,
+            Precision::Either(least, more, 1, digits - 1, relaxed, WholeZeros::Shown),
+        )
+    } else if others == 0 && (end == b"*/w".as_slice() || end == b"+/w".as_slice()) {
+        old_form(
+            least,
+            Precision::Either(least, more, 1, digits - 1, relaxed, WholeZeros::Hidden),
+        )
+    } else if digits == 1 && end == b"".as_slice() {
+        old_form(
+            least,
+            Precision::Either(least, more, 1, others, strict, WholeZeros::Shown),
+        )
+    } else if digits == 1 && end == b"/w".as_slice() {
+        old_form(
+            least,
+            Precision::Either(least, more, 1, others, strict, WholeZeros::Hidden),
+        )
+    } else {
+        Setting::Refused(WordFault::Unknown)
+    }
+}
+
+// What significant digits beside a fraction set, by what follows them.
+fn either_end(least: u8, more: u8, digits: u8, others: u8, end: &[u8]) -> Setting
+    requires { 0 < digits }
+    ensures { result ≡ either_end least more digits others end.now }
+{
+    let (priority, zeros) = if end == b"r".as_slice() {
+        (RoundingPriority::MorePrecision, WholeZeros::Shown)
+    } else if end == b"r/w".as_slice() {
+        (RoundingPriority::MorePrecision, WholeZeros::Hidden)
+    } else if end == b"s".as_slice() {
+        (RoundingPriority::LessPrecision, WholeZeros::Shown)
+    } else if end == b"s/w".as_slice() {
+        (RoundingPriority::LessPrecision, WholeZeros::Hidden)
+    } else {
+        return old_end(least, more, digits, others, end);
+    };
+    Setting::OfPrecision(Precision::Either(least, more, digits, others, priority, zeros))
+}
+
+// What an at-sign beside a fraction sets, by the marks after it.
+fn either_setting(least: u8, more: u8, marks: &[u8]) -> Setting
+    ensures { result ≡ either_setting least more marks.now }
+{
+    let digits = leading(marks, b'@');
+    let rest = &marks[digits..];
+    let others = leading(rest, b'#');
+    if 1 + digits + others > MOST {
+        return Setting::Refused(WordFault::Unknown);
+    }
+    either_end(least, more, 1 + digits as u8, others as u8, &rest[others..])
+}
+
+// What a fraction sets by what follows its slash.
+pub(crate) fn option_setting(least: u8, more: u8, option: &[u8]) -> Setting
+    ensures { result ≡ option_setting least more option.now }
+{
+    match option.split_first() {
+        None => Setting::Refused(WordFault::Unknown),
+        Some((first, marks)) => {
+            if *first == b'@' {
+                either_setting(least, more, marks)
+            } else if option == b"w".as_slice() {
+                Setting::OfPrecision(Precision::Whole(least, more))
+            } else {
+                Setting::Refused(WordFault::Unknown)
+            }
+        }
+    }
+}
+
 // What a point sets with so many zeros and hashes after it, by what follows these.
 fn fraction_end(least: u8, more: u8, end: &[u8]) -> Setting
     ensures { result ≡ fraction_end least more end.now }
 {
     match end.split_first() {
         None => Setting::OfPrecision(Precision::Fraction(least, more)),
-        Some((first, _)) => {
-            if more == 0 && least > 0 && (end == b"*".as_slice() || end == b"+".as_slice()) {
+        Some((first, option)) => {
+            if *first == b'/' {
+                option_setting(least, more, option)
+            } else if more == 0 && least > 0 && (end == b"*".as_slice() || end == b"+".as_slice()) {
                 Setting::OfPrecision(Precision::AtLeast(least))
-            } else if more == 0 && end == b"/w".as_slice() {
-                Setting::OfPrecision(Precision::Whole(least))
-            } else if *first == b'/' {
-                Setting::Refused(WordFault::Later)
             } else {
                 Setting::Refused(WordFault::Unknown)
             }
@@ -72,12 +255,12 @@ fn fraction_end(least: u8, more: u8, end: &[u8]) -> Setting
 fn fraction_setting(marks: &[u8]) -> Setting
     ensures { result ≡ fraction_setting marks.now }
 {
-    if marks.len() > MOST {
-        return Setting::Refused(WordFault::Unknown);
-    }
     let least = leading(marks, b'0');
     let rest = &marks[least..];
     let more = leading(rest, b'#');
+    if least + more > MOST {
+        return Setting::Refused(WordFault::Unknown);
+    }
     fraction_end(least as u8, more as u8, &rest[more..])
 }
 
@@ -91,7 +274,9 @@ pub(crate) fn marked(word: &[u8]) -> Option<Setting>
     } else if *first == b'0' {
         Some(zeros_or(word, WordFault::Unknown))
     } else if *first == b'@' {
-        Some(Setting::Refused(WordFault::Later))
+        Some(digits_setting(marks))
+    } else if *first == b'E' {
+        Some(exponent_setting(marks))
     } else {
         None
     }

@@ -3,22 +3,26 @@
 ghost use Rattle.std.specs.Prelude.{◌≡◌, ◌++◌, ◌||◌, codes, false, is_err, is_some, length, map, option_map, OnOk, OnErr};
 ghost use Rattle.writeable.specs.AnnotatedText.{bytes};
 ghost use Rattle.writeable.specs.Taking.{HasBegun};
-ghost use Rattle.locale_numbers_formats.specs.NormalText.{digits_word, fraction_word, gap, grouping_word, joined, marks, mode_word, normal_words, notation_word, precision_word, sign_word, unit_word, width_word, word_after, word_events, word_of};
+ghost use Rattle.locale_numbers_formats.specs.NormalText.{digits_word, fraction_word, gap, grouping_word, joined, marks, mode_word, normal_words, notation_word, precision_word, priority_mark, sign_word, at_signs, at_sign_events, unit_word, whole_mark, width_word, word_after, word_events, word_of};
 
+use crate::options::RoundingPriority;
 use crate::shape::{CompactWidth, Notation};
 use crate::skeleton::Skeleton;
-use crate::stems::{Precision, SkeletonGrouping, SkeletonSign, SkeletonUnit};
+use crate::stems::{Precision, SkeletonGrouping, SkeletonSign, SkeletonUnit, WholeZeros};
 use fixed_decimal::{SignDisplay, SignedRoundingMode, UnsignedRoundingMode};
 use icu_dimension_fractions::{CurrencyStyle, CurrencyUsage, CurrencyWidth};
 use std::fmt;
 use writeable::{Error, Sink, Writeable, display};
 
-// A word: a front, zeros, hashes, and what is behind these.
+// A word: a front, zeros and hashes, a slash, at-signs and hashes, and what is behind these.
 #[derive(Clone, Copy)]
 struct NormalWord<'a> {
     front: &'a str,
     zeros: u8,
     hashes: u8,
+    slash: &'a str,
+    signs: u8,
+    others: u8,
     behind: &'a str,
 }
 
@@ -30,6 +34,9 @@ fn fixed(word: &'static str) -> NormalWord<'static>
         front: word,
         zeros: 0,
         hashes: 0,
+        slash: "",
+        signs: 0,
+        others: 0,
         behind: "",
     }
 }
@@ -42,6 +49,24 @@ fn pointed(zeros: u8, hashes: u8, behind: &'static str) -> NormalWord<'static>
         front: ".",
         zeros,
         hashes,
+        slash: "",
+        signs: 0,
+        others: 0,
+        behind,
+    }
+}
+
+// At-signs and hashes, and what is behind these.
+fn at_signs(signs: u8, others: u8, behind: &'static str) -> NormalWord<'static>
+    ensures { word_of result ≡ at_signs signs others behind.now }
+{
+    NormalWord {
+        front: "",
+        zeros: 0,
+        hashes: 0,
+        slash: "",
+        signs,
+        others,
         behind,
     }
 }
@@ -68,6 +93,9 @@ fn unit_word(unit: &SkeletonUnit) -> Option<NormalWord<'_>>
             front: "currency/",
             zeros: 0,
             hashes: 0,
+            slash: "",
+            signs: 0,
+            others: 0,
             behind: code.as_str(),
         }),
     }
@@ -84,6 +112,38 @@ fn fraction_word(least: u8, more: u8) -> NormalWord<'static>
     }
 }
 
+// What says that a whole number has no zeros after its point.
+fn whole_mark(zeros: WholeZeros) -> &'static str
+    ensures { result.now ≡ whole_mark zeros }
+{
+    match zeros {
+        WholeZeros::Shown => "",
+        WholeZeros::Hidden => "/w",
+    }
+}
+
+// What says that a number has as many digits as it was given, and that.
+fn endless_mark(zeros: WholeZeros) -> &'static str
+    ensures { result.now ≡ codes "*" ++ whole_mark zeros }
+{
+    match zeros {
+        WholeZeros::Shown => "*",
+        WholeZeros::Hidden => "*/w",
+    }
+}
+
+// What says which of two choices of digits counts, and that.
+fn priority_mark(priority: RoundingPriority, zeros: WholeZeros) -> &'static str
+    ensures { result.now ≡ priority_mark priority ++ whole_mark zeros }
+{
+    match (priority, zeros) {
+        (RoundingPriority::MorePrecision, WholeZeros::Shown) => "r",
+        (RoundingPriority::MorePrecision, WholeZeros::Hidden) => "r/w",
+        (RoundingPriority::LessPrecision, WholeZeros::Shown) => "s",
+        (RoundingPriority::LessPrecision, WholeZeros::Hidden) => "s/w",
+    }
+}
+
 // The word of the digits that are shown.
 fn precision_word(precision: Precision) -> Option<NormalWord<'static>>
     ensures { option_map word_of result ≡ precision_word precision }
@@ -93,7 +153,26 @@ fn precision_word(precision: Precision) -> Option<NormalWord<'static>>
         Precision::Unlimited => Some(fixed("precision-unlimited")),
         Precision::Fraction(least, more) => Some(fraction_word(least, more)),
         Precision::AtLeast(least) => Some(pointed(least, 0, "*")),
-        Precision::Whole(least) => Some(pointed(least, 0, "/w")),
+        Precision::Whole(least, more) => Some(pointed(least, more, "/w")),
+        Precision::Significant(least, more, zeros) => Some(at_signs(
+            least,
+            more,
+            whole_mark(zeros),
+        )),
+        Precision::SignificantAtLeast(least, zeros) => Some(at_signs(
+            least,
+            0,
+            endless_mark(zeros),
+        )),
+        Precision::Either(least, more, digits, others, priority, zeros) => Some(NormalWord {
+            front: ".",
+            zeros: least,
+            hashes: more,
+            slash: "/",
+            signs: digits,
+            others,
+            behind: priority_mark(priority, zeros),
+        }),
         Precision::Currency(CurrencyUsage::Standard) => Some(fixed("precision-currency-standard")),
         Precision::Currency(CurrencyUsage::Cash) => Some(fixed("precision-currency-cash")),
         Precision::WholeCurrency(CurrencyUsage::Standard) => {
@@ -136,9 +215,11 @@ fn grouping_word(notation: Notation, grouping: SkeletonGrouping) -> Option<Norma
         (Notation::Standard, SkeletonGrouping::Auto) => None,
         (Notation::Standard, SkeletonGrouping::Off) => Some(fixed("group-off")),
         (Notation::Standard, SkeletonGrouping::Min2) => Some(fixed("group-min2")),
+        (Notation::Standard, SkeletonGrouping::OnAligned) => Some(fixed("group-on-aligned")),
         (Notation::Compact(_), SkeletonGrouping::Auto) => Some(fixed("group-auto")),
         (Notation::Compact(_), SkeletonGrouping::Off) => Some(fixed("group-off")),
         (Notation::Compact(_), SkeletonGrouping::Min2) => None,
+        (Notation::Compact(_), SkeletonGrouping::OnAligned) => Some(fixed("group-on-aligned")),
     }
 }
 
@@ -153,6 +234,9 @@ fn digits_word(digits: u8) -> Option<NormalWord<'static>>
             front: "integer-width/*",
             zeros: digits,
             hashes: 0,
+            slash: "",
+            signs: 0,
+            others: 0,
             behind: "",
         })
     }
@@ -216,6 +300,19 @@ fn write_gap<S: Sink>(spaced: bool, sink: &mut S) -> Result<(), Error>
     if spaced { sink.write_str(" ") } else { Ok(()) }
 }
 
+// Writes what is behind the zeros and hashes of a word.
+fn write_at_signs<S: Sink>(word: NormalWord<'_>, sink: &mut S) -> Result<(), Error>
+    requires { S.refused sink.old ≡ false }
+    ensures ok { OnOk result (S.takes sink.old (at_sign_events word.entry) sink.new) }
+    ensures refused { S.refused sink.new ≡ is_err result }
+    ensures begun { OnErr result (HasBegun S.takes S.lacks_room sink.old (at_sign_events word.entry) sink.new) }
+{
+    sink.write_str(word.slash)?;
+    write_marks(word.signs, "@", sink)?;
+    write_marks(word.others, "#", sink)?;
+    sink.write_str(word.behind)
+}
+
 // Writes a word, after others or as the first.
 fn write_word<S: Sink>(spaced: bool, word: NormalWord<'_>, sink: &mut S) -> Result<(), Error>
     requires { S.refused sink.old ≡ false }
@@ -227,7 +324,7 @@ fn write_word<S: Sink>(spaced: bool, word: NormalWord<'_>, sink: &mut S) -> Resu
     sink.write_str(word.front)?;
     write_marks(word.zeros, "0", sink)?;
     write_marks(word.hashes, "#", sink)?;
-    sink.write_str(word.behind)
+    write_at_signs(word, sink)
 }
 
 // Writes a word, where there is one.

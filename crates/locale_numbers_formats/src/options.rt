@@ -15,6 +15,30 @@ pub enum Rounding {
     AsGiven,
     /// To multiples of an increment at a position, by a mode: 1.27 at -1 to multiples of 5, half to even, is `1.5`.
     At(i16, SignedRoundingMode, RoundingIncrement),
+    /// To so many digits from the first one that is not zero on: 12345 to at most 3, half to even, is `12300`.
+    Significant(SignificantDigits, SignedRoundingMode),
+    /// To whichever of a position and so many digits shows more, or less: 12345.678 at -2 or to at most 3 is `12345.68`
+    /// or `12300`.
+    Either(RoundingPriority, i16, SignificantDigits, SignedRoundingMode),
+}
+
+/// How many digits are shown, from the first one that is not zero on. Those of zero count from the ones on.
+#[derive(Clone, Copy, Debug, Default, PartialEq, Eq)]
+pub struct SignificantDigits {
+    /// At least so many, by zeros at the end of the fraction: by 3, 1.5 is `1.50`. Below 1 it counts as 1.
+    pub least: u16,
+    /// At most so many, by a rounding: by 3, 1.2345 is `1.23`. Below 1 it counts as 1.
+    pub most: u16,
+}
+
+/// Which of a position and so many digits a number is rounded to. After ECMA-402's `roundingPriority`.
+#[derive(Clone, Copy, Debug, Default, PartialEq, Eq)]
+pub enum RoundingPriority {
+    /// The one that shows more digits.
+    #[default]
+    MorePrecision,
+    /// The one that shows fewer digits.
+    LessPrecision,
 }
 
 /// What becomes of the zeros in front, after the rounding.
@@ -37,8 +61,11 @@ pub enum TrailingZeros {
     Keep,
     /// They are trimmed: `1.5` of `1.50`.
     Trim,
-    /// They are trimmed where no other digit is among them: `2` of `2.00`, and `1.50`.
+    /// They are trimmed where no other digit is among them, after the padding: `2` of `2.00`, and `1.50`.
     TrimWhole,
+    /// They are trimmed, and after the padding again where no other digit is among them: by two fraction digits, `2` of
+    /// 2, and `1.50`.
+    TrimAll,
 }
 
 /// Which sign is written.

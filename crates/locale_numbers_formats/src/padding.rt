@@ -1,9 +1,11 @@
 //! Zeros in front of a number without its sign, and at the end of its fraction: trimmed, and then added.
 
 ghost use Rattle.std.specs.Prelude.{◌≡◌, neg_ℤ};
-ghost use Rattle.locale_numbers_formats.specs.Changed.{end_trimmed, front_padded, front_trimmed, is_above_ones, padded_down, shown, start_trimmed};
+ghost use Rattle.fixed_decimal.specs.Number.{place};
+ghost use Rattle.locale_numbers_formats.specs.Changed.{end_padded, end_trimmed, fraction_trimmed, front_padded, front_trimmed, is_above_ones, last_of, padded_down, shown, start_trimmed, whole_shown, whole_trimmed, zeros_by};
 
 use crate::options::{LeadingZeros, NumberOptions, Rounding, TrailingZeros};
+use crate::significant::{last_place_of, magnitude_of};
 use fixed_decimal::UnsignedDecimal;
 
 // Whether a rounding is at a position above the ones.
@@ -13,6 +15,7 @@ fn is_above_ones(rounding: Rounding) -> bool
     match rounding {
         Rounding::Usual | Rounding::Cash | Rounding::AsGiven => false,
         Rounding::At(position, _, _) => position > 0,
+        Rounding::Significant(_, _) | Rounding::Either(_, _, _, _) => false,
     }
 }
 
@@ -39,15 +42,33 @@ fn trim_front(number: &mut UnsignedDecimal, zeros: LeadingZeros, rounding: Round
     }
 }
 
-// Trims the zeros at the end of the fraction, where that is asked for.
+// Trims the zeros at the end of the fraction.
+fn trim_fraction(number: &mut UnsignedDecimal)
+    ensures { number.new ≡ fraction_trimmed number.old }
+{
+    let _number = number.magnitude_range(); // for the proof
+    number.trim_end()
+}
+
+// What becomes of the zeros at the end of the fraction before the pads, by the rounding.
+fn zeros_by(rounding: Rounding, zeros: TrailingZeros) -> TrailingZeros
+    ensures { result ≡ zeros_by rounding zeros }
+{
+    match rounding {
+        Rounding::Significant(_, _) => TrailingZeros::Trim,
+        _ => zeros,
+    }
+}
+
+// Trims the zeros at the end of the fraction, where that is asked for before the pads.
 fn trim_end(number: &mut UnsignedDecimal, zeros: TrailingZeros)
     ensures { number.new ≡ end_trimmed zeros number.old }
 {
-    let _number = number.magnitude_range(); // for the proof
     match zeros {
         TrailingZeros::Keep => (),
-        TrailingZeros::Trim => number.trim_end(),
-        TrailingZeros::TrimWhole => number.trim_end_if_integer(),
+        TrailingZeros::Trim => trim_fraction(number),
+        TrailingZeros::TrimWhole => (),
+        TrailingZeros::TrimAll => trim_fraction(number),
     }
 }
 
@@ -63,7 +84,7 @@ fn pad_front(number: &mut UnsignedDecimal, digits: i16)
 
 // Pads a number with zeros at the end down to a position at least: to -2 of two digits.
 fn pad_down(number: &mut UnsignedDecimal, position: i16)
-    ensures { number.new ≡ padded_down position number.old }
+    ensures { number.new ≡ padded_down (place position) number.old }
 {
     let range = number.magnitude_range();
     if position < 0 && position < *range.start() {
@@ -72,8 +93,8 @@ fn pad_down(number: &mut UnsignedDecimal, position: i16)
 }
 
 // Pads a number with zeros at the end, so that so many fraction digits are shown at least.
-fn pad_end(number: &mut UnsignedDecimal, digits: i16)
-    ensures { number.new ≡ padded_down (neg_ℤ digits) number.old }
+fn pad_fraction(number: &mut UnsignedDecimal, digits: i16)
+    ensures { number.new ≡ padded_down (place (neg_ℤ digits)) number.old }
 {
     let _number = number.magnitude_range(); // for the proof
     if digits > 0 {
@@ -81,12 +102,50 @@ fn pad_end(number: &mut UnsignedDecimal, digits: i16)
     }
 }
 
-// Makes of a rounded number what is shown of it.
-pub(crate) fn show(number: &mut UnsignedDecimal, options: NumberOptions)
-    ensures { number.new ≡ shown options number.old }
+// Pads a number with zeros at the end, so that so many significant digits are shown at least.
+fn pad_significant(number: &mut UnsignedDecimal, digits: u16)
+    ensures { number.new ≡ padded_down (last_of digits number.old) number.old }
 {
-    trim_front(number, options.leading_zeros, options.rounding);
-    trim_end(number, options.zeros);
+    let last = last_place_of(number, digits);
+    pad_down(number, magnitude_of(last))
+}
+
+// Pads a number with zeros at the end, so that so many digits are shown at least as the rounding counts.
+fn pad_end(number: &mut UnsignedDecimal, rounding: Rounding, digits: i16)
+    ensures { number.new ≡ end_padded rounding digits number.old }
+{
+    match rounding {
+        Rounding::Significant(significant, _) => pad_significant(number, significant.least),
+        _ => pad_fraction(number, digits),
+    }
+}
+
+// Trims the fraction where it has no digit but zeros.
+fn trim_whole(number: &mut UnsignedDecimal)
+    ensures { number.new ≡ whole_trimmed number.old }
+{
+    number.trim_end_if_integer()
+}
+
+// Trims the zeros at the end of the fraction, where that is asked for after the pads.
+fn show_whole(number: &mut UnsignedDecimal, zeros: TrailingZeros)
+    ensures { number.new ≡ whole_shown zeros number.old }
+{
+    match zeros {
+        TrailingZeros::Keep => (),
+        TrailingZeros::Trim => (),
+        TrailingZeros::TrimWhole => trim_whole(number),
+        TrailingZeros::TrimAll => trim_whole(number),
+    }
+}
+
+// Makes of a number that was rounded so what is shown of it.
+pub(crate) fn show(number: &mut UnsignedDecimal, rounding: Rounding, options: &NumberOptions)
+    ensures { number.new ≡ shown rounding options.now number.old }
+{
+    trim_front(number, options.leading_zeros, rounding);
+    trim_end(number, zeros_by(rounding, options.zeros));
     pad_front(number, options.integer_digits);
-    pad_end(number, options.fraction_digits);
+    pad_end(number, rounding, options.fraction_digits);
+    show_whole(number, options.zeros);
 }

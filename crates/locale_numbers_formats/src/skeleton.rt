@@ -3,15 +3,17 @@
 ghost use Rattle.std.specs.Prelude.{◌≡◌};
 ghost use Rattle.std.specs.Result.{result_map_both};
 ghost use Rattle.locale_numbers_formats.specs.Cutting.{cut_at};
-ghost use Rattle.locale_numbers_formats.specs.SkeletonFormats.{digits_of, format_of, rounding_of, strategy_of, unit_of, zeros_of};
+ghost use Rattle.locale_numbers_formats.specs.SkeletonFormats.{digits_from, digits_of, digits_on, format_of, rounding_of, strategy_of, unit_of, whole_zeros, zeros_of};
 ghost use Rattle.locale_numbers_formats.specs.Skeletons.{fits_currency, has_currency_digits, is_accounting, is_code, is_compact, is_currency, is_of, no_words, pair_fault, read_word, read_words_of, says_mode, says_precision, set, settled, skeleton_of, space, usual_grouping, word_place};
 
 use crate::cutting::cut_field;
-use crate::options::{LeadingZeros, NumberOptions, Rounding, SignAsked, TrailingZeros};
+use crate::options::{
+    LeadingZeros, NumberOptions, Rounding, SignAsked, SignificantDigits, TrailingZeros,
+};
 use crate::shape::{CurrencyUnit, Notation, NumberFormat, NumberShape, NumberUnit};
 use crate::skeleton_error::{SkeletonError, WordFault};
 use crate::stems::{
-    Precision, Setting, SkeletonGrouping, SkeletonSign, SkeletonUnit, setting_named,
+    Precision, Setting, SkeletonGrouping, SkeletonSign, SkeletonUnit, WholeZeros, setting_named,
 };
 use fixed_decimal::{RoundingIncrement, SignDisplay, SignedRoundingMode, UnsignedRoundingMode};
 use icu_decimal_symbols::options::GroupingStrategy;
@@ -232,7 +234,10 @@ fn has_currency_digits(precision: Precision) -> bool
         | Precision::Unlimited
         | Precision::Fraction(_, _)
         | Precision::AtLeast(_)
-        | Precision::Whole(_) => false,
+        | Precision::Whole(_, _)
+        | Precision::Significant(_, _, _)
+        | Precision::SignificantAtLeast(_, _)
+        | Precision::Either(_, _, _, _, _, _) => false,
     }
 }
 
@@ -245,7 +250,10 @@ fn says_precision(precision: Precision) -> bool
         Precision::Unlimited
         | Precision::Fraction(_, _)
         | Precision::AtLeast(_)
-        | Precision::Whole(_)
+        | Precision::Whole(_, _)
+        | Precision::Significant(_, _, _)
+        | Precision::SignificantAtLeast(_, _)
+        | Precision::Either(_, _, _, _, _, _)
         | Precision::Currency(_)
         | Precision::WholeCurrency(_) => true,
     }
@@ -287,6 +295,36 @@ fn is_code(width: CurrencyWidth) -> bool
     match width {
         CurrencyWidth::Short => false,
         CurrencyWidth::IsoCode => true,
+    }
+}
+
+// So many significant digits at least, and so many more at most.
+fn digits_from(least: u8, more: u8) -> SignificantDigits
+    ensures { result ≡ digits_from least more }
+{
+    SignificantDigits {
+        least: least as u16,
+        most: least as u16 + more as u16,
+    }
+}
+
+// So many significant digits at least, and as many as a number has.
+fn digits_on(least: u8) -> SignificantDigits
+    ensures { result ≡ digits_on least }
+{
+    SignificantDigits {
+        least: least as u16,
+        most: u16::MAX,
+    }
+}
+
+// What becomes of zeros after the point of a whole number.
+fn whole_zeros(zeros: WholeZeros) -> TrailingZeros
+    ensures { result ≡ whole_zeros zeros }
+{
+    match zeros {
+        WholeZeros::Shown => TrailingZeros::Trim,
+        WholeZeros::Hidden => TrailingZeros::TrimAll,
     }
 }
 
@@ -360,10 +398,19 @@ impl Skeleton {
             Precision::Usual if is_currency(self.unit) => Rounding::Usual,
             Precision::Usual => Rounding::At(-6, self.mode, one),
             Precision::Unlimited | Precision::AtLeast(_) => Rounding::AsGiven,
-            Precision::Fraction(least, more) => {
+            Precision::Fraction(least, more) | Precision::Whole(least, more) => {
                 Rounding::At(-(least as i16 + more as i16), self.mode, one)
             }
-            Precision::Whole(least) => Rounding::At(-(least as i16), self.mode, one),
+            Precision::Significant(least, more, _) => {
+                Rounding::Significant(digits_from(least, more), self.mode)
+            }
+            Precision::SignificantAtLeast(least, _) => {
+                Rounding::Significant(digits_on(least), self.mode)
+            }
+            Precision::Either(least, more, digits, others, priority, _) => {
+                let position = -(least as i16 + more as i16);
+                Rounding::Either(priority, position, digits_from(digits, others), self.mode)
+            }
             Precision::Currency(CurrencyUsage::Standard)
             | Precision::WholeCurrency(CurrencyUsage::Standard) => Rounding::Usual,
             Precision::Currency(CurrencyUsage::Cash)
@@ -383,7 +430,11 @@ impl Skeleton {
             | Precision::Unlimited
             | Precision::Fraction(_, _)
             | Precision::AtLeast(_) => TrailingZeros::Trim,
-            Precision::Whole(_) | Precision::WholeCurrency(_) => TrailingZeros::TrimWhole,
+            Precision::Whole(_, _) => TrailingZeros::TrimAll,
+            Precision::Significant(_, _, zeros)
+            | Precision::SignificantAtLeast(_, zeros)
+            | Precision::Either(_, _, _, _, _, zeros) => whole_zeros(zeros),
+            Precision::WholeCurrency(_) => TrailingZeros::TrimWhole,
             Precision::Currency(_) => TrailingZeros::Keep,
         }
     }
@@ -393,10 +444,14 @@ impl Skeleton {
         ensures { result ≡ digits_of self.now.precision }
     {
         match self.precision {
-            Precision::Fraction(least, _) | Precision::AtLeast(least) => least,
+            Precision::Fraction(least, _)
+            | Precision::AtLeast(least)
+            | Precision::Whole(least, _)
+            | Precision::Either(least, _, _, _, _, _) => least,
             Precision::Usual
             | Precision::Unlimited
-            | Precision::Whole(_)
+            | Precision::Significant(_, _, _)
+            | Precision::SignificantAtLeast(_, _)
             | Precision::Currency(_)
             | Precision::WholeCurrency(_) => 0,
         }
@@ -425,6 +480,7 @@ impl Skeleton {
             SkeletonGrouping::Auto => GroupingStrategy::Auto,
             SkeletonGrouping::Off => GroupingStrategy::Never,
             SkeletonGrouping::Min2 => GroupingStrategy::Min2,
+            SkeletonGrouping::OnAligned => GroupingStrategy::OnAligned,
         }
     }
 

@@ -5,7 +5,8 @@ ghost use Rattle.locale_numbers_formats.specs.Stems.{capital_code, coded, fronts
 ghost use Rattle.locale_numbers_formats.specs.WordTable.{value_beside};
 
 use crate::cutting::first_separator;
-use crate::marks::{marked, padded_setting};
+use crate::marks::{marked, option_setting, padded_setting};
+use crate::options::RoundingPriority;
 use crate::shape::{CompactWidth, Notation};
 use crate::skeleton_error::WordFault;
 use crate::word_table::value_beside;
@@ -23,6 +24,15 @@ pub enum SkeletonUnit {
     Currency(CurrencyCode),
 }
 
+/// Whether zeros are shown after the point of a whole number.
+#[derive(Clone, Copy, Debug, PartialEq, Eq)]
+pub enum WholeZeros {
+    /// As of another number.
+    Shown,
+    /// None: `/w`.
+    Hidden,
+}
+
 /// Which digits a skeleton shows.
 #[derive(Clone, Copy, Debug, PartialEq, Eq)]
 pub enum Precision {
@@ -34,8 +44,15 @@ pub enum Precision {
     Fraction(u8, u8),
     /// So many after the point at least: `.00*`.
     AtLeast(u8),
-    /// So many after the point, and none of a whole number: `.00/w`.
-    Whole(u8),
+    /// So many after the point at least, so many more at most, and none of a whole number: `.0#/w`.
+    Whole(u8, u8),
+    /// So many significant digits at least, and so many more at most: `@@#`.
+    Significant(u8, u8, WholeZeros),
+    /// So many significant digits at least: `@@*`.
+    SignificantAtLeast(u8, WholeZeros),
+    /// Digits after the point or significant digits, each so many at least and so many more at most, whichever show more, or
+    /// less: `.0#/@@r`.
+    Either(u8, u8, u8, u8, RoundingPriority, WholeZeros),
     /// Those of the currency: `precision-currency-standard`, `precision-currency-cash`.
     Currency(CurrencyUsage),
     /// Those of the currency, and none of a whole number: `precision-currency-standard/w`.
@@ -51,6 +68,8 @@ pub enum SkeletonGrouping {
     Off,
     /// As `Auto`, with two digits before the last one at least: `group-min2`.
     Min2,
+    /// As `Auto`, with one digit before the last one in every locale: `group-on-aligned`.
+    OnAligned,
 }
 
 /// Which sign a skeleton writes.
@@ -86,7 +105,7 @@ pub enum Setting {
 }
 
 // The words, their short forms beside them, but for those with digits or a part after a slash.
-const STEMS: [(&[u8], Setting); 70] = [
+const STEMS: [(&[u8], Setting); 68] = [
     (
         b"compact-short",
         Setting::OfNotation(Notation::Compact(CompactWidth::Short)),
@@ -175,6 +194,11 @@ const STEMS: [(&[u8], Setting); 70] = [
     (b"group-min2", Setting::OfGrouping(SkeletonGrouping::Min2)),
     (b",?", Setting::OfGrouping(SkeletonGrouping::Min2)),
     (b"group-auto", Setting::OfGrouping(SkeletonGrouping::Auto)),
+    (
+        b"group-on-aligned",
+        Setting::OfGrouping(SkeletonGrouping::OnAligned),
+    ),
+    (b",!", Setting::OfGrouping(SkeletonGrouping::OnAligned)),
     (
         b"unit-width-iso-code",
         Setting::OfWidth(CurrencyWidth::IsoCode),
@@ -301,13 +325,9 @@ const STEMS: [(&[u8], Setting); 70] = [
     ),
     (b"permille", Setting::Refused(WordFault::Later)),
     (b"scientific", Setting::Refused(WordFault::Later)),
-    (b"E0", Setting::Refused(WordFault::Later)),
     (b"engineering", Setting::Refused(WordFault::Later)),
-    (b"EE0", Setting::Refused(WordFault::Later)),
     (b"unit-width-narrow", Setting::Refused(WordFault::Later)),
     (b"unit-width-full-name", Setting::Refused(WordFault::Later)),
-    (b"group-on-aligned", Setting::Refused(WordFault::Later)),
-    (b",!", Setting::Refused(WordFault::Later)),
     (b"%x100", Setting::Refused(WordFault::Later)),
     (b"latin", Setting::Refused(WordFault::System)),
     (b"decimal-always", Setting::Refused(WordFault::Unsupported)),
@@ -397,6 +417,8 @@ fn optioned(front: &[u8], option: &[u8]) -> Setting
         coded(option)
     } else if front == b"integer-width".as_slice() {
         padded_setting(option)
+    } else if front == b"precision-integer".as_slice() {
+        option_setting(0, 0, option)
     } else {
         front_setting(front)
     }

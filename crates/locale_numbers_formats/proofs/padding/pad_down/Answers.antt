@@ -11,4 +11,4 @@ returns-then-position-start c =
     let range = c.magnitude_range-range.ensures in
     let under : place c.args.position ≤ c.args.number.now.low = search rules in
     let pads : PadsEnd (place c.args.position) c.args.number.now c.pad_end.new.self = simp position at c.pad_end.ensures in
-    pads_down_is c.args.position c.args.number.now c.pad_end.new.self range.number under pads
+    pads_down_is (place c.args.position) c.args.number.now c.pad_end.new.self range.number under pads
