@@ -3,7 +3,7 @@ use Rattle.std.proofs.Common.{◌≡◌, ℕ, Bool, true, false, ◌||◌, List,
 use Rattle.icu_locale_core.specs.TagPreferences.{Preferences}
 use Rattle.locale_numbers_book.specs.Book.{BookTables}
 use Rattle.locale_numbers_book.specs.Wanted.{wanted_of}
-use Rattle.locale_numbers_requests.specs.OldRequests.{OldRequestsStay, StaysRequest, same, none, added, is_added, old_request_of, trims}
+use Rattle.locale_numbers_requests.specs.OldRequests.{OldRequestsStay, StaysRequest, same, none, added, is_added, is_added_grouping, old_request_of, trims}
 use Rattle.locale_numbers_requests.specs.Request.{Asked, request_of}
 use Rattle.locale_numbers_requests.specs.declared.Task.{Task}
 use Rattle.locale_numbers_requests.specs.declared.Task.TheVariants.{Write, WriteExact, Read, ReadLenient}
@@ -24,7 +24,9 @@ in_task Write book preferences asked old = refl
 in_task WriteExact book preferences asked old = refl
 in_task Read book preferences asked old = refl
 in_task ReadLenient book preferences asked old =
-    let adds = or_true (trims asked.format.options.leading_zeros asked.format.options.zeros) in
+    let task = or_true (trims asked.format.options.leading_zeros asked.format.options.zeros) in
+    let adds : is_added (by_task ReadLenient asked) ≡ true =
+    ap (λ (b : Bool). is_added_grouping asked.format.shape.grouping || b) task ∙ or_true (is_added_grouping asked.format.shape.grouping) in
     absurd (true≢false (sym adds ∙ old))
 
 tagged : (book : BookTables) (wanted : Option Preferences) (asked : Asked) → is_added asked ≡ false → answer_tagged book wanted asked ≡ old_answer_tagged book wanted asked

@@ -1,5 +1,5 @@
 -- The sizes of the values printed: their order, how far off they are, and which print themselves: `specs/PrintedLaws.antt`.
-use Rattle.std.proofs.Common.{◌≡◌, ℕ, ◌*◌, ◌%◌, ◌^◌, ◌==◌, ◌≤◌, ◌&&◌, Bool, true, false, cond, None, Result, Ok, refl, sym, ap, ◌∙◌, subst}
+use Rattle.std.proofs.Common.{◌≡◌, ℕ, ℤ, ◌*◌, ◌%◌, ◌^◌, ◌==◌, ◌≤◌, ◌&&◌, Bool, true, false, cond, None, Result, Ok, refl, sym, ap, ◌∙◌, subst}
 use Rattle.std.proofs.lemmas.Option.{same_Some}
 use Rattle.fixed_decimal.specs.Number.{Number}
 use Rattle.fixed_decimal.specs.Rounding.{distance}
@@ -12,13 +12,14 @@ use Rattle.icu_decimal.specs.UnderTableLaws.{ShownValueShowsItself, TableKeepsOr
 use Rattle.icu_decimal.specs.declared.error.DataError.{DataError}
 use Rattle.locale_numbers_book.specs.Book.{BookTables}
 use Rattle.locale_numbers_book.specs.Wanted.{wanted_of}
-use Rattle.locale_numbers_formats.specs.Changed.{changed, end_trimmed, front_trimmed, is_above_ones, rounded_by, shown, shown_signed, signed_as}
+use Rattle.locale_numbers_formats.specs.Changed.{changed, changed_by, end_padded, end_trimmed, front_padded, front_trimmed, is_above_ones, settled_rounding, shown, signed_as, whole_shown, whole_trimmed, zeros_by}
 use Rattle.locale_numbers_formats.specs.declared.CompactWidth.{CompactWidth}
 use Rattle.locale_numbers_formats.specs.declared.LeadingZeros.{LeadingZeros}
 use Rattle.locale_numbers_formats.specs.declared.LeadingZeros.TheVariants as leading
 use Rattle.locale_numbers_formats.specs.declared.NumberOptions.{NumberOptions}
 use Rattle.locale_numbers_formats.specs.declared.Rounding.{Rounding}
-use Rattle.locale_numbers_formats.specs.declared.Rounding.TheVariants.{Usual}
+use Rattle.locale_numbers_formats.specs.declared.Rounding.TheVariants as rounding
+use Rattle.locale_numbers_formats.specs.declared.Rounding.TheVariants.{Usual, AsGiven, At, Significant, Either}
 use Rattle.locale_numbers_formats.specs.declared.SignAsked.{SignAsked}
 use Rattle.locale_numbers_formats.specs.declared.SignAsked.TheVariants.{Keep, Show}
 use Rattle.locale_numbers_formats.specs.declared.TrailingZeros.{TrailingZeros}
@@ -47,20 +48,45 @@ front_size leading.TrimRoundedZero asked n = at (is_above_ones asked && (n.count
 end_size : (zeros : TrailingZeros) (n : Number) → (end_trimmed zeros n).count ≡ n.count
 end_size trailing.Keep n = refl
 end_size trailing.Trim n = refl
-end_size trailing.TrimWhole n = at (n.count % 10 ^ 32768 == 0)
+end_size trailing.TrimWhole n = refl
+end_size trailing.TrimAll n = refl
+
+pad_size : (asked : Rounding) (digits : ℤ) (n : Number) → (end_padded asked digits n).count ≡ n.count
+pad_size Usual digits n = refl
+pad_size rounding.Cash digits n = refl
+pad_size AsGiven digits n = refl
+pad_size (At position mode increment) digits n = refl
+pad_size (Significant significant mode) digits n = refl
+pad_size (Either priority position significant mode) digits n = refl
+
+whole_size : (n : Number) → (whole_trimmed n).count ≡ n.count
+whole_size n = at (n.count % 10 ^ 32768 == 0)
   where
     at : (b : Bool) → (cond b (record n { low = 32768 }) n).count ≡ n.count
     at true = refl
     at false = refl
 
-shown_size : (options : NumberOptions) (n : Number) → (shown options n).count ≡ n.count
-shown_size options n = end_size options.zeros (front_trimmed options.leading_zeros options.rounding n) ∙ front_size options.leading_zeros options.rounding n
+ended_size : (zeros : TrailingZeros) (n : Number) → (whole_shown zeros n).count ≡ n.count
+ended_size trailing.Keep n = refl
+ended_size trailing.Trim n = refl
+ended_size trailing.TrimWhole n = whole_size n
+ended_size trailing.TrimAll n = whole_size n
+
+shown_size : (asked : Rounding) (options : NumberOptions) (n : Number) → (shown asked options n).count ≡ n.count
+shown_size asked options n =
+    let front : Number = front_trimmed options.leading_zeros asked n in
+    let end : Number = end_trimmed (zeros_by asked options.zeros) front in
+    let padded : Number = front_padded options.integer_digits end in
+    ended_size options.zeros (end_padded asked options.fraction_digits padded)
+    ∙ pad_size asked options.fraction_digits padded
+    ∙ end_size (zeros_by asked options.zeros) front
+    ∙ front_size options.leading_zeros asked n
 
 unrounded_size : (options : NumberOptions) (n : SignedValue Number) → options.rounding ≡ Usual → (changed options None n).absolute.count ≡ n.absolute.count
 unrounded_size options n e =
-    ap (λ r. (shown_signed options (rounded_by r None n)).absolute.count) e
-    ∙ signed_size options.sign (record { sign = n.sign; absolute = shown options n.absolute })
-    ∙ shown_size options n.absolute
+    ap (λ (asked : Rounding). (changed_by (settled_rounding asked n) options None n).absolute.count) e
+    ∙ signed_size options.sign (record { sign = n.sign; absolute = shown Usual options n.absolute })
+    ∙ shown_size Usual options n.absolute
 
 one_ok : (r : Result CompactTable DataError) (a b : CompactTable) → r ≡ Ok a → r ≡ Ok b → a ≡ b
 one_ok r a b f g = let same : ◌≡◌ {A = Result CompactTable DataError} (Ok a) (Ok b) = sym f ∙ g in cc

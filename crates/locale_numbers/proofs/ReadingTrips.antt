@@ -39,6 +39,7 @@ use Rattle.locale_numbers_answers.specs.CompactReading.{CompactReading, compact_
 use Rattle.locale_numbers_answers.specs.NumberAnswer.{exact_written, is_form_in_range, signed_form}
 use Rattle.locale_numbers_answers.specs.NumberReading.{Reading, beyond, nothing, number, reading_of}
 use Rattle.locale_numbers_answers.specs.ReadAnswer.{own_reading, read_answer}
+use Rattle.locale_numbers_answers.specs.Laws.{ChoosesNone}
 use Rattle.locale_numbers_answers.proofs.NumberBounds.{changed_again, changed_is_decimal, reading_is_decimal}
 use Rattle.locale_numbers_answers.proofs.NumberReadingLemmas.{signed_number}
 use Rattle.locale_numbers_book.specs.Book.{BookTables}
@@ -345,8 +346,8 @@ regrouped_are grouping tables are = record {
 }
 
 -- what is asked of plain numbers trims and pads nothing
-pub plain_options : (rounding : Rounding) (sign : SignAsked) → TrimsNothing (options_of rounding sign)
-plain_options rounding sign = record { leading = refl; trailing = refl; integer = refl; fraction = refl }
+pub plain_options : (rounding : Rounding) (sign : SignAsked) → ChoosesNone rounding → TrimsNothing (options_of rounding sign)
+plain_options rounding sign none = record { digits = none; leading = refl; trailing = refl; integer = refl; fraction = refl }
 
 module _ (pairs : PlainReadsByPairs) (book : BookTables) (asked : Asked) (tables : Tables) (finds : FindsTables book asked tables) where
   read_found_is : (text : List ℕ) → answer_asked book (Some (reading_request asked text)) ≡ read_answer (plain_reading tables text)

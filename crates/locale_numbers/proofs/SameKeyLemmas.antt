@@ -3,7 +3,7 @@ use Rattle.std.proofs.Common.{◌≡◌, Bool, true, false, refl, ap, Decides}
 use Rattle.std.specs.Cmp.Lexicographic.{bytes_decides}
 use Rattle.std.proofs.lemmas.Bool.Decides.{Decides-and, Decides-like, same_from_decides}
 use Rattle.icu_decimal.specs.declared.options.GroupingStrategy.{GroupingStrategy}
-use Rattle.icu_decimal.specs.declared.options.GroupingStrategy.TheVariants.{Auto, Never, Always, Min2}
+use Rattle.icu_decimal.specs.declared.options.GroupingStrategy.TheVariants.{Auto, Never, Always, Min2, OnAligned}
 use Rattle.icu_dimension.specs.declared.CurrencyStyle.{CurrencyStyle}
 use Rattle.icu_dimension.specs.declared.CurrencyStyle.TheVariants as style
 use Rattle.icu_dimension.specs.declared.CurrencyWidth.{CurrencyWidth}
@@ -75,18 +75,27 @@ groupings_decide Auto Auto = (λ e. refl, λ e. refl)
 groupings_decide Auto Never = (λ e. cc, λ e. cc)
 groupings_decide Auto Always = (λ e. cc, λ e. cc)
 groupings_decide Auto Min2 = (λ e. cc, λ e. cc)
+groupings_decide Auto OnAligned = (λ e. cc, λ e. cc)
 groupings_decide Never Auto = (λ e. cc, λ e. cc)
 groupings_decide Never Never = (λ e. refl, λ e. refl)
 groupings_decide Never Always = (λ e. cc, λ e. cc)
 groupings_decide Never Min2 = (λ e. cc, λ e. cc)
+groupings_decide Never OnAligned = (λ e. cc, λ e. cc)
 groupings_decide Always Auto = (λ e. cc, λ e. cc)
 groupings_decide Always Never = (λ e. cc, λ e. cc)
 groupings_decide Always Always = (λ e. refl, λ e. refl)
 groupings_decide Always Min2 = (λ e. cc, λ e. cc)
+groupings_decide Always OnAligned = (λ e. cc, λ e. cc)
 groupings_decide Min2 Auto = (λ e. cc, λ e. cc)
 groupings_decide Min2 Never = (λ e. cc, λ e. cc)
 groupings_decide Min2 Always = (λ e. cc, λ e. cc)
 groupings_decide Min2 Min2 = (λ e. refl, λ e. refl)
+groupings_decide Min2 OnAligned = (λ e. cc, λ e. cc)
+groupings_decide OnAligned Auto = (λ e. cc, λ e. cc)
+groupings_decide OnAligned Never = (λ e. cc, λ e. cc)
+groupings_decide OnAligned Always = (λ e. cc, λ e. cc)
+groupings_decide OnAligned Min2 = (λ e. cc, λ e. cc)
+groupings_decide OnAligned OnAligned = (λ e. refl, λ e. refl)
 
 preferences_decide : (a b : Preferences) → Decides (same_preferences a b) (a ≡ b)
 preferences_decide a b = Decides-like (same_preferences a b)

@@ -19,7 +19,7 @@ use Rattle.locale_numbers_answers.proofs.TextLemmas.{number_is_text}
 use Rattle.locale_numbers_book.specs.Book.{BookTables}
 use Rattle.locale_numbers_book.specs.FoundFormats.{found_for, mapped, notation_found}
 use Rattle.locale_numbers_book.specs.TagFormatters.{found_plain}
-use Rattle.locale_numbers_formats.specs.Changed.{changed, end_trimmed, front_trimmed, rounded_by, shown, shown_signed, signed_as}
+use Rattle.locale_numbers_formats.specs.Changed.{changed, changed_by, end_padded, end_trimmed, front_padded, front_trimmed, padded_down, rounded_by, settled_rounding, shown, shown_signed, signed_as, whole_shown, zeros_by}
 use Rattle.locale_numbers_formats.specs.declared.LeadingZeros.{LeadingZeros}
 use Rattle.locale_numbers_formats.specs.declared.LeadingZeros.TheVariants as leading
 use Rattle.locale_numbers_formats.specs.declared.Notation.{Notation}
@@ -29,7 +29,7 @@ use Rattle.locale_numbers_formats.specs.declared.NumberOptions.{NumberOptions}
 use Rattle.locale_numbers_formats.specs.declared.NumberUnit.{NumberUnit}
 use Rattle.locale_numbers_formats.specs.declared.NumberUnit.TheVariants as unit
 use Rattle.locale_numbers_formats.specs.declared.Rounding.{Rounding}
-use Rattle.locale_numbers_formats.specs.declared.Rounding.TheVariants.{Usual, Cash, AsGiven, At}
+use Rattle.locale_numbers_formats.specs.declared.Rounding.TheVariants.{Usual, Cash, AsGiven, At, Significant, Either}
 use Rattle.locale_numbers_formats.specs.declared.SignAsked.{SignAsked}
 use Rattle.locale_numbers_formats.specs.declared.SignAsked.TheVariants.{Keep, Show}
 use Rattle.locale_numbers_formats.specs.declared.TrailingZeros.{TrailingZeros}
@@ -66,13 +66,48 @@ rounds Usual value h = refl
 rounds Cash value h = refl
 rounds AsGiven value h = refl
 rounds (At position mode increment) value h = absurd (cc)
+rounds (Significant digits mode) value h = absurd (cc)
+rounds (Either priority position digits mode) value h = absurd (cc)
+
+settles : (rounding : Rounding) (value : SignedValue Number) → rounds_none rounding ≡ true → settled_rounding rounding value ≡ rounding
+settles Usual value h = refl
+settles Cash value h = refl
+settles AsGiven value h = refl
+settles (At position mode increment) value h = refl
+settles (Significant digits mode) value h = refl
+settles (Either priority position digits mode) value h = absurd (cc)
+
+zeros_are : (rounding : Rounding) (zeros : TrailingZeros) → rounds_none rounding ≡ true → zeros_by rounding zeros ≡ zeros
+zeros_are Usual zeros h = refl
+zeros_are Cash zeros h = refl
+zeros_are AsGiven zeros h = refl
+zeros_are (At position mode increment) zeros h = refl
+zeros_are (Significant digits mode) zeros h = absurd (cc)
+zeros_are (Either priority position digits mode) zeros h = refl
+
+least_is : (rounding : Rounding) (digits : ℤ) (n : Number) → rounds_none rounding ≡ true → end_padded rounding digits n ≡ padded_down (place (neg_ℤ digits)) n
+least_is Usual digits n h = refl
+least_is Cash digits n h = refl
+least_is AsGiven digits n h = refl
+least_is (At position mode increment) digits n h = refl
+least_is (Significant significant mode) digits n h = absurd (cc)
+least_is (Either priority position significant mode) digits n h = refl
 
 trims : (front : LeadingZeros) (end : TrailingZeros) (rounding : Rounding) (value : Number) → keeps_zeros front end ≡ true → end_trimmed end (front_trimmed front rounding value) ≡ value
 trims leading.Keep trailing.Keep rounding value h = refl
 trims leading.Keep trailing.Trim rounding value h = absurd (cc)
 trims leading.Keep trailing.TrimWhole rounding value h = absurd (cc)
+trims leading.Keep trailing.TrimAll rounding value h = absurd (cc)
 trims leading.TrimRoundedZero end rounding value h = absurd (cc)
 trims leading.Trim end rounding value h = absurd (cc)
+
+whole_is : (front : LeadingZeros) (end : TrailingZeros) (value : Number) → keeps_zeros front end ≡ true → whole_shown end value ≡ value
+whole_is leading.Keep trailing.Keep value h = refl
+whole_is leading.Keep trailing.Trim value h = refl
+whole_is leading.Keep trailing.TrimWhole value h = absurd (cc)
+whole_is leading.Keep trailing.TrimAll value h = absurd (cc)
+whole_is leading.TrimRoundedZero end value h = absurd (cc)
+whole_is leading.Trim end value h = absurd (cc)
 
 signs : (sign : SignAsked) (value : SignedValue Number) → keeps_sign sign ≡ true → signed_as sign value ≡ value
 signs Keep value h = refl
@@ -104,24 +139,29 @@ leaves_all format h =
     let a = and_parts shape (rounds_none o.rounding) b.0 in
     record { plain = a.0; rounds = a.1; zeros = b.1; integer_digits = c.1; fraction_digits = d.1; sign = e.1 }
 
-shown_so : (format : NumberFormat) → LeavesAll format → (value : Number) → IsNumber value → shown format.options value ≡ value
+shown_so : (format : NumberFormat) → LeavesAll format → (value : Number) → IsNumber value → shown format.options.rounding format.options value ≡ value
 shown_so format all value is =
     let o = format.options in
-    let untrimmed : end_trimmed o.zeros (front_trimmed o.leading_zeros o.rounding value) ≡ value = trims o.leading_zeros o.zeros o.rounding value all.zeros in
+    let front : Number = front_trimmed o.leading_zeros o.rounding value in
+    let end : Number = end_trimmed (zeros_by o.rounding o.zeros) front in
+    let untrimmed : end ≡ value = ap (λ (zeros : TrailingZeros). end_trimmed zeros front) (zeros_are o.rounding o.zeros all.rounds) ∙ trims o.leading_zeros o.zeros o.rounding value all.zeros in
     let down = none_down o.fraction_digits all.fraction_digits in
     let up = none_up o.integer_digits all.integer_digits in
     let low = is.low in
     let ones = is.ones in
-    ap (λ (n : Number). record { count = n.count; low = min n.low (place (neg_ℤ o.fraction_digits)); high = max n.high (place o.integer_digits - 1) }) untrimmed
-    ∙ same_fields (record { count = value.count; low = min value.low (place (neg_ℤ o.fraction_digits)); high = max value.high (place o.integer_digits - 1) }) value refl
-    (omega (arith, down, low)) (omega (arith, up, ones))
+    whole_is o.leading_zeros o.zeros (end_padded o.rounding o.fraction_digits (front_padded o.integer_digits end)) all.zeros
+    ∙ least_is o.rounding o.fraction_digits (front_padded o.integer_digits end) all.rounds
+    ∙ ap (λ (n : Number). padded_down (place (neg_ℤ o.fraction_digits)) (front_padded o.integer_digits n)) untrimmed
+    ∙ same_fields (padded_down (place (neg_ℤ o.fraction_digits)) (front_padded o.integer_digits value)) value refl (omega (arith, down, low)) (omega (arith, up, ones))
 
 pub changes_none : (format : NumberFormat) → is_as_it_is format ≡ true → (value : SignedValue Number) → IsNumber value.absolute → changed format.options None value ≡ value
 changes_none format h value is =
     let all = leaves_all format h in
-    ap (shown_signed format.options) (rounds format.options.rounding value all.rounds)
-    ∙ ap (λ (n : Number). signed_as format.options.sign (record { sign = value.sign; absolute = n })) (shown_so format all value.absolute is)
-    ∙ signs format.options.sign value all.sign
+    let o = format.options in
+    ap (λ (asked : Rounding). changed_by asked o None value) (settles o.rounding value all.rounds)
+    ∙ ap (shown_signed o.rounding o) (rounds o.rounding value all.rounds)
+    ∙ ap (λ (n : Number). signed_as o.sign (record { sign = value.sign; absolute = n })) (shown_so format all value.absolute is)
+    ∙ signs o.sign value all.sign
 
 -- such a format finds plain tables
 finds_plain : (notation : Notation) (of : NumberUnit) (book : BookTables) (p : Preferences) (format : NumberFormat) → is_plain notation of ≡ true

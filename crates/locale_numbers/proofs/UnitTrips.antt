@@ -20,7 +20,7 @@ use Rattle.icu_dimension.specs.UnitReadings.{unit_reading}
 use Rattle.icu_dimension.specs.UnitText.{UnitSettings, unit_decimal_text}
 use Rattle.icu_locale_core.specs.TagPreferences.{Preferences}
 use Rattle.locale_numbers_answers.specs.Answers.{answer_by, read_found, written_found, written_to}
-use Rattle.locale_numbers_answers.specs.Laws.{FitDecimals, IsAtMagnitude}
+use Rattle.locale_numbers_answers.specs.Laws.{ChoosesNone, FitDecimals, IsAtMagnitude}
 use Rattle.locale_numbers_answers.specs.NumberReading.{number, reading_of}
 use Rattle.locale_numbers_answers.specs.ReadAnswer.{fraction_asked, is_own_rounding, own_reading, read_answer}
 use Rattle.locale_numbers_answers.proofs.NumberBounds.{changed_is_decimal, reading_is_decimal}
@@ -33,7 +33,7 @@ use Rattle.locale_numbers_formats.specs.Changed.{changed}
 use Rattle.locale_numbers_formats.specs.declared.NumberUnit.{NumberUnit}
 use Rattle.locale_numbers_formats.specs.declared.NumberUnit.TheVariants as unit
 use Rattle.locale_numbers_formats.specs.declared.Rounding.{Rounding}
-use Rattle.locale_numbers_formats.specs.declared.Rounding.TheVariants.{Usual, Cash, AsGiven, At}
+use Rattle.locale_numbers_formats.specs.declared.Rounding.TheVariants.{Usual, Cash, AsGiven, At, Significant, Either}
 use Rattle.locale_numbers_formats.specs.declared.SignAsked.TheVariants.{Keep}
 use Rattle.locale_numbers_formatter.specs.FormatText.{UnitFormat, unit_tables}
 use Rattle.locale_numbers_formatter.specs.HeldFormats.{percent_format}
@@ -57,12 +57,28 @@ usual (unit.Currency currency) AsGiven takes = absurd (cc)
 usual unit.None (At position mode increment) takes = absurd (cc)
 usual unit.Percent (At position mode increment) takes = absurd (cc)
 usual (unit.Currency currency) (At position mode increment) takes = absurd (cc)
+usual unit.None (Significant digits mode) takes = absurd (cc)
+usual unit.Percent (Significant digits mode) takes = absurd (cc)
+usual (unit.Currency currency) (Significant digits mode) takes = absurd (cc)
+usual unit.None (Either priority position digits mode) takes = absurd (cc)
+usual unit.Percent (Either priority position digits mode) takes = absurd (cc)
+usual (unit.Currency currency) (Either priority position digits mode) takes = absurd (cc)
 
 at_magnitude : (rounding : Rounding) → (keeps_digits rounding || is_cash rounding) ≡ true → IsAtMagnitude rounding
 at_magnitude Usual takes = tt
 at_magnitude Cash takes = tt
 at_magnitude AsGiven takes = absurd (cc)
 at_magnitude (At position mode increment) takes = absurd (cc)
+at_magnitude (Significant digits mode) takes = absurd (cc)
+at_magnitude (Either priority position digits mode) takes = absurd (cc)
+
+chooses_none : (rounding : Rounding) → (keeps_digits rounding || is_cash rounding) ≡ true → ChoosesNone rounding
+chooses_none Usual takes = tt
+chooses_none Cash takes = tt
+chooses_none AsGiven takes = tt
+chooses_none (At position mode increment) takes = tt
+chooses_none (Significant digits mode) takes = absurd (cc)
+chooses_none (Either priority position digits mode) takes = absurd (cc)
 
 fitting : (rounding : Rounding) → (keeps_digits rounding || is_cash rounding) ≡ true → FitDecimals (options_of rounding Keep)
 fitting rounding takes = record { position = at_magnitude rounding takes; integer = omega arith }
@@ -135,7 +151,7 @@ read_unit_again all one readers book asked of found rounding text digits finds t
     let kept = usual of rounding takes in
     written_is book asked of found finds rounding digits read.value sent
     ∙ ap (λ v. written (unit_decimal_text found.settings v))
-    (own_stays (options_of rounding Keep) found.fractions read.value (plain_options rounding Keep) refl (fitting rounding kept) is.decimal kept parts.1)
+    (own_stays (options_of rounding Keep) found.fractions read.value (plain_options rounding Keep (chooses_none rounding kept)) refl (fitting rounding kept) is.decimal kept parts.1)
     ∙ ap written (sym (readers found.settings read.value) ∙ is.written)
 
 -- what a line writes reads back under a rounding that leaves it as it is
@@ -168,7 +184,7 @@ no_digits (Ok settings) found is =
 no_digits (Err error) found is = absurd (cc)
 
 pub percent_reads_back : FoundUnitsAreTexts → HasOneExactReading → ReadersReadWhatIsWritten → WrittenPercentReadsBack
-percent_reads_back all one readers book asked found value text task shape nothing fits finds readable reads same =
+percent_reads_back all one readers book asked found value text task shape fits finds readable reads same =
     let none : found.fractions ≡ None = no_digits (percent_found_in book finds.preferences (Some (grouping_in asked))) found finds.found in
     reads_back_under all one readers book asked unit.Percent found value text Usual task shape fits finds readable reads same
     (ap (λ fractions. is_own_rounding (fraction_asked fractions Usual) (changed asked.format.options found.fractions value)) none)

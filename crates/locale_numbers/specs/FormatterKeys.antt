@@ -5,7 +5,7 @@
 use Rattle.std.specs.Prelude.{ℕ, Bool, true, false, ◌&&◌, List, [], map, min, Option, Some, None, is_ok}
 use Rattle.std.specs.Str.{bytes_eq}
 use Rattle.icu_decimal.specs.declared.options.GroupingStrategy.{GroupingStrategy}
-use Rattle.icu_decimal.specs.declared.options.GroupingStrategy.TheVariants.{Auto, Never, Always, Min2}
+use Rattle.icu_decimal.specs.declared.options.GroupingStrategy.TheVariants.{Auto, Never, Always, Min2, OnAligned}
 use Rattle.icu_dimension.specs.declared.CurrencyStyle.{CurrencyStyle}
 use Rattle.icu_dimension.specs.declared.CurrencyStyle.TheVariants as style
 use Rattle.icu_dimension.specs.declared.CurrencyWidth.{CurrencyWidth}
@@ -118,6 +118,7 @@ same_grouping Auto Auto = true
 same_grouping Never Never = true
 same_grouping Always Always = true
 same_grouping Min2 Min2 = true
+same_grouping OnAligned OnAligned = true
 same_grouping _ _ = false
 
 abbrev pub same_shape : NumberShape → NumberShape → Bool

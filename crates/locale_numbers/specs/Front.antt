@@ -20,7 +20,7 @@ use Rattle.locale_numbers_formats.specs.declared.NumberFormat.{NumberFormat}
 use Rattle.locale_numbers_formats.specs.declared.NumberUnit.{NumberUnit}
 use Rattle.locale_numbers_formats.specs.declared.NumberUnit.TheVariants as unit
 use Rattle.locale_numbers_formats.specs.declared.Rounding.{Rounding}
-use Rattle.locale_numbers_formats.specs.declared.Rounding.TheVariants.{Usual, Cash, AsGiven, At}
+use Rattle.locale_numbers_formats.specs.declared.Rounding.TheVariants.{Usual, Cash, AsGiven, At, Significant, Either}
 use Rattle.locale_numbers_formats.specs.declared.TrailingZeros.{TrailingZeros}
 use Rattle.locale_numbers_formats.specs.declared.TrailingZeros.TheVariants as trailing
 use Rattle.locale_numbers_formatter.specs.FormatText.{FormatTables, compact_tables, plain_tables, unit_tables}
@@ -51,11 +51,14 @@ rounds_none Usual = true
 rounds_none Cash = true
 rounds_none AsGiven = true
 rounds_none (At position mode increment) = false
+rounds_none (Significant digits mode) = false
+rounds_none (Either priority position digits mode) = false
 
 abbrev pub keeps_zeros : LeadingZeros → TrailingZeros → Bool
 keeps_zeros leading.Keep trailing.Keep = true
 keeps_zeros leading.Keep trailing.Trim = false
 keeps_zeros leading.Keep trailing.TrimWhole = false
+keeps_zeros leading.Keep trailing.TrimAll = false
 keeps_zeros leading.TrimRoundedZero end = false
 keeps_zeros leading.Trim end = false
 

@@ -22,7 +22,7 @@ use Rattle.icu_locale_core.specs.Meaning.{TagMeaning, MeansTag}
 use Rattle.icu_locale_core.specs.NormalText.{normal_text}
 use Rattle.icu_locale_core.specs.TagPreferences.{Preferences, least_of, keyword_piece, keyword_subdivision, numbering_key, subdivision_key}
 use Rattle.locale_numbers_book.specs.Book.{BookTables, IsBook}
-pub use Rattle.locale_numbers_answers.specs.Laws.{IsReading, HasOneReading, IsCompactReading, HasOneCompactReading, HasOneRounding, FitDecimals, IsAtMagnitude, RequestsAreAtMagnitude, TrimsNothing}
+pub use Rattle.locale_numbers_answers.specs.Laws.{IsReading, HasOneReading, IsCompactReading, HasOneCompactReading, HasOneRounding, ChoosesNone, FitDecimals, IsAtMagnitude, RequestsAreAtMagnitude, TrimsNothing}
 use Rattle.locale_numbers_book.specs.Wanted.{wanted_of}
 use Rattle.locale_numbers_formats.specs.declared.NumberOptions.{NumberOptions}
 use Rattle.locale_numbers_formats.specs.declared.Rounding.TheVariants.{Usual}

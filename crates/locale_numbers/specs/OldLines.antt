@@ -1,5 +1,5 @@
--- What a line was answered before the forms `read-lenient`, `percent`, `currency-EUR` and their like were added, and that a line of another form
--- has that answer now.
+-- What a line was answered before the forms `read-lenient`, `percent`, `currency-EUR` and their like, the grouping `on-aligned` and choices of
+-- digits were added, and that a line without these has that answer now.
 -- Defined in docs/requests.md, "Request line".
 -- Cited by `laws::old_lines_stay`.
 use Rattle.std.specs.Prelude.{◌≡◌, ℕ, true, List, Option, Some, None}

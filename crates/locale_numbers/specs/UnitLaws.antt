@@ -91,7 +91,7 @@ WrittenUnitReadsBack = (book : BookTables) (asked : Asked) (unit : NumberUnit) (
 -- where texts can be read, what a line writes of a percent reads back under no rounding as that number, whatever the rounding of the line
 abbrev pub WrittenPercentReadsBack : Type 0
 WrittenPercentReadsBack = (book : BookTables) (asked : Asked) (found : UnitFormat) (value : SignedValue Number) (text : List ℕ)
-    → asked.task ≡ Write → asked.format.shape ≡ shape_with unit.Percent (grouping_in asked) → TrimsNothing asked.format.options → FitDecimals asked.format.options
+    → asked.task ≡ Write → asked.format.shape ≡ shape_with unit.Percent (grouping_in asked) → FitDecimals asked.format.options
     → FindsUnit book asked unit.Percent found
     → is_unit_readable_by (reader_texts found.settings) ≡ true → reading_of asked.text ≡ number value
     → answer_asked book (Some asked) ≡ written text

@@ -58,7 +58,7 @@ fn rounds_none(rounding: Rounding) -> bool
 {
     match rounding {
         Rounding::Usual | Rounding::Cash | Rounding::AsGiven => true,
-        Rounding::At(_, _, _) => false,
+        Rounding::At(_, _, _) | Rounding::Significant(_, _) | Rounding::Either(_, _, _, _) => false,
     }
 }
 

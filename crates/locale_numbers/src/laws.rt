@@ -51,8 +51,9 @@ pub fn lines_ask_their_fields()
 {}
 
 /// A line of the forms `plain`, `short`, `long`, `exact-short`, `exact-long` and `read` is answered as it was before other
-/// forms were added, and a line of one of these was refused for its shape: that of `en`, `plain` and `1000` is answered by
-/// `ok`, a tab and `1,000`, and that of `percent` was answered by `err`, a tab and `shape`.
+/// forms, the grouping `on-aligned` and choices of digits were added, and a line of one of these was refused for its shape:
+/// that of `en`, `plain` and `1000` is answered by `ok`, a tab and `1,000`, and that of `percent` was answered by `err`, a
+/// tab and `shape`.
 pub fn old_lines_stay()
     ensures { OldLinesStay }
 {
@@ -179,8 +180,9 @@ pub fn written_reads_back()
     both_trips();
 }
 
-/// Under readable symbols a plain answer, read back and written again with the same rounding and `keep`, is the same
-/// text. With `en` and `2,half-expand,1`, `1250` is answered by `1,300`; this is read as `1300`, and written `1,300`.
+/// Under readable symbols a plain answer without a choice of digits, read back and written again with the same rounding
+/// and `keep`, is the same text. With `en` and `2,half-expand,1`, `1250` is answered by `1,300`; this is read as `1300`,
+/// and written `1,300`.
 pub fn rounded_is_written_again()
     ensures { RoundedIsWrittenAgain }
 {

@@ -13,7 +13,7 @@ use Rattle.locale_numbers_formats.specs.AmountRounding.{amount_rounded, amount_s
 use Rattle.locale_numbers_formats.specs.Changed.{changed, rounded_by, signed_as}
 use Rattle.locale_numbers_formats.specs.declared.NumberOptions.{NumberOptions}
 use Rattle.locale_numbers_formats.specs.declared.Rounding.{Rounding}
-use Rattle.locale_numbers_formats.specs.declared.Rounding.TheVariants.{Usual, Cash, AsGiven, At}
+use Rattle.locale_numbers_formats.specs.declared.Rounding.TheVariants.{Usual, Cash, AsGiven, At, Significant, Either}
 use Rattle.locale_numbers_formats.specs.declared.SignAsked.{SignAsked}
 use Rattle.locale_numbers_formats.specs.declared.SignAsked.TheVariants.{Keep, Show}
 use Rattle.locale_numbers_answers.specs.Laws.{FitDecimals, TrimsNothing}
@@ -37,6 +37,8 @@ own_signed (Some fractions) Usual sign value = own_amount fractions.standard sig
 own_signed (Some fractions) Cash sign value = own_amount fractions.cash sign value
 own_signed (Some fractions) AsGiven sign value = refl
 own_signed (Some fractions) (At position mode increment) sign value = refl
+own_signed (Some fractions) (Significant digits mode) sign value = refl
+own_signed (Some fractions) (Either priority position digits mode) sign value = refl
 
 pub own_of_changed : (options : NumberOptions) (fractions : Option FractionInfo) (value : SignedValue Number) → TrimsNothing options → FitDecimals options → IsDecimal value
     → is_own_rounding (fraction_asked fractions options.rounding) (changed options fractions value) ≡ true
@@ -52,6 +54,8 @@ own_rounded None Usual value usual own = refl
 own_rounded None Cash value usual own = refl
 own_rounded fractions AsGiven value usual own = absurd (cc)
 own_rounded fractions (At position mode increment) value usual own = absurd (cc)
+own_rounded fractions (Significant digits mode) value usual own = absurd (cc)
+own_rounded fractions (Either priority position digits mode) value usual own = absurd (cc)
 own_rounded (Some fractions) Usual value usual own = (decimals_decide (amount_rounded fractions.standard value) value).0 own
 own_rounded (Some fractions) Cash value usual own = (decimals_decide (amount_rounded fractions.cash value) value).0 own
 

@@ -19,6 +19,8 @@ use Rattle.locale_numbers_formats.specs.Rounded.{rounded}
 pub use Rattle.locale_numbers_requests.specs.Laws.{FitDecimals, IsAtMagnitude, RequestsAreAtMagnitude}
 use Rattle.locale_numbers_formats.specs.declared.LeadingZeros.TheVariants as leading
 use Rattle.locale_numbers_formats.specs.declared.NumberOptions.{NumberOptions}
+use Rattle.locale_numbers_formats.specs.declared.Rounding.{Rounding}
+use Rattle.locale_numbers_formats.specs.declared.Rounding.TheVariants.{Usual, Cash, AsGiven, At, Significant, Either}
 use Rattle.locale_numbers_formats.specs.declared.TrailingZeros.TheVariants as trailing
 
 -- ---- numbers
@@ -53,8 +55,18 @@ HasOneRounding = (mode : SignedRoundingMode) (increment : RoundingIncrement) (po
 abbrev pub HasOneAmount : Type 0
 HasOneAmount = (f : Fraction) (old new : SignedValue Number) → RoundsAmount f old new ↔ (new ≡ amount_rounded f old)
 
+-- a rounding counts no significant digits, of which zeros are trimmed and added
+abbrev pub ChoosesNone : Rounding → Type 0
+ChoosesNone Usual = Unit {0}
+ChoosesNone Cash = Unit {0}
+ChoosesNone AsGiven = Unit {0}
+ChoosesNone (At position mode increment) = Unit {0}
+ChoosesNone (Significant digits mode) = ⊥
+ChoosesNone (Either priority position digits mode) = ⊥
+
 -- these options trim no zero and add none
 pub record TrimsNothing (options : NumberOptions) : Type 0 where
+  pub digits : ChoosesNone options.rounding
   pub leading : options.leading_zeros ≡ leading.Keep
   pub trailing : options.zeros ≡ trailing.Keep
   pub integer : options.integer_digits ≡ pos 0

@@ -11,7 +11,7 @@ use Rattle.icu_dimension_fractions.specs.declared.Fraction.{Fraction}
 use Rattle.icu_dimension_fractions.specs.declared.FractionInfo.{FractionInfo}
 use Rattle.locale_numbers_formats.specs.AmountRounding.{amount_rounded}
 use Rattle.locale_numbers_formats.specs.declared.Rounding.{Rounding}
-use Rattle.locale_numbers_formats.specs.declared.Rounding.TheVariants.{Usual, Cash, AsGiven, At}
+use Rattle.locale_numbers_formats.specs.declared.Rounding.TheVariants.{Usual, Cash, AsGiven, At, Significant, Either}
 use Rattle.locale_numbers_answers.specs.AnswerLine.{refused, written}
 use Rattle.locale_numbers_requests.specs.declared.Refusal.TheVariants as refusal
 
@@ -28,6 +28,8 @@ fraction_asked (Some fractions) Usual = Some fractions.standard
 fraction_asked (Some fractions) Cash = Some fractions.cash
 fraction_asked (Some fractions) AsGiven = None
 fraction_asked (Some fractions) (At position mode increment) = None
+fraction_asked (Some fractions) (Significant digits mode) = None
+fraction_asked (Some fractions) (Either priority position digits mode) = None
 
 -- the amount is its own rounding to these digits
 abbrev pub is_own_rounding : Option Fraction → SignedValue Number → Bool

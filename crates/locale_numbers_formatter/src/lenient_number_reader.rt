@@ -109,7 +109,8 @@ fn typed_amounts<'a>(
 }
 
 // What reads what people type of numbers with a unit by a second formatter, where the digits are others than those of
-// ASCII.
+// ASCII. It is apart, so that it and the first one take room on the stack in turn.
+#[inline(never)]
 fn second_unit<'a>(
     alloc: Global,
     decimals: &DecimalTables<'_>,
@@ -163,7 +164,8 @@ impl<'a> LenientNumberReader<'a> {
         }
     }
 
-    // The reader of percents.
+    // The reader of percents. It is apart, so that it and that of amounts take room on the stack in turn.
+    #[inline(never)]
     pub(crate) fn of_percent(
         alloc: Global,
         formatter: &PercentFormatter<'a>,
@@ -185,7 +187,8 @@ impl<'a> LenientNumberReader<'a> {
         }
     }
 
-    // The reader of amounts.
+    // The reader of amounts, apart as that of percents is.
+    #[inline(never)]
     pub(crate) fn of_currency(
         alloc: Global,
         formatter: &CurrencyFormatter<'a>,

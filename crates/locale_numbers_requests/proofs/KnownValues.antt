@@ -5,7 +5,7 @@ use Rattle.fixed_decimal.specs.declared.SignedRoundingMode.TheVariants.{Unsigned
 use Rattle.fixed_decimal.specs.declared.UnsignedRoundingMode.TheVariants.{HalfEven, HalfExpand, HalfTrunc, Trunc}
 use Rattle.fixed_decimal.specs.declared.RoundingIncrement.TheVariants.{MultiplesOf1, MultiplesOf5, MultiplesOf25}
 use Rattle.icu_decimal_symbols.specs.declared.options.GroupingStrategy.{GroupingStrategy}
-use Rattle.icu_decimal_symbols.specs.declared.options.GroupingStrategy.TheVariants.{Auto, Min2}
+use Rattle.icu_decimal_symbols.specs.declared.options.GroupingStrategy.TheVariants.{Auto, Min2, OnAligned}
 use Rattle.icu_dimension_fractions.specs.declared.CurrencyStyle.TheVariants as style
 use Rattle.icu_dimension_fractions.specs.declared.CurrencyWidth.TheVariants.{Short, IsoCode}
 use Rattle.locale_numbers_formats.specs.Changed.{shown}
@@ -18,13 +18,14 @@ use Rattle.locale_numbers_formats.specs.declared.NumberUnit.{NumberUnit}
 use Rattle.locale_numbers_formats.specs.declared.NumberUnit.TheVariants as unit
 use Rattle.locale_numbers_formats.specs.declared.NumberUnit.TheVariants.{Percent, Currency}
 use Rattle.locale_numbers_formats.specs.declared.Rounding.{Rounding}
-use Rattle.locale_numbers_formats.specs.declared.Rounding.TheVariants.{Usual, Cash, AsGiven, At}
+use Rattle.locale_numbers_formats.specs.declared.Rounding.TheVariants.{Usual, Cash, AsGiven, At, Significant, Either}
+use Rattle.locale_numbers_formats.specs.declared.RoundingPriority.TheVariants.{MorePrecision, LessPrecision}
 use Rattle.locale_numbers_formats.specs.declared.SignAsked.TheVariants.{Keep, Show}
 use Rattle.locale_numbers_formats.specs.declared.TrailingZeros.{TrailingZeros}
 use Rattle.locale_numbers_formats.specs.declared.TrailingZeros.TheVariants as trailing
 use Rattle.fixed_decimal.specs.declared.SignDisplay.TheVariants as display
 use Rattle.locale_numbers_requests.specs.FormField.{form_named}
-use Rattle.locale_numbers_requests.specs.OldRequests.{old_form_named, old_rounding_named}
+use Rattle.locale_numbers_requests.specs.OldRequests.{old_form_named, old_grouping_named, old_rounding_named}
 use Rattle.locale_numbers_requests.specs.Request.{tab, fields, format_by, request_in, grouping_named, sign_named}
 use Rattle.locale_numbers_requests.specs.RoundingField.{all_of, position_named, rounding_named}
 use Rattle.locale_numbers_requests.specs.declared.form_field.FormAsked.TheVariants.{OfWord, OfSkeleton}
@@ -45,6 +46,10 @@ digits_of (Some digits) = (format_by Standard unit.None Auto Keep digits).option
 
 abbrev options : List ℕ → NumberOptions
 options word = digits_of (rounding_named word)
+
+-- what is shown of a number that was rounded by such a word
+abbrev seen : List ℕ → Number → Number
+seen word value = shown (options word).rounding (options word) value
 
 -- a count of the least unit shown, with so many digits after the point, and one before it
 abbrev number : ℕ → ℕ → Number
@@ -88,6 +93,9 @@ seven_fields = refl
 -- words are told apart by case, and a part of one is not one
 capital_word : grouping_named (codes "Auto") ≡ None
 capital_word = refl
+
+aligned_word : grouping_named (codes "on-aligned") ≡ Some OnAligned
+aligned_word = refl
 
 short_word : grouping_named (codes "min") ≡ None
 short_word = refl
@@ -334,26 +342,70 @@ other_fourth_word = refl
 five_words : rounding_named (codes "f2-2,trunc,1,whole,whole") ≡ None
 five_words = refl
 
+-- ---- significant digits
+
+one_to_three_digits : rounding_named (codes "s1-3,half-even") ≡ Some (record { rounding = Significant (record { least = 1; most = 3 }) (Unsigned HalfEven); zeros = trailing.Trim; fraction_digits = pos 0 })
+one_to_three_digits = refl
+
+none_of_a_whole_one : rounding_named (codes "s2-2,trunc,whole") ≡ Some (record { rounding = Significant (record { least = 2; most = 2 }) (Unsigned Trunc); zeros = trailing.TrimAll; fraction_digits = pos 0 })
+none_of_a_whole_one = refl
+
+all_digits : rounding_named (codes "s1-65535,trunc") ≡ Some (record { rounding = Significant (record { least = 1; most = 65535 }) (Unsigned Trunc); zeros = trailing.Trim; fraction_digits = pos 0 })
+all_digits = refl
+
+-- digits of a fraction or significant ones
+more_of_either : rounding_named (codes "f0-2,s2-3,more,half-even")
+    ≡ Some (record { rounding = Either MorePrecision (negsuc 1) (record { least = 2; most = 3 }) (Unsigned HalfEven); zeros = trailing.Trim; fraction_digits = pos 0 })
+more_of_either = refl
+
+less_of_either : rounding_named (codes "f1-2,s3-3,less,trunc,whole")
+    ≡ Some (record { rounding = Either LessPrecision (negsuc 1) (record { least = 3; most = 3 }) (Unsigned Trunc); zeros = trailing.TrimAll; fraction_digits = pos 1 })
+less_of_either = refl
+
+no_significant_digit : rounding_named (codes "s0-3,trunc") ≡ None
+no_significant_digit = refl
+
+too_many_significant : rounding_named (codes "s1-65536,trunc") ≡ None
+too_many_significant = refl
+
+fewer_significant : rounding_named (codes "s3-2,trunc") ≡ None
+fewer_significant = refl
+
+one_significant_count : rounding_named (codes "s3,trunc") ≡ None
+one_significant_count = refl
+
+significant_with_an_increment : rounding_named (codes "s1-3,trunc,5") ≡ None
+significant_with_an_increment = refl
+
+other_priority : rounding_named (codes "f0-2,s2-3,auto,trunc") ≡ None
+other_priority = refl
+
+position_or_digits : rounding_named (codes "-2,s2-3,more,trunc") ≡ None
+position_or_digits = refl
+
+digits_alone : rounding_named (codes "s1-3") ≡ None
+digits_alone = refl
+
 -- numbers are shown with these digits, once they are rounded: `1.5` of 1.50, `2` of 2.00, `2.0` of 2.000, `1.25` of 1.250
-one_is_needed : shown (options (codes "f0-2,half-even,1")) (number 150 2) ≡ number 15 1
+one_is_needed : seen (codes "f0-2,half-even,1") (number 150 2) ≡ number 15 1
 one_is_needed = refl
 
-none_is_needed : shown (options (codes "f0-2,half-even,1")) (number 200 2) ≡ number 2 0
+none_is_needed : seen (codes "f0-2,half-even,1") (number 200 2) ≡ number 2 0
 none_is_needed = refl
 
-one_at_least : shown (options (codes "f1-3,half-expand,1")) (number 2000 3) ≡ number 20 1
+one_at_least : seen (codes "f1-3,half-expand,1") (number 2000 3) ≡ number 20 1
 one_at_least = refl
 
-two_are_needed : shown (options (codes "f1-3,half-expand,1")) (number 1250 3) ≡ number 125 2
+two_are_needed : seen (codes "f1-3,half-expand,1") (number 1250 3) ≡ number 125 2
 two_are_needed = refl
 
-both_stay : shown (options (codes "f2-2,half-expand,5,whole")) (number 150 2) ≡ number 150 2
+both_stay : seen (codes "f2-2,half-expand,5,whole") (number 150 2) ≡ number 150 2
 both_stay = refl
 
-both_go : shown (options (codes "f2-2,half-expand,5,whole")) (number 200 2) ≡ number 2 0
+both_go : seen (codes "f2-2,half-expand,5,whole") (number 200 2) ≡ number 2 0
 both_go = refl
 
-both_are_shown : shown (options (codes "f2-2,half-expand,5")) (number 200 2) ≡ number 200 2
+both_are_shown : seen (codes "f2-2,half-expand,5") (number 200 2) ≡ number 200 2
 both_are_shown = refl
 
 -- ---- before there were newer forms, and cash
@@ -363,6 +415,12 @@ percent_was_none = refl
 
 plain_was_itself : old_form_named (codes "plain") ≡ Some (OfWord Write Standard unit.None)
 plain_was_itself = refl
+
+significant_was_none : old_rounding_named (codes "s1-3,half-even") ≡ None
+significant_was_none = refl
+
+aligned_was_none : old_grouping_named (codes "on-aligned") ≡ None
+aligned_was_none = refl
 
 cash_was_none : old_rounding_named (codes "cash") ≡ None
 cash_was_none = refl

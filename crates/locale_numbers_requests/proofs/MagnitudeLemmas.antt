@@ -1,5 +1,5 @@
 -- The options of a request fit decimals: the position of its rounding is a magnitude: `specs/Laws.antt`.
-use Rattle.std.proofs.Common.{◌≡◌, ◌≤◌, ◌<◌, ◌&&◌, ℕ, zero, suc, Bool, true, false, List, [], ◌∷◌, Option, Some, None, Result, Ok, Err, refl, subst, arith, if◌then◌else◌, drop, length, take, ◌-◌}
+use Rattle.std.proofs.Common.{◌≡◌, ◌+◌, ◌≤◌, ◌<◌, ◌&&◌, ℕ, zero, suc, Bool, true, false, List, [], ◌∷◌, Option, Some, None, Result, Ok, Err, refl, subst, arith, if◌then◌else◌, drop, length, take, ◌-◌}
 use Rattle.std.proofs.lemmas.Bool.{leb-true}
 use Rattle.std.specs.Prelude.{◌==◌, codes, int_le, ℤ, neg_ℤ, pos, negsuc, nat_le}
 use Rattle.std.specs.Str.{bytes_eq, is_utf8}
@@ -21,14 +21,16 @@ use Rattle.locale_numbers_formats.specs.declared.Precision.{Precision}
 use Rattle.locale_numbers_formats.specs.declared.Precision.TheVariants as precision
 use Rattle.locale_numbers_formats.specs.declared.Rounding.{Rounding}
 use Rattle.locale_numbers_formats.specs.declared.Rounding.TheVariants as rounding
-use Rattle.locale_numbers_formats.specs.declared.Rounding.TheVariants.{Usual, AsGiven, At}
+use Rattle.locale_numbers_formats.specs.declared.Rounding.TheVariants.{Usual, AsGiven, At, Significant, Either}
+use Rattle.locale_numbers_formats.specs.declared.RoundingPriority.{RoundingPriority}
 use Rattle.locale_numbers_formats.specs.declared.SignAsked.{SignAsked}
 use Rattle.locale_numbers_formats.specs.declared.Skeleton.{Skeleton}
+use Rattle.locale_numbers_formats.specs.declared.SignificantDigits.{SignificantDigits}
 use Rattle.locale_numbers_formats.specs.declared.SkeletonError.{SkeletonError}
 use Rattle.locale_numbers_requests.specs.Laws.{FitDecimals, IsAtMagnitude, RequestsAreAtMagnitude}
 use Rattle.locale_numbers_requests.specs.FormField.{amount_by, amount_form, amount_word, coded_form, colon, first_of, form_for, form_named, listed_form, rounding_read, skeleton_by, skeleton_in, skeleton_task}
 use Rattle.locale_numbers_requests.specs.Request.{Asked, asked_by, fields, format_asked, format_by, grouping_named, request_by, request_in, says_nothing, sign_named, takes}
-use Rattle.locale_numbers_requests.specs.RoundingField.{above_zero, all_of, below_zero, comma, count_named, counts_by, counts_in, digits_by, digits_in, increment_named, is_size, last_named, letter_f, mode_named, places_named, position_by, position_named, rounding_named, size_named, whole_by}
+use Rattle.locale_numbers_requests.specs.RoundingField.{above_zero, all_of, below_zero, comma, count_named, counts_by, counts_in, digits_by, digits_in, either_by, increment_named, is_size, is_whole, last_named, letter_f, mode_named, places_named, position_by, position_named, priority_named, rounding_named, significant_at, significant_named, size_named, whole_by}
 use Rattle.locale_numbers_requests.specs.declared.form_field.AmountWord.{AmountWord}
 use Rattle.locale_numbers_requests.specs.declared.form_field.FormAsked.{FormAsked}
 use Rattle.locale_numbers_requests.specs.declared.form_field.FormAsked.TheVariants.{OfWord, OfSkeleton}
@@ -37,7 +39,8 @@ use Rattle.locale_numbers_requests.specs.declared.form_field.Task.TheVariants.{W
 use Rattle.locale_numbers_requests.specs.declared.rounding_field.DigitsAsked.{DigitsAsked}
 use Rattle.locale_numbers_requests.specs.declared.rounding_field.Places.{Places}
 use Rattle.locale_numbers_requests.specs.declared.rounding_field.Places.TheVariants.{Position, Fraction}
-use Rattle.locale_numbers_formats.specs.declared.TrailingZeros.TheVariants.{TrimWhole}
+use Rattle.locale_numbers_formats.specs.declared.TrailingZeros.{TrailingZeros}
+use Rattle.locale_numbers_formats.specs.declared.TrailingZeros.TheVariants.{Trim, TrimWhole, TrimAll}
 
 abbrev IsPlaced : ℤ → Type 0
 IsPlaced position = place position < 65536
@@ -139,17 +142,37 @@ whole_placed (Some places) (Some m) None placed = tt
 whole_placed (Some places) None i placed = tt
 whole_placed None m i placed = tt
 
+significant_placed : (zeros : TrailingZeros) (d : Option SignificantDigits) (m : Option SignedRoundingMode) → ArePlaced (significant_at zeros d m)
+significant_placed zeros (Some d) (Some m) = tt
+significant_placed zeros (Some d) None = tt
+significant_placed zeros None m = tt
+
+either_placed : (zeros : TrailingZeros) (p : Option Places) (d : Option SignificantDigits) (r : Option RoundingPriority) (m : Option SignedRoundingMode) → AreNamed p
+    → ArePlaced (either_by zeros p d r m)
+either_placed zeros (Some (Position position)) (Some d) (Some r) (Some m) placed = tt
+either_placed zeros (Some (Fraction least last)) (Some d) (Some r) (Some m) placed = placed
+either_placed zeros (Some places) (Some d) (Some r) None placed = tt
+either_placed zeros (Some places) (Some d) None m placed = tt
+either_placed zeros (Some places) None r m placed = tt
+either_placed zeros None d r m placed = tt
+
+-- one of two roundings, by a test
+of_test : (b : Bool) (one other : Option DigitsAsked) → ArePlaced one → ArePlaced other → ArePlaced (if b then one else other)
+of_test true one other placed rest = placed
+of_test false one other placed rest = rest
+
 words_placed : (words : List (List ℕ)) → ArePlaced (digits_in words)
 words_placed [] = tt
 words_placed (p ∷ []) = tt
-words_placed (p ∷ m ∷ []) = tt
-words_placed (p ∷ m ∷ i ∷ []) = digits_placed (places_named p) (mode_named m) (increment_named i) (places_placed p)
-words_placed (p ∷ m ∷ i ∷ w ∷ []) = by (bytes_eq w (codes "whole"))
-  where
-    by : (b : Bool) → ArePlaced (if b then whole_by (places_named p) (mode_named m) (increment_named i) else None)
-    by true = whole_placed (places_named p) (mode_named m) (increment_named i) (places_placed p)
-    by false = tt
-words_placed (p ∷ m ∷ i ∷ w ∷ other ∷ others) = tt
+words_placed (d ∷ m ∷ []) = significant_placed Trim (significant_named d) (mode_named m)
+words_placed (p ∷ m ∷ i ∷ []) =
+    of_test (is_whole i) _ _ (significant_placed TrimAll (significant_named p) (mode_named m)) (digits_placed (places_named p) (mode_named m) (increment_named i) (places_placed p))
+words_placed (p ∷ m ∷ i ∷ w ∷ []) =
+    of_test (is_whole w) _ _ (whole_placed (places_named p) (mode_named m) (increment_named i) (places_placed p))
+    (either_placed Trim (places_named p) (significant_named m) (priority_named i) (mode_named w) (places_placed p))
+words_placed (p ∷ d ∷ r ∷ m ∷ w ∷ []) =
+    of_test (is_whole w) _ _ (either_placed TrimAll (places_named p) (significant_named d) (priority_named r) (mode_named m) (places_placed p)) tt
+words_placed (p ∷ d ∷ r ∷ m ∷ w ∷ other ∷ others) = tt
 
 rounding_placed : (word : List ℕ) → ArePlaced (rounding_named word)
 rounding_placed word = by (bytes_eq word (codes "-")) (bytes_eq word (codes "cash"))
@@ -175,7 +198,10 @@ precision_placed false mode precision.Usual = to_placed 6 mode
 precision_placed amount mode precision.Unlimited = tt
 precision_placed amount mode (precision.Fraction least more) = to_placed _ mode
 precision_placed amount mode (precision.AtLeast least) = tt
-precision_placed amount mode (precision.Whole least) = to_placed least mode
+precision_placed amount mode (precision.Whole least more) = to_placed _ mode
+precision_placed amount mode (precision.Significant least more zeros) = tt
+precision_placed amount mode (precision.SignificantAtLeast least zeros) = tt
+precision_placed amount mode (precision.Either least more digits others priority zeros) = to_placed (least + more) mode
 precision_placed amount mode (precision.Currency u) = usage_placed u
 precision_placed amount mode (precision.WholeCurrency u) = usage_placed u
 
@@ -191,6 +217,8 @@ read_placed Usual = tt
 read_placed rounding.Cash = tt
 read_placed AsGiven = tt
 read_placed (At position mode increment) = tt
+read_placed (Significant digits mode) = tt
+read_placed (Either priority position digits mode) = tt
 
 skeleton_fits : (text : List ℕ) (s : Skeleton) → skeleton_of text ≡ Ok s → FitDecimals (format_of s).options
 skeleton_fits text s is = let whole = (skeleton_is text s is).whole in record { position = skeleton_placed s; integer = omega (arith, whole) }

@@ -1,4 +1,4 @@
--- Each line asks what it asked before forms and the rounding `cash` were added: `specs/OldRequests.antt`.
+-- Each line asks what it asked before forms, the grouping `on-aligned` and roundings were added: `specs/OldRequests.antt`.
 use Rattle.std.proofs.Common.{◌≡◌, ℕ, ℤ, pos, neg_ℤ, Bool, true, false, List, [], ◌∷◌, Option, None, Some, Result, Ok, Err, refl, if◌then◌else◌, drop, length, take, ◌-◌}
 use Rattle.std.proofs.lemmas.Bool.{eqb-true}
 use Rattle.std.proofs.lemmas.Slice.Eq.{bytes_eq-Decides}
@@ -8,6 +8,7 @@ use Rattle.fixed_decimal.specs.NumberText.{minus}
 use Rattle.fixed_decimal.specs.declared.RoundingIncrement.{RoundingIncrement}
 use Rattle.fixed_decimal.specs.declared.SignedRoundingMode.{SignedRoundingMode}
 use Rattle.icu_decimal_symbols.specs.declared.options.GroupingStrategy.{GroupingStrategy}
+use Rattle.icu_decimal_symbols.specs.declared.options.GroupingStrategy.TheVariants as grouping
 use Rattle.icu_dimension_fractions.specs.CurrencyCodes.{is_currency_code}
 use Rattle.locale_numbers_formats.specs.Cutting.{cut_at}
 use Rattle.locale_numbers_formats.specs.SkeletonFormats.{format_of}
@@ -17,16 +18,19 @@ use Rattle.locale_numbers_formats.specs.declared.NumberFormat.{NumberFormat}
 use Rattle.locale_numbers_formats.specs.declared.NumberUnit.{NumberUnit}
 use Rattle.locale_numbers_formats.specs.declared.NumberUnit.TheVariants as unit
 use Rattle.locale_numbers_formats.specs.declared.Rounding.{Rounding}
-use Rattle.locale_numbers_formats.specs.declared.Rounding.TheVariants.{Usual, Cash, AsGiven, At}
+use Rattle.locale_numbers_formats.specs.declared.Rounding.TheVariants.{Usual, Cash, AsGiven, At, Significant, Either}
+use Rattle.locale_numbers_formats.specs.declared.RoundingPriority.{RoundingPriority}
 use Rattle.locale_numbers_formats.specs.declared.SignAsked.{SignAsked}
 use Rattle.locale_numbers_formats.specs.declared.SignAsked.TheVariants.{Keep, Show}
 use Rattle.locale_numbers_formats.specs.declared.Skeleton.{Skeleton}
 use Rattle.locale_numbers_formats.specs.declared.SkeletonError.{SkeletonError}
+use Rattle.locale_numbers_formats.specs.declared.SignificantDigits.{SignificantDigits}
+use Rattle.locale_numbers_formats.specs.declared.TrailingZeros.{TrailingZeros}
 use Rattle.locale_numbers_formats.specs.declared.TrailingZeros.TheVariants as trailing
 use Rattle.locale_numbers_requests.specs.FormField.{amount_by, amount_form, amount_word, coded_form, colon, first_of, form_for, form_named, listed_form, skeleton_by, skeleton_in, skeleton_task}
-use Rattle.locale_numbers_requests.specs.OldRequests.{OldRequestsStay, StaysRequest, same, none, added, is_added, is_added_task, old_form_named, old_request_by, old_request_in, old_rounding_by, old_rounding_in, old_rounding_named, old_takes, trims}
+use Rattle.locale_numbers_requests.specs.OldRequests.{OldRequestsStay, StaysRequest, same, none, added, is_added, is_added_grouping, is_added_task, old_form_named, old_grouping_named, old_request_by, old_request_in, old_rounding_by, old_rounding_in, old_rounding_named, old_takes, trims}
 use Rattle.locale_numbers_requests.specs.Request.{Asked, asked_by, fields, format_by, grouping_named, request_by, request_in, says_nothing, sign_named, takes}
-use Rattle.locale_numbers_requests.specs.RoundingField.{all_of, comma, count_named, counts_by, counts_in, digits_at, digits_by, digits_in, increment_named, is_cash, last_named, letter_f, mode_named, places_named, position_by, position_named, rounding_named, whole_by}
+use Rattle.locale_numbers_requests.specs.RoundingField.{all_of, comma, count_named, counts_by, counts_in, digits_at, digits_by, digits_in, either_by, increment_named, is_cash, is_whole, last_named, letter_f, mode_named, places_named, position_by, position_named, priority_named, rounding_named, significant_at, significant_named, whole_by}
 use Rattle.locale_numbers_requests.specs.declared.form_field.AmountWord.{AmountWord}
 use Rattle.locale_numbers_requests.specs.declared.form_field.FormAsked.{FormAsked}
 use Rattle.locale_numbers_requests.specs.declared.form_field.FormAsked.TheVariants.{OfWord, OfSkeleton}
@@ -143,6 +147,30 @@ form_stays word =
     (either (coded_form word) None _ (of_code (amount_word (take (length word - 3) word)) (drop (length word - 3) word) (amount_is_new (take (length word - 3) word)))
     (of_pieces (cut_at colon word)))
 
+-- ---- groupings
+
+-- a word is the same grouping, none, or the one that was added and was none
+data StaysGrouping (now before : Option GroupingStrategy) : Type 0 where
+  same_grouping : (g : GroupingStrategy) → is_added_grouping g ≡ false → now ≡ Some g → before ≡ Some g → StaysGrouping now before
+  no_grouping : now ≡ None → before ≡ None → StaysGrouping now before
+  added_grouping : now ≡ Some grouping.OnAligned → before ≡ None → StaysGrouping now before
+
+listed_grouping : (b : Bool) (here : GroupingStrategy) (now before : Option GroupingStrategy) → is_added_grouping here ≡ false → StaysGrouping now before
+    → StaysGrouping (if b then Some here else now) (if b then Some here else before)
+listed_grouping true here now before old rest = same_grouping here old refl refl
+listed_grouping false here now before old rest = rest
+
+aligned : (b : Bool) → StaysGrouping (if b then Some grouping.OnAligned else None) None
+aligned true = added_grouping refl refl
+aligned false = no_grouping refl refl
+
+grouping_stays : (word : List ℕ) → StaysGrouping (grouping_named word) (old_grouping_named word)
+grouping_stays word =
+    listed_grouping (bytes_eq word (codes "auto")) grouping.Auto _ _ refl
+    (listed_grouping (bytes_eq word (codes "never")) grouping.Never _ _ refl
+    (listed_grouping (bytes_eq word (codes "always")) grouping.Always _ _ refl
+    (listed_grouping (bytes_eq word (codes "min2")) grouping.Min2 _ _ refl (aligned (bytes_eq word (codes "on-aligned"))))))
+
 -- ---- roundings
 
 data StaysRounding (now before : Option DigitsAsked) : Type 0 where
@@ -198,7 +226,7 @@ of_places now before None i (added_counts least last e d) = rw (e, d) (no_roundi
 of_places now before (Some m) None (added_counts least last e d) = rw (e, d) (no_rounding refl refl)
 of_places now before (Some m) (Some i) (added_counts least last e d) = rw (e, d) (added_digits (digits_at (Fraction least last) m i) refl refl refl)
 
--- four words said nothing
+-- four words said nothing, nor did any that end with `whole`
 of_whole : (places : Option Places) (m : Option SignedRoundingMode) (i : Option RoundingIncrement) → StaysRounding (whole_by places m i) None
 of_whole None m i = no_rounding refl refl
 of_whole (Some places) None i = no_rounding refl refl
@@ -210,17 +238,61 @@ of_whole (Some (Fraction least last)) (Some m) (Some i) = by (int_le (neg_ℤ la
     by true = added_digits (record { rounding = At last m i; zeros = trailing.TrimWhole; fraction_digits = pos 0 }) refl refl refl
     by false = no_rounding refl refl
 
+-- nor did significant digits
+of_significant : (zeros : TrailingZeros) (digits : Option SignificantDigits) (m : Option SignedRoundingMode) → trims leading.Keep zeros ≡ true → StaysRounding (significant_at zeros digits m) None
+of_significant zeros None m trimmed = no_rounding refl refl
+of_significant zeros (Some digits) None trimmed = no_rounding refl refl
+of_significant zeros (Some digits) (Some m) trimmed = added_digits (record { rounding = Significant digits m; zeros = zeros; fraction_digits = pos 0 }) trimmed refl refl
+
+of_either : (zeros : TrailingZeros) (places : Option Places) (digits : Option SignificantDigits) (r : Option RoundingPriority) (m : Option SignedRoundingMode) → trims leading.Keep zeros ≡ true
+    → StaysRounding (either_by zeros places digits r m) None
+of_either zeros None digits r m trimmed = no_rounding refl refl
+of_either zeros (Some places) None r m trimmed = no_rounding refl refl
+of_either zeros (Some places) (Some digits) None m trimmed = no_rounding refl refl
+of_either zeros (Some places) (Some digits) (Some r) None trimmed = no_rounding refl refl
+of_either zeros (Some (Position p)) (Some digits) (Some r) (Some m) trimmed = no_rounding refl refl
+of_either zeros (Some (Fraction least last)) (Some digits) (Some r) (Some m) trimmed = added_digits (record { rounding = Either r last digits m; zeros = zeros; fraction_digits = least }) trimmed refl refl
+
+-- the word of whole numbers is no increment
+whole_is_none : (word : List ℕ) → is_whole word ≡ true → increment_named word ≡ None
+whole_is_none word is = let w : word ≡ codes "whole" = (bytes_eq-Decides word (codes "whole")).0 is in rw w refl
+
+without_increment : (position : Option ℤ) (m : Option SignedRoundingMode) → old_rounding_by position m None ≡ None
+without_increment None m = refl
+without_increment (Some position) None = refl
+without_increment (Some position) (Some m) = refl
+
+of_three : (a b c : List ℕ) → StaysRounding (digits_in (a ∷ b ∷ c ∷ [])) (old_rounding_in (a ∷ b ∷ c ∷ []))
+of_three a b c = by (is_whole c) refl
+  where
+    by : (whole : Bool) → is_whole c ≡ whole
+        → StaysRounding (if whole then significant_at trailing.TrimAll (significant_named a) (mode_named b) else digits_by (places_named a) (mode_named b) (increment_named c))
+        (old_rounding_by (position_named a) (mode_named b) (increment_named c))
+    by true is = rw (whole_is_none c is, without_increment (position_named a) (mode_named b)) (of_significant trailing.TrimAll (significant_named a) (mode_named b) refl)
+    by false is = of_places (places_named a) (position_named a) (mode_named b) (increment_named c) (places_stay a)
+
+of_four : (a b c d : List ℕ) → StaysRounding (digits_in (a ∷ b ∷ c ∷ d ∷ [])) None
+of_four a b c d = by (is_whole d)
+  where
+    by : (whole : Bool) → StaysRounding (if whole then whole_by (places_named a) (mode_named b) (increment_named c) else either_by trailing.Trim (places_named a) (significant_named b) (priority_named c) (mode_named d)) None
+    by true = of_whole (places_named a) (mode_named b) (increment_named c)
+    by false = of_either trailing.Trim (places_named a) (significant_named b) (priority_named c) (mode_named d) refl
+
+of_five : (a b c d e : List ℕ) → StaysRounding (digits_in (a ∷ b ∷ c ∷ d ∷ e ∷ [])) None
+of_five a b c d e = by (is_whole e)
+  where
+    by : (whole : Bool) → StaysRounding (if whole then either_by trailing.TrimAll (places_named a) (significant_named b) (priority_named c) (mode_named d) else None) None
+    by true = of_either trailing.TrimAll (places_named a) (significant_named b) (priority_named c) (mode_named d) refl
+    by false = no_rounding refl refl
+
 words_stay : (words : List (List ℕ)) → StaysRounding (digits_in words) (old_rounding_in words)
 words_stay [] = no_rounding refl refl
 words_stay (a ∷ []) = no_rounding refl refl
-words_stay (a ∷ b ∷ []) = no_rounding refl refl
-words_stay (a ∷ b ∷ c ∷ []) = of_places (places_named a) (position_named a) (mode_named b) (increment_named c) (places_stay a)
-words_stay (a ∷ b ∷ c ∷ d ∷ []) = by (bytes_eq d (codes "whole"))
-  where
-    by : (is : Bool) → StaysRounding (if is then whole_by (places_named a) (mode_named b) (increment_named c) else None) None
-    by true = of_whole (places_named a) (mode_named b) (increment_named c)
-    by false = no_rounding refl refl
-words_stay (a ∷ b ∷ c ∷ d ∷ e ∷ more) = no_rounding refl refl
+words_stay (a ∷ b ∷ []) = of_significant trailing.Trim (significant_named a) (mode_named b) refl
+words_stay (a ∷ b ∷ c ∷ []) = of_three a b c
+words_stay (a ∷ b ∷ c ∷ d ∷ []) = of_four a b c d
+words_stay (a ∷ b ∷ c ∷ d ∷ e ∷ []) = of_five a b c d e
+words_stay (a ∷ b ∷ c ∷ d ∷ e ∷ f ∷ more) = no_rounding refl refl
 
 cash_is_one_word : (word : List ℕ) → bytes_eq word (codes "cash") ≡ true → old_rounding_in (cut_at comma word) ≡ None
 cash_is_one_word word is = let w : word ≡ codes "cash" = (bytes_eq-Decides word (codes "cash")).0 is in rw w refl
@@ -246,6 +318,8 @@ takes_so Read unit.None sign Usual old is = refl
 takes_so Read unit.None sign Cash old is = absurd (cc)
 takes_so Read unit.None sign AsGiven old is = refl
 takes_so Read unit.None sign (At position mode increment) old is = refl
+takes_so Read unit.None sign (Significant digits mode) old is = refl
+takes_so Read unit.None sign (Either priority position digits mode) old is = refl
 takes_so Read unit.Percent sign rounding old is = absurd (cc)
 takes_so Read (unit.Currency currency) sign rounding old is = absurd (cc)
 takes_so ReadLenient unit sign rounding old is = absurd (cc)
@@ -283,39 +357,54 @@ module _ (tag : List ℕ) (text : List ℕ) where
   newly_taken true task format new = added (record { tag = tag; task = task; format = format; text = text }) new refl refl
   newly_taken false task format new = none refl refl
 
-  with_old : (form : FormAsked) (g : Option GroupingStrategy) (s : Option SignAsked) (now before : Option DigitsAsked) → IsOld form → StaysRounding now before
-      → StaysRequest (request_by tag (Some form) g s now text) (old_request_by tag (Some form) g s before text)
-  with_old (OfWord task notation unit) None s now before old stays = none refl refl
-  with_old (OfWord task notation unit) (Some g) None now before old stays = none refl refl
-  with_old (OfWord task notation unit) (Some g) (Some s) now before old (same_rounding rounding is e d) =
-      rw (e, d) (taken (takes task unit s rounding) (old_takes task s rounding) task (format_by notation unit g s (all_of rounding)) (takes_so task unit s rounding old is) old)
-  with_old (OfWord task notation unit) (Some g) (Some s) now before old (no_rounding e d) = rw (e, d) (none refl refl)
-  with_old (OfWord task notation unit) (Some g) (Some s) now before old (added_cash e d) =
-      rw (e, d) (not_taken (takes task unit s Cash) task (format_by notation unit g s (all_of Cash)) (takes_no_cash task unit s old))
-  with_old (OfWord task notation unit) (Some g) (Some s) now before old (added_digits digits new e d) =
-      rw (e, d) (newly_taken (takes task unit s digits.rounding) task (format_by notation unit g s digits) (rw new refl))
-  with_old (OfSkeleton task format) g s now before old stays = absurd old
-
   either_true : (a b : Bool) → b ≡ true → (a || b) ≡ true
   either_true true b is = refl
   either_true false b is = is
 
-  with_new : (form : FormAsked) (g : Option GroupingStrategy) (s : Option SignAsked) (now before : Option DigitsAsked) → IsNew form
-      → StaysRequest (request_by tag (Some form) g s now text) (old_request_by tag None g s before text)
-  with_new form None s now before new = none refl refl
-  with_new form (Some g) None now before new = none refl refl
-  with_new form (Some g) (Some s) None before new = none refl refl
-  with_new (OfWord task notation unit) (Some g) (Some s) (Some d) before new =
-      newly_taken (takes task unit s d.rounding) task (format_by notation unit g s d) (either_true (trims leading.Keep d.zeros) (is_added_task task unit) new)
-  with_new (OfSkeleton task format) (Some g) (Some s) (Some d) before new =
-      newly_taken (says_nothing g s d.rounding) task format (rw new refl)
+  neither : (a b : Bool) → a ≡ false → b ≡ false → (a || b) ≡ false
+  neither true b first second = absurd (cc)
+  neither false b first second = second
 
-  request_stays : (form old_form : Option FormAsked) (g : Option GroupingStrategy) (s : Option SignAsked) (now before : Option DigitsAsked)
-      → StaysForm form old_form → StaysRounding now before
-      → StaysRequest (request_by tag form g s now text) (old_request_by tag old_form g s before text)
-  request_stays form old_form g s now before (same_form f old e d) stays = rw (e, d) (with_old f g s now before old stays)
-  request_stays form old_form g s now before (no_form e d) stays = rw (e, d) (none refl refl)
-  request_stays form old_form g s now before (added_form f new e d) stays = rw (e, d) (with_new f g s now before new)
+  with_old : (form : FormAsked) (g : GroupingStrategy) (s : Option SignAsked) (now before : Option DigitsAsked) → IsOld form → is_added_grouping g ≡ false → StaysRounding now before
+      → StaysRequest (request_by tag (Some form) (Some g) s now text) (old_request_by tag (Some form) (Some g) s before text)
+  with_old (OfWord task notation unit) g None now before old plain stays = none refl refl
+  with_old (OfWord task notation unit) g (Some s) now before old plain (same_rounding rounding is e d) =
+      rw (e, d) (taken (takes task unit s rounding) (old_takes task s rounding) task (format_by notation unit g s (all_of rounding)) (takes_so task unit s rounding old is)
+      (neither (is_added_grouping g) (is_added_task task unit) plain old))
+  with_old (OfWord task notation unit) g (Some s) now before old plain (no_rounding e d) = rw (e, d) (none refl refl)
+  with_old (OfWord task notation unit) g (Some s) now before old plain (added_cash e d) =
+      rw (e, d) (not_taken (takes task unit s Cash) task (format_by notation unit g s (all_of Cash)) (takes_no_cash task unit s old))
+  with_old (OfWord task notation unit) g (Some s) now before old plain (added_digits digits new e d) =
+      rw (e, d) (newly_taken (takes task unit s digits.rounding) task (format_by notation unit g s digits)
+      (either_true (is_added_grouping g) (trims leading.Keep digits.zeros || is_added_task task unit) (rw new refl)))
+  with_old (OfSkeleton task format) g s now before old plain stays = absurd old
+
+  with_new : (form : FormAsked) (g : Option GroupingStrategy) (s : Option SignAsked) (now : Option DigitsAsked) → IsNew form → StaysRequest (request_by tag (Some form) g s now text) None
+  with_new form None s now new = none refl refl
+  with_new form (Some g) None now new = none refl refl
+  with_new form (Some g) (Some s) None new = none refl refl
+  with_new (OfWord task notation unit) (Some g) (Some s) (Some d) new =
+      newly_taken (takes task unit s d.rounding) task (format_by notation unit g s d)
+      (either_true (is_added_grouping g) (trims leading.Keep d.zeros || is_added_task task unit) (either_true (trims leading.Keep d.zeros) (is_added_task task unit) new))
+  with_new (OfSkeleton task format) (Some g) (Some s) (Some d) new =
+      newly_taken (says_nothing g s d.rounding) task format
+      (either_true (is_added_grouping format.shape.grouping) (trims format.options.leading_zeros format.options.zeros || is_added_task task format.shape.unit) (rw new refl))
+
+  -- the grouping that was added goes with no skeleton
+  with_aligned : (form : FormAsked) (s : Option SignAsked) (now : Option DigitsAsked) → StaysRequest (request_by tag (Some form) (Some grouping.OnAligned) s now text) None
+  with_aligned form None now = none refl refl
+  with_aligned form (Some s) None = none refl refl
+  with_aligned (OfWord task notation unit) (Some s) (Some d) = newly_taken (takes task unit s d.rounding) task (format_by notation unit grouping.OnAligned s d) refl
+  with_aligned (OfSkeleton task format) (Some s) (Some d) = none refl refl
+
+  request_stays : (form old_form : Option FormAsked) (g old_g : Option GroupingStrategy) (s : Option SignAsked) (now before : Option DigitsAsked)
+      → StaysForm form old_form → StaysGrouping g old_g → StaysRounding now before
+      → StaysRequest (request_by tag form g s now text) (old_request_by tag old_form old_g s before text)
+  request_stays form old_form g old_g s now before (same_form f old e d) (same_grouping h plain a b) stays = rw (e, d, a, b) (with_old f h s now before old plain stays)
+  request_stays form old_form g old_g s now before (same_form f old e d) (no_grouping a b) stays = rw (e, d, a, b) (none refl refl)
+  request_stays form old_form g old_g s now before (same_form f old e d) (added_grouping a b) stays = rw (e, d, a, b) (with_aligned f s now)
+  request_stays form old_form g old_g s now before (no_form e d) grouped stays = rw (e, d) (none refl refl)
+  request_stays form old_form g old_g s now before (added_form f new e d) grouped stays = rw (e, d) (with_new f g s now new)
 
 fields_stay : (list : List (List ℕ)) → StaysRequest (request_in list) (old_request_in list)
 fields_stay [] = none refl refl
@@ -325,7 +414,7 @@ fields_stay (a ∷ b ∷ c ∷ []) = none refl refl
 fields_stay (a ∷ b ∷ c ∷ d ∷ []) = none refl refl
 fields_stay (a ∷ b ∷ c ∷ d ∷ e ∷ []) = none refl refl
 fields_stay (tag ∷ form ∷ grouping ∷ sign ∷ rounding ∷ text ∷ []) =
-    request_stays tag text (form_named form) (old_form_named form) (grouping_named grouping) (sign_named sign) (rounding_named rounding) (old_rounding_named rounding) (form_stays form) (rounding_stays rounding)
+    request_stays tag text (form_named form) (old_form_named form) (grouping_named grouping) (old_grouping_named grouping) (sign_named sign) (rounding_named rounding) (old_rounding_named rounding) (form_stays form) (grouping_stays grouping) (rounding_stays rounding)
 fields_stay (a ∷ b ∷ c ∷ d ∷ e ∷ f ∷ g ∷ more) = none refl refl
 
 pub stay : OldRequestsStay

@@ -73,6 +73,8 @@ rounding_read rounding.Usual = rounding.Usual
 rounding_read rounding.Cash = rounding.Cash
 rounding_read rounding.AsGiven = rounding.AsGiven
 rounding_read (rounding.At position mode increment) = rounding.AsGiven
+rounding_read (rounding.Significant digits mode) = rounding.AsGiven
+rounding_read (rounding.Either priority position digits mode) = rounding.AsGiven
 
 abbrev pub format_read : NumberFormat → NumberFormat
 format_read f = record { shape = f.shape; options = record f.options { rounding = rounding_read f.options.rounding } }

@@ -8,7 +8,7 @@ use Rattle.locale_numbers_formats.specs.declared.NumberUnit.{NumberUnit}
 use Rattle.locale_numbers_formats.specs.declared.NumberUnit.TheVariants as unit
 use Rattle.locale_numbers_formats.specs.declared.NumberOptions.{NumberOptions}
 use Rattle.locale_numbers_formats.specs.declared.Rounding.{Rounding}
-use Rattle.locale_numbers_formats.specs.declared.Rounding.TheVariants.{Usual, Cash, AsGiven, At}
+use Rattle.locale_numbers_formats.specs.declared.Rounding.TheVariants.{Usual, Cash, AsGiven, At, Significant, Either}
 use Rattle.locale_numbers_requests.specs.Request.{Asked, request_of}
 
 -- three capitals, where the unit is a currency
@@ -27,6 +27,8 @@ IsAtMagnitude Usual = Unit {0}
 IsAtMagnitude Cash = Unit {0}
 IsAtMagnitude AsGiven = Unit {0}
 IsAtMagnitude (At position mode increment) = place position < 65536
+IsAtMagnitude (Significant digits mode) = Unit {0}
+IsAtMagnitude (Either priority position digits mode) = place position < 65536
 
 -- and a decimal can have so many integer digits
 pub record FitDecimals (options : NumberOptions) : Type 0 where

@@ -1,5 +1,5 @@
--- What a line asked when there were the forms `plain`, `short`, `long`, `exact-short`, `exact-long` and `read` alone, without the rounding `cash`
--- and without choices of digits; and that such a line asks the same now.
+-- What a line asked when there were the forms `plain`, `short`, `long`, `exact-short`, `exact-long` and `read` alone, without the grouping
+-- `on-aligned`, without the rounding `cash` and without choices of digits; and that such a line asks the same now.
 -- Defined in docs/requests.md, "Request line".
 -- Cited by the law of `laws.rt`, and by that of old lines of `locale_numbers`.
 -- A form, a sign and a rounding are types with cases, and the cases of each are imported beside it.
@@ -8,6 +8,7 @@ use Rattle.std.specs.Str.{bytes_eq, is_utf8}
 use Rattle.fixed_decimal.specs.declared.RoundingIncrement.{RoundingIncrement}
 use Rattle.fixed_decimal.specs.declared.SignedRoundingMode.{SignedRoundingMode}
 use Rattle.icu_decimal_symbols.specs.declared.options.GroupingStrategy.{GroupingStrategy}
+use Rattle.icu_decimal_symbols.specs.declared.options.GroupingStrategy.TheVariants as grouping
 use Rattle.locale_numbers_formats.specs.Cutting.{cut_at}
 use Rattle.locale_numbers_formats.specs.declared.CompactWidth.TheVariants.{Short, Long}
 use Rattle.locale_numbers_formats.specs.declared.LeadingZeros.{LeadingZeros}
@@ -21,7 +22,7 @@ use Rattle.locale_numbers_formats.specs.declared.Rounding.TheVariants.{Usual, At
 use Rattle.locale_numbers_formats.specs.declared.SignAsked.{SignAsked}
 use Rattle.locale_numbers_formats.specs.declared.TrailingZeros.{TrailingZeros}
 use Rattle.locale_numbers_formats.specs.declared.TrailingZeros.TheVariants as trailing
-use Rattle.locale_numbers_requests.specs.Request.{Asked, asked_by, fields, format_by, grouping_named, keeps_sign, request_of, sign_named}
+use Rattle.locale_numbers_requests.specs.Request.{Asked, asked_by, fields, format_by, keeps_sign, request_of, sign_named}
 use Rattle.locale_numbers_requests.specs.RoundingField.{all_of, comma, increment_named, keeps_digits, mode_named, position_named}
 use Rattle.locale_numbers_requests.specs.declared.form_field.FormAsked.{FormAsked}
 use Rattle.locale_numbers_requests.specs.declared.form_field.FormAsked.TheVariants.{OfWord, OfSkeleton}
@@ -38,6 +39,15 @@ old_form_named word =
     else if bytes_eq word (codes "exact-short") then Some (OfWord WriteExact (Compact Short) unit.None)
     else if bytes_eq word (codes "exact-long") then Some (OfWord WriteExact (Compact Long) unit.None)
     else if bytes_eq word (codes "read") then Some (OfWord Read Standard unit.None)
+    else None
+
+-- the four groupings
+abbrev pub old_grouping_named : List ℕ → Option GroupingStrategy
+old_grouping_named word =
+    if bytes_eq word (codes "auto") then Some grouping.Auto
+    else if bytes_eq word (codes "never") then Some grouping.Never
+    else if bytes_eq word (codes "always") then Some grouping.Always
+    else if bytes_eq word (codes "min2") then Some grouping.Min2
     else None
 
 -- a position, a mode and an increment
@@ -71,7 +81,7 @@ old_request_by tag _ _ _ _ text = None
 
 abbrev pub old_request_in : List (List ℕ) → Option Asked
 old_request_in (tag ∷ form ∷ grouping ∷ sign ∷ rounding ∷ text ∷ []) =
-    old_request_by tag (old_form_named form) (grouping_named grouping) (sign_named sign) (old_rounding_named rounding) text
+    old_request_by tag (old_form_named form) (old_grouping_named grouping) (sign_named sign) (old_rounding_named rounding) text
 old_request_in _ = None
 
 -- what a line asked
@@ -94,12 +104,23 @@ abbrev pub trims : LeadingZeros → TrailingZeros → Bool
 trims leading.Keep trailing.Keep = false
 trims leading.Keep trailing.Trim = true
 trims leading.Keep trailing.TrimWhole = true
+trims leading.Keep trailing.TrimAll = true
 trims leading.TrimRoundedZero zeros = true
 trims leading.Trim zeros = true
 
--- a task or a choice of digits that was added
+-- a grouping that was added
+abbrev pub is_added_grouping : GroupingStrategy → Bool
+is_added_grouping grouping.Auto = false
+is_added_grouping grouping.Never = false
+is_added_grouping grouping.Always = false
+is_added_grouping grouping.Min2 = false
+is_added_grouping grouping.OnAligned = true
+
+-- a grouping, a task or a choice of digits that was added
 abbrev pub is_added : Asked → Bool
-is_added asked = trims asked.format.options.leading_zeros asked.format.options.zeros || is_added_task asked.task asked.format.shape.unit
+is_added asked =
+    is_added_grouping asked.format.shape.grouping
+    || (trims asked.format.options.leading_zeros asked.format.options.zeros || is_added_task asked.task asked.format.shape.unit)
 
 -- a line asks what it asked; or it is none and was none; or it asks what was added, and was none
 pub data StaysRequest (now before : Option Asked) : Type 0 where

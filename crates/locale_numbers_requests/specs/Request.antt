@@ -6,7 +6,7 @@ use Rattle.std.specs.Prelude.{ℕ, pos, Bool, true, false, not, ◌&&◌, ◌||�
 use Rattle.std.specs.Str.{bytes_eq, is_utf8}
 use Rattle.fixed_decimal.specs.declared.SignDisplay.TheVariants as display
 use Rattle.icu_decimal_symbols.specs.declared.options.GroupingStrategy.{GroupingStrategy}
-use Rattle.icu_decimal_symbols.specs.declared.options.GroupingStrategy.TheVariants.{Auto, Never, Always, Min2}
+use Rattle.icu_decimal_symbols.specs.declared.options.GroupingStrategy.TheVariants.{Auto, Never, Always, Min2, OnAligned}
 use Rattle.locale_numbers_formats.specs.Cutting.{cut_at}
 use Rattle.locale_numbers_formats.specs.declared.LeadingZeros.TheVariants as leading
 use Rattle.locale_numbers_formats.specs.declared.Notation.{Notation}
@@ -39,6 +39,7 @@ grouping_named word =
     else if bytes_eq word (codes "never") then Some Never
     else if bytes_eq word (codes "always") then Some Always
     else if bytes_eq word (codes "min2") then Some Min2
+    else if bytes_eq word (codes "on-aligned") then Some OnAligned
     else None
 
 -- the sign that a word asks for: the one of the text, or a choice
@@ -78,6 +79,7 @@ says_nothing Auto sign rounding = keeps_sign sign && keeps_digits rounding
 says_nothing Never sign rounding = false
 says_nothing Always sign rounding = false
 says_nothing Min2 sign rounding = false
+says_nothing OnAligned sign rounding = false
 
 -- the format of a line: the zeros in front stay, and none is added there
 abbrev pub format_by : Notation → NumberUnit → GroupingStrategy → SignAsked → DigitsAsked → NumberFormat

@@ -13,8 +13,12 @@ use Rattle.fixed_decimal.specs.declared.RoundingIncrement.{RoundingIncrement}
 use Rattle.fixed_decimal.specs.declared.RoundingIncrement.TheVariants.{MultiplesOf1, MultiplesOf2, MultiplesOf5, MultiplesOf25}
 use Rattle.locale_numbers_formats.specs.Cutting.{cut_at}
 use Rattle.locale_numbers_formats.specs.declared.Rounding.{Rounding}
-use Rattle.locale_numbers_formats.specs.declared.Rounding.TheVariants.{Usual, Cash, AsGiven, At}
-use Rattle.locale_numbers_formats.specs.declared.TrailingZeros.TheVariants.{Keep, Trim, TrimWhole}
+use Rattle.locale_numbers_formats.specs.declared.Rounding.TheVariants.{Usual, Cash, AsGiven, At, Significant, Either}
+use Rattle.locale_numbers_formats.specs.declared.RoundingPriority.{RoundingPriority}
+use Rattle.locale_numbers_formats.specs.declared.RoundingPriority.TheVariants.{MorePrecision, LessPrecision}
+use Rattle.locale_numbers_formats.specs.declared.SignificantDigits.{SignificantDigits}
+use Rattle.locale_numbers_formats.specs.declared.TrailingZeros.{TrailingZeros}
+use Rattle.locale_numbers_formats.specs.declared.TrailingZeros.TheVariants.{Keep, Trim, TrimWhole, TrimAll}
 use Rattle.locale_numbers_requests.specs.Digits.{is_digit}
 use Rattle.locale_numbers_requests.specs.declared.rounding_field.DigitsAsked.{DigitsAsked}
 use Rattle.locale_numbers_requests.specs.declared.rounding_field.Places.{Places}
@@ -81,6 +85,36 @@ abbrev pub places_named : List ℕ → Option Places
 places_named [] = None
 places_named (c ∷ cs) = if c == letter_f then counts_in (cut_at minus cs) else position_by (position_named (c ∷ cs))
 
+-- ---- significant digits
+
+-- the code of the letter before counts of significant digits
+abbrev pub letter_s : ℕ
+letter_s = 115
+
+-- at least so many significant digits and at most so many, where these are not fewer
+abbrev pub significant_by : Option ℕ → Option ℕ → Option SignificantDigits
+significant_by (Some least) (Some most) = if nat_le least most then Some (record { least = least; most = most }) else None
+significant_by _ _ = None
+
+-- two counts from 1 to 65535 with a minus between
+abbrev pub significant_in : List (List ℕ) → Option SignificantDigits
+significant_in (least ∷ most ∷ []) = significant_by (size_named 65535 least) (size_named 65535 most)
+significant_in _ = None
+
+-- the significant digits that a word names
+abbrev pub significant_named : List ℕ → Option SignificantDigits
+significant_named [] = None
+significant_named (c ∷ cs) = if c == letter_s then significant_in (cut_at minus cs) else None
+
+-- which of a fraction and significant digits counts
+abbrev pub priority_named : List ℕ → Option RoundingPriority
+priority_named word =
+    if bytes_eq word (codes "more") then Some MorePrecision
+    else if bytes_eq word (codes "less") then Some LessPrecision
+    else None
+
+-- ---- modes and increments
+
 -- the mode that a word names
 abbrev pub mode_named : List ℕ → Option SignedRoundingMode
 mode_named word =
@@ -103,6 +137,8 @@ increment_named word =
     else if bytes_eq word (codes "5") then Some MultiplesOf5
     else if bytes_eq word (codes "25") then Some MultiplesOf25
     else None
+
+-- ---- what is shown
 
 -- a rounding with all zeros that it shows
 abbrev pub all_of : Rounding → DigitsAsked
@@ -127,11 +163,35 @@ abbrev pub whole_by : Option Places → Option SignedRoundingMode → Option Rou
 whole_by (Some places) (Some mode) (Some increment) = whole_at places mode increment
 whole_by _ _ _ = None
 
--- what three words between commas ask for, or four of which the last is `whole`
+-- so many significant digits: of these the least ones count, and not those of a fraction
+abbrev pub significant_at : TrailingZeros → Option SignificantDigits → Option SignedRoundingMode → Option DigitsAsked
+significant_at zeros (Some digits) (Some mode) = Some (record { rounding = Significant digits mode; zeros = zeros; fraction_digits = pos 0 })
+significant_at zeros _ _ = None
+
+-- so many digits of a fraction, or so many significant ones
+abbrev pub either_at : TrailingZeros → Places → SignificantDigits → RoundingPriority → SignedRoundingMode → Option DigitsAsked
+either_at zeros (Position position) digits priority mode = None
+either_at zeros (Fraction least last) digits priority mode = Some (record { rounding = Either priority last digits mode; zeros = zeros; fraction_digits = least })
+
+abbrev pub either_by : TrailingZeros → Option Places → Option SignificantDigits → Option RoundingPriority → Option SignedRoundingMode → Option DigitsAsked
+either_by zeros (Some places) (Some digits) (Some priority) (Some mode) = either_at zeros places digits priority mode
+either_by zeros _ _ _ _ = None
+
+-- the word of a whole number without a fraction
+abbrev pub is_whole : List ℕ → Bool
+is_whole word = bytes_eq word (codes "whole")
+
+-- what words between commas ask for: significant digits and a mode, places, a mode and an increment, or both, each with `whole` behind or not
 abbrev pub digits_in : List (List ℕ) → Option DigitsAsked
-digits_in (places ∷ mode ∷ increment ∷ []) = digits_by (places_named places) (mode_named mode) (increment_named increment)
-digits_in (places ∷ mode ∷ increment ∷ whole ∷ []) =
-    if bytes_eq whole (codes "whole") then whole_by (places_named places) (mode_named mode) (increment_named increment) else None
+digits_in (digits ∷ mode ∷ []) = significant_at Trim (significant_named digits) (mode_named mode)
+digits_in (places ∷ mode ∷ last ∷ []) =
+    if is_whole last then significant_at TrimAll (significant_named places) (mode_named mode)
+    else digits_by (places_named places) (mode_named mode) (increment_named last)
+digits_in (places ∷ second ∷ third ∷ last ∷ []) =
+    if is_whole last then whole_by (places_named places) (mode_named second) (increment_named third)
+    else either_by Trim (places_named places) (significant_named second) (priority_named third) (mode_named last)
+digits_in (places ∷ digits ∷ priority ∷ mode ∷ last ∷ []) =
+    if is_whole last then either_by TrimAll (places_named places) (significant_named digits) (priority_named priority) (mode_named mode) else None
 digits_in _ = None
 
 -- what a field asks for: what the form rounds by itself, an amount to the digits of cash, or what its words say
@@ -147,6 +207,8 @@ keeps_digits Usual = true
 keeps_digits Cash = false
 keeps_digits AsGiven = false
 keeps_digits (At position mode increment) = false
+keeps_digits (Significant digits mode) = false
+keeps_digits (Either priority position digits mode) = false
 
 -- the digits of cash are asked for
 abbrev pub is_cash : Rounding → Bool
@@ -154,3 +216,5 @@ is_cash Usual = false
 is_cash Cash = true
 is_cash AsGiven = false
 is_cash (At position mode increment) = false
+is_cash (Significant digits mode) = false
+is_cash (Either priority position digits mode) = false

@@ -218,7 +218,10 @@ fn rounding_read(rounding: Rounding) -> Rounding
 {
     match rounding {
         Rounding::Usual | Rounding::Cash => rounding,
-        Rounding::AsGiven | Rounding::At(_, _, _) => Rounding::AsGiven,
+        Rounding::AsGiven
+        | Rounding::At(_, _, _)
+        | Rounding::Significant(_, _)
+        | Rounding::Either(_, _, _, _) => Rounding::AsGiven,
     }
 }
 

@@ -9,8 +9,8 @@ pub fn requests_have_codes()
     ensures { RequestsHaveCodes }
 {}
 
-/// A line asks what it asked before the newer forms and the rounding `cash` were added, or it asks what was added and was
-/// no request: that of `plain` and `1000` asks the same, and that of `percent` asked nothing.
+/// A line asks what it asked before the newer forms, the grouping `on-aligned`, the rounding `cash` and choices of digits
+/// were added, or it asks what was added and was no request: that of `plain` and `1000` asks the same, and that of `percent` asked nothing.
 pub fn old_requests_stay()
     ensures { OldRequestsStay }
 {}

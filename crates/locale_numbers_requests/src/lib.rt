@@ -21,6 +21,7 @@ mod refusal;
 mod request;
 mod rounding_field;
 mod sign_field;
+mod significant_field;
 
 pub use digits::{are_digits, capped_number};
 pub use form_field::{Task, format_read};
@@ -29,3 +30,4 @@ pub use refusal::Refusal;
 pub use request::{Request, as_text, grouping_named, is_text, read_request};
 pub use rounding_field::{count_named, increment_named, last_named, mode_named, position_named};
 pub use sign_field::sign_named;
+pub use significant_field::{priority_named, significant_by, significant_count, significant_in};

@@ -44,3 +44,22 @@ pub(crate) fn four_pieces(field: &[u8], separator: u8) -> Option<(&[u8], &[u8], 
         (_, Some(_)) => None,
     }
 }
+
+// The five pieces between the separators of a field, where they are five.
+pub(crate) fn five_pieces(
+    field: &[u8],
+    separator: u8,
+) -> Option<(&[u8], &[u8], &[u8], &[u8], &[u8])>
+    ensures five { IsSome result ↔ (length (cut_at separator field.now) ≡ 5) }
+    ensures pieces { IfSome result (λ five. cut_at separator field.now
+        ≡ five.0.now ∷ five.1.now ∷ five.2.now ∷ five.3.now ∷ five.4.now ∷ []) }
+{
+    let (first, rest) = cut_field(field, separator);
+    let (second, rest) = cut_field(rest?, separator);
+    let (third, rest) = cut_field(rest?, separator);
+    let (fourth, rest) = cut_field(rest?, separator);
+    match cut_field(rest?, separator) {
+        (fifth, None) => Some((first, second, third, fourth, fifth)),
+        (_, Some(_)) => None,
+    }
+}

@@ -27,11 +27,12 @@ pub struct Request<'a> {
 }
 
 // The words of groupings.
-const GROUPINGS: [(&[u8], GroupingStrategy); 4] = [
+const GROUPINGS: [(&[u8], GroupingStrategy); 5] = [
     (b"auto", GroupingStrategy::Auto),
     (b"never", GroupingStrategy::Never),
     (b"always", GroupingStrategy::Always),
     (b"min2", GroupingStrategy::Min2),
+    (b"on-aligned", GroupingStrategy::OnAligned),
 ];
 
 /// The grouping that a word names: `Min2` of `min2`. `None` where it names none, as `Auto`. It does not allocate.

@@ -1,14 +1,17 @@
 //! The rounding that a request asks for, and the digits that it chooses.
 
-ghost use Rattle.std.specs.Prelude.{◌≡◌, ◌≤◌};
+ghost use Rattle.std.specs.Prelude.{◌≡◌, ◌≤◌, ◌∷◌, [], IfSome};
 ghost use Rattle.fixed_decimal.specs.NumberText.{minus};
 ghost use Rattle.locale_numbers_formats.specs.Cutting.{cut_at};
-ghost use Rattle.locale_numbers_requests.specs.RoundingField.{all_of, comma, count_named, counts_by, counts_in, digits_at, digits_by, digits_in, increment_named, is_cash, is_size, keeps_digits, last_named, mode_named, places_named, position_named, rounding_named, size_named, whole_at, whole_by};
+ghost use Rattle.locale_numbers_requests.specs.RoundingField.{all_of, comma, count_named, counts_by, counts_in, digits_at, digits_by, digits_in, either_at, either_by, increment_named, is_cash, is_size, is_whole, keeps_digits, last_named, mode_named, places_named, position_named, priority_named, rounding_named, significant_at, significant_named, size_named, whole_at, whole_by};
 
 use crate::digits::{are_digits, capped_number};
-use crate::pieces::{four_pieces, three_pieces, two_pieces};
+use crate::pieces::{five_pieces, four_pieces, three_pieces, two_pieces};
+use crate::significant_field::{priority_named, significant_named};
 use fixed_decimal::{RoundingIncrement, SignedRoundingMode, UnsignedRoundingMode};
-use locale_numbers_formats::{Rounding, TrailingZeros, value_beside};
+use locale_numbers_formats::{
+    Rounding, RoundingPriority, SignificantDigits, TrailingZeros, value_beside,
+};
 
 const COMMA: u8 = b',';
 
@@ -34,9 +37,10 @@ fn is_size(word: &[u8]) -> bool
 }
 
 // The number above zero, and not above a bound, that a word writes with no zero in front.
-fn size_named(most: u32, word: &[u8]) -> Option<u32>
-    requires { most ≤ 32768 }
-    ensures { result ≡ size_named most word.now }
+pub(crate) fn size_named(most: u32, word: &[u8]) -> Option<u32>
+    requires { most ≤ 65535 }
+    ensures value { result ≡ size_named most word.now }
+    ensures bound { IfSome result (λ size. size ≤ most) }
 {
     if !is_size(word) {
         return None;
@@ -257,21 +261,120 @@ fn whole_by(places: &[u8], mode: &[u8], increment: &[u8]) -> Option<DigitsAsked>
     whole_at(places, mode, increment)
 }
 
-// What three words between commas ask for, or four of which the last is `whole`.
+// So many significant digits, with the zeros that are shown.
+fn significant_at(zeros: TrailingZeros, digits: &[u8], mode: &[u8]) -> Option<DigitsAsked>
+    ensures { result ≡ significant_at zeros (significant_named digits.now) (mode_named mode.now) }
+{
+    let digits = significant_named(digits)?;
+    let mode = mode_named(mode)?;
+    Some(DigitsAsked {
+        rounding: Rounding::Significant(digits, mode),
+        zeros,
+        fraction_digits: 0,
+    })
+}
+
+// So many digits of a fraction, or so many significant ones, by a priority.
+fn either_at(
+    zeros: TrailingZeros,
+    places: Places,
+    digits: SignificantDigits,
+    priority: RoundingPriority,
+    mode: SignedRoundingMode,
+) -> Option<DigitsAsked>
+    ensures { result ≡ either_at zeros places digits priority mode }
+{
+    match places {
+        Places::Position(_) => None,
+        Places::Fraction(least, last) => Some(DigitsAsked {
+            rounding: Rounding::Either(priority, last, digits, mode),
+            zeros,
+            fraction_digits: least,
+        }),
+    }
+}
+
+// What the words of a place, of significant digits, of a priority and of a mode ask for.
+fn either_by(
+    zeros: TrailingZeros,
+    places: &[u8],
+    digits: &[u8],
+    priority: &[u8],
+    mode: &[u8],
+) -> Option<DigitsAsked>
+    ensures { result
+        ≡ either_by zeros (places_named places.now) (significant_named digits.now) (priority_named priority.now) (mode_named mode.now) }
+{
+    let places = places_named(places)?;
+    let digits = significant_named(digits)?;
+    let priority = priority_named(priority)?;
+    let mode = mode_named(mode)?;
+    either_at(zeros, places, digits, priority, mode)
+}
+
+// Whether a word says that a whole number has no fraction.
+fn is_whole(word: &[u8]) -> bool
+    ensures { result ≡ is_whole word.now }
+{
+    word == b"whole".as_slice()
+}
+
+// What three words ask for.
+fn three_words(places: &[u8], mode: &[u8], last: &[u8]) -> Option<DigitsAsked>
+    ensures { result ≡ digits_in (places.now ∷ mode.now ∷ last.now ∷ []) }
+{
+    if is_whole(last) {
+        significant_at(TrailingZeros::TrimAll, places, mode)
+    } else {
+        digits_by(places, mode, last)
+    }
+}
+
+// What four words ask for.
+fn four_words(places: &[u8], second: &[u8], third: &[u8], last: &[u8]) -> Option<DigitsAsked>
+    ensures { result ≡ digits_in (places.now ∷ second.now ∷ third.now ∷ last.now ∷ []) }
+{
+    if is_whole(last) {
+        whole_by(places, second, third)
+    } else {
+        either_by(TrailingZeros::Trim, places, second, third, last)
+    }
+}
+
+// What five words ask for.
+fn five_words(
+    places: &[u8],
+    digits: &[u8],
+    priority: &[u8],
+    mode: &[u8],
+    last: &[u8],
+) -> Option<DigitsAsked>
+    ensures { result ≡ digits_in (places.now ∷ digits.now ∷ priority.now ∷ mode.now ∷ last.now ∷ []) }
+{
+    if !is_whole(last) {
+        return None;
+    }
+    either_by(TrailingZeros::TrimAll, places, digits, priority, mode)
+}
+
+// What the words between commas ask for, of which there are two to five.
 fn digits_in(field: &[u8]) -> Option<DigitsAsked>
     ensures { result ≡ digits_in (cut_at comma field.now) }
 {
-    if let Some((places, mode, increment)) = three_pieces(field, COMMA) {
-        return digits_by(places, mode, increment);
+    if let Some((digits, mode)) = two_pieces(field, COMMA) {
+        return significant_at(TrailingZeros::Trim, digits, mode);
     }
-    let (places, mode, increment, whole) = four_pieces(field, COMMA)?;
-    if whole != b"whole".as_slice() {
-        return None;
+    if let Some((places, mode, last)) = three_pieces(field, COMMA) {
+        return three_words(places, mode, last);
     }
-    whole_by(places, mode, increment)
+    if let Some((places, second, third, last)) = four_pieces(field, COMMA) {
+        return four_words(places, second, third, last);
+    }
+    let (places, digits, priority, mode, last) = five_pieces(field, COMMA)?;
+    five_words(places, digits, priority, mode, last)
 }
 
-// What a field asks for, where it is known: `-`, `cash`, or words between commas, as `-2,half-even,5`.
+// What a field asks for, where it is known: `-`, `cash`, or words between commas, as `-2,half-even,5` and `s1-3,half-even`.
 pub(crate) fn rounding_named(field: &[u8]) -> Option<DigitsAsked>
     ensures { result ≡ rounding_named field.now }
 {

@@ -44,6 +44,7 @@ fn grouping_named(name: &str) -> Result<GroupingStrategy, Stop> {
         "never" => Ok(GroupingStrategy::Never),
         "always" => Ok(GroupingStrategy::Always),
         "min2" => Ok(GroupingStrategy::Min2),
+        "on-aligned" => Ok(GroupingStrategy::OnAligned),
         _ => Err(Stop::Unknown),
     }
 }
