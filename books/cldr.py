@@ -115,11 +115,11 @@ def parents_of(path):
     return found
 
 
-def rules_of(path):
-    """The cardinal plural rules of each locale that the file names, each a category and a condition."""
+def rules_of(path, wanted="cardinal"):
+    """The plural rules of a type of each locale that the file names, each a category and a condition."""
     found = {}
     for kind in parse(path).iter("plurals"):
-        for it in kind.iter("pluralRules") if kind.get("type", "cardinal") == "cardinal" else ():
+        for it in kind.iter("pluralRules") if kind.get("type", wanted) == wanted else ():
             rules = []
             for rule in it.iter("pluralRule"):
                 category = rule.get("count")
@@ -128,6 +128,17 @@ def rules_of(path):
                     raise Fault(f"{path}: the category {category!r} has the condition {condition!r}")
                 rules.append((category, condition))
             found.update((name, rules) for name in it.get("locales", "").split())
+    return found
+
+
+def ranges_of(path):
+    """The categories of ranges of each locale that the file names: each those of the two ends, and that of the range."""
+    found = {}
+    for it in parse(path).iter("pluralRanges"):
+        ranges = [tuple(map(one.get, ("start", "end", "result"))) for one in it.iter("pluralRange")]
+        if not all(category in CATEGORIES for one in ranges for category in one) or len({one[:2] for one in ranges}) < len(ranges):
+            raise Fault(f"{path}: the ranges of {it.get('locales')} are {ranges!r}")
+        found.update((name, ranges) for name in it.get("locales", "").split())
     return found
 
 
@@ -221,11 +232,26 @@ class Cldr:
         return found
 
     def plural_rules(self, name):
-        """The rules of the locale, of its parents in its language, of what is left when it is cut, or of root."""
+        """The cardinal rules of a locale."""
+        return self.of_language(name, self.rules)
+
+    def of_language(self, name, table):
+        """What a table of plurals has for the locale, for its parents in its language, for what is left when it is cut, or
+        for root."""
         pieces = name.split("_")
         names = [it for it in self.chain(name, "plurals") if it.split("_")[0] == pieces[0]]
         names += ["_".join(pieces[:count]) for count in range(len(pieces), 0, -1)]
-        return next((self.rules[it] for it in [*names, "root"] if it in self.rules), [])
+        return next((table[it] for it in [*names, "root"] if it in table), [])
+
+    @functools.cached_property
+    def ordinals(self):
+        """The ordinal rules of each locale that the data names."""
+        return rules_of(f"{self.folder}/supplemental/ordinals.xml", "ordinal")
+
+    @functools.cached_property
+    def ranges(self):
+        """The categories of ranges of each locale that the data names."""
+        return ranges_of(f"{self.folder}/supplemental/pluralRanges.xml")
 
     def _of(self, name):
         """The tables and the aliases of a locale's own file: none where it has no file."""

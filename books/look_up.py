@@ -11,6 +11,7 @@ from cldr import Fault
 
 ARRAYS = ("symbols", "digits", "plural rules", "short", "long", "parents")
 UNIT_ARRAYS = ("percents", "currencies", "accounts", "currency symbols", "currency digits")
+MORE_ARRAYS = ("ordinal rules", "plural ranges")
 LOOKED_UP = ("symbols", "plural rules", "short", "long")
 FORMS = ("plain", "short", "long")
 PLACEHOLDER = "¤"  # of the unit, in a pattern
@@ -272,6 +273,18 @@ def read_book(path, with_units=False):
     if with_units and book.units is None:
         raise Fault(f"{path} has no units")
     return book
+
+
+def more_of(path):
+    """The arrays that a file holds beside a book, as tables by locales."""
+    try:
+        with open(path, encoding="utf-8") as given:
+            arrays = json.load(given)
+        return {kind: {locale_of(tag): rest for tag, rest in array} for kind, array in zip(MORE_ARRAYS, arrays)}
+    except OSError as fault:
+        raise Fault(f"{path} can't be read: {fault.strerror}") from None
+    except (ValueError, TypeError, RecursionError) as fault:
+        raise Fault(f"{path} holds no such arrays: {fault}") from None
 
 
 def differences(full, book):

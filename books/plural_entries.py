@@ -1,0 +1,44 @@
+"""What a book has of plurals beside its cardinal rules: ordinal rules, and the categories of ranges."""
+from cldr import CATEGORIES, DATA_LOCALE, tag_of
+from look_up import UND, locale_of, text_of
+
+
+class PluralEntries:
+    """Makes both arrays for the locales of a book: an entry is there only where the chain of the locale, with `und` at its
+    end, would find another one. None is as one without rules, and as one without ranges."""
+
+    def __init__(self, cldr, book):
+        self.cldr, self.book = cldr, book
+        self.ordinals, self.ranges = {}, {}
+
+    def add(self, names):
+        """Adds what these locales need, each after those of its chain."""
+        named = [(locale_of(tag_of(name)), name) for name in names if DATA_LOCALE.fullmatch(tag_of(name))]
+        for locale, name in sorted(named, key=lambda it: (it[0] != UND, len(self.book.unit_chain(it[0])), it[0])):
+            self.settle(self.ordinals, locale, self.ordinal_rules(name))
+            self.settle(self.ranges, locale, self.plural_ranges(name))
+
+    def settle(self, table, locale, wanted):
+        """Adds an entry where it is needed."""
+        if find(self.book, table, locale) != wanted:
+            table[locale] = wanted
+
+    def ordinal_rules(self, name):
+        """The ordinal rules of a locale without `other`, which has no condition."""
+        given = dict(self.cldr.of_language(name, self.cldr.ordinals))
+        return [[it, given[it]] for it in CATEGORIES[:-1] if it in given]
+
+    def plural_ranges(self, name):
+        """The ranges of a locale whose category is not that of the second end."""
+        given = self.cldr.of_language(name, self.cldr.ranges)
+        return sorted(map(list, (it for it in given if it[2] != it[1])), key=lambda it: [*map(CATEGORIES.index, it)])
+
+    def arrays(self):
+        """Both arrays, each in the order of its keys."""
+        in_order = lambda table: [[text_of(locale), table[locale]] for locale in sorted(table, key=text_of)]
+        return [in_order(self.ordinals), in_order(self.ranges)]
+
+
+def find(book, table, locale):
+    """What a table by locales has for a locale: that of the first of its chain, `und` last, or nothing."""
+    return next((table[it] for it in book.unit_chain(locale) if it in table), [])

@@ -1,0 +1,4 @@
+mod KnownValues
+pub mod FirstLemmas
+pub mod ListedLemmas
+pub mod TimesLemmas

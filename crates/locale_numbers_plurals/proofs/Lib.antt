@@ -1,0 +1,5 @@
+mod KnownValues
+pub mod FormLemmas
+pub mod FoundLemmas
+pub mod PluralsLemmas
+pub mod RangesLemmas

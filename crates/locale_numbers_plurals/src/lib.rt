@@ -1,0 +1,16 @@
+//! What a book has of plurals beside its cardinal rules: ordinal rules, and the categories of ranges.
+//!
+//! Of `[[["en",[["two","n = 2"]]]],[["en",[["other","one","other"]]]]]` the first array says that 2 is of `two` by the
+//! ordinal rules of English, the second that a range from `other` to `one` is of `other`.
+
+#![tactic(auto)]
+
+mod arrays;
+mod finding;
+mod plurals;
+mod ranges;
+
+pub use arrays::{PluralArrays, plural_arrays_of};
+pub use finding::find_along;
+pub use plurals::Plurals;
+pub use ranges::PluralRanges;
