@@ -15,12 +15,13 @@ _legumeyet() {
     case $before in
         -t | --tag) _legumeyet_reply -W "$(legumeyet --locales 2>/dev/null)" ;;
         -f | --form) _legumeyet_reply -W "plain short long exact-short exact-long read read-lenient" ;;
-        -g | --grouping) _legumeyet_reply -W "auto always min2 never" ;;
+        -g | --grouping) _legumeyet_reply -W "auto always min2 on-aligned never" ;;
         -s | --sign) _legumeyet_reply -W "keep auto always never except-zero negative" ;;
+        --priority) _legumeyet_reply -W "more less" ;;
         --invalid) _legumeyet_reply -W "empty keep skip abort" ;;
         -b | --book) _legumeyet_reply -f ;;
-        --format | -r | --round | -d | --digits | --max-digits | --min-digits | -c | --currency | --read | --read-exact | --capacity) ;;
-        *) [[ $word != -* ]] || _legumeyet_reply -W "--tag --form --format --grouping --sign --round --digits --max-digits --min-digits --currency --accounting --code --cash --percent --read --read-exact --parts --invalid --book --locales --lines --capacity --help --version" ;;
+        --format | -r | --round | -d | --digits | --max-digits | --min-digits | --significant | -c | --currency | --read | --read-exact | --field | --delimiter | --padding | --capacity) ;;
+        *) [[ $word != -* ]] || _legumeyet_reply -W "--tag --form --format --grouping --sign --round --digits --max-digits --min-digits --significant --priority --currency --accounting --code --cash --percent --read --read-exact --field --read-fields --delimiter --header --padding --parts --invalid --book --locales --lines --capacity --help --version" ;;
     esac
 }
 complete -o filenames -F _legumeyet legumeyet

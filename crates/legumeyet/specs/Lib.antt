@@ -1,5 +1,6 @@
 pub mod Asking
 pub mod CallFaults
+pub mod ColumnTexts
 pub mod Messages
 pub mod Output
 pub mod Parts

@@ -2,6 +2,7 @@
 
 use crate::asking::{has_unit, invalid_of, word, words_of};
 use crate::book_text::{book_of, read_text, world_text_for};
+use crate::column_words::{have_units, tell_wrong_table};
 use crate::environment::tag_for;
 use crate::fault::CallFault;
 use crate::listing::{list_of_file, list_of_world};
@@ -9,6 +10,7 @@ use crate::numbers::{Asked, is_last, put_texts};
 use crate::report::{tell_capacity, tell_option, tell_parts};
 use crate::request_lines::{answer_lines, capacity_of};
 use crate::sayers::sayer_of;
+use crate::tables::put_table;
 use crate::words::put_words;
 use clap::ArgMatches;
 use legumeyet_options::{Invalid, NumberWords, NumbersAsked, Sayer};
@@ -126,6 +128,9 @@ fn act_by<W: Write>(
             None => Ok(2),
         };
     }
+    if matches.get_strs("field").is_some() {
+        return put_table(rt, book, matches, tag, numbers, out);
+    }
     put_all(rt, book, matches, tag, numbers, out)
 }
 
@@ -158,7 +163,11 @@ fn text_of_world(
     if matches.get_flag("lines") {
         world_text(rt.alloc())
     } else {
-        world_text_for(rt.alloc(), tag, has_unit(numbers))
+        world_text_for(
+            rt.alloc(),
+            tag,
+            has_unit(numbers) || have_units(matches, numbers),
+        )
     }
 }
 
@@ -196,7 +205,7 @@ fn tell_wrong(
     if matches.get_flag("parts") && numbers.task != Task::Write {
         return Some(tell_parts(rt, words.form.unwrap_or("plain")));
     }
-    None
+    tell_wrong_table(rt, matches, numbers)
 }
 
 // Does what the words ask for by a book, where they go together, and returns the status.

@@ -5,7 +5,7 @@ ghost use Rattle.clap.specs.Matches.{first_value, found_of};
 ghost use Rattle.legumeyet.specs.Asking.{has_unit, invalid_by, word_by, without_dash};
 
 use clap::ArgMatches;
-use legumeyet_options::{Invalid, NumberWords, NumbersAsked};
+use legumeyet_options::{DigitWords, Invalid, NumberWords, NumbersAsked};
 use locale_numbers_formats::NumberUnit;
 
 /// A word of an option, or another where it has none.
@@ -48,13 +48,18 @@ pub fn words_of<'a>(matches: &ArgMatches<'a>) -> NumberWords<'a>
     ensures grouping { option_map (λ word. word.now) result.grouping
         ≡ first_value (found_of matches.now) (codes "grouping") }
     ensures sign { option_map (λ word. word.now) result.sign ≡ first_value (found_of matches.now) (codes "sign") }
-    ensures round { option_map (λ word. word.now) result.round
+    ensures round { option_map (λ word. word.now) result.chosen.round
         ≡ without_dash (first_value (found_of matches.now) (codes "round")) }
-    ensures digits { option_map (λ word. word.now) result.digits ≡ first_value (found_of matches.now) (codes "digits") }
-    ensures max_digits { option_map (λ word. word.now) result.max_digits
+    ensures digits { option_map (λ word. word.now) result.chosen.digits
+        ≡ first_value (found_of matches.now) (codes "digits") }
+    ensures max_digits { option_map (λ word. word.now) result.chosen.max_digits
         ≡ first_value (found_of matches.now) (codes "max-digits") }
-    ensures min_digits { option_map (λ word. word.now) result.min_digits
+    ensures min_digits { option_map (λ word. word.now) result.chosen.min_digits
         ≡ first_value (found_of matches.now) (codes "min-digits") }
+    ensures significant { option_map (λ word. word.now) result.chosen.significant
+        ≡ first_value (found_of matches.now) (codes "significant") }
+    ensures priority { option_map (λ word. word.now) result.chosen.priority
+        ≡ first_value (found_of matches.now) (codes "priority") }
 {
     NumberWords {
         form: matches.get_str("form"),
@@ -65,11 +70,15 @@ pub fn words_of<'a>(matches: &ArgMatches<'a>) -> NumberWords<'a>
         is_percent: matches.get_flag("percent"),
         grouping: matches.get_str("grouping"),
         sign: matches.get_str("sign"),
-        is_in_cash: matches.get_flag("cash"),
-        round: round_of(matches),
-        digits: matches.get_str("digits"),
-        max_digits: matches.get_str("max-digits"),
-        min_digits: matches.get_str("min-digits"),
+        chosen: DigitWords {
+            is_in_cash: matches.get_flag("cash"),
+            round: round_of(matches),
+            digits: matches.get_str("digits"),
+            max_digits: matches.get_str("max-digits"),
+            min_digits: matches.get_str("min-digits"),
+            significant: matches.get_str("significant"),
+            priority: matches.get_str("priority"),
+        },
     }
 }
 

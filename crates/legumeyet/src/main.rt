@@ -5,6 +5,8 @@
 mod acting;
 mod asking;
 mod book_text;
+mod column_words;
+mod columns;
 mod environment;
 mod fault;
 mod input;
@@ -16,6 +18,7 @@ mod remembering;
 mod report;
 mod request_lines;
 mod sayers;
+mod tables;
 mod words;
 
 use acting::act;

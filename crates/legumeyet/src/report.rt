@@ -6,9 +6,11 @@ ghost use Rattle.legumeyet.specs.CallFaults.{call_status};
 use crate::fault::CallFault;
 use crate::messages::{Shown, ShownBytes};
 use clap::error::ErrorKind;
-use legumeyet_options::{NotSaid, NumberWords, OptionFault};
+use legumeyet_columns::{FieldFault, LONGEST};
+use legumeyet_options::{DigitWords, NotSaid, NumberWords, OptionFault};
+use locale_numbers_formats::SkeletonError;
 use locale_numbers_requests::Refusal;
-use std::io;
+use std::{fmt, io};
 
 // What a refusal means.
 fn meaning(refusal: Refusal) -> &'static str {
@@ -27,20 +29,116 @@ fn meaning(refusal: Refusal) -> &'static str {
     }
 }
 
+// Why nothing is said of a text, where `round` is the word of `--round`.
+#[derive(Clone, Copy)]
+struct Why<'a> {
+    round: &'a str,
+    why: NotSaid,
+}
+
+impl fmt::Display for Why<'_> {
+    fn fmt<W: fmt::Write>(&self, f: &mut fmt::Formatter<W>) -> fmt::Result {
+        let round = self.round;
+        match self.why {
+            NotSaid::Refused(refusal) => write!(f, "{}", meaning(refusal)),
+            NotSaid::Coarse => write!(
+                f,
+                "--round {round} rounds left of the point, and the number has a fraction: --digits {round} shows so many digits of it, --round {round},half-even rounds it"
+            ),
+            NotSaid::Memory => write!(f, "out of memory"),
+        }
+    }
+}
+
 /// Tells that a number or a text is refused, and why: `legumeyet: abc (de): the text is no decimal number`. `round` is the
 /// word of `--round`.
 pub fn tell_refused(rt: &HostRuntime, tag: &str, round: &str, text: &[u8], why: NotSaid) {
-    let (text, tag) = (ShownBytes(text), Shown(tag));
-    let _ = match why {
-        NotSaid::Refused(refusal) => {
-            let why = meaning(refusal);
-            eprintln!(rt; "legumeyet: {text} ({tag}): {why}")
-        }
-        NotSaid::Coarse => eprintln!(rt;
-            "legumeyet: {text} ({tag}): --round {round} rounds left of the point, and the number has a fraction: --digits {round} shows so many digits of it, --round {round},half-even rounds it"
-        ),
-        NotSaid::Memory => eprintln!(rt; "legumeyet: {text} ({tag}): out of memory"),
+    let (text, tag, why) = (ShownBytes(text), Shown(tag), Why { round, why });
+    let _ = eprintln!(rt; "legumeyet: {text} ({tag}): {why}");
+}
+
+/// Tells the same of the text of a field, with the number of its record.
+pub fn tell_refused_field(
+    rt: &HostRuntime,
+    number: u64,
+    index: usize,
+    tag: &str,
+    round: &str,
+    text: &[u8],
+    why: NotSaid,
+) {
+    let (text, tag, why) = (ShownBytes(text), Shown(tag), Why { round, why });
+    let field = index.saturating_add(1);
+    let _ = eprintln!(rt; "legumeyet: record {number}, field {field}: {text} ({tag}): {why}");
+}
+
+/// Tells that a field is refused for what is around its text.
+pub fn tell_field(rt: &HostRuntime, number: u64, index: usize, fault: FieldFault) {
+    let field = index.saturating_add(1);
+    let why = match fault {
+        FieldFault::Quotes => "a quote in front of it does not end where it ends",
+        FieldFault::Delimiter => "its text has a delimiter, and nothing is in quotes",
     };
+    let _ = eprintln!(rt; "legumeyet: record {number}, field {field}: {why}");
+}
+
+/// Tells that a record lacks a field.
+pub fn tell_missing(rt: &HostRuntime, number: u64, index: usize) {
+    let field = index.saturating_add(1);
+    let _ = eprintln!(rt; "legumeyet: record {number}: there is no field {field}");
+}
+
+/// Tells that a quote in a record does not end.
+pub fn tell_open(rt: &HostRuntime, number: u64) {
+    let _ = eprintln!(rt; "legumeyet: record {number}: a quote does not end");
+}
+
+/// Tells that a quote in a record does not end within the bytes that are read for it, and returns the status.
+pub fn tell_long(rt: &HostRuntime, number: u64) -> u8
+    ensures status { result ≡ 1 }
+{
+    let _ = eprintln!(rt;
+        "legumeyet: record {number}: a quote does not end within {LONGEST} bytes"
+    );
+    1
+}
+
+/// Tells that a word of `--field` is wrong, and returns the status.
+pub fn tell_field_word(rt: &HostRuntime, word: &str, why: &str) -> u8
+    ensures status { result ≡ 2 }
+{
+    let word = Shown(word);
+    let _ = eprintln!(rt; "error: --field {word}: {why}");
+    2
+}
+
+/// Tells that the skeleton of a word of `--field` is none, and returns the status.
+pub fn tell_skeleton(rt: &HostRuntime, word: &str, error: SkeletonError) -> u8
+    ensures status { result ≡ 2 }
+{
+    let word = Shown(word);
+    let _ = eprintln!(rt; "error: --field {word}: {error}");
+    2
+}
+
+/// Tells that a delimiter is none, and returns the status.
+pub fn tell_delimiter(rt: &HostRuntime, word: &str) -> u8
+    ensures status { result ≡ 2 }
+{
+    let word = Shown(word);
+    let _ = eprintln!(rt;
+        "error: --delimiter {word}: a delimiter is tab, or an ASCII character but the quote"
+    );
+    2
+}
+
+/// Tells that a padding is none, and returns the status.
+pub fn tell_padding(rt: &HostRuntime, word: &str) -> u8
+    ensures status { result ≡ 2 }
+{
+    let word = Shown(word);
+    let _ = eprintln!(rt; "error: --padding {word}: a padding is a number from -65535 to 65535");
+    2
 }
 
 /// Tells a fault, and returns its status. Where nobody reads standard output any more nothing is told.
@@ -93,7 +191,7 @@ pub fn tell_capacity(rt: &HostRuntime, capacity: &str) -> u8
 }
 
 // The name of the option of digits that is given.
-fn name_of_digits(words: &NumberWords<'_>) -> &'static str {
+fn name_of_digits(words: &DigitWords<'_>) -> &'static str {
     if words.is_in_cash {
         "--cash"
     } else if words.round.is_some() {
@@ -102,8 +200,10 @@ fn name_of_digits(words: &NumberWords<'_>) -> &'static str {
         "--digits"
     } else if words.max_digits.is_some() {
         "--max-digits"
-    } else {
+    } else if words.min_digits.is_some() {
         "--min-digits"
+    } else {
+        "--significant"
     }
 }
 
@@ -120,6 +220,9 @@ fn tell_form(rt: &HostRuntime, words: &NumberWords<'_>, option: &str, why: &str)
 }
 
 const COUNT: &str = "a count of digits is a number from 0 to 32767";
+
+const SIGNIFICANT: &str =
+    "significant digits are a number from 1 to 65535, or two with a minus between, as 1-3, of which the second is not below the first";
 
 const ROUNDING: &str =
     "a rounding is a position from -32768 to 32767, then, where given, a mode and an increment of 1, 2, 5 or 25, as -2,half-even,5";
@@ -144,21 +247,43 @@ pub fn tell_option(rt: &HostRuntime, words: &NumberWords<'_>, fault: OptionFault
             tell_word(rt, "--grouping", words.grouping, "this is no grouping")
         }
         OptionFault::Sign => tell_word(rt, "--sign", words.sign, "this is no sign"),
-        OptionFault::Round => tell_word(rt, "--round", words.round, ROUNDING),
-        OptionFault::Digits => tell_word(rt, "--digits", words.digits, COUNT),
-        OptionFault::MaxDigits => tell_word(rt, "--max-digits", words.max_digits, COUNT),
-        OptionFault::MinDigits => tell_word(rt, "--min-digits", words.min_digits, COUNT),
+        OptionFault::Round => tell_word(rt, "--round", words.chosen.round, ROUNDING),
+        OptionFault::Digits => tell_word(rt, "--digits", words.chosen.digits, COUNT),
+        OptionFault::MaxDigits => tell_word(rt, "--max-digits", words.chosen.max_digits, COUNT),
+        OptionFault::MinDigits => tell_word(rt, "--min-digits", words.chosen.min_digits, COUNT),
         OptionFault::Counts => {
             let (least, most) = (
-                Shown(words.min_digits.unwrap_or("")),
-                Shown(words.max_digits.unwrap_or("")),
+                Shown(words.chosen.min_digits.unwrap_or("")),
+                Shown(words.chosen.max_digits.unwrap_or("")),
             );
             let _ = eprintln!(rt; "error: --min-digits {least} is above --max-digits {most}");
+        }
+        OptionFault::Significant => {
+            tell_word(rt, "--significant", words.chosen.significant, SIGNIFICANT)
+        }
+        OptionFault::Priority => {
+            tell_word(
+                rt,
+                "--priority",
+                words.chosen.priority,
+                "it is more or less, beside --significant",
+            )
+        }
+        OptionFault::NoPriority => {
+            let option = name_of_digits(&words.chosen);
+            let _ = eprintln!(rt;
+                "error: --significant beside {option} needs --priority more or less"
+            );
+        }
+        OptionFault::NoFraction => {
+            let _ = eprintln!(rt;
+                "error: --priority needs --digits or --max-digits beside --significant"
+            );
         }
         OptionFault::DigitsOfExact => tell_form(
             rt,
             words,
-            name_of_digits(words),
+            name_of_digits(&words.chosen),
             "exact forms show the digits that they are given",
         ),
         OptionFault::SignOfRead => tell_form(
@@ -170,7 +295,7 @@ pub fn tell_option(rt: &HostRuntime, words: &NumberWords<'_>, fault: OptionFault
         OptionFault::DigitsOfRead => tell_form(
             rt,
             words,
-            name_of_digits(words),
+            name_of_digits(&words.chosen),
             "a number that is read has the digits of its text",
         ),
     }

@@ -12,13 +12,14 @@ use Rattle.locale_numbers_formats.specs.declared.Notation.TheVariants.{Standard}
 use Rattle.locale_numbers_formats.specs.declared.NumberUnit.{NumberUnit}
 use Rattle.locale_numbers_formats.specs.declared.NumberUnit.TheVariants as unit
 use Rattle.locale_numbers_formats.specs.declared.Rounding.{Rounding}
-use Rattle.locale_numbers_formats.specs.declared.Rounding.TheVariants.{Usual, Cash, AsGiven, At}
+use Rattle.locale_numbers_formats.specs.declared.Rounding.TheVariants.{Usual, Cash, AsGiven, At, Significant, Either}
+use Rattle.locale_numbers_formats.specs.declared.RoundingPriority.TheVariants.{MorePrecision}
 use Rattle.locale_numbers_formats.specs.declared.SkeletonError.TheVariants as skeleton
 use Rattle.locale_numbers_formats.specs.declared.TrailingZeros.{TrailingZeros}
 use Rattle.locale_numbers_formats.specs.declared.TrailingZeros.TheVariants.{Keep, Trim}
 use Rattle.locale_numbers_requests.specs.declared.Task.{Task}
 use Rattle.locale_numbers_requests.specs.declared.Task.TheVariants.{Write}
-use Rattle.legumeyet_options.specs.Digits.{is_coarse, options_by, round_said}
+use Rattle.legumeyet_options.specs.Digits.{DigitsSaid, is_coarse, options_by, round_said}
 use Rattle.legumeyet_options.specs.LocaleName.{tag_of}
 use Rattle.legumeyet_options.specs.NumberWords.{NumbersSaid, numbers_asked}
 use Rattle.legumeyet_options.specs.declared.fault.OptionFault.TheVariants as fault
@@ -99,12 +100,15 @@ nothing = record {
   is_percent = false;
   grouping = None;
   sign = None;
-  is_in_cash = false;
-  round = None;
-  digits = None;
-  max_digits = None;
-  min_digits = None;
+  chosen = record { is_in_cash = false; round = None; digits = None; max_digits = None; min_digits = None; significant = None; priority = None };
 }
+
+-- options of digits, and what they ask
+abbrev no_digits : DigitsSaid
+no_digits = nothing.chosen
+
+abbrev with : DigitsSaid → NumbersSaid
+with digits = record nothing { chosen = digits }
 
 abbrev written : NumberUnit → Rounding → TrailingZeros → ℕ → Bool → NumbersAsked
 written unit rounding zeros least coarse = record {
@@ -120,32 +124,56 @@ amount_by_code : numbers_asked (record nothing { currency = Some (codes "EUR"); 
     ≡ Ok (written (unit.Currency (record { code = codes "EUR"; style = style.Standard; width = width.IsoCode })) Usual Keep 0 false)
 amount_by_code = refl
 
-two_digits : numbers_asked (record nothing { digits = Some (codes "2") }) ≡ Ok (written unit.None (At (negsuc 1) (Unsigned HalfEven) MultiplesOf1) Keep 0 false)
+two_digits : numbers_asked (with (record no_digits { digits = Some (codes "2") })) ≡ Ok (written unit.None (At (negsuc 1) (Unsigned HalfEven) MultiplesOf1) Keep 0 false)
 two_digits = refl
 
-two_at_most : numbers_asked (record nothing { max_digits = Some (codes "2") }) ≡ Ok (written unit.None (At (negsuc 1) (Unsigned HalfEven) MultiplesOf1) Trim 0 false)
+two_at_most : numbers_asked (with (record no_digits { max_digits = Some (codes "2") })) ≡ Ok (written unit.None (At (negsuc 1) (Unsigned HalfEven) MultiplesOf1) Trim 0 false)
 two_at_most = refl
 
-one_to_three : numbers_asked (record nothing { max_digits = Some (codes "3"); min_digits = Some (codes "1") })
+one_to_three : numbers_asked (with (record no_digits { max_digits = Some (codes "3"); min_digits = Some (codes "1") }))
     ≡ Ok (written unit.None (At (negsuc 2) (Unsigned HalfEven) MultiplesOf1) Trim 1 false)
 one_to_three = refl
 
-two_at_least : numbers_asked (record nothing { min_digits = Some (codes "2") }) ≡ Ok (written unit.None AsGiven Trim 2 false)
+two_at_least : numbers_asked (with (record no_digits { min_digits = Some (codes "2") })) ≡ Ok (written unit.None AsGiven Trim 2 false)
 two_at_least = refl
 
-more_than_most : numbers_asked (record nothing { max_digits = Some (codes "2"); min_digits = Some (codes "3") }) ≡ Err fault.Counts
+more_than_most : numbers_asked (with (record no_digits { max_digits = Some (codes "2"); min_digits = Some (codes "3") })) ≡ Err fault.Counts
 more_than_most = refl
 
-coarse : numbers_asked (record nothing { round = Some (codes "2") }) ≡ Ok (written unit.None (At (pos 2) (Unsigned HalfEven) MultiplesOf1) Keep 0 true)
+three_significant : numbers_asked (with (record no_digits { significant = Some (codes "3") }))
+    ≡ Ok (written unit.None (Significant (record { least = 3; most = 3 }) (Unsigned HalfEven)) Trim 0 false)
+three_significant = refl
+
+three_at_most : numbers_asked (with (record no_digits { significant = Some (codes "1-3") }))
+    ≡ Ok (written unit.None (Significant (record { least = 1; most = 3 }) (Unsigned HalfEven)) Trim 0 false)
+three_at_most = refl
+
+more_of_both : numbers_asked (with (record no_digits { digits = Some (codes "2"); significant = Some (codes "1-3"); priority = Some (codes "more") }))
+    ≡ Ok (written unit.None (Either MorePrecision (negsuc 1) (record { least = 1; most = 3 }) (Unsigned HalfEven)) Keep 0 false)
+more_of_both = refl
+
+no_significant : numbers_asked (with (record no_digits { significant = Some (codes "3-1") })) ≡ Err fault.Significant
+no_significant = refl
+
+both_without_priority : numbers_asked (with (record no_digits { digits = Some (codes "2"); significant = Some (codes "3") })) ≡ Err fault.NoPriority
+both_without_priority = refl
+
+priority_without_fraction : numbers_asked (with (record no_digits { significant = Some (codes "3"); priority = Some (codes "less") })) ≡ Err fault.NoFraction
+priority_without_fraction = refl
+
+other_priority : numbers_asked (with (record no_digits { digits = Some (codes "2"); significant = Some (codes "3"); priority = Some (codes "auto") })) ≡ Err fault.Priority
+other_priority = refl
+
+coarse : numbers_asked (with (record no_digits { round = Some (codes "2") })) ≡ Ok (written unit.None (At (pos 2) (Unsigned HalfEven) MultiplesOf1) Keep 0 true)
 coarse = refl
 
 small_code : numbers_asked (record nothing { currency = Some (codes "eur") }) ≡ Err fault.Code
 small_code = refl
 
-no_rounding : numbers_asked (record nothing { round = Some (codes "x") }) ≡ Err fault.Round
+no_rounding : numbers_asked (with (record no_digits { round = Some (codes "x") })) ≡ Err fault.Round
 no_rounding = refl
 
-exact_digits : numbers_asked (record nothing { form = Some (codes "exact-short"); digits = Some (codes "2") }) ≡ Err fault.DigitsOfExact
+exact_digits : numbers_asked (record nothing { form = Some (codes "exact-short"); chosen = record no_digits { digits = Some (codes "2") } }) ≡ Err fault.DigitsOfExact
 exact_digits = refl
 
 signed_reading : numbers_asked (record nothing { form = Some (codes "read"); sign = Some (codes "always") }) ≡ Err fault.SignOfRead

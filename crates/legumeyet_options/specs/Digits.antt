@@ -1,7 +1,7 @@
--- The digits that the options ask for: a rounding, whose mode and increment may be left out, or so many digits of a fraction.
+-- The digits that the options ask for: a rounding, whose mode and increment may be left out, so many digits of a fraction, or so many significant ones.
 -- Defined in docs/command.md, "Digits".
 -- Cited by `NumberWords::asked`.
-use Rattle.std.specs.Prelude.{ℕ, ℤ, pos, neg_ℤ, int_le, int_lt, Bool, false, if◌then◌else◌, List, [], ◌∷◌, Option, Some, None, Result, Ok, Err}
+use Rattle.std.specs.Prelude.{ℕ, ℤ, pos, neg_ℤ, int_le, int_lt, Bool, false, ◌||◌, is_some, if◌then◌else◌, List, [], ◌∷◌, Option, Some, None, Result, Ok, Err}
 use Rattle.fixed_decimal.specs.declared.RoundingIncrement.{RoundingIncrement}
 use Rattle.fixed_decimal.specs.declared.RoundingIncrement.TheVariants.{MultiplesOf1}
 use Rattle.fixed_decimal.specs.declared.SignedRoundingMode.{SignedRoundingMode}
@@ -11,11 +11,14 @@ use Rattle.locale_numbers_formats.specs.Cutting.{cut_at}
 use Rattle.locale_numbers_formats.specs.declared.LeadingZeros.TheVariants as leading
 use Rattle.locale_numbers_formats.specs.declared.NumberOptions.{NumberOptions}
 use Rattle.locale_numbers_formats.specs.declared.Rounding.{Rounding}
-use Rattle.locale_numbers_formats.specs.declared.Rounding.TheVariants.{Usual, Cash, AsGiven, At}
+use Rattle.locale_numbers_formats.specs.declared.Rounding.TheVariants.{Usual, Cash, AsGiven, At, Significant, Either}
+use Rattle.locale_numbers_formats.specs.declared.RoundingPriority.{RoundingPriority}
 use Rattle.locale_numbers_formats.specs.declared.SignAsked.TheVariants as sign
+use Rattle.locale_numbers_formats.specs.declared.SignificantDigits.{SignificantDigits}
 use Rattle.locale_numbers_formats.specs.declared.TrailingZeros.{TrailingZeros}
 use Rattle.locale_numbers_formats.specs.declared.TrailingZeros.TheVariants.{Keep, Trim}
-use Rattle.locale_numbers_requests.specs.RoundingField.{comma, count_named, increment_named, last_named, mode_named, position_named}
+use Rattle.fixed_decimal.specs.NumberText.{minus}
+use Rattle.locale_numbers_requests.specs.RoundingField.{comma, count_named, increment_named, keeps_digits, last_named, mode_named, position_named, priority_named, significant_by, significant_in, size_named}
 use Rattle.legumeyet_options.specs.declared.fault.OptionFault.{OptionFault}
 use Rattle.legumeyet_options.specs.declared.fault.OptionFault.TheVariants as fault
 
@@ -87,14 +90,77 @@ counts_said None (Some least) = at_least (count_named least)
 counts_said (Some most) None = between (last_named most) (Some (pos 0))
 counts_said (Some most) (Some least) = between (last_named most) (count_named least)
 
+-- so many, or those of both words
+abbrev pub fraction_said : Option (List ℕ) → Option (List ℕ) → Option (List ℕ) → Result NumberOptions OptionFault
+fraction_said (Some digits) most least = exactly (last_named digits)
+fraction_said None most least = counts_said most least
+
+-- ---- significant digits
+
+-- so many, or at least and at most so many, with a minus between
+abbrev pub significant_counts : List (List ℕ) → Option SignificantDigits
+significant_counts [] = None
+significant_counts (count ∷ []) = significant_by (size_named 65535 count) (size_named 65535 count)
+significant_counts (least ∷ most ∷ more) = significant_in (least ∷ most ∷ more)
+
+abbrev pub significant_said : List ℕ → Option SignificantDigits
+significant_said word = significant_counts (cut_at minus word)
+
+-- these alone, where no digits of a fraction are said
+abbrev pub significant_alone : SignificantDigits → Result NumberOptions OptionFault → Result NumberOptions OptionFault
+significant_alone digits (Err fault) = Err fault
+significant_alone digits (Ok options) =
+    if keeps_digits options.rounding then Ok (options_by (Significant digits (Unsigned HalfEven)) Trim (pos 0)) else Err fault.NoPriority
+
+-- these, or the digits of a fraction, which have to be at most so many
+abbrev pub either_of : RoundingPriority → SignificantDigits → NumberOptions → Rounding → Result NumberOptions OptionFault
+either_of priority digits options Usual = Err fault.NoFraction
+either_of priority digits options Cash = Err fault.NoFraction
+either_of priority digits options AsGiven = Err fault.NoFraction
+either_of priority digits options (At position mode increment) = Ok (record options { rounding = Either priority position digits mode })
+either_of priority digits options (Significant others mode) = Err fault.NoFraction
+either_of priority digits options (Either other position others mode) = Err fault.NoFraction
+
+abbrev pub either_by : Option RoundingPriority → SignificantDigits → Result NumberOptions OptionFault → Result NumberOptions OptionFault
+either_by priority digits (Err fault) = Err fault
+either_by None digits (Ok options) = Err fault.Priority
+either_by (Some priority) digits (Ok options) = either_of priority digits options options.rounding
+
+abbrev pub with_digits : Option SignificantDigits → Option (List ℕ) → Result NumberOptions OptionFault → Result NumberOptions OptionFault
+with_digits None priority fraction = Err fault.Significant
+with_digits (Some digits) None fraction = significant_alone digits fraction
+with_digits (Some digits) (Some word) fraction = either_by (priority_named word) digits fraction
+
+-- with the words of both, where they are given: a priority is one of two
+abbrev pub with_significant : Option (List ℕ) → Option (List ℕ) → Result NumberOptions OptionFault → Result NumberOptions OptionFault
+with_significant None None fraction = fraction
+with_significant None (Some priority) fraction = Err fault.Priority
+with_significant (Some word) priority fraction = with_digits (significant_said word) priority fraction
+
 -- ---- the whole
 
--- the first of these that is given
-abbrev pub digits_by : Option (List ℕ) → Option (List ℕ) → Option (List ℕ) → Option (List ℕ) → Result NumberOptions OptionFault
-digits_by (Some round) digits most least = rounded_options (round_said round)
-digits_by None (Some digits) most least = exactly (last_named digits)
-digits_by None None most least = counts_said most least
+-- a rounding, where it is given, or these
+abbrev pub digits_by : Option (List ℕ) → Result NumberOptions OptionFault → Result NumberOptions OptionFault
+digits_by (Some round) digits = rounded_options (round_said round)
+digits_by None digits = digits
 
--- those of cash, or these
-abbrev pub digits_said : Bool → Option (List ℕ) → Option (List ℕ) → Option (List ℕ) → Option (List ℕ) → Result NumberOptions OptionFault
-digits_said in_cash round digits most least = if in_cash then Ok (options_by Cash Keep (pos 0)) else digits_by round digits most least
+-- the words of the options of digits
+pub record DigitsSaid : Type 0 where
+  pub is_in_cash : Bool
+  pub round : Option (List ℕ)
+  pub digits : Option (List ℕ)
+  pub max_digits : Option (List ℕ)
+  pub min_digits : Option (List ℕ)
+  pub significant : Option (List ℕ)
+  pub priority : Option (List ℕ)
+
+-- the digits of cash, or these
+abbrev pub digits_said : DigitsSaid → Result NumberOptions OptionFault
+digits_said s =
+    if s.is_in_cash then Ok (options_by Cash Keep (pos 0))
+    else digits_by s.round (with_significant s.significant s.priority (fraction_said s.digits s.max_digits s.min_digits))
+
+-- digits are chosen
+abbrev pub chooses_digits : DigitsSaid → Bool
+chooses_digits s =
+    s.is_in_cash || is_some s.round || is_some s.digits || is_some s.max_digits || is_some s.min_digits || is_some s.significant || is_some s.priority

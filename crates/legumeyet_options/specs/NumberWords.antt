@@ -2,7 +2,7 @@
 -- Defined in docs/command.md, "Options".
 -- Cited by `NumberWords::asked`.
 -- The words name types with cases, and the cases of each are imported beside it.
-use Rattle.std.specs.Prelude.{ℕ, Bool, true, false, not, ◌||◌, is_some, if◌then◌else◌, List, Option, Some, None, Result, Ok, Err}
+use Rattle.std.specs.Prelude.{ℕ, Bool, true, false, not, if◌then◌else◌, List, Option, Some, None, Result, Ok, Err}
 use Rattle.icu_decimal_symbols.specs.declared.options.GroupingStrategy.{GroupingStrategy}
 use Rattle.icu_decimal_symbols.specs.declared.options.GroupingStrategy.TheVariants as strategy
 use Rattle.icu_dimension_fractions.specs.CurrencyCodes.{is_currency_code}
@@ -24,7 +24,7 @@ use Rattle.locale_numbers_requests.specs.FormField.{format_read}
 use Rattle.locale_numbers_requests.specs.Request.{grouping_named, keeps_sign, sign_named}
 use Rattle.locale_numbers_requests.specs.declared.Task.{Task}
 use Rattle.locale_numbers_requests.specs.declared.Task.TheVariants.{Write, WriteExact, Read, ReadLenient}
-use Rattle.legumeyet_options.specs.Digits.{digits_said, is_coarse}
+use Rattle.legumeyet_options.specs.Digits.{DigitsSaid, chooses_digits, digits_said, is_coarse}
 use Rattle.legumeyet_options.specs.NumberForms.{form_said}
 use Rattle.legumeyet_options.specs.declared.number_words.NumbersAsked.{NumbersAsked}
 use Rattle.legumeyet_options.specs.declared.fault.OptionFault.{OptionFault}
@@ -40,11 +40,7 @@ pub record NumbersSaid : Type 0 where
   pub is_percent : Bool
   pub grouping : Option (List ℕ)
   pub sign : Option (List ℕ)
-  pub is_in_cash : Bool
-  pub round : Option (List ℕ)
-  pub digits : Option (List ℕ)
-  pub max_digits : Option (List ℕ)
-  pub min_digits : Option (List ℕ)
+  pub chosen : DigitsSaid
 
 -- ---- single options
 
@@ -78,10 +74,6 @@ unit_asked (Some code) accounting by_code percent =
 
 -- ---- together
 
--- digits are chosen
-abbrev pub chooses_digits : Bool → Option (List ℕ) → Option (List ℕ) → Option (List ℕ) → Option (List ℕ) → Bool
-chooses_digits in_cash round digits most least = in_cash || is_some round || is_some digits || is_some most || is_some least
-
 -- an exact form shows the digits that it has, and what is read has the sign and the digits of its text
 abbrev pub task_fault : Task → SignAsked → Bool → Option OptionFault
 task_fault Write sign digits = None
@@ -110,9 +102,9 @@ words_asked s =
     after (unit_asked s.currency s.is_accounting s.is_by_code s.is_percent) (λ unit.
     after (grouping_asked s.grouping) (λ grouping.
     after (sign_asked s.sign) (λ sign.
-    after (digits_said s.is_in_cash s.round s.digits s.max_digits s.min_digits) (λ options.
-    asked_by (task_fault form.0 sign (chooses_digits s.is_in_cash s.round s.digits s.max_digits s.min_digits)) form.0
-    (record { notation = form.1; unit = unit; grouping = grouping }) sign options (is_coarse_round s.round))))))
+    after (digits_said s.chosen) (λ options.
+    asked_by (task_fault form.0 sign (chooses_digits s.chosen)) form.0
+    (record { notation = form.1; unit = unit; grouping = grouping }) sign options (is_coarse_round s.chosen.round))))))
 
 -- what a skeleton asks
 abbrev pub skeleton_asked : Result Skeleton SkeletonError → Result NumbersAsked OptionFault

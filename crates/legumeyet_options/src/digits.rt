@@ -3,9 +3,10 @@
 ghost use Rattle.std.specs.Prelude.{◌≡◌, ◌∷◌, option_map};
 ghost use Rattle.locale_numbers_formats.specs.Cutting.{cut_at};
 ghost use Rattle.locale_numbers_requests.specs.RoundingField.{comma, position_named};
-ghost use Rattle.legumeyet_options.specs.Digits.{at_least, between, counts_said, digits_by, digits_said, exactly, is_coarse, options_by, round_by, round_in, round_said, rounded_at, rounded_options};
+ghost use Rattle.legumeyet_options.specs.Digits.{at_least, between, chooses_digits, counts_said, digits_by, digits_said, exactly, fraction_said, is_coarse, options_by, round_by, round_in, round_said, rounded_at, rounded_options};
 
 use crate::fault::OptionFault;
+use crate::significant::with_significant;
 use fixed_decimal::{RoundingIncrement, SignedRoundingMode, UnsignedRoundingMode};
 use locale_numbers_formats::{LeadingZeros, NumberOptions, Rounding, SignAsked, TrailingZeros};
 use locale_numbers_requests::{
@@ -14,7 +15,7 @@ use locale_numbers_requests::{
 
 // A rounding, the zeros at the end and the digits of the fraction at least; a zero that a rounding above the ones leaves is
 // one zero.
-fn options_by(rounding: Rounding, zeros: TrailingZeros, least: i16) -> NumberOptions
+pub(crate) fn options_by(rounding: Rounding, zeros: TrailingZeros, least: i16) -> NumberOptions
     ensures { result ≡ options_by rounding zeros least }
 {
     NumberOptions {
@@ -155,38 +156,92 @@ fn counts_said(most: Option<&str>, least: Option<&str>) -> Result<NumberOptions,
     }
 }
 
-// What `--round`, `--digits` and both of these say.
-fn digits_by(
-    round: Option<&str>,
+// What `--digits` says, or both of these.
+fn fraction_said(
     digits: Option<&str>,
     most: Option<&str>,
     least: Option<&str>,
 ) -> Result<NumberOptions, OptionFault>
-    ensures { result ≡ digits_by (option_map (λ word. word.now) round.entry) (option_map (λ word. word.now) digits.entry)
+    ensures { result ≡ fraction_said (option_map (λ word. word.now) digits.entry)
         (option_map (λ word. word.now) most.entry) (option_map (λ word. word.now) least.entry) }
 {
-    match (round, digits) {
-        (Some(round), _) => rounded_options(round_said(round.as_bytes())),
-        (None, Some(digits)) => exactly(last_named(digits.as_bytes())),
-        (None, None) => counts_said(most, least),
+    match digits {
+        Some(digits) => exactly(last_named(digits.as_bytes())),
+        None => counts_said(most, least),
     }
 }
 
-// What all options of digits say, where those of cash come first.
-pub(crate) fn digits_said(
-    in_cash: bool,
+// What `--round` says, or what the other options do.
+fn digits_by(
     round: Option<&str>,
-    digits: Option<&str>,
-    most: Option<&str>,
-    least: Option<&str>,
+    digits: Result<NumberOptions, OptionFault>,
 ) -> Result<NumberOptions, OptionFault>
-    ensures { result ≡ digits_said in_cash (option_map (λ word. word.now) round.entry)
-        (option_map (λ word. word.now) digits.entry) (option_map (λ word. word.now) most.entry)
-        (option_map (λ word. word.now) least.entry) }
+    ensures { result ≡ digits_by (option_map (λ word. word.now) round.entry) digits }
 {
-    if in_cash {
-        Ok(options_by(Rounding::Cash, TrailingZeros::Keep, 0))
-    } else {
-        digits_by(round, digits, most, least)
+    match round {
+        Some(round) => rounded_options(round_said(round.as_bytes())),
+        None => digits,
+    }
+}
+
+/// The words of the options of digits; `None` and `false` where an option is not given.
+#[derive(Clone, Copy, Debug)]
+pub struct DigitWords<'a> {
+    /// Whether `--cash` is given.
+    pub is_in_cash: bool,
+    /// That of `--round`: `-2,floor`.
+    pub round: Option<&'a str>,
+    /// That of `--digits`: `2`.
+    pub digits: Option<&'a str>,
+    /// That of `--max-digits`: `2`.
+    pub max_digits: Option<&'a str>,
+    /// That of `--min-digits`: `2`.
+    pub min_digits: Option<&'a str>,
+    /// That of `--significant`: `1-3`.
+    pub significant: Option<&'a str>,
+    /// That of `--priority`: `more`.
+    pub priority: Option<&'a str>,
+}
+
+impl DigitWords<'_> {
+    // What all options of digits say, where those of cash come first.
+    pub(crate) fn said(&self) -> Result<NumberOptions, OptionFault>
+        ensures { result ≡ digits_said (record {
+          is_in_cash = self.now.is_in_cash;
+          round = option_map (λ word. word.now) self.now.round;
+          digits = option_map (λ word. word.now) self.now.digits;
+          max_digits = option_map (λ word. word.now) self.now.max_digits;
+          min_digits = option_map (λ word. word.now) self.now.min_digits;
+          significant = option_map (λ word. word.now) self.now.significant;
+          priority = option_map (λ word. word.now) self.now.priority;
+        }) }
+    {
+        if self.is_in_cash {
+            return Ok(options_by(Rounding::Cash, TrailingZeros::Keep, 0));
+        }
+        let fraction = fraction_said(self.digits, self.max_digits, self.min_digits);
+        let digits = with_significant(self.significant, self.priority, fraction);
+        digits_by(self.round, digits)
+    }
+
+    // Whether digits are chosen.
+    pub(crate) fn are_chosen(&self) -> bool
+        ensures { result ≡ chooses_digits (record {
+          is_in_cash = self.now.is_in_cash;
+          round = option_map (λ word. word.now) self.now.round;
+          digits = option_map (λ word. word.now) self.now.digits;
+          max_digits = option_map (λ word. word.now) self.now.max_digits;
+          min_digits = option_map (λ word. word.now) self.now.min_digits;
+          significant = option_map (λ word. word.now) self.now.significant;
+          priority = option_map (λ word. word.now) self.now.priority;
+        }) }
+    {
+        self.is_in_cash
+            || self.round.is_some()
+            || self.digits.is_some()
+            || self.max_digits.is_some()
+            || self.min_digits.is_some()
+            || self.significant.is_some()
+            || self.priority.is_some()
     }
 }

@@ -25,6 +25,14 @@ pub enum OptionFault {
     MinDigits,
     /// `--min-digits` is above `--max-digits`.
     Counts,
+    /// `--significant` says no counts of digits.
+    Significant,
+    /// `--priority` names none, or is without `--significant`.
+    Priority,
+    /// Digits of a fraction beside `--significant`, without `--priority`.
+    NoPriority,
+    /// `--priority` without at most so many digits of a fraction.
+    NoFraction,
     /// An exact form shows the digits that it is given.
     DigitsOfExact,
     /// A number that is read has the sign of its text.

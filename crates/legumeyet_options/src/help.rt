@@ -26,6 +26,16 @@ Refused numbers:
   the input; in place of a word nothing is. --invalid says something else for both: empty, an empty
   line; keep, the text as it is; skip, nothing; abort, nothing, and nothing after it.
 
+Fields:
+  --field 3 writes the third field of each record of standard input anew, as --tag and the options of
+  numbers say, or a skeleton after the last equals sign of its word: --field share=percent. All else
+  stays as it is, to the byte. Records are those of CSV: lines, with commas between the fields, and a
+  field that begins with a quote may have commas, line feeds and doubled quotes up to the quote that
+  ends it. A field that can't stand without quotes is put into them. With --delimiter tab nothing is in
+  quotes. A blank field stays blank. A refused field stays as it is, or --invalid says something else:
+  empty, an empty field; skip, the record goes; abort, it goes and all after it. A field of digits is a
+  number; any other is a name, in the first record.
+
 Reading:
   --read takes what people type: with all separators between groups or with none, with spaces around
   it, with the digits of the locale or, where the locale has others, 0 to 9. Nothing is guessed: 1.23
@@ -42,7 +52,10 @@ Money and percents:
 
 Digits:
   --digits 2 shows two digits after the point; --max-digits 2 two at most, and none that is not
-  needed; --min-digits 2 two at least. The last two may be given together. They round half to even.
+  needed; --min-digits 2 two at least. The last two may be given together. --significant 3 shows three
+  digits from the first one that is not zero on, and --significant 1-3 three at most; beside --digits or
+  --max-digits --priority more takes what shows more digits, and less what shows fewer. They round half
+  to even.
   --round -2 rounds to hundredths and shows both digits, 0 rounds to whole numbers, 3 to thousands. A
   mode may follow, and then an increment: -2,floor and -2,half-even,5. The modes are expand, trunc,
   ceil, floor, half-expand, half-trunc, half-ceil, half-floor and half-even, the increments 1, 2, 5 and
@@ -60,8 +73,8 @@ Lines:
   The first five have the words of the options. Further forms are percent and, of amounts in euros,
   currency-EUR, accounting-EUR and code-EUR, each with read- or read-lenient- before it where a text is
   read, and ::SKELETON. The rounding is -, cash, or all three words of --round, in which f0-2 is two
-  digits at most; with - only amounts are rounded, to the digits of their currency. The answer to a
-  line is ok, a tab and the text, for short and long also a tab and the value that is shown; or err, a
+  digits at most, or s1-3,half-even for three significant ones at most; with - only amounts are rounded,
+  to the digits of their currency. The answer to a line is ok, a tab and the text, for short and long also a tab and the value that is shown; or err, a
   tab and the first of these words that applies:
 
     shape        the line does not have six fields of known words
@@ -116,6 +129,10 @@ Examples:
   $ printf 'amount\\n1234.5\\n' | legumeyet --tag de --invalid keep - 2>/dev/null
   amount
   1.234,5
+
+  $ printf 'article,amount\\ntea,1234.5\\n' | legumeyet --tag de --currency EUR --field amount
+  article,amount
+  tea,\"1.234,50 €\"
 
   $ printf 'de\\tshort\\tauto\\tkeep\\t-\\t1234567\\n' | legumeyet --lines
   ok\t1,2 Mio.\t1.2c6";

@@ -12,7 +12,9 @@ mod locale_name;
 mod number_words;
 mod options;
 mod saying;
+mod significant;
 
+pub use digits::DigitWords;
 pub use fault::OptionFault;
 pub use invalid::Invalid;
 pub use locale_name::tag_of_name;

@@ -3,9 +3,9 @@
 ghost use Rattle.std.specs.Prelude.{◌≡◌, option_map};
 ghost use Rattle.locale_numbers_formats.specs.Skeletons.{skeleton_of};
 ghost use Rattle.legumeyet_options.specs.NumberForms.{form_said};
-ghost use Rattle.legumeyet_options.specs.NumberWords.{asked_by, chooses_digits, form_asked, grouping_asked, is_coarse_round, numbers_asked, reading_asked, sign_asked, skeleton_asked, task_fault, unit_asked, words_asked};
+ghost use Rattle.legumeyet_options.specs.NumberWords.{asked_by, form_asked, grouping_asked, is_coarse_round, numbers_asked, reading_asked, sign_asked, skeleton_asked, task_fault, unit_asked, words_asked};
 
-use crate::digits::{digits_said, is_coarse};
+use crate::digits::{DigitWords, is_coarse};
 use crate::fault::OptionFault;
 use icu_decimal_symbols::options::GroupingStrategy;
 use icu_dimension_fractions::{CurrencyCode, CurrencyStyle, CurrencyWidth};
@@ -34,16 +34,8 @@ pub struct NumberWords<'a> {
     pub grouping: Option<&'a str>,
     /// That of `--sign`: `always`.
     pub sign: Option<&'a str>,
-    /// Whether `--cash` is given.
-    pub is_in_cash: bool,
-    /// That of `--round`: `-2,floor`.
-    pub round: Option<&'a str>,
-    /// That of `--digits`: `2`.
-    pub digits: Option<&'a str>,
-    /// That of `--max-digits`: `2`.
-    pub max_digits: Option<&'a str>,
-    /// That of `--min-digits`: `2`.
-    pub min_digits: Option<&'a str>,
+    /// Those of the options of digits.
+    pub chosen: DigitWords<'a>,
 }
 
 /// What is asked of numbers.
@@ -251,19 +243,6 @@ fn skeleton_asked(skeleton: &str) -> Result<NumbersAsked, OptionFault>
 }
 
 impl NumberWords<'_> {
-    // Whether digits are chosen.
-    fn chooses_digits(&self) -> bool
-        ensures { result ≡ chooses_digits self.now.is_in_cash (option_map (λ word. word.now) self.now.round)
-            (option_map (λ word. word.now) self.now.digits) (option_map (λ word. word.now) self.now.max_digits)
-            (option_map (λ word. word.now) self.now.min_digits) }
-    {
-        self.is_in_cash
-            || self.round.is_some()
-            || self.digits.is_some()
-            || self.max_digits.is_some()
-            || self.min_digits.is_some()
-    }
-
     // What the words ask, where they are no skeleton.
     fn words_asked(&self) -> Result<NumbersAsked, OptionFault>
         ensures { result ≡ words_asked (record {
@@ -275,11 +254,15 @@ impl NumberWords<'_> {
           is_percent = self.now.is_percent;
           grouping = option_map (λ word. word.now) self.now.grouping;
           sign = option_map (λ word. word.now) self.now.sign;
-          is_in_cash = self.now.is_in_cash;
-          round = option_map (λ word. word.now) self.now.round;
-          digits = option_map (λ word. word.now) self.now.digits;
-          max_digits = option_map (λ word. word.now) self.now.max_digits;
-          min_digits = option_map (λ word. word.now) self.now.min_digits;
+          chosen = record {
+            is_in_cash = self.now.chosen.is_in_cash;
+            round = option_map (λ word. word.now) self.now.chosen.round;
+            digits = option_map (λ word. word.now) self.now.chosen.digits;
+            max_digits = option_map (λ word. word.now) self.now.chosen.max_digits;
+            min_digits = option_map (λ word. word.now) self.now.chosen.min_digits;
+            significant = option_map (λ word. word.now) self.now.chosen.significant;
+            priority = option_map (λ word. word.now) self.now.chosen.priority;
+          };
         }) }
     {
         let (task, notation) = form_asked(self.form)?;
@@ -291,26 +274,20 @@ impl NumberWords<'_> {
         )?;
         let grouping = grouping_asked(self.grouping)?;
         let sign = sign_asked(self.sign)?;
-        let options = digits_said(
-            self.is_in_cash,
-            self.round,
-            self.digits,
-            self.max_digits,
-            self.min_digits,
-        )?;
+        let options = self.chosen.said()?;
         let shape = NumberShape {
             notation,
             unit,
             grouping,
         };
-        let fault = task_fault(task, sign, self.chooses_digits());
+        let fault = task_fault(task, sign, self.chosen.are_chosen());
         asked_by(
             fault,
             task,
             shape,
             sign,
             options,
-            is_coarse_round(self.round),
+            is_coarse_round(self.chosen.round),
         )
     }
 
@@ -329,11 +306,15 @@ impl NumberWords<'_> {
           is_percent = self.now.is_percent;
           grouping = option_map (λ word. word.now) self.now.grouping;
           sign = option_map (λ word. word.now) self.now.sign;
-          is_in_cash = self.now.is_in_cash;
-          round = option_map (λ word. word.now) self.now.round;
-          digits = option_map (λ word. word.now) self.now.digits;
-          max_digits = option_map (λ word. word.now) self.now.max_digits;
-          min_digits = option_map (λ word. word.now) self.now.min_digits;
+          chosen = record {
+            is_in_cash = self.now.chosen.is_in_cash;
+            round = option_map (λ word. word.now) self.now.chosen.round;
+            digits = option_map (λ word. word.now) self.now.chosen.digits;
+            max_digits = option_map (λ word. word.now) self.now.chosen.max_digits;
+            min_digits = option_map (λ word. word.now) self.now.chosen.min_digits;
+            significant = option_map (λ word. word.now) self.now.chosen.significant;
+            priority = option_map (λ word. word.now) self.now.chosen.priority;
+          };
         }) }
     {
         match self.format {

@@ -15,9 +15,11 @@ static FORMS: [&str; 7] = [
     "read-lenient",
 ];
 
-static GROUPINGS: [&str; 4] = ["auto", "always", "min2", "never"];
+static GROUPINGS: [&str; 5] = ["auto", "always", "min2", "on-aligned", "never"];
 
 static SIGNS: [&str; 6] = ["keep", "auto", "always", "never", "except-zero", "negative"];
+
+static PRIORITIES: [&str; 2] = ["more", "less"];
 
 static INVALIDS: [&str; 4] = ["empty", "keep", "skip", "abort"];
 
@@ -57,7 +59,9 @@ fn grouping<'a>(alloc: Global) -> Result<Arg<'a>, AllocError> {
         .long("grouping")
         .value_name("GROUPING")
         .value_parser(GROUPINGS.as_slice())
-        .help("Which digits are grouped; min2 groups from 10000 on [default: auto]")
+        .help(
+            "Which digits are grouped; min2 groups from 10000 on, on-aligned always from 1000 on [default: auto]",
+        )
         .conflicts_with("format")
 }
 
@@ -113,6 +117,31 @@ fn min_digits<'a>(alloc: Global) -> Result<Arg<'a>, AllocError> {
         .conflicts_with("digits")
 }
 
+fn significant<'a>(alloc: Global) -> Result<Arg<'a>, AllocError> {
+    Arg::new(alloc, "significant")
+        .long("significant")
+        .value_name("N")
+        .help(
+            "Writes so many digits from the first one that is not zero on: 3, or 1-3 at most three",
+        )
+        .conflicts_with("format")?
+        .conflicts_with("round")
+}
+
+fn priority<'a>(alloc: Global) -> Result<Arg<'a>, AllocError> {
+    Arg::new(alloc, "priority")
+        .long("priority")
+        .value_name("PRIORITY")
+        .value_parser(PRIORITIES.as_slice())
+        .help(
+            "Writes by --significant or by --digits and --max-digits, whichever shows more, or less",
+        )
+        .requires_arg("significant")?
+        .conflicts_with("format")?
+        .conflicts_with("round")?
+        .conflicts_with("cash")
+}
+
 fn currency<'a>(alloc: Global) -> Result<Arg<'a>, AllocError> {
     Arg::new(alloc, "currency")
         .short('c')
@@ -123,33 +152,44 @@ fn currency<'a>(alloc: Global) -> Result<Arg<'a>, AllocError> {
         .conflicts_with("format")
 }
 
+// An option of amounts of a currency. What it requires may be missing where that goes with nothing that is given, so each form
+// without a currency is named.
+fn of_amounts<'a>(option: Arg<'a>) -> Result<Arg<'a>, AllocError> {
+    option
+        .requires_arg("currency")?
+        .conflicts_with("form")?
+        .conflicts_with("format")?
+        .conflicts_with("percent")
+}
+
 fn accounting<'a>(alloc: Global) -> Result<Arg<'a>, AllocError> {
-    Arg::new(alloc, "accounting")
+    let option = Arg::new(alloc, "accounting")
         .long("accounting")
         .action(ArgAction::SetTrue)
-        .help("Writes amounts as accounts have them: in English -5 dollars are ($5.00)")
-        .requires_arg("currency")
+        .help("Writes amounts as accounts have them: in English -5 dollars are ($5.00)");
+    of_amounts(option)
 }
 
 fn code<'a>(alloc: Global) -> Result<Arg<'a>, AllocError> {
-    Arg::new(alloc, "code")
+    let option = Arg::new(alloc, "code")
         .long("code")
         .action(ArgAction::SetTrue)
         .help("Writes the code of the currency, EUR, in place of its symbol")
-        .requires_arg("currency")?
-        .conflicts_with("accounting")
+        .conflicts_with("accounting")?;
+    of_amounts(option)
 }
 
 fn cash<'a>(alloc: Global) -> Result<Arg<'a>, AllocError> {
-    Arg::new(alloc, "cash")
+    let option = Arg::new(alloc, "cash")
         .long("cash")
         .action(ArgAction::SetTrue)
         .help("Rounds amounts to what is paid in cash: 2.34 Swiss francs are 2.35")
-        .requires_arg("currency")?
         .conflicts_with("round")?
         .conflicts_with("digits")?
         .conflicts_with("max-digits")?
-        .conflicts_with("min-digits")
+        .conflicts_with("min-digits")?
+        .conflicts_with("significant")?;
+    of_amounts(option)
 }
 
 fn percent<'a>(alloc: Global) -> Result<Arg<'a>, AllocError> {
@@ -183,6 +223,63 @@ fn read_exact<'a>(alloc: Global) -> Arg<'a> {
         .help("Prints the number that is written so, to the byte; may be given again")
 }
 
+fn field<'a>(alloc: Global) -> Result<Arg<'a>, AllocError> {
+    Arg::new(alloc, "field")
+        .long("field")
+        .value_name("FIELD[=SKELETON]")
+        .action(ArgAction::Append)
+        .help(
+            "Writes the numbers in this field of the records of standard input, a number from 1 on or a name in the header; may be given again",
+        )
+        .conflicts_with("numbers")?
+        .conflicts_with("read")?
+        .conflicts_with("read-exact")?
+        .conflicts_with("parts")
+}
+
+fn read_fields<'a>(alloc: Global) -> Result<Arg<'a>, AllocError> {
+    Arg::new(alloc, "read-fields")
+        .long("read-fields")
+        .action(ArgAction::SetTrue)
+        .help("Reads the fields as people type them, and writes the number that each is")
+        .requires_arg("field")?
+        .conflicts_with("form")
+}
+
+fn delimiter<'a>(alloc: Global) -> Result<Arg<'a>, AllocError> {
+    Arg::new(alloc, "delimiter")
+        .long("delimiter")
+        .value_name("CHARACTER")
+        .allow_hyphen_values(true)
+        .help(
+            "What is between two fields, an ASCII character; tab is a tab, and then there are no quotes [default: ,]",
+        )
+        .requires_arg("field")
+}
+
+fn header<'a>(alloc: Global) -> Result<Arg<'a>, AllocError> {
+    Arg::new(alloc, "header")
+        .long("header")
+        .value_name("N")
+        .num_args(0..=1)
+        .require_equals(true)
+        .default_missing_value("1")
+        .value_parser(ValueParser::unsigned(0, 65_535))
+        .help(
+            "So many first records are a header, and stay [default: 1 where a field has a name, else 0]",
+        )
+        .requires_arg("field")
+}
+
+fn padding<'a>(alloc: Global) -> Result<Arg<'a>, AllocError> {
+    Arg::new(alloc, "padding")
+        .long("padding")
+        .value_name("N")
+        .allow_hyphen_values(true)
+        .help("Puts spaces before the text of a field up to so many characters, with -N behind it")
+        .requires_arg("field")
+}
+
 fn parts<'a>(alloc: Global) -> Result<Arg<'a>, AllocError> {
     Arg::new(alloc, "parts")
         .long("parts")
@@ -198,7 +295,7 @@ fn invalid<'a>(alloc: Global) -> Arg<'a> {
         .value_name("MODE")
         .value_parser(INVALIDS.as_slice())
         .help(
-            "What is written for what is refused: an empty line, the text as it is, nothing, or nothing more at all [default: empty for lines of -, else skip]",
+            "What is written for what is refused: an empty line or field, the text as it is, nothing, or nothing more at all [default: empty for lines of -, keep for fields, else skip]",
         )
 }
 
@@ -223,10 +320,16 @@ fn beside_no_number<'a>(option: Arg<'a>) -> Result<Arg<'a>, AllocError> {
         .conflicts_with("digits")?
         .conflicts_with("max-digits")?
         .conflicts_with("min-digits")?
+        .conflicts_with("significant")?
+        .conflicts_with("priority")?
         .conflicts_with("currency")?
+        .conflicts_with("accounting")?
+        .conflicts_with("code")?
+        .conflicts_with("cash")?
         .conflicts_with("percent")?
         .conflicts_with("read")?
         .conflicts_with("read-exact")?
+        .conflicts_with("field")?
         .conflicts_with("parts")?
         .conflicts_with("invalid")
 }
@@ -260,6 +363,7 @@ fn capacity<'a>(alloc: Global) -> Result<Arg<'a>, AllocError> {
         .conflicts_with("numbers")?
         .conflicts_with("read")?
         .conflicts_with("read-exact")?
+        .conflicts_with("field")?
         .conflicts_with("locales")
 }
 
@@ -272,6 +376,7 @@ fn numbers<'a>(alloc: Global) -> Result<Arg<'a>, AllocError> {
         .help("Numbers, as -1234567.891; - stands for those of standard input, a line each")
         .required_unless_present("read")?
         .required_unless_present("read-exact")?
+        .required_unless_present("field")?
         .required_unless_present("locales")?
         .required_unless_present("lines")
 }
@@ -300,13 +405,25 @@ fn put_written<'a>(alloc: Global, args: &mut Vec<Arg<'a>>) -> Result<(), AllocEr
     put(args, digits(alloc))?;
     put(args, max_digits(alloc))?;
     put(args, min_digits(alloc))?;
+    put(args, significant(alloc))?;
+    put(args, priority(alloc))?;
     put(args, round(alloc))
+}
+
+// Puts those of the fields of tables.
+fn put_fields<'a>(alloc: Global, args: &mut Vec<Arg<'a>>) -> Result<(), AllocError> {
+    put(args, field(alloc))?;
+    put(args, read_fields(alloc))?;
+    put(args, delimiter(alloc))?;
+    put(args, header(alloc))?;
+    put(args, padding(alloc))
 }
 
 // Puts the others after them.
 fn put_others<'a>(alloc: Global, args: &mut Vec<Arg<'a>>) -> Result<(), AllocError> {
     put(args, Ok(read(alloc)))?;
     put(args, Ok(read_exact(alloc)))?;
+    put_fields(alloc, args)?;
     put(args, parts(alloc))?;
     put(args, Ok(invalid(alloc)))?;
     put(args, Ok(book(alloc)))?;

@@ -303,7 +303,10 @@ fn fraction_asked(fractions: Option<FractionInfo>, rounding: Rounding) -> Option
     match rounding {
         Rounding::Usual => Some(fractions.standard),
         Rounding::Cash => Some(fractions.cash),
-        Rounding::AsGiven | Rounding::At(_, _, _) => None,
+        Rounding::AsGiven
+        | Rounding::At(_, _, _)
+        | Rounding::Significant(_, _)
+        | Rounding::Either(_, _, _, _) => None,
     }
 }
 

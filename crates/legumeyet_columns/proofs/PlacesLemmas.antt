@@ -1,0 +1,83 @@
+-- Bytes without quotes: none of them is in quotes, and a field ends at the first delimiter.
+use Rattle.std.proofs.Common.{◌≡◌, ℕ, suc, List, [], ◌∷◌, Bool, true, false, refl, ap}
+use Rattle.std.specs.Prelude.{◌==◌, ◌||◌}
+use Rattle.legumeyet_columns.specs.FieldTexts.{is_in_quotes}
+use Rattle.legumeyet_columns.specs.Places.{after, after_all, after_plain, field_length, has_quote, is_quoted, left_after, plain_length, rest_of}
+use Rattle.legumeyet_columns.specs.declared.dialect.Dialect.{Dialect}
+use Rattle.legumeyet_columns.specs.declared.dialect.Place.{Place}
+use Rattle.legumeyet_columns.specs.declared.dialect.Place.TheVariants.{Front, Plain, Quoted, Closed}
+
+-- in front of a field, or in one that is not in quotes
+abbrev is_plain : Place → Bool
+is_plain Front = true
+is_plain Plain = true
+is_plain Quoted = false
+is_plain Closed = false
+
+plain_is_outside : (place : Place) → is_plain place ≡ true → is_quoted place ≡ false
+plain_is_outside Front e = refl
+plain_is_outside Plain e = refl
+plain_is_outside Quoted e = cc
+plain_is_outside Closed e = cc
+
+-- a byte that is no quote leads to such a place
+after_plain_is : (dialect : Dialect) (b : ℕ) → is_plain (after_plain dialect b) ≡ true
+after_plain_is dialect b = at (b == dialect.delimiter) refl
+  where
+    at : (t : Bool) → (b == dialect.delimiter) ≡ t → is_plain (after_plain dialect b) ≡ true
+    at true t = simp t
+    at false t = simp t
+
+front_is : (dialect : Dialect) (b : ℕ) → (b == 34) ≡ false → is_plain (after dialect Front b) ≡ true
+front_is dialect b e = at dialect.has_quotes refl
+  where
+    at : (h : Bool) → dialect.has_quotes ≡ h → is_plain (after dialect Front b) ≡ true
+    at true h = simp (h, e) (after_plain_is dialect b)
+    at false h = simp h (after_plain_is dialect b)
+
+after_is : (dialect : Dialect) (place : Place) (b : ℕ) → is_plain place ≡ true → (b == 34) ≡ false → is_plain (after dialect place b) ≡ true
+after_is dialect Front b p e = front_is dialect b e
+after_is dialect Plain b p e = after_plain_is dialect b
+after_is dialect Quoted b p e = cc
+after_is dialect Closed b p e = cc
+
+all_plain : (dialect : Dialect) (place : Place) (bytes : List ℕ) → is_plain place ≡ true → has_quote bytes ≡ false
+    → is_plain (after_all dialect place bytes) ≡ true
+all_plain dialect place [] p none = p
+all_plain dialect place (b ∷ bs) p none =
+    at (b == 34) (has_quote bs) refl refl none (λ q s. all_plain dialect (after dialect place b) bs (after_is dialect place b p q) s)
+  where
+    at : (q s : Bool) → (b == 34) ≡ q → has_quote bs ≡ s → (q || s) ≡ false
+        → ((b == 34) ≡ false → has_quote bs ≡ false → is_plain (after_all dialect (after dialect place b) bs) ≡ true)
+        → is_plain (after_all dialect place (b ∷ bs)) ≡ true
+    at true s' q s e others = cc
+    at false true q s e others = cc
+    at false false q s e others = others q s
+
+pub no_quotes : (dialect : Dialect) (bytes : List ℕ) → has_quote bytes ≡ false → is_quoted (after_all dialect Front bytes) ≡ false
+no_quotes dialect bytes none = plain_is_outside (after_all dialect Front bytes) (all_plain dialect Front bytes refl none)
+
+pub rest_outside : (dialect : Dialect) (place : Place) (rest : List ℕ) → is_quoted place ≡ false → rest_of dialect place rest ≡ []
+rest_outside dialect place rest q = simp q
+
+pub left_outside : (dialect : Dialect) (place : Place) (rest : List ℕ) → is_quoted place ≡ false → left_after dialect place rest ≡ rest
+left_outside dialect place rest q = simp q
+
+length_from_plain : (dialect : Dialect) (bytes : List ℕ) → field_length dialect Plain bytes ≡ plain_length dialect bytes
+length_from_plain dialect [] = refl
+length_from_plain dialect (b ∷ bs) = at (b == dialect.delimiter) refl (length_from_plain dialect bs)
+  where
+    at : (t : Bool) → (b == dialect.delimiter) ≡ t → field_length dialect Plain bs ≡ plain_length dialect bs
+        → field_length dialect Plain (b ∷ bs) ≡ plain_length dialect (b ∷ bs)
+    at true t others = simp t
+    at false t others = simp t (ap suc others)
+
+pub length_of_plain : (dialect : Dialect) (bytes : List ℕ) → is_in_quotes dialect bytes ≡ false
+    → field_length dialect Front bytes ≡ plain_length dialect bytes
+length_of_plain dialect [] plain = refl
+length_of_plain dialect (b ∷ bs) plain = at (b == dialect.delimiter) refl (length_from_plain dialect bs)
+  where
+    at : (t : Bool) → (b == dialect.delimiter) ≡ t → field_length dialect Plain bs ≡ plain_length dialect bs
+        → field_length dialect Front (b ∷ bs) ≡ plain_length dialect (b ∷ bs)
+    at true t others = simp t
+    at false t others = simp (t, plain) (ap suc others)

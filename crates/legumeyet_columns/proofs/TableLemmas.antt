@@ -1,0 +1,70 @@
+-- The first record of bytes, and what is written for it and for those after it.
+use Rattle.std.proofs.Common.{◌≡◌, ℕ, ◌<◌, List, [], ◌∷◌, ◌++◌, Bool, true, false, length, Option, refl, sym, ap, ◌∙◌, arith, append-nil}
+use Rattle.std.specs.Prelude.{if◌then◌else◌}
+use Rattle.std.specs.List.{onto_first}
+use Rattle.std.specs.Io.KnownBytes.{Appends, Keeps}
+use Rattle.std.proofs.KnownBytes.{Appends-trans, Appends-kept}
+use Rattle.legumeyet_columns.specs.declared.asked.TableAsked.{TableAsked}
+use Rattle.legumeyet_columns.specs.declared.dialect.Dialect.{Dialect}
+use Rattle.legumeyet_columns.specs.declared.dialect.Place.{Place}
+use Rattle.legumeyet_columns.specs.declared.dialect.Place.TheVariants.{Front}
+use Rattle.legumeyet_columns.specs.Places.{after, after_record, ends_record, first_record, records_from, records_of}
+use Rattle.legumeyet_columns.specs.RowsWritten.{is_last, row_refused, row_written, rows_written, table_written}
+
+module _ (dialect : Dialect) where
+  first_row : (place : Place) (x : ℕ) (xs : List ℕ)
+      → records_from dialect place (x ∷ xs) ≡ first_record dialect place (x ∷ xs) ∷ records_of dialect (after_record dialect place (x ∷ xs))
+  first_row place x [] = at (ends_record place x) refl
+    where
+      at : (t : Bool) → ends_record place x ≡ t
+          → records_from dialect place (x ∷ []) ≡ first_record dialect place (x ∷ []) ∷ records_of dialect (after_record dialect place (x ∷ []))
+      at true t = simp t
+      at false t = simp t
+  first_row place x (y ∷ ys) = at (ends_record place x) refl (first_row (after dialect place x) y ys)
+    where
+      at : (t : Bool) → ends_record place x ≡ t
+          → records_from dialect (after dialect place x) (y ∷ ys)
+          ≡ first_record dialect (after dialect place x) (y ∷ ys) ∷ records_of dialect (after_record dialect (after dialect place x) (y ∷ ys))
+          → records_from dialect place (x ∷ y ∷ ys)
+          ≡ first_record dialect place (x ∷ y ∷ ys) ∷ records_of dialect (after_record dialect place (x ∷ y ∷ ys))
+      at true t others = simp t
+      at false t others = simp t (ap (onto_first x) others)
+
+  -- bytes of which a record has some
+  taken_row : (bytes row : List ℕ) → row ≡ first_record dialect Front bytes → 0 < length row
+      → records_of dialect bytes ≡ row ∷ records_of dialect (after_record dialect Front bytes)
+  taken_row [] row e some = absurd (let none = ap length e in omega arith)
+  taken_row (x ∷ xs) row e some = first_row Front x xs ∙ ap (λ r. r ∷ records_of dialect (after_record dialect Front (x ∷ xs))) (sym e)
+
+module _ (asked : TableAsked) (is_chosen : ℕ → Bool) (said : ℕ → List ℕ → Option (List ℕ)) (misses : ℕ → Bool) (rest row : List ℕ) (refused : Bool) where
+  -- what is written for the bytes is what is for the first record, and for the others where there is more
+  first_written : (b : Bool) → is_last asked.on_refusal refused ≡ b → row ≡ first_record asked.dialect Front rest → 0 < length row
+      → refused ≡ row_refused asked is_chosen said misses row
+      → table_written asked is_chosen said misses rest
+      ≡ row_written asked is_chosen said misses row
+      ++ (if b then [] else table_written asked is_chosen said misses (after_record asked.dialect Front rest))
+  first_written b last read some told =
+      ap (rows_written asked is_chosen said misses) (taken_row asked.dialect rest row read some)
+      ∙ ap (λ r. row_written asked is_chosen said misses row ++ (if is_last asked.on_refusal r then []
+      else table_written asked is_chosen said misses (after_record asked.dialect Front rest))) (sym told)
+      ∙ ap (λ l. row_written asked is_chosen said misses row ++ (if l then []
+      else table_written asked is_chosen said misses (after_record asked.dialect Front rest))) last
+
+  -- a record and those after it are written
+  pub row_and_more : is_last asked.on_refusal refused ≡ false → row ≡ first_record asked.dialect Front rest → 0 < length row
+      → refused ≡ row_refused asked is_chosen said misses row
+      → (before mid after end : Option (List ℕ)) → Appends before mid (row_written asked is_chosen said misses row) → Keeps mid after
+      → Appends after end (table_written asked is_chosen said misses (after_record asked.dialect Front rest))
+      → Appends before end (table_written asked is_chosen said misses rest)
+  row_and_more last read some told before mid after end wrote kept more =
+      rw (first_written false last read some told)
+      (Appends-trans before after end (row_written asked is_chosen said misses row)
+      (table_written asked is_chosen said misses (after_record asked.dialect Front rest))
+      (Appends-kept before mid after (row_written asked is_chosen said misses row) wrote kept) more)
+
+  -- the last record is written
+  pub last_row : is_last asked.on_refusal refused ≡ true → row ≡ first_record asked.dialect Front rest → 0 < length row
+      → refused ≡ row_refused asked is_chosen said misses row
+      → (before end : Option (List ℕ)) → Appends before end (row_written asked is_chosen said misses row)
+      → Appends before end (table_written asked is_chosen said misses rest)
+  last_row last read some told before end wrote = rw (first_written true last read some told, append-nil) wrote

@@ -1,0 +1,10 @@
+pub mod Cells
+pub mod FieldTexts
+pub mod FieldsWritten
+pub mod Laws
+pub mod Marks
+pub mod Padded
+pub mod Places
+pub mod Records
+pub mod RowsWritten
+pub mod Trimming
