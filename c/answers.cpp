@@ -2,7 +2,7 @@
 // makes these calls well and badly. The status is 1 where a call does otherwise than it should, and a line says which.
 //
 // usage: answers BOOK < LINES > ANSWERS
-#include <legumeyet.hpp>
+#include "expect.hpp"
 
 #include <iostream>
 #include <iterator>
@@ -14,16 +14,6 @@ using legumeyet::Answers, legumeyet::Book, legumeyet::Code, legumeyet::Error;
 static_assert(std::is_nothrow_move_constructible_v<Answers> && std::is_nothrow_move_assignable_v<Answers>);
 static_assert(!std::is_copy_constructible_v<Answers> && !std::is_copy_assignable_v<Answers>);
 static_assert(std::is_default_constructible_v<Answers> && !std::is_convertible_v<int, Answers> && !std::is_convertible_v<Book &, Answers>);
-
-static int wrong = 0;
-
-static void expect(std::string_view got, std::string_view wanted) {
-    if (got == wanted) return;
-    std::cerr << got << ", and not " << wanted << '\n';
-    wrong = 1;
-}
-
-static void expect_code(Code got, Code wanted) { expect(std::to_string(static_cast<int>(got)), std::to_string(static_cast<int>(wanted))); }
 
 // The call throws this error.
 template <class Call> static void expect_error(Code wanted, Call call) {

@@ -1,5 +1,5 @@
 // Writes columns by legumeyet.hpp, well and badly. The status is 1 where a call does otherwise than it should, and a line says which.
-#include <legumeyet.hpp>
+#include "expect.hpp"
 
 #include <array>
 #include <deque>
@@ -42,16 +42,6 @@ static_assert(std::is_copy_constructible_v<Column> && std::is_nothrow_move_const
 static_assert(std::ranges::random_access_range<const Column> && std::ranges::sized_range<Column>);
 static_assert(takes_all<std::span<const double>> && takes_all<std::span<int>>);
 #endif
-
-static int wrong = 0;
-
-static void expect(std::string_view got, std::string_view wanted) {
-    if (got == wanted) return;
-    std::cout << got << ", and not " << wanted << '\n';
-    wrong = 1;
-}
-
-static void expect_code(Code got, Code wanted) { expect(std::to_string(static_cast<int>(got)), std::to_string(static_cast<int>(wanted))); }
 
 // The texts of a column with a bar after each.
 static std::string barred(const Column &column) {

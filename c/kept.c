@@ -180,7 +180,7 @@ static void answer_lines(void) {
 
 /* Calls on a kept book answer as on any other. */
 static void use_kept_book(void) {
-    const legumeyet_format unknown = {.grouping = 4};
+    const legumeyet_format unknown = {.grouping = 5};
     size_t place = 77;
     TWICE(legumeyet_book_answer(&book, TEXT("en\tplain\tauto\tkeep\t-\t-1234.5"), out, sizeof out, &length));
     expect_text("ok\t-1,234.5");

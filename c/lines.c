@@ -22,10 +22,11 @@ typedef struct {
 } request;
 
 /* The words of fields, in the order of their numbers. */
-static const char *const GROUPINGS[] = {"auto", "never", "always", "min2", NULL};
+static const char *const GROUPINGS[] = {"auto", "never", "always", "min2", "on-aligned", NULL};
 static const char *const SIGNS[] = {"keep", "auto", "never", "always", "except-zero", "negative", NULL};
 static const char *const MODES[] = {"",           "expand",    "trunc",      "ceil",      "floor", "half-expand",
                                     "half-trunc", "half-ceil", "half-floor", "half-even", NULL};
+static const char *const PRIORITIES[] = {"", "more", "less", NULL};
 
 static int is_word(piece text, const char *word) { return text.length == strlen(word) && memcmp(text.at, word, text.length) == 0; }
 
@@ -58,14 +59,39 @@ static request request_of(piece line) {
     return found;
 }
 
-/* The options that a request's fields name; the field of a rounding is `-` or as `-2,half-even,1`. Whether there are such options. */
+/* A word of a rounding. */
+static void take_word(piece word, legumeyet_options *options) {
+    const bool has_digits = word.length > 1 && word.at[1] >= '0' && word.at[1] <= '9';
+    char *end = (char *)word.at + has_digits;
+    const int32_t first = (int32_t)strtol(end, &end, 10), second = *end == '-' ? (int32_t)strtol(end + 1, NULL, 10) : 0;
+    if (has_digits && word.at[0] == 'f') {
+        options->minimum_fraction_digits = first;
+        options->position = -second;
+        options->trailing_zeros = first == second ? LEGUMEYET_TRAILING_ZEROS_KEEP : LEGUMEYET_TRAILING_ZEROS_TRIM;
+    } else if (has_digits && word.at[0] == 's') {
+        options->minimum_significant_digits = first;
+        options->maximum_significant_digits = second;
+    } else if (is_word(word, "whole")) {
+        options->trailing_zeros += 2;
+    } else if (is_word(word, "more") || is_word(word, "less")) {
+        options->rounding_priority = (int32_t)number_of(word, PRIORITIES);
+    } else if (word.at[0] >= 'a') {
+        options->rounding = (int32_t)number_of(word, MODES);
+    } else if (options->rounding == LEGUMEYET_ROUND_USUAL) {
+        options->position = (int32_t)strtol((const char *)word.at, NULL, 10);
+    } else {
+        options->increment = (int32_t)strtol((const char *)word.at, NULL, 10);
+    }
+}
+
+/* The options that a request's fields name; the field of a rounding is `-`, or as `-2,half-even,1` or `f0-2,s1-3,more,half-even,whole`. Whether
+   there are such options. */
 static int are_options(const request *asked, legumeyet_options *options) {
-    piece rest = asked->rounding, position = cut(&rest, ','), mode = cut(&rest, ',');
+    piece rest = asked->rounding;
     options->sign = (int32_t)number_of(asked->sign, SIGNS);
-    options->rounding = (int32_t)number_of(mode, MODES);
-    options->position = (int32_t)strtol((const char *)position.at, NULL, 10);
-    options->increment = mode.length == 0 ? 0 : (int32_t)strtol((const char *)rest.at, NULL, 10);
-    return mode.length == 0 ? is_word(asked->rounding, "-") : MODES[options->rounding] != NULL;
+    if (is_word(rest, "-")) return 1;
+    while (rest.length > 0) take_word(cut(&rest, ','), options);
+    return options->rounding != LEGUMEYET_ROUND_USUAL && MODES[options->rounding] != NULL;
 }
 
 /* What is asked of a formatter. */

@@ -14,7 +14,7 @@ using namespace legumeyet;
 using Words = std::vector<std::string>;
 
 // The words of fields, in the order of their numbers.
-static const Words GROUPINGS{"auto", "never", "always", "min2"};
+static const Words GROUPINGS{"auto", "never", "always", "min2", "on-aligned"};
 static const Words SIGNS{"keep", "auto", "never", "always", "except-zero", "negative"};
 static const Words MODES{"-",           "expand",     "trunc",     "ceil",       "floor",
                          "half-expand", "half-trunc", "half-ceil", "half-floor", "half-even"};
@@ -32,6 +32,39 @@ static Words pieces(const std::string &text, char mark) {
             found.emplace_back();
         else
             found.back() += it;
+    }
+    return found;
+}
+
+// Whether a word is a letter and counts, as `f0-2`; they are put into the numbers.
+static bool are_counts(const std::string &word, char letter, int32_t &least, int32_t &most) {
+    const std::size_t mark = word.find('-');
+    if (word[0] != letter || word.size() < 4 || mark == std::string::npos || word[1] > '9') return false;
+    least = std::stoi(word.substr(1)), most = std::stoi(word.substr(mark + 1));
+    return true;
+}
+
+// The options of a rounding: `-`, or as `-2,half-even,1` or `f0-2,s1-3,more,half-even,whole`.
+static Options rounding_of(const Words &words) {
+    Options found;
+    int32_t least = 0, most = 0;
+    for (const std::string &it : words) {
+        if (it == "-") continue;
+        if (are_counts(it, 'f', least, most)) {
+            found.position = -most, found.minimum_fraction_digits = least;
+            found.trailing_zeros = least == most ? TrailingZeros::Keep : TrailingZeros::Trim;
+        } else if (are_counts(it, 's', least, most))
+            found = found.with_minimum_significant_digits(least).with_maximum_significant_digits(most);
+        else if (it == "whole")
+            found.trailing_zeros = found.trailing_zeros == TrailingZeros::Trim ? TrailingZeros::TrimAll : TrailingZeros::TrimWhole;
+        else if (it == "more" || it == "less")
+            found.rounding_priority = it == "more" ? RoundingPriority::MorePrecision : RoundingPriority::LessPrecision;
+        else if (it[0] >= 'a')
+            found.rounding = choice_of<Rounding>(it, MODES);
+        else if (found.rounding == Rounding::Usual)
+            found.position = std::stoi(it);
+        else
+            found.increment = Increment{std::stoi(it)};
     }
     return found;
 }
@@ -85,12 +118,8 @@ static std::string text_for(Book &book, const Words &fields, const Options &opti
 
 // What the calls of a formatter say to a request, as an answer.
 static std::string by_formatter(Book &book, const std::string &line) {
-    const auto fields = pieces(line, '\t'), rounding = pieces(fields[4], ',');
-    const bool is_rounded = rounding.size() == 3;
-    Options options;
-    options.sign = choice_of<Sign>(fields[3], SIGNS);
-    options.rounding = choice_of<Rounding>(rounding[is_rounded], MODES);
-    if (is_rounded) options.position = std::stoi(rounding[0]), options.increment = Increment{std::stoi(rounding[2])};
+    const auto fields = pieces(line, '\t');
+    const Options options = rounding_of(pieces(fields[4], ',')).with_sign(choice_of<Sign>(fields[3], SIGNS));
     try {
         return "ok\t" + text_for(book, fields, options);
     } catch (const Error &error) {

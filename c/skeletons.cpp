@@ -4,7 +4,7 @@
 // usage: skeletons BOOK
 //
 // BOOK is a file with the world's book.
-#include <legumeyet.hpp>
+#include "expect.hpp"
 
 #include <iostream>
 #include <list>
@@ -31,16 +31,6 @@ template <class Formatter> constexpr bool is_called<std::void_t<decltype(std::de
 static_assert(is_called<void, NumberFormatter> && !is_called<void, const NumberFormatter> && !is_called<void, const DecimalFormatter>);
 static_assert(is_called<void, const SharedNumberFormatter> && std::is_trivially_copyable_v<SharedNumberFormatter>);
 
-static int wrong = 0;
-
-static void expect(std::string_view got, std::string_view wanted) {
-    if (got == wanted) return;
-    std::cout << got << ", and not " << wanted << '\n';
-    wrong = 1;
-}
-
-static void expect_code(Code got, Code wanted) { expect(std::to_string(static_cast<int>(got)), std::to_string(static_cast<int>(wanted))); }
-
 // The call throws this error.
 template <class Thrown = Error, class Call> static void expect_error(std::string_view wanted, Call call) {
     try {
@@ -65,6 +55,8 @@ static const struct {
     {"percent latin", Code::SkeletonSystem, 8},
     {"sign-always permille", Code::SkeletonLater, 12},
     {"compact-short .00", Code::SkeletonLater, 14},
+    {"percent .00/@##", Code::SkeletonLater, 8},
+    {"percent .0#/@@", Code::SkeletonUnknown, 8},
     {"percent decimal-always", Code::SkeletonUnsupported, 8},
 };
 
@@ -104,6 +96,7 @@ static void normal_texts() {
     const std::string long_one = "currency/" + std::string(300, ' ') + "EUR", many(300, '0');
     expect(normal_skeleton("percent") + '|' + normal_skeleton("currency/EUR .00") + '|' + normal_skeleton(""), "percent|currency/EUR .00|");
     expect(normal_skeleton(" .00  currency/eur ") + '|' + normal_skeleton("K sign-auto") + '|' + normal_skeleton("+! % "), "currency/EUR .00|compact-short|percent sign-always");
+    expect(normal_skeleton("@@+ ,!") + '|' + normal_skeleton(".##/@@@+") + '|' + normal_skeleton("precision-integer/@@#s/w"), "@@* group-on-aligned|.##/@##r|./@@#s/w");
     expect_code(try_normal_skeleton(long_one).error(), Code::SkeletonCode);
     expect_code(try_normal_skeleton('.' + many).error(), Code::SkeletonUnknown);
     expect(*try_normal_skeleton("integer-width/*" + std::string(100, '0')), "integer-width/*" + std::string(100, '0'));
@@ -117,6 +110,7 @@ static void skeletons(Book &book) {
            "€1,234.50 12,3457\u00a0% -1.2M +1234");
     expect(plain.format("007.50") + ' ' + plain.format("007.50", {}) + ' ' + plain.format("7.50", Options::own()), "+7.5 007.50 +7.5");
     expect(plain.format(7, 0, Options().with_sign(Sign::Never).with_minimum_fraction_digits(1)), "7.0");
+    expect(NumberFormatter::skeleton("es", "@@# ,!").format(1234.5) + ' ' + NumberFormatter::skeleton("es", "@@#").format(5), "1.230 5,0");
     expect(*plain.try_format(5) + *plain.try_format(5, Options()) + plain.format(500, -2), "+55+5");
     std::string text;
     std::ostringstream out;
@@ -166,7 +160,7 @@ static void formats(Book &book) {
     expect_error(message(Code::Code) + ": ``", [] { NumberFormatter("e", Format{{}, {}, Unit::Currency}); });
     expect_error(message(Code::Code) + ": `EUR`", [] { NumberFormatter("e", Format{{}, {}, Unit::Percent, "EUR"}); });
     for (const Format &it : {Format{Notation{2}}, Format{{}, Width{2}}, Format{{}, {}, Unit{3}}, Format{{}, {}, {}, {}, CurrencyStyle{2}},
-                             Format{{}, {}, {}, {}, {}, CurrencyWidth{2}}, Format{{}, {}, {}, {}, {}, {}, Grouping{4}}, Format{{}, {}, {}, {}, {}, {}, Grouping{-1}}})
+                             Format{{}, {}, {}, {}, {}, CurrencyWidth{2}}, Format{{}, {}, {}, {}, {}, {}, Grouping{5}}, Format{{}, {}, {}, {}, {}, {}, Grouping{-1}}})
         expect_code(NumberFormatter::try_open("e", it).error(), Code::Option);
     expect_error(message(Code::Table), [] { NumberFormatter("en", Format{Notation::Compact, {}, Unit::Percent}); });
     expect_error("no locale tag: `de_DE` is written `de-DE`", [] { NumberFormatter("de_DE"); });

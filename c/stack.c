@@ -25,6 +25,9 @@ static const legumeyet_options ROUNDED = {.sign = LEGUMEYET_SIGN_ALWAYS, .roundi
 static const legumeyet_options PADDED = {.rounding = LEGUMEYET_ROUND_EXPAND, .position = 3, .increment = 25, .trailing_zeros = LEGUMEYET_TRAILING_ZEROS_TRIM,
                                          .minimum_integer_digits = 9, .minimum_fraction_digits = 9};
 static const legumeyet_options CASH = {.rounding = LEGUMEYET_ROUND_CASH};
+static const legumeyet_options SIGNIFICANT = {.rounding = LEGUMEYET_ROUND_HALF_EVEN, .position = -1, .trailing_zeros = LEGUMEYET_TRAILING_ZEROS_TRIM_ALL,
+                                              .minimum_significant_digits = 3, .maximum_significant_digits = 9,
+                                              .rounding_priority = LEGUMEYET_PRIORITY_LESS_PRECISION};
 
 /* The kept book of the world, and a number of as many digits as there may be. */
 static legumeyet_book world;
@@ -78,6 +81,7 @@ static void *deep(void *given) {
         WELL(calls##_format_parts(it, digits, LONG, LEGUMEYET_WORDS(ROUNDED), out, sizeof out, &length, parts, PARTS, &count)); \
         WELL(calls##_format(it, digits, LONG, LEGUMEYET_WORDS(ROUNDED), out, sizeof out, &length)); \
         WELL(calls##_format(it, digits, LONG, LEGUMEYET_WORDS(CASH), out, sizeof out, &length)); \
+        WELL(calls##_format(it, digits, LONG, LEGUMEYET_WORDS(SIGNIFICANT), out, sizeof out, &length)); \
         EXPECT(LEGUMEYET_NUMBER, calls##_format(it, LEGUMEYET_TEXT("x"), NULL, 0, out, sizeof out, &length)); \
         WELL(calls##_format_doubles(it, DOUBLES, 3, LEGUMEYET_WORDS(ROUNDED), out, sizeof out, ends, 4, &count)); \
         WELL(calls##_format_integers(it, INTEGERS, 3, -2, LEGUMEYET_WORDS(PADDED), out, sizeof out, ends, 4, &count)); \

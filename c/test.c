@@ -101,7 +101,7 @@ static const struct {
     {LEGUMEYET_OPTION, {"e", {.currency_style = 2}, "", NULL}},
     {LEGUMEYET_OPTION, {"e", {.unit = LEGUMEYET_UNIT_CURRENCY, .currency_style = 2}, "eur", NULL}},
     {LEGUMEYET_OPTION, {"e", {.currency_width = 2}, "", NULL}},
-    {LEGUMEYET_OPTION, {"e", {.grouping = 4}, "", NULL}},
+    {LEGUMEYET_OPTION, {"e", {.grouping = 5}, "", NULL}},
     {LEGUMEYET_OPTION, {"e", {.grouping = INT32_MIN}, "", NULL}},
 };
 
@@ -146,28 +146,30 @@ static int32_t by_words(const int32_t *format_words, size_t format_count, const 
 /* Fewer words than there are, as those of an older header, and more, which a newer one has. */
 static void words(void) {
     static const int32_t PERCENTS[12] = {0, 0, LEGUMEYET_UNIT_PERCENT, 0, 0, LEGUMEYET_GROUPING_NEVER};
-    static const int32_t ROUNDED[12] = {LEGUMEYET_SIGN_NEVER, LEGUMEYET_ROUND_HALF_EVEN, -1, 5, LEGUMEYET_TRAILING_ZEROS_TRIM, 6, 2};
-    static const char *const TEXTS[] = {"-1,234.56%", "1,234.56%", "1,235%", "1,234.6%", "1,234.5%", "1,234.5%", "001,234.5%", "001,234.50%"};
+    static const int32_t ROUNDED[12] = {LEGUMEYET_SIGN_NEVER, LEGUMEYET_ROUND_HALF_EVEN, -1, 1, LEGUMEYET_TRAILING_ZEROS_TRIM, 6, 2, 3, 5,
+                                        LEGUMEYET_PRIORITY_LESS_PRECISION};
+    static const char *const TEXTS[] = {"-1,234.56%", "1,234.56%", "1,235%", "1,234.6%", "1,234.6%", "1,234.6%", "001,234.6%", "001,234.60%",
+                                        "001,234.56%", "001,234.6%", "001,234.60%"};
     int32_t more[12];
     size_t count;
     for (count = 1; count < 6; count++)
         expect_text("words of a format", by_words(PERCENTS, count, ROUNDED, 0), count < 3 ? "-1,234.56" : "-1,234.56%");
     for (count = 6; count <= 12; count++) expect_text("more words", by_words(PERCENTS, count, ROUNDED, 0), "-1234.56%");
-    for (count = 0; count <= 12; count++) expect_text("options", by_words(PERCENTS, 3, ROUNDED, count), TEXTS[count < 7 ? count : 7]);
+    for (count = 0; count <= 12; count++) expect_text("options", by_words(PERCENTS, 3, ROUNDED, count), TEXTS[count < 10 ? count : 10]);
     for (count = 6; count < 12; count++) {
         memcpy(more, PERCENTS, sizeof more);
         more[count] = count % 2 == 0 ? 1 : INT32_MIN;
         expect_error("a word that is not known", by_words(more, 12, ROUNDED, 0), LEGUMEYET_OPTION);
         expect_text("it is not among them", by_words(more, count, ROUNDED, 0), "-1234.56%");
     }
-    for (count = 7; count < 12; count++) {
+    for (count = 10; count < 12; count++) {
         memcpy(more, ROUNDED, sizeof more);
         more[count] = 1;
         expect_error("a word that is not known", by_words(PERCENTS, 3, more, 12), LEGUMEYET_OPTION);
-        expect_text("it is not among them", by_words(PERCENTS, 3, more, count), TEXTS[7]);
+        expect_text("it is not among them", by_words(PERCENTS, 3, more, count), TEXTS[10]);
     }
     expect("the words of a format", (int64_t)(sizeof(legumeyet_format) / sizeof(int32_t)), 6);
-    expect("the words of options", (int64_t)(sizeof(legumeyet_options) / sizeof(int32_t)), 7);
+    expect("the words of options", (int64_t)(sizeof(legumeyet_options) / sizeof(int32_t)), 10);
 }
 
 /* What is made of a number, as the rows have it. */
@@ -176,6 +178,11 @@ static void words(void) {
 #define ZEROS(which) {.trailing_zeros = LEGUMEYET_TRAILING_ZEROS_##which}
 #define LEAST(integer, fraction) {.minimum_integer_digits = (integer), .minimum_fraction_digits = (fraction)}
 #define ROUND(which) {.rounding = LEGUMEYET_ROUND_##which, .position = -1}
+#define DIGITS(least, most, ...) {.minimum_significant_digits = (least), .maximum_significant_digits = (most), __VA_ARGS__}
+#define MODE(which) .rounding = LEGUMEYET_ROUND_##which
+/* Significant digits or a position: what shows more, or less. */
+#define WHICH(which, where) .rounding_priority = LEGUMEYET_PRIORITY_##which##_PRECISION, MODE(HALF_EVEN), .position = (where)
+#define TRIM(how) .trailing_zeros = LEGUMEYET_TRAILING_ZEROS_##how
 
 /* Numbers that are given as text, with what is written, or why not. */
 static const struct {
@@ -261,7 +268,7 @@ static const struct {
     {PLAIN, "1.5", AT(-2, .trailing_zeros = LEGUMEYET_TRAILING_ZEROS_TRIM), WELL, "1.5"},
     {PLAIN, "1.255", AT(-2, .trailing_zeros = LEGUMEYET_TRAILING_ZEROS_TRIM), WELL, "1.26"},
     {PLAIN, "1.995", AT(-2, .trailing_zeros = LEGUMEYET_TRAILING_ZEROS_TRIM, .minimum_fraction_digits = 1), WELL, "2.0"},
-    {PLAIN, "1", {.trailing_zeros = 3}, LEGUMEYET_OPTION, NULL},
+    {PLAIN, "1", {.trailing_zeros = 4}, LEGUMEYET_OPTION, NULL},
     /* a zero that a rounding above the ones leaves is one digit; all others show as many as they have */
     {PLAIN, "400", AT(3, 0), WELL, "0"},
     {PLAIN, "-400", AT(3, 0), WELL, "-0"},
@@ -286,6 +293,71 @@ static const struct {
     {PLAIN, "1", LEAST(32768, 0), LEGUMEYET_OPTION, NULL},
     {PLAIN, "1", LEAST(0, 32768), LEGUMEYET_OPTION, NULL},
     {PLAIN, "1", LEAST(-1, 0), LEGUMEYET_OPTION, NULL},
+    /* significant digits */
+    {PLAIN, "12345", DIGITS(0, 3, 0), WELL, "12,300"},
+    {PLAIN, "12345", DIGITS(0, 3, .position = -5), WELL, "12,300"},
+    {PLAIN, "0.012345", DIGITS(0, 3, 0), WELL, "0.0123"},
+    {PLAIN, "-12355", DIGITS(0, 4, MODE(HALF_EVEN)), WELL, "-12,360"},
+    {PLAIN, "5", DIGITS(3, 0, 0), WELL, "5.00"},
+    {PLAIN, "12345.678", DIGITS(3, 0, 0), WELL, "12,345.678"},
+    {PLAIN, "0", DIGITS(3, 0, 0), WELL, "0.00"},
+    {PLAIN, "-0", DIGITS(3, 3, 0), WELL, "-0.00"},
+    {PLAIN, "0", DIGITS(0, 3, 0), WELL, "0"},
+    {PLAIN, "1.5000", DIGITS(0, 65535, 0), WELL, "1.5"},
+    {PLAIN, "1.5000", DIGITS(4, 4, TRIM(TRIM)), WELL, "1.500"},
+    {PLAIN, "1.999", DIGITS(2, 3, 0), WELL, "2.0"},
+    {PLAIN, "999.5", DIGITS(0, 3, 0), WELL, "1,000"},
+    {PLAIN, "999.5", DIGITS(4, 4, 0), WELL, "999.5"},
+    {PLAIN, "0.9996", DIGITS(3, 3, 0), WELL, "1.00"},
+    {PLAIN, "2.5", DIGITS(0, 1, 0), WELL, "2"},
+    {PLAIN, "2.5", DIGITS(0, 1, MODE(HALF_EXPAND)), WELL, "3"},
+    {PLAIN, "-2.1", DIGITS(0, 1, MODE(FLOOR)), WELL, "-3"},
+    {PLAIN, "94", DIGITS(0, 1, MODE(EXPAND)), WELL, "100"},
+    {PLAIN, "7.5", DIGITS(3, 3, .minimum_integer_digits = 3), WELL, "007.50"},
+    {PLAIN, "7.5", DIGITS(0, 3, .minimum_fraction_digits = 3), WELL, "7.5"},
+    {PLAIN, "5", DIGITS(3, 0, TRIM(TRIM_WHOLE)), WELL, "5"},
+    {PLAIN, "5.1", DIGITS(3, 0, TRIM(TRIM_WHOLE)), WELL, "5.10"},
+    {PLAIN, "4.999", DIGITS(3, 3, TRIM(TRIM_ALL)), WELL, "5"},
+    {EUROS, "1234.5", DIGITS(0, 3, 0), WELL, EURO "1,230"},
+    {EUROS, "5", DIGITS(0, 3, 0), WELL, EURO "5"},
+    {EUROS, "5", DIGITS(3, 0, 0), WELL, EURO "5.00"},
+    {PERCENT, "12.345", DIGITS(0, 2, 0), WELL, "12%"},
+    {SHORT, "1250000", DIGITS(0, 1, 0), WELL, "1M"},
+    {PLAIN, "1", DIGITS(4, 3, 0), LEGUMEYET_OPTION, NULL},
+    {PLAIN, "1", DIGITS(0, 65536, 0), LEGUMEYET_OPTION, NULL},
+    {PLAIN, "1", DIGITS(65536, 0, 0), LEGUMEYET_OPTION, NULL},
+    {SHORT, "1", DIGITS(-1, 3, 0), LEGUMEYET_OPTION, NULL},
+    {PLAIN, "1", DIGITS(1, -1, 0), LEGUMEYET_OPTION, NULL},
+    {EUROS, "1", DIGITS(0, 3, MODE(CASH)), LEGUMEYET_OPTION, NULL},
+    {EUROS, "1", DIGITS(0, 3, MODE(NONE)), LEGUMEYET_OPTION, NULL},
+    {PLAIN, "1", DIGITS(0, 3, MODE(FLOOR), .increment = 5), LEGUMEYET_OPTION, NULL},
+    {PLAIN, "1", DIGITS(0, 3, MODE(FLOOR), .rounding_priority = 3), LEGUMEYET_OPTION, NULL},
+    {PLAIN, "1", DIGITS(0, 3, .rounding_priority = LEGUMEYET_PRIORITY_MORE_PRECISION), LEGUMEYET_OPTION, NULL},
+    {PLAIN, "1", AT(-2, .rounding_priority = LEGUMEYET_PRIORITY_LESS_PRECISION), LEGUMEYET_OPTION, NULL},
+    /* significant digits or a position: where both leave the same place, more precision are the digits, and less the position */
+    {PLAIN, "1234.56", DIGITS(0, 2, WHICH(MORE, -1)), WELL, "1,234.6"},
+    {PLAIN, "1234.56", DIGITS(0, 2, WHICH(LESS, -1)), WELL, "1,200"},
+    {PLAIN, "0.01234", DIGITS(0, 2, WHICH(MORE, -1)), WELL, "0.012"},
+    {PLAIN, "0.01234", DIGITS(0, 2, WHICH(LESS, -1)), WELL, "0.0"},
+    {PLAIN, "0.01234", DIGITS(0, 2, WHICH(LESS, -1), TRIM(TRIM)), WELL, "0"},
+    {PLAIN, "1.04", DIGITS(0, 2, WHICH(MORE, -1)), WELL, "1"},
+    {PLAIN, "1.04", DIGITS(0, 2, WHICH(LESS, -1)), WELL, "1.0"},
+    {PLAIN, "9.96", DIGITS(0, 2, WHICH(MORE, -1)), WELL, "10.0"},
+    {PLAIN, "9.96", DIGITS(0, 2, WHICH(LESS, -1)), WELL, "10"},
+    {PLAIN, "0", DIGITS(0, 2, WHICH(MORE, -2)), WELL, "0.00"},
+    {PLAIN, "0", DIGITS(0, 2, WHICH(LESS, -2)), WELL, "0"},
+    {PLAIN, "0", DIGITS(2, 2, WHICH(MORE, 0)), WELL, "0.0"},
+    {PLAIN, "5", DIGITS(0, 2, WHICH(MORE, -2), TRIM(TRIM_WHOLE)), WELL, "5"},
+    {PLAIN, "5.5", DIGITS(0, 2, WHICH(MORE, -2), TRIM(TRIM_WHOLE)), WELL, "5.50"},
+    {PLAIN, "1234", DIGITS(0, 2, WHICH(MORE, -2), TRIM(TRIM), .minimum_fraction_digits = 1), WELL, "1,234.0"},
+    {PLAIN, "1234", DIGITS(0, 2, WHICH(LESS, -2), TRIM(TRIM), .minimum_fraction_digits = 1), WELL, "1,200"},
+    {EUROS, "1234.567", DIGITS(0, 3, WHICH(MORE, -2)), WELL, EURO "1,234.57"},
+    {EUROS, "1234.567", DIGITS(0, 3, WHICH(LESS, -2)), WELL, EURO "1,230"},
+    /* two fraction digits at least, and none of a whole number */
+    {PLAIN, "1.500", AT(-3, TRIM(TRIM_ALL), .minimum_fraction_digits = 2), WELL, "1.50"},
+    {PLAIN, "1.9996", AT(-3, TRIM(TRIM_ALL), .minimum_fraction_digits = 2), WELL, "2"},
+    {PLAIN, "1.2345", AT(-3, TRIM(TRIM_ALL), .minimum_fraction_digits = 2), WELL, "1.234"},
+    {PLAIN, "2.000", ZEROS(TRIM_ALL), WELL, "2"},
     /* no numbers */
     {PLAIN, "5.", {0}, LEGUMEYET_NUMBER, NULL},
     {PLAIN, "\xff", {0}, LEGUMEYET_NUMBER, NULL},

@@ -3,7 +3,7 @@
 // usage: test BOOK
 //
 // BOOK is a file with the world's book.
-#include <legumeyet.hpp>
+#include "expect.hpp"
 
 #include <iomanip>
 #include <iostream>
@@ -18,7 +18,7 @@
 using legumeyet::Book, legumeyet::CompactDecimalFormatter, legumeyet::DecimalFormatter;
 using legumeyet::CurrencyFormatter, legumeyet::CurrencyStyle, legumeyet::CurrencyWidth, legumeyet::PercentFormatter;
 using legumeyet::Code, legumeyet::Grouping, legumeyet::Increment, legumeyet::Kind, legumeyet::Number, legumeyet::Options;
-using legumeyet::Rounding, legumeyet::Sign, legumeyet::TrailingZeros, legumeyet::Width;
+using legumeyet::Rounding, legumeyet::RoundingPriority, legumeyet::Sign, legumeyet::TrailingZeros, legumeyet::Width;
 
 // Whether a formatter takes arguments of these types.
 template <class, class... Arguments> constexpr bool takes = false;
@@ -86,16 +86,6 @@ static_assert(rounds<void, int> && rounds<void, int16_t> && rounds<void, uint64_
 static const std::string BOOK = R"([[["en","","latn","-","","+","",".",",",3,3,1],["bad","","latn","","","+","",".",",",3,3,1]],
 [["latn","0123456789"]],[["en",[]]],[["en","",[[3,3,[["other",["","K"]]]],[6,6,[["other",["","M"]]]]],null]],
 [["en","",[[3,3,[["other",[""," thousand"]]]]],null]]])";
-
-static int wrong = 0;
-
-static void expect(std::string_view got, std::string_view wanted) {
-    if (got == wanted) return;
-    std::cout << got << ", and not " << wanted << '\n';
-    wrong = 1;
-}
-
-static void expect_code(Code got, Code wanted) { expect(std::to_string(static_cast<int>(got)), std::to_string(static_cast<int>(wanted))); }
 
 // The call throws the error of this number.
 template <class Call> static void expect_error(int32_t number, Call call) {
@@ -179,12 +169,30 @@ static void formats(DecimalFormatter &english) {
     }
 }
 
+// Significant digits, alone and beside a position.
+static void significant_digits(DecimalFormatter &english) {
+    const auto digits = [](auto least, auto most) { return Options().with_minimum_significant_digits(least).with_maximum_significant_digits(most); };
+    const auto which = [&](RoundingPriority it) { return digits(0, 2).with_rounding(Rounding::HalfEven, -1).with_rounding_priority(it); };
+    const std::pair<Options, const char *> ROWS[] = {
+        {digits(0, 3), "1,230"}, {digits(0, 5), "1,234.6"}, {digits(8, 0), "1,234.5600"}, {digits(8, 9).with_trailing_zeros(TrailingZeros::TrimWhole), "1,234.5600"},
+        {digits(1, 5).with_rounding(Rounding::Floor), "1,234.5"}, {which(RoundingPriority::Auto), "1,200"},
+        {which(RoundingPriority::MorePrecision), "1,234.6"}, {which(RoundingPriority::LessPrecision), "1,200"},
+    };
+    for (const auto &[options, text] : ROWS) expect(english.format(1234.56, options), text);
+    expect(english.format(5, 0, digits(3, 3)) + english.format(5, 0, digits(3, 3).with_trailing_zeros(TrailingZeros::TrimAll)), "5.005");
+    for (const Options &it : {digits(3, 2), digits(-1, 2), digits(0, 65536), digits(0, UINT64_MAX), digits(0, 2).with_rounding(Rounding::Cash),
+                              digits(0, 2).with_increment(Increment::Five), digits(0, 2).with_rounding_priority(RoundingPriority::MorePrecision),
+                              which(RoundingPriority{3}), digits(0, 0).with_rounding_priority(RoundingPriority::LessPrecision)})
+        expect_error(LEGUMEYET_OPTION, [&] { english.format(5, 0, it); });
+}
+
 #if __cplusplus >= 202002L
 // Options by their names.
 static void designates(DecimalFormatter &english) {
     expect(english.format(1.255, {.rounding = Rounding::HalfEven, .position = -2, .trailing_zeros = TrailingZeros::Trim}), "1.26");
     expect(english.format(1.5, {.rounding = Rounding::HalfEven, .position = -2, .trailing_zeros = TrailingZeros::Trim}), "1.5");
     expect(english.format({7, 0}, {.minimum_integer_digits = 3, .minimum_fraction_digits = 1}), "007.0");
+    expect(english.format(12345, {.minimum_significant_digits = 1, .maximum_significant_digits = 3}), "12,300");
 }
 #endif
 
@@ -192,11 +200,13 @@ static void designates(DecimalFormatter &english) {
 static void options() {
     const Options all = Options().with_sign(Sign::Negative).with_rounding(Rounding::HalfFloor, -3).with_trailing_zeros(TrailingZeros::Trim);
     const auto found = static_cast<legumeyet_options>(
-        all.with_increment(Increment::TwentyFive).with_minimum_integer_digits(4).with_minimum_fraction_digits(5));
+        all.with_increment(Increment::TwentyFive).with_minimum_integer_digits(4).with_minimum_fraction_digits(5).with_minimum_significant_digits(6)
+            .with_maximum_significant_digits(7).with_rounding_priority(RoundingPriority::LessPrecision));
     const bool is_first = found.sign == LEGUMEYET_SIGN_NEGATIVE && found.rounding == LEGUMEYET_ROUND_HALF_FLOOR && found.position == -3;
     const bool is_second = found.trailing_zeros == LEGUMEYET_TRAILING_ZEROS_TRIM && found.increment == 25;
     const bool is_third = found.minimum_integer_digits == 4 && found.minimum_fraction_digits == 5;
-    expect(is_first && is_second && is_third ? "all" : "not all", "all");
+    const bool is_last = found.minimum_significant_digits == 6 && found.maximum_significant_digits == 7 && found.rounding_priority == 2;
+    expect(is_first && is_second && is_third && is_last ? "all" : "not all", "all");
     const auto none = static_cast<legumeyet_options>(Options().with_rounding(Rounding::Keep));
     expect(none.sign == 0 && none.rounding == 0 && none.position == 0 && none.increment == 1 ? "none" : "some", "none");
 }
@@ -374,8 +384,8 @@ static void results(Book &book, DecimalFormatter &english) {
     expect_code(badly.error(), Code::Number);
     expect(badly.value_or("none") + well.value_or("none") + english.try_format("x").value_or("no"), "none1,234no");
     expect_error(LEGUMEYET_NUMBER, [&] { (void)badly.value(); });
-    expect_code(DecimalFormatter::try_open(book, "en", Grouping{4}).error(), Code::Option);
-    expect_code(CompactDecimalFormatter::try_open(book, "en", Width::Short, Grouping{4}).error(), Code::Option);
+    expect_code(DecimalFormatter::try_open(book, "en", Grouping{5}).error(), Code::Option);
+    expect_code(CompactDecimalFormatter::try_open(book, "en", Width::Short, Grouping{5}).error(), Code::Option);
     auto opened = CompactDecimalFormatter::try_open(book, "en");
     expect(opened->format(1650), "1.6K");
     CompactDecimalFormatter taken = *std::move(opened);
@@ -406,6 +416,7 @@ static void world() {
     expect(std::to_string(status), "0");
     expect(DecimalFormatter("ar-EG").format(1234567891, -3), "١٬٢٣٤٬٥٦٧٫٨٩١");
     expect(DecimalFormatter("de", Grouping::Never).format(1234), "1234");
+    expect(DecimalFormatter("es").format(1234) + ' ' + DecimalFormatter("es", Grouping::OnAligned).format(1234), "1234 1.234");
     expect(CompactDecimalFormatter("hi", Width::Long).format(1234567), "12 लाख");
     expect(DecimalFormatter(legumeyet::tag_of_locale_name("de_DE.UTF-8")).format("0.5"), "0,5");
     expect(legumeyet::tag_of_locale_name(nullptr), "en");
@@ -490,14 +501,14 @@ static void no_money() {
     Book book(BOOK), kept(BOOK);
     kept.keep();
     expect_error(LEGUMEYET_TABLE, [&] { CurrencyFormatter(book, "en", "EUR"); });
-    expect_error(LEGUMEYET_OPTION, [&] { PercentFormatter(book, "e", Grouping{4}); });
+    expect_error(LEGUMEYET_OPTION, [&] { PercentFormatter(book, "e", Grouping{5}); });
     expect_error(LEGUMEYET_TABLE, [&] { CurrencyFormatter(kept, "en", "EUR"); });
     expect_error(LEGUMEYET_TABLE, [&] { PercentFormatter(kept, "en"); });
     expect_error(LEGUMEYET_TAG, [] { CurrencyFormatter("e", "EUR"); });
     expect_error(LEGUMEYET_OPTION, [] { CurrencyFormatter("e", "eur", CurrencyStyle{2}); });
     expect_error(LEGUMEYET_OPTION, [] { CurrencyFormatter("de", "EUR", CurrencyStyle::Standard, CurrencyWidth{2}); });
-    expect_error(LEGUMEYET_OPTION, [] { CurrencyFormatter("de", "EUR", CurrencyStyle::Standard, CurrencyWidth::Code, Grouping{4}); });
-    expect_error(LEGUMEYET_OPTION, [] { PercentFormatter("de", Grouping{4}); });
+    expect_error(LEGUMEYET_OPTION, [] { CurrencyFormatter("de", "EUR", CurrencyStyle::Standard, CurrencyWidth::Code, Grouping{5}); });
+    expect_error(LEGUMEYET_OPTION, [] { PercentFormatter("de", Grouping{5}); });
     for (const char *code : {"eur", "EURO", "EU", "", "E\u00dc", "12A"})
         expect_error(LEGUMEYET_CODE, [&] { CurrencyFormatter("e", code); });
     try {
@@ -592,6 +603,7 @@ int main(int count, char **words) {
     book = Book("[[],[],[],[],[]]");
     options();
     formats(moved);
+    significant_digits(moved);
     doubles(moved);
     rooms(moved);
     streams(moved, moved_short);

@@ -4,7 +4,7 @@
 // usage: test_codes BOOK
 //
 // BOOK is a file with the world's book.
-#include <legumeyet.hpp>
+#include "expect.hpp"
 
 #include <cstdio>
 #include <sstream>
@@ -20,16 +20,6 @@ using legumeyet::Code, legumeyet::Grouping, legumeyet::Options, legumeyet::Resul
 // Nothing is constructed that may be refused, and what was found cannot be forgotten to be looked for.
 static_assert(!std::is_constructible_v<DecimalFormatter, const char *> && !std::is_constructible_v<Book, const char *>);
 static_assert(!std::is_convertible_v<Result<std::string>, bool> && !std::is_convertible_v<Result<std::string>, std::string>);
-
-static int wrong = 0;
-
-static void expect(std::string_view got, std::string_view wanted) {
-    if (got == wanted) return;
-    std::printf("%.*s, and not %.*s\n", static_cast<int>(got.size()), got.data(), static_cast<int>(wanted.size()), wanted.data());
-    wrong = 1;
-}
-
-static void expect_code(Code got, Code wanted) { expect(std::to_string(static_cast<int>(got)), std::to_string(static_cast<int>(wanted))); }
 
 // The result has this text.
 static void expect_text(const Result<std::string> &got, std::string_view wanted) {

@@ -66,6 +66,7 @@ static const struct {
 };
 
 static void columns(void) {
+    const legumeyet_options digits = {.minimum_significant_digits = 2, .maximum_significant_digits = 3};
     size_t row;
     for (row = 0; row < COUNT(ROWS); row++) {
         const caller it = by[ROWS[row].format];
@@ -73,6 +74,9 @@ static void columns(void) {
         expect_column(CALL(it, format_integers, INTEGERS, 3, -2, OWN, WRITTEN), LEGUMEYET_OK, ROWS[row].integers);
         expect_column(CALL(it, format_texts, TEXT(LINES), OWN, WRITTEN), LEGUMEYET_OK, ROWS[row].lines);
     }
+    EXPECT(CALL(by[PLAIN], format_doubles, DOUBLES, 3, LEGUMEYET_WORDS(digits), WRITTEN), LEGUMEYET_OK, "1,230", "-7.0", "0.25", NULL);
+    EXPECT(CALL(by[PLAIN], format_integers, INTEGERS, 3, -2, LEGUMEYET_WORDS(digits), WRITTEN), LEGUMEYET_OK, "1,230", "-7.0", "0.0", NULL);
+    EXPECT(CALL(by[EUROS], format_texts, TEXT(LINES), LEGUMEYET_WORDS(digits), WRITTEN), LEGUMEYET_OK, EURO "1,230", "-" EURO "7.0", EURO "1,000", NULL);
 }
 
 /* Where lines end, and numbers that are none. */

@@ -106,6 +106,20 @@ static void expect_typed(const char *tag, const char *typed, const char *number)
     expect(tag, legumeyet_formatter_close(&formatter), LEGUMEYET_OK);
 }
 
+/* Separators with one digit before them, and with two, in Spanish, which has them with two. */
+static void groupings(void) {
+    static const char *const TEXTS[][2] = {{"1234,5", "12.345,6"}, {"1234,5", "12345,6"}, {"1234,5", "12.345,6"}, {"1234,5", "12.345,6"}, {"1.234,5", "12.345,6"}};
+    int32_t grouping, at;
+    for (grouping = LEGUMEYET_GROUPING_AUTO; grouping <= LEGUMEYET_GROUPING_ON_ALIGNED; grouping++) {
+        const legumeyet_format words = {.grouping = grouping};
+        legumeyet_formatter formatter = {0};
+        expect("a grouping", legumeyet_formatter_open(&world, LEGUMEYET_TEXT("es"), LEGUMEYET_WORDS(words), NULL, 0, &formatter), LEGUMEYET_OK);
+        for (at = 0; at < 2; at++)
+            expect_text("a grouping", legumeyet_formatter_format(&formatter, LEGUMEYET_TEXT(at == 0 ? "1234.5" : "12345.6"), NULL, 0, out, ROOM, &length), TEXTS[grouping][at]);
+        expect("a grouping", legumeyet_formatter_close(&formatter), LEGUMEYET_OK);
+    }
+}
+
 static void texts(void) {
     expect_written("de", "1234567.891", "1.234.567,891");
     expect_written("de-AT-u-nu-latn", "-1234", "-1\xc2\xa0" "234");
@@ -184,6 +198,7 @@ int main(int count, char **words) {
     expect("over an open one", legumeyet_book_open_world(&world), LEGUMEYET_OK);
     opens(known);
     texts();
+    groupings();
     if (count == 3) files(words[1], words[2]);
     names();
     expect("the book before its formatters", legumeyet_book_close(&world), LEGUMEYET_OK);

@@ -1,9 +1,8 @@
 /*
  * Legumeyet: numbers written as their readers write them, from C.
  *
- * A book has the tables that numbers are written with; that of the world's locales is in the library. From a book formatters are opened,
- * one for each locale tag and format: of plain or of compact numbers, of percents or of amounts of money. A formatter writes numbers into
- * bytes of the caller's:
+ * A book has the tables that numbers are written with; that of the world's locales is in the library. From it formatters are opened, one for
+ * each locale tag and format: of plain or compact numbers, percents or amounts of money. They write into bytes of the caller's:
  *
  *     legumeyet_book world = {0};
  *     legumeyet_formatter german = {0};
@@ -16,17 +15,14 @@
  *     legumeyet_formatter_close(&german);
  *     legumeyet_book_close(&world);
  *
- * Texts are UTF-8, a pointer and a length in bytes; no NUL is written after one. A text may have a NUL inside, where a symbol of its book
- * has one: U+0000 in a book is a character as any other. A pointer to a text of length 0, to no words, to no numbers, or to a room of 0,
- * may be NULL, so `NULL, 0` asks how much room a text needs. No other pointer may be NULL, but where a call says so.
+ * Texts are UTF-8, a pointer and a length in bytes; no NUL is written after one, and it may have a NUL inside, where a symbol of its book
+ * has one. A pointer to a text of length 0, to no words, to no numbers, or to a room of 0, may be NULL, so `NULL, 0` asks how much room a
+ * text needs. No other pointer may be NULL, but where a call says so.
  *
- * A handle is memory of the caller's. Zeroed memory is a closed handle. A handle is not copied, and its fields are not for callers. A
- * second close returns LEGUMEYET_CLOSED. Handles are free of each other: a formatter has the tables that it needs, so its book may be
- * closed before it. A handle that has something of another type open, as a book's that is cast to a formatter's, is closed to a call:
- * LEGUMEYET_CLOSED, and what it has stays open. Only a call that opens the handle closes what it had, once it returns 0.
- *
- * A program that uses a book until it ends may keep it, by legumeyet_book_keep: its formatters are opened sooner and hold less memory. A
- * formatter that threads use at once, as one in a static variable, is a shared one. See "Shared formatters" below.
+ * A handle is memory of the caller's. Zeroed memory is a closed handle. A handle is not copied, and its fields are not for callers. Handles
+ * are free of each other: a formatter has the tables that it needs, so its book may be closed before it. A handle that has something of
+ * another type open, as a book's that is cast to a formatter's, is closed to a call: LEGUMEYET_CLOSED, and what it has stays open. Only a
+ * call that opens the handle closes what it had, once it returns 0.
  *
  * A call that returns a number other than 0 leaves its handles as they were. Of several such numbers it returns the first of its list.
  *
@@ -74,7 +70,7 @@ enum {
     LEGUMEYET_MEMORY = 1,       /* memory was refused */
     LEGUMEYET_CLOSED = 2,       /* the handle is closed, or has something of another type open */
     LEGUMEYET_TOO_SMALL = 3,    /* the text needs more room; how much was written to `length` */
-    LEGUMEYET_OPTION = 4,       /* a word has a number that is not in its list, as a grouping of 4, or is none that the library knows */
+    LEGUMEYET_OPTION = 4,       /* a word has a number that is not in its list, as a grouping of 5, or is unknown, or two exclude each other */
     LEGUMEYET_TAG = 5,          /* the text is no locale tag, as `e`, or `de_DE`, which is written `de-DE`: legumeyet_tag_of_locale_name */
     LEGUMEYET_TABLE = 6,        /* the book lacks a table for the tag, or compact numbers with a unit are asked for */
     LEGUMEYET_NUMBER = 7,       /* the text is no decimal number, as `5.`, or `1e+3`, which is written `1e3` */
@@ -143,10 +139,11 @@ enum {
 
 /* When grouping separators are written. */
 enum {
-    LEGUMEYET_GROUPING_AUTO = 0,   /* where the sizes of the locale place them: `1,234,567` */
-    LEGUMEYET_GROUPING_NEVER = 1,  /* nowhere: `1234567` */
-    LEGUMEYET_GROUPING_ALWAYS = 2, /* as AUTO */
-    LEGUMEYET_GROUPING_MIN2 = 3    /* as AUTO, but only with two digits before the last separator: `1000`, `10,000` */
+    LEGUMEYET_GROUPING_AUTO = 0,      /* where the sizes of the locale place them: `1,234,567`; in Spanish `1234`, and `12.345` */
+    LEGUMEYET_GROUPING_NEVER = 1,     /* nowhere: `1234567` */
+    LEGUMEYET_GROUPING_ALWAYS = 2,    /* as AUTO */
+    LEGUMEYET_GROUPING_MIN2 = 3,      /* as AUTO, but only with two digits before the last separator: `1000`, `10,000` */
+    LEGUMEYET_GROUPING_ON_ALIGNED = 4 /* as AUTO, but already with one digit before the last separator, also in Spanish: `1.234` */
 };
 
 /* Which sign is written; chosen by what the rounding left. */
@@ -177,9 +174,17 @@ enum {
 
 /* What becomes of the zeros at the end of the fraction digits. */
 enum {
-    LEGUMEYET_TRAILING_ZEROS_KEEP = 0,      /* they stay: `1.50` */
-    LEGUMEYET_TRAILING_ZEROS_TRIM = 1,      /* they are trimmed, and the separator where no digit is left: `1.5`, and `2` of `2.00` */
-    LEGUMEYET_TRAILING_ZEROS_TRIM_WHOLE = 2 /* they are trimmed where no other digit is among them: `$5` of 5 dollars, and `$5.50` */
+    LEGUMEYET_TRAILING_ZEROS_KEEP = 0,       /* they stay: `1.50` */
+    LEGUMEYET_TRAILING_ZEROS_TRIM = 1,       /* they are trimmed, and the separator where no digit is left: `1.5`, and `2` of `2.00` */
+    LEGUMEYET_TRAILING_ZEROS_TRIM_WHOLE = 2, /* they are trimmed where no other digit is among them: `$5` of 5 dollars, and `$5.50` */
+    LEGUMEYET_TRAILING_ZEROS_TRIM_ALL = 3    /* as TRIM, and again as TRIM_WHOLE what a least count padded: with 2 `1.50`, and `2` of 2.000 */
+};
+
+/* Which rounding counts, where a number has significant digits and a position. */
+enum {
+    LEGUMEYET_PRIORITY_AUTO = 0,           /* that to significant digits, wherever the position is */
+    LEGUMEYET_PRIORITY_MORE_PRECISION = 1, /* the one that shows more digits: of 1234.56 to 2 digits or to -1 that to -1, `1,234.6` */
+    LEGUMEYET_PRIORITY_LESS_PRECISION = 2  /* the one that shows fewer: `1,200` */
 };
 
 /* The kinds of parts. */
@@ -207,9 +212,8 @@ typedef struct { void *content; bool is_open; } legumeyet_answers;              
  *     legumeyet_formatter_open(&world, LEGUMEYET_TEXT("en"), LEGUMEYET_WORDS(money), LEGUMEYET_TEXT("USD"), &accounting);
  *
  * A call takes a struct of words by its address and by how many words it has, which are those of the header that the program was compiled
- * with: words may be added at the end, and those that are there stay. A word past the count is 0, and one that the library does not know
- * has to be 0. So a program runs with an older and with a newer library, and no words at all, `NULL, 0`, are zeroes. LEGUMEYET_OPTION of a
- * number that is not in the list of its word, also where the word counts for nothing.
+ * with: words may be added at the end. A word past the count is 0, and one that the library does not know has to be 0. So a program runs with
+ * an older and with a newer library. LEGUMEYET_OPTION of a number that is not in the list of its word, also where it counts for nothing.
  */
 typedef struct {
     int32_t notation;       /* a LEGUMEYET_NOTATION */
@@ -228,40 +232,44 @@ typedef struct {
  * Of LEGUMEYET_ROUND_USUAL, LEGUMEYET_ROUND_CASH and LEGUMEYET_ROUND_NONE the position and the increment count for nothing. A zero that a
  * rounding above the ones leaves is one `0`: 400 to thousands, at 3, is `0`, and of dollars `$0`.
  *
- * At most two fraction digits, and none that is not needed: the rounding LEGUMEYET_ROUND_HALF_EVEN, the position -2 and
- * LEGUMEYET_TRAILING_ZEROS_TRIM write 1.995 as `2`, 1.5 as `1.5` and 1.255 as `1.26`. With `minimum_fraction_digits` 1 too 1.995 is `2.0`.
- * To the nearest twentieth: LEGUMEYET_ROUND_HALF_EVEN, the position -2 and the increment 5 write 1.23 as `1.25`.
+ * Significant digits are counted from the first one on that is not zero: at most 3 of 12345 are `12,300`, and of 0.012345 `0.0123`; at least
+ * 3 of 5 are `5.00`. Of zeros at the end of the fraction only those of the least count stay. The least count of fraction digits does nothing,
+ * but where the priority chooses the position. LEGUMEYET_ROUND_USUAL is then HALF_EVEN, and LEGUMEYET_OPTION comes of CASH and NONE, of
+ * another increment than 1, and of a least count above the greatest; a priority other than AUTO needs them, and a rounding that is a mode.
+ *
+ * At most two fraction digits, and none that is not needed: LEGUMEYET_ROUND_HALF_EVEN, the position -2 and LEGUMEYET_TRAILING_ZEROS_TRIM write
+ * 1.995 as `2` and 1.255 as `1.26`; with `minimum_fraction_digits` 1 too 1.995 is `2.0`. To the nearest twentieth: the position -2 and the
+ * increment 5 write 1.23 as `1.25`.
  */
 typedef struct {
-    int32_t sign;                    /* a LEGUMEYET_SIGN */
-    int32_t rounding;                /* a LEGUMEYET_ROUND */
-    int32_t position;                /* the magnitude that is rounded at, -32768 to 32767: 0 the ones, -2 the hundredths */
-    int32_t increment;               /* 1, 2, 5 or 25: it is rounded to a multiple of this, at the position; 0 is 1 */
-    int32_t trailing_zeros;          /* a LEGUMEYET_TRAILING_ZEROS */
-    int32_t minimum_integer_digits;  /* as many integer digits are shown at least, 0 to 32767, by zeros in front: with 3 7 is `007` */
-    int32_t minimum_fraction_digits; /* as many fraction digits are shown at least, 0 to 32767, by zeros at the end: with 2 7.5 is `7.50` */
+    int32_t sign;                       /* a LEGUMEYET_SIGN */
+    int32_t rounding;                   /* a LEGUMEYET_ROUND */
+    int32_t position;                   /* the magnitude that is rounded at, -32768 to 32767: 0 the ones, -2 the hundredths */
+    int32_t increment;                  /* 1, 2, 5 or 25: it is rounded to a multiple of this, at the position; 0 is 1 */
+    int32_t trailing_zeros;             /* a LEGUMEYET_TRAILING_ZEROS */
+    int32_t minimum_integer_digits;     /* so many integer digits are shown at least, 0 to 32767: with 3 7 is `007` */
+    int32_t minimum_fraction_digits;    /* so many fraction digits are shown at least, 0 to 32767: with 2 7.5 is `7.50` */
+    int32_t minimum_significant_digits; /* so many significant digits are shown at least, 0 to 65535; 0 is 1 beside a greatest count */
+    int32_t maximum_significant_digits; /* it is rounded to so many, 0 to 65535; 0 is 65535 beside a least count */
+    int32_t rounding_priority;          /* a LEGUMEYET_PRIORITY */
 } legumeyet_options;
 
 /* A part of a text: the bytes from `start` up to `end`; `kind` is a LEGUMEYET_PART. */
 typedef struct { size_t start, end; uint32_t kind; } legumeyet_interval;
 
 /*
- * Opens the world's book, that of all locales of CLDR, the Unicode Consortium's data, which is in the library: of each locale of
- * legumeyet_world_locale it has the symbols, digits, plural rules and patterns. Returns 0; LEGUMEYET_MEMORY.
+ * Opens the world's book, which is in the library: of all locales of CLDR, the Unicode Consortium's data, it has the symbols, digits,
+ * plural rules and patterns. Returns 0; LEGUMEYET_MEMORY.
  */
 int32_t legumeyet_book_open_world(legumeyet_book *book);
 
 /*
  * The tag of a locale of the world's book, with a NUL at its end, as `de-AT`; NULL from the count of the locales on. The tags are in order,
- * and are never freed: `for (at = 0; (tag = legumeyet_world_locale(at)) != NULL; at++) puts(tag);`. Formatters can be opened of other tags
- * too: `de-FR` has the tables of its parent `de`. This function may be called in any thread at any time.
+ * and are never freed. Formatters can be opened of other tags too: `de-FR` has the tables of its parent `de`. Any thread may call it.
  */
 const char *legumeyet_world_locale(size_t at);
 
-/*
- * Opens the book that a file is; legumeyet_book_open says what the file has. `path` ends with a NUL.
- * Returns 0; LEGUMEYET_FILE, and then errno says why the file cannot be read; LEGUMEYET_BOOK_JSON to LEGUMEYET_BOOK_CODE; LEGUMEYET_MEMORY.
- */
+/* Opens the book that a file is, as legumeyet_book_open does. `path` ends with a NUL. Returns LEGUMEYET_FILE too, and then errno says why. */
 int32_t legumeyet_book_open_file(const char *path, legumeyet_book *book);
 
 /*
@@ -275,9 +283,8 @@ int32_t legumeyet_book_open(const uint8_t *json, size_t json_length, legumeyet_b
 int32_t legumeyet_book_close(legumeyet_book *book);
 
 /*
- * Keeps a book for the rest of the program: its memory is never given back, not even where the book is closed. A formatter that is opened
- * from it afterwards borrows its tables, and has no copy of its own; one that was opened before stays as it is. Book and formatters are
- * still closed in any order. A book that is opened in its place is not kept.
+ * Keeps a book for the rest of the program: its memory is never given back, not even where it is closed. A formatter that is opened from it
+ * afterwards borrows its tables: it is opened sooner, and holds less memory. A book that is opened in its place is not kept.
  * Returns 0; LEGUMEYET_CLOSED; LEGUMEYET_MEMORY.
  */
 int32_t legumeyet_book_keep(legumeyet_book *book);
@@ -302,8 +309,7 @@ int32_t legumeyet_book_answer(legumeyet_book *book, const uint8_t *line, size_t 
 
 /*
  * Opens answers to request lines by a book, with the `capacity` formatters that were used last: who has many lines of few tags does not
- * make a formatter for each, as legumeyet_book_answer does. The book has to be kept, by legumeyet_book_keep;
- * it may be closed first.
+ * make a formatter for each, as legumeyet_book_answer does. The book has to be kept, by legumeyet_book_keep; it may be closed first.
  * Returns 0; LEGUMEYET_CLOSED, of the book; LEGUMEYET_UNKEPT; LEGUMEYET_OPTION, of a capacity of 0; LEGUMEYET_MEMORY.
  */
 int32_t legumeyet_answers_open(legumeyet_book *book, size_t capacity, legumeyet_answers *answers);
@@ -367,14 +373,14 @@ int32_t legumeyet_skeleton_normal(const uint8_t *skeleton, size_t skeleton_lengt
 int32_t legumeyet_formatter_close(legumeyet_formatter *formatter);
 
 /*
- * Writes a decimal number that is given as text: in English `-987654.321` as `-987,654.321`, and `1.5e3`, which is such a text too, as
- * `1,500`. With LEGUMEYET_ROUND_HALF_EVEN at -1 and LEGUMEYET_SIGN_ALWAYS `9.75` is `+9.8`.
+ * Writes a decimal number that is given as text: in English `-987654.321` as `-987,654.321`, and `1.5e3` as `1,500`. With
+ * LEGUMEYET_ROUND_HALF_EVEN at -1 and LEGUMEYET_SIGN_ALWAYS `9.75` is `+9.8`.
  *
  * An amount is rounded to the digits of its currency, and shown down to them: 1.005 dollars are `$1.00`, 5 are `$5.00`, 2.5 yen are `¥2`.
  * With LEGUMEYET_ROUND_CASH 2.345 francs are `CHF 2.35`, and with LEGUMEYET_ROUND_NONE 5 dollars `$5`.
  *
  * A compact number is changed by the options before it is shown: -1172700 is `-1.2M`, rounded at 6 `-1M`. What is shown has no zeros at the
- * end of its fraction, so a least count of fraction digits does nothing.
+ * end of its fraction, so a least count of digits does nothing.
  *
  * Returns 0; LEGUMEYET_CLOSED; LEGUMEYET_OPTION, of the options; LEGUMEYET_NUMBER; LEGUMEYET_LIMIT; LEGUMEYET_RANGE, of compact numbers;
  * LEGUMEYET_MEMORY, which a number of sixteen digits at most takes only where multiples of 25 give it a seventeenth; LEGUMEYET_TOO_SMALL.
@@ -386,7 +392,6 @@ int32_t legumeyet_formatter_format(legumeyet_formatter *formatter, const uint8_t
  * Writes the number `mantissa` times ten to the power `exponent`: -123456 and -2 as `-1,234.56` in English, 5 and 3 as `5,000`.
  *
  * The digits down to that power are shown, of 0 too: 500 and -2 as `5.00`, 0 and 3 as `0,000`. The texts `0e3` and `0e-2` are both `0`.
- *
  * Returns as legumeyet_formatter_format, but for LEGUMEYET_NUMBER.
  */
 int32_t legumeyet_formatter_format_i64(legumeyet_formatter *formatter, int64_t mantissa, int16_t exponent, const legumeyet_options *options,
@@ -420,19 +425,16 @@ int32_t legumeyet_formatter_format_parts(legumeyet_formatter *formatter, const u
                                          legumeyet_interval *intervals, size_t intervals_room, size_t *count);
 
 /*
- * Writes the value that the text of a number shows, so that a chart can place its label: of `-1172700` in short English `-1.2c6`, which is
- * -1.2 times ten to the power 6. Where the exponent is 0, as always but in compact numbers, it is only the number, as the options leave it:
- * `950`, and of `5` dollars `5.00`.
+ * Writes the value that the text of a number shows: of `-1172700` in short English `-1.2c6`, which is -1.2 times ten to the power 6. Where
+ * the exponent is 0, as always but in compact numbers, it is only the number, as the options leave it: `950`, and of `5` dollars `5.00`.
  * Returns as legumeyet_formatter_format; LEGUMEYET_MEMORY also where what is shown has more than sixteen digits.
  */
 int32_t legumeyet_formatter_shown(legumeyet_formatter *formatter, const uint8_t *number, size_t number_length,
                                   const legumeyet_options *options, size_t option_words, uint8_t *out, size_t room, size_t *length);
 
 /*
- * Writes an exact form, a significand with an exponent, its digits as they are given: `-1.20c6` as `-1.20M` in short English. In
- * other formats than compact ones it has no exponent: `1.20`.
- *
- * What legumeyet_formatter_shown writes is such a text. The options change the significand: rounded at -1 it is `-1.2M`.
+ * Writes an exact form, as legumeyet_formatter_shown writes one, its digits as they are given: `-1.20c6` as `-1.20M` in short English. In
+ * other formats than compact ones it has no exponent: `1.20`. The options change the significand: rounded at -1 it is `-1.2M`.
  *
  * Returns 0; LEGUMEYET_CLOSED; LEGUMEYET_OPTION, of the options; LEGUMEYET_NUMBER, where the text is no compact number, as `1.2e6`;
  * LEGUMEYET_LIMIT, also of an exponent above 255; LEGUMEYET_MEMORY, as of legumeyet_formatter_format; LEGUMEYET_RANGE, where the magnitude
@@ -483,8 +485,7 @@ int32_t legumeyet_formatter_read_lenient(legumeyet_formatter *formatter, const u
  *
  * The call returns 0 where all were written. Else it returns why the next number, that at `count`, was not: LEGUMEYET_TOO_SMALL where
  * `count` is `ends_room`, or where its text has not room in `out` after the others; or what the call for one number returns. A caller takes
- * what is written, and goes on from the number at `count`, or from the one after it. Where `count` is 0 and the call returns
- * LEGUMEYET_TOO_SMALL, one text is longer than `room`, or `ends_room` is 0.
+ * what is written, and goes on from the number at `count`, or from the one after it.
  *
  * LEGUMEYET_CLOSED and LEGUMEYET_OPTION come before all numbers, also where there is none: `count` is 0. The ends from `count` on stay as
  * they were, and so do the bytes of `out` after the last text, but that with LEGUMEYET_TOO_SMALL these may be the first of the next text.
@@ -520,13 +521,11 @@ int32_t legumeyet_formatter_format_texts(legumeyet_formatter *formatter, const u
  * lock of its own, and writes only to `out`, `length` and the like.
  *
  * A shared formatter stays for the rest of the program: its memory, one small block where the book is kept, and else its copy of the tables
- * too, is never given back. So share those that a program uses until it ends, and not one for each request. A tool that looks for lost
- * memory reports what no handle shows any more.
+ * too, is never given back. So share those that a program uses until it ends, and not one for each request.
  *
- * The handle of a shared formatter may be copied by `=`, as to another thread: each copy is a handle of its own. Two kinds of calls write to
- * a handle: that which shares a formatter by it, and that which closes it, which frees nothing. They come before and after all other calls
- * on this very handle, ordered by a lock, a thread's start or join, or a sequentially consistent atomic. The handle of a shared formatter is
- * not cast to one that is not shared.
+ * The handle of a shared formatter may be copied by `=`, as to another thread: each copy is a handle of its own. That which shares a formatter
+ * by a handle, and that which closes it, which frees nothing, write to it. They come before and after all other calls on this very handle,
+ * ordered as above. It is not cast to the handle of a formatter that is not shared.
  */
 
 /*
@@ -581,8 +580,8 @@ int32_t legumeyet_error_text(int32_t error, uint8_t *out, size_t room, size_t *l
 
 /*
  * Writes the tag of a locale's name as LANG, LC_ALL and setlocale give it: of `de_DE.UTF-8` and `de_DE` the tag `de-DE`.
- * The name ends with a NUL. The codeset and the modifier are cut, from the first `.` or `@` on, and each `_` becomes `-`: `sr_RS@latin` is
- * `sr-RS`. `C`, `POSIX`, an empty name and NULL are `en`. Whether a formatter can be opened of the tag is not looked at.
+ * The name ends with a NUL. What is from the first `.` or `@` on is cut, and each `_` becomes `-`: `sr_RS@latin` is `sr-RS`. `C`, `POSIX`, an
+ * empty name and NULL are `en`. Whether a formatter can be opened of the tag is not looked at.
  * Returns 0; LEGUMEYET_TOO_SMALL.
  */
 int32_t legumeyet_tag_of_locale_name(const char *name, uint8_t *out, size_t room, size_t *length);

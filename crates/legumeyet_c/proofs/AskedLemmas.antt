@@ -16,7 +16,7 @@ use Rattle.legumeyet_c_values.specs.declared.CallError.{CallError}
 use Rattle.legumeyet_c_values.specs.declared.CallError.TheVariants.{TooSmall, UnknownOption}
 use Rattle.legumeyet_c_values.proofs.NumbersLemmas.{change_fault_other}
 use Rattle.legumeyet_c_values.proofs.PuttingLemmas.{put_by, put_refused}
-use Rattle.legumeyet_c.specs.Formatted.{IsPartsFault}
+use Rattle.legumeyet_c.specs.Formatted.{IsFormatFault, IsFormatText, IsPartsFault}
 use Rattle.legumeyet_c.specs.HeldFormats.{HeldFormat}
 use Rattle.legumeyet_c.specs.Writing.{Asked, GivesNumber, IsNumberRefused, IsNumberWritingFault, IsWritingFault, Writes, asked_by, asked_of}
 
@@ -80,6 +80,13 @@ pub unasked_put : {N : Type 0} (says : FormatTables → N → List ℕ → Type 
 unasked_put says fails gives fault open_format words out told error is =
     asked_put says fails gives fault (asked_of open_format words) (Err error) out out told told (Err error) is
     (put_refused (Writes says gives (Err error)) (IsWritingFault fails gives fault (Err error)) out told error (asked_other open_format words error is) refl)
+
+-- what is written with one of two tables that are the same
+pub put_with : (tables other : FormatTables) (value : SignedValue Number) (before after : List ℕ) (was told : ℕ) (outcome : Result (Unit {0}) CallError) → tables ≡ other
+    → IsPut (IsFormatText tables value) (IsFormatFault tables value) before after was told outcome
+    → IsPut (IsFormatText other value) (IsFormatFault other value) before after was told outcome
+put_with tables other value before after was told outcome is put =
+    subst (λ (t : FormatTables). IsPut (IsFormatText t value) (IsFormatFault t value) before after was told outcome) is put
 
 -- ---- numbers
 

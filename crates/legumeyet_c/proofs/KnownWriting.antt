@@ -35,7 +35,7 @@ closed_first = refl
 known_words : asked_of (Some held) (pos 0 ∷ pos 0 ∷ pos 0 ∷ pos 0 ∷ pos 0 ∷ pos 0 ∷ pos 0 ∷ pos 0 ∷ []) ≡ Ok (record { tables = english; options = usual })
 known_words = refl
 
-later_word : asked_of (Some held) (pos 0 ∷ pos 0 ∷ pos 0 ∷ pos 0 ∷ pos 0 ∷ pos 0 ∷ pos 0 ∷ pos 1 ∷ []) ≡ Err UnknownOption
+later_word : asked_of (Some held) (pos 0 ∷ pos 0 ∷ pos 0 ∷ pos 0 ∷ pos 0 ∷ pos 0 ∷ pos 0 ∷ pos 0 ∷ pos 0 ∷ pos 0 ∷ pos 1 ∷ []) ≡ Err UnknownOption
 later_word = refl
 
 -- ---- exact forms of plain numbers

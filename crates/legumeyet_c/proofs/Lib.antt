@@ -1,5 +1,6 @@
 pub mod AsBox
 pub mod AskedLemmas
+pub mod DirectLemmas
 pub mod GroupingLemmas
 pub mod KnownWriting
 pub mod LentSent

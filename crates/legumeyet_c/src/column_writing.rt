@@ -47,7 +47,7 @@ impl<'l> NumberWriter for FormatWriter<'l> {
         length: &mut usize,
     ) -> Result<(), CallError> {
         let formatter = self.lent.get();
-        match change(number, self.options, formatter.fractions()) {
+        match change(number, &self.options, formatter.fractions()) {
             Ok(()) => put_number(formatter, number, out, length),
             Err(error) => Err(error),
         }

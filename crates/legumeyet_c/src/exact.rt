@@ -13,6 +13,7 @@ use crate::asking::{AskedFormatter, asked};
 use crate::content::Content;
 use crate::formatting::{put_form, put_shown};
 use crate::handles::FormatterHandle;
+use fixed_decimal::Decimal;
 use legumeyet_c_values::{CallError, GivenNumber, answer, compact_of_text};
 use std::alloc::Global;
 
@@ -30,7 +31,7 @@ fn write_form(
 {
     let lent = asked.held.lent();
     let formatter = lent.get();
-    match compact_of_text(alloc, number, asked.options, formatter.fractions()) {
+    match compact_of_text(alloc, number, &asked.options, formatter.fractions()) {
         Ok(form) => put_form(formatter, &form, out, length),
         Err(error) => Err(error),
     }
@@ -50,8 +51,9 @@ fn write_shown(
 {
     let lent = asked.held.lent();
     let formatter = lent.get();
-    match number.changed(alloc, asked.options, formatter.fractions()) {
-        Ok(value) => put_shown(formatter, &value, out, length),
+    let mut value = Decimal::zero(alloc);
+    match number.assign_changed(alloc, &asked.options, formatter.fractions(), &mut value) {
+        Ok(()) => put_shown(formatter, &value, out, length),
         Err(error) => Err(error),
     }
 }

@@ -1,19 +1,37 @@
 //! What a formatter writes of a number into bytes of the caller's.
 
 ghost use Rattle.std.specs.Prelude.{◌≡◌, IfOk, IfErr};
+ghost use Rattle.icu_decimal.specs.HeldTables.{tables_of};
 ghost use Rattle.legumeyet_c_values.specs.Parts.{held_text};
 ghost use Rattle.legumeyet_c_values.specs.Putting.{IsPut};
+ghost use Rattle.locale_numbers_formatter.specs.FormatText.{plain_tables};
 ghost use Rattle.legumeyet_c.specs.Formatted.{IsExactFault, IsExactText, IsFormatFault, IsFormatInParts, IsFormatText, IsPartsFault, IsShownFault, IsShownText};
 
 use fixed_decimal::{CompactDecimal, Decimal};
+use icu_decimal::DecimalFormatter;
 use legumeyet_c_values::{CallError, put};
-use locale_numbers_formatter::laws::format_is_text;
-use locale_numbers_formatter::{ExactError, NumberFormatter};
+use locale_numbers_formatter::laws::{format_is_text, plain_is_layered};
+use locale_numbers_formatter::{ExactError, FormatterKind, NumberFormatter};
 use std::alloc::Global;
 use writeable::{PartsSink, Writeable};
 
-// Writes the text of a number.
-pub(crate) fn put_number(
+// Writes the text of a plain number.
+fn put_plain(
+    formatter: &DecimalFormatter<'_>,
+    value: &Decimal,
+    out: &mut [u8],
+    length: &mut usize,
+) -> Result<(), CallError>
+    ensures { IsPut (IsFormatText (plain_tables (tables_of formatter.now)) value.now)
+        (IsFormatFault (plain_tables (tables_of formatter.now)) value.now) out.old out.new length.old length.new
+        result }
+{
+    plain_is_layered();
+    put(&formatter.format(value), out, length)
+}
+
+// Writes the text of a number of any format.
+fn put_formatted(
     formatter: &NumberFormatter<'_>,
     value: &Decimal,
     out: &mut [u8],
@@ -28,6 +46,24 @@ pub(crate) fn put_number(
     match formatter.format(value) {
         Ok(text) => put(&text, out, length),
         Err(_) => Err(CallError::Memory),
+    }
+}
+
+// Writes the text of a number.
+pub(crate) fn put_number(
+    formatter: &NumberFormatter<'_>,
+    value: &Decimal,
+    out: &mut [u8],
+    length: &mut usize,
+) -> Result<(), CallError>
+    ensures { IsPut (IsFormatText formatter.now value.now) (IsFormatFault formatter.now value.now) out.old out.new
+        length.old length.new result }
+{
+    match formatter.kind() {
+        FormatterKind::Plain(plain) => put_plain(plain, value, out, length),
+        FormatterKind::Compact(_) | FormatterKind::Percent(_) | FormatterKind::Currency(_) => {
+            put_formatted(formatter, value, out, length)
+        }
     }
 }
 

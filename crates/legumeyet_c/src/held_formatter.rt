@@ -2,14 +2,18 @@
 
 ghost use Rattle.std.specs.Prelude.{◌≡◌, IfOk, IfSome, IsErrOf, option_map};
 ghost use Rattle.icu_decimal.specs.PlainReading.{IsAnswered};
+ghost use Rattle.icu_decimal_direct.specs.TextTables.{text_tables};
 ghost use Rattle.locale_numbers_formatter.specs.FormatReading.{format_reading, reader_of};
+ghost use Rattle.locale_numbers_formatter.specs.FormatText.{plain_tables};
 ghost use Rattle.locale_numbers_formatter.specs.FormatTyped.{format_typed_reading, typed_of};
 ghost use Rattle.locale_numbers_formatter.specs.Regrouped.{regrouped};
 ghost use Rattle.legumeyet_c.specs.HeldFormats.{ReadAllocates, TypedReadAllocates, held_format, latin_at, tables_at};
 
+use crate::direct::texts_of;
 use fixed_decimal::Decimal;
 use icu_decimal::error::ReadError;
 use icu_decimal::options::GroupingStrategy;
+use icu_decimal_direct::TextTables;
 use locale_numbers_formats::{NumberFormat, NumberOptions};
 use locale_numbers_formatter::{
     FormatterKind, LenientNumberReader, NumberFormatter, NumberReader, OwnNumberTables,
@@ -61,19 +65,23 @@ impl<'a> LentFormatter<'a> {
     }
 }
 
-/// What a handle writes numbers with, and where it is of a kept book the reader of them, and that of what people type,
-/// each from the first text on that is read so. A contract sees both tables and the options.
+/// What a handle writes numbers with, and where it is of a kept book what their texts are put with directly, the reader of
+/// them, and that of what people type, each reader from the first text on that is read so. A contract sees both tables and
+/// the options.
 #[derive(Drop)]
 pub struct HeldFormatter {
     place: FormatPlace,
     options: NumberOptions,
+    texts: Option<TextTables<'static>>,
     exact: Option<Box<NumberReader<'static>>>,
     typed: Option<Box<LenientNumberReader<'static>>>,
 }
 
 impl Model for HeldFormatter {
     ghost use Rattle.std.specs.Prelude.{◌≡◌, IfSome};
+    ghost use Rattle.icu_decimal_direct.specs.TextTables.{text_tables};
     ghost use Rattle.locale_numbers_formatter.specs.FormatReading.{reader_of};
+    ghost use Rattle.locale_numbers_formatter.specs.FormatText.{plain_tables};
     ghost use Rattle.locale_numbers_formatter.specs.FormatTyped.{typed_of};
     ghost use Rattle.legumeyet_c.specs.HeldFormats.{HeldFormat, held_at, latin_at, tables_at};
 
@@ -81,7 +89,8 @@ impl Model for HeldFormatter {
 
     ghost view = { λ h. held_at h.place h.options };
 
-    ghost invariant = { λ h. IfSome h.exact (λ reader. reader.value ≡ reader_of (tables_at h.place))
+    ghost invariant = { λ h. IfSome h.texts (λ texts. plain_tables (text_tables texts) ≡ tables_at h.place)
+        × IfSome h.exact (λ reader. reader.value ≡ reader_of (tables_at h.place))
         × IfSome h.typed (λ reader. reader.value ≡ typed_of (tables_at h.place) (latin_at h.place)) };
 }
 
@@ -165,9 +174,11 @@ impl HeldFormatter {
     ) -> HeldFormatter
         ensures { result ≡ held_format formatter.entry latin.entry options }
     {
+        let texts = texts_of(&formatter);
         HeldFormatter {
             place: FormatPlace::Kept(formatter, latin),
             options,
+            texts,
             exact: None,
             typed: None,
         }
@@ -190,6 +201,7 @@ impl HeldFormatter {
             Ok(latin) => Ok(HeldFormatter {
                 place: FormatPlace::Own(own, latin),
                 options: format.options,
+                texts: None,
                 exact: None,
                 typed: None,
             }),
@@ -198,10 +210,17 @@ impl HeldFormatter {
     }
 
     // What is made of a number, where a call does not say. It does not allocate.
-    pub(crate) fn options(&self) -> NumberOptions
-        ensures { result ≡ self.now.options }
+    pub(crate) fn options(&self) -> &NumberOptions
+        ensures { result.now ≡ self.now.options }
     {
-        self.options
+        &self.options
+    }
+
+    // What texts are put with directly, where that is known. It does not allocate.
+    pub(crate) fn texts(&self) -> Option<&TextTables<'static>>
+        ensures { IfSome result (λ texts. plain_tables (text_tables texts.now) ≡ self.now.tables) }
+    {
+        self.texts.as_ref()
     }
 
     // What writes with the tables, borrowed for a call. It does not allocate.

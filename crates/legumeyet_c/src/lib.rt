@@ -17,6 +17,7 @@ mod column_writing;
 pub mod columns;
 mod content;
 pub mod crossing;
+mod direct;
 pub mod exact;
 mod format_opening;
 pub mod formatter;

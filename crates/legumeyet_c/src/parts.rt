@@ -14,6 +14,7 @@ use crate::asking::{AskedFormatter, asked};
 use crate::content::Content;
 use crate::formatting::number_in_parts;
 use crate::handles::FormatterHandle;
+use fixed_decimal::Decimal;
 use legumeyet_c_values::{CallError, GivenNumber, Interval, answer, put_parts};
 use std::alloc::Global;
 use writeable::PartsSink;
@@ -32,8 +33,9 @@ fn asked_in_parts(
 {
     let lent = asked.held.lent();
     let formatter = lent.get();
-    match number.changed(alloc, asked.options, formatter.fractions()) {
-        Ok(value) => number_in_parts(alloc, formatter, &value),
+    let mut value = Decimal::zero(alloc);
+    match number.assign_changed(alloc, &asked.options, formatter.fractions(), &mut value) {
+        Ok(()) => number_in_parts(alloc, formatter, &value),
         Err(error) => Err(error),
     }
 }

@@ -11,13 +11,15 @@ ghost use Rattle.legumeyet_c.specs.Writing.{GivesNumber, IsNumberRefused, IsNumb
 
 use crate::asking::{AskedFormatter, asked};
 use crate::content::Content;
+use crate::direct::{digits_given, put_digits};
 use crate::formatting::put_number;
 use crate::handles::FormatterHandle;
+use fixed_decimal::Decimal;
 use legumeyet_c_values::{CallError, GivenNumber, answer};
 use std::alloc::Global;
 
 // Writes a number as is asked.
-fn write_asked(
+fn write_given(
     alloc: Global,
     asked: &AskedFormatter<'_>,
     number: GivenNumber<'_>,
@@ -30,9 +32,31 @@ fn write_asked(
 {
     let lent = asked.held.lent();
     let formatter = lent.get();
-    match number.changed(alloc, asked.options, formatter.fractions()) {
-        Ok(value) => put_number(formatter, &value, out, length),
+    let mut value = Decimal::zero(alloc);
+    match number.assign_changed(alloc, &asked.options, formatter.fractions(), &mut value) {
+        Ok(()) => put_number(formatter, &value, out, length),
         Err(error) => Err(error),
+    }
+}
+
+// The same, a text directly where it can be.
+fn write_asked(
+    alloc: Global,
+    asked: &AskedFormatter<'_>,
+    number: GivenNumber<'_>,
+    out: &mut [u8],
+    length: &mut usize,
+) -> Result<(), CallError>
+    ensures { IsPut (Writes IsFormatText (GivesNumber (given_of number.entry)) (Ok asked.now))
+        (IsWritingFault IsFormatFault (GivesNumber (given_of number.entry)) (IsNumberRefused (given_of number.entry))
+        (Ok asked.now)) out.old out.new length.old length.new result }
+{
+    let Some(texts) = asked.held.texts() else {
+        return write_given(alloc, asked, number, out, length);
+    };
+    match digits_given(&asked.options, number) {
+        Some(digits) => put_digits(texts, &digits, out, length),
+        None => write_given(alloc, asked, number, out, length),
     }
 }
 

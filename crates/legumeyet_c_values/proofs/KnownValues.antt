@@ -1,6 +1,6 @@
 -- Values from outside that a wrong definition of numbers does not survive: the enums of include/legumeyet.h.
 use Rattle.std.proofs.Common.{◌≡◌, ℕ, List, [], ◌∷◌, Some, None, Ok, Err, refl}
-use Rattle.std.specs.Prelude.{codes, pos, negsuc}
+use Rattle.std.specs.Prelude.{ℤ, codes, pos, negsuc}
 use Rattle.std.specs.List.{concat}
 use Rattle.fixed_decimal.specs.declared.RoundingIncrement.TheVariants.{MultiplesOf1, MultiplesOf2, MultiplesOf5, MultiplesOf25}
 use Rattle.fixed_decimal.specs.declared.SignDisplay.TheVariants as display
@@ -19,12 +19,14 @@ use Rattle.locale_numbers_formats.specs.declared.NumberOptions.{NumberOptions}
 use Rattle.locale_numbers_formats.specs.declared.NumberShape.{NumberShape}
 use Rattle.locale_numbers_formats.specs.declared.NumberUnit.TheVariants as beside
 use Rattle.locale_numbers_formats.specs.declared.Rounding.{Rounding}
-use Rattle.locale_numbers_formats.specs.declared.Rounding.TheVariants.{Usual, Cash, AsGiven, At}
+use Rattle.locale_numbers_formats.specs.declared.Rounding.TheVariants.{Usual, Cash, AsGiven, At, Significant, Either}
+use Rattle.locale_numbers_formats.specs.declared.RoundingPriority.TheVariants.{MorePrecision, LessPrecision}
 use Rattle.locale_numbers_formats.specs.declared.SignAsked.TheVariants.{Keep as KeepSign, Show}
+use Rattle.locale_numbers_formats.specs.declared.SignificantDigits.{SignificantDigits}
 use Rattle.locale_numbers_formats.specs.declared.SkeletonError.TheVariants as skeleton
-use Rattle.locale_numbers_formats.specs.declared.TrailingZeros.TheVariants.{Keep, Trim, TrimWhole}
+use Rattle.locale_numbers_formats.specs.declared.TrailingZeros.TheVariants.{Keep, Trim, TrimWhole, TrimAll}
 use Rattle.legumeyet_c_values.specs.CallErrors.{answer_of}
-use Rattle.legumeyet_c_values.specs.Columns.{column_fault, ends_from, spelled_lines}
+use Rattle.legumeyet_c_values.specs.Columns.{ends_from, spelled_lines}
 use Rattle.legumeyet_c_values.specs.Numbers.{spelled}
 use Rattle.legumeyet_c_values.specs.Parts.{kind_of}
 use Rattle.legumeyet_c_values.specs.Words.{number_options_of, options_of, shape_of, usual}
@@ -83,24 +85,24 @@ asks rounding = record usual { rounding = rounding }
 no_words : number_options_of [] ≡ Some usual
 no_words = refl
 
-zeroed : number_options_of (pos 0 ∷ pos 0 ∷ pos 0 ∷ pos 0 ∷ pos 0 ∷ pos 0 ∷ pos 0 ∷ []) ≡ Some usual
+zeroed : number_options_of (pos 0 ∷ pos 0 ∷ pos 0 ∷ pos 0 ∷ pos 0 ∷ pos 0 ∷ pos 0 ∷ pos 0 ∷ pos 0 ∷ pos 0 ∷ []) ≡ Some usual
 zeroed = refl
 
 usual_is : usual ≡ record { rounding = Usual; leading_zeros = TrimRoundedZero; zeros = Keep; integer_digits = pos 0; fraction_digits = pos 0; sign = KeepSign }
 usual_is = refl
 
 -- a word past the known ones is 0
-known_past : number_options_of (pos 0 ∷ pos 0 ∷ pos 0 ∷ pos 0 ∷ pos 0 ∷ pos 0 ∷ pos 0 ∷ pos 0 ∷ []) ≡ Some usual
+known_past : number_options_of (pos 0 ∷ pos 0 ∷ pos 0 ∷ pos 0 ∷ pos 0 ∷ pos 0 ∷ pos 0 ∷ pos 0 ∷ pos 0 ∷ pos 0 ∷ pos 0 ∷ []) ≡ Some usual
 known_past = refl
 
-unknown_past : number_options_of (pos 0 ∷ pos 0 ∷ pos 0 ∷ pos 0 ∷ pos 0 ∷ pos 0 ∷ pos 0 ∷ pos 1 ∷ []) ≡ None
+unknown_past : number_options_of (pos 0 ∷ pos 0 ∷ pos 0 ∷ pos 0 ∷ pos 0 ∷ pos 0 ∷ pos 0 ∷ pos 0 ∷ pos 0 ∷ pos 0 ∷ pos 1 ∷ []) ≡ None
 unknown_past = refl
 
-negative_past : number_options_of (pos 0 ∷ pos 0 ∷ pos 0 ∷ pos 0 ∷ pos 0 ∷ pos 0 ∷ pos 0 ∷ negsuc 0 ∷ []) ≡ None
+negative_past : number_options_of (pos 0 ∷ pos 0 ∷ pos 0 ∷ pos 0 ∷ pos 0 ∷ pos 0 ∷ pos 0 ∷ pos 0 ∷ pos 0 ∷ pos 0 ∷ negsuc 0 ∷ []) ≡ None
 negative_past = refl
 
--- every word at once: with no sign, half to even to 25 thousandths, no zeros where all are, 3 integer digits and 2 of the fraction
-all_words : number_options_of (pos 2 ∷ pos 9 ∷ negsuc 2 ∷ pos 25 ∷ pos 2 ∷ pos 3 ∷ pos 2 ∷ [])
+-- seven words at once: with no sign, half to even to 25 thousandths, no zeros where all are, 3 integer digits and 2 of the fraction
+seven_words : number_options_of (pos 2 ∷ pos 9 ∷ negsuc 2 ∷ pos 25 ∷ pos 2 ∷ pos 3 ∷ pos 2 ∷ [])
     ≡ Some (record {
       rounding = At (negsuc 2) (Unsigned HalfEven) MultiplesOf25;
       leading_zeros = TrimRoundedZero;
@@ -109,7 +111,7 @@ all_words : number_options_of (pos 2 ∷ pos 9 ∷ negsuc 2 ∷ pos 25 ∷ pos 2
       fraction_digits = pos 2;
       sign = Show display.Never;
     })
-all_words = refl
+seven_words = refl
 
 -- the signs
 sign_auto : number_options_of (pos 1 ∷ []) ≡ Some (record usual { sign = Show display.Auto })
@@ -202,7 +204,10 @@ increment_alone = refl
 zeros_trimmed : number_options_of (pos 0 ∷ pos 0 ∷ pos 0 ∷ pos 0 ∷ pos 1 ∷ []) ≡ Some (record usual { zeros = Trim })
 zeros_trimmed = refl
 
-zeros_unknown : number_options_of (pos 0 ∷ pos 0 ∷ pos 0 ∷ pos 0 ∷ pos 3 ∷ []) ≡ None
+zeros_all_trimmed : number_options_of (pos 0 ∷ pos 0 ∷ pos 0 ∷ pos 0 ∷ pos 3 ∷ []) ≡ Some (record usual { zeros = TrimAll })
+zeros_all_trimmed = refl
+
+zeros_unknown : number_options_of (pos 0 ∷ pos 0 ∷ pos 0 ∷ pos 0 ∷ pos 4 ∷ []) ≡ None
 zeros_unknown = refl
 
 most_digits : number_options_of (pos 0 ∷ pos 0 ∷ pos 0 ∷ pos 0 ∷ pos 0 ∷ pos 32767 ∷ pos 32767 ∷ [])
@@ -217,6 +222,79 @@ too_many_fraction_digits = refl
 
 digits_below : number_options_of (pos 0 ∷ pos 0 ∷ pos 0 ∷ pos 0 ∷ pos 0 ∷ negsuc 0 ∷ []) ≡ None
 digits_below = refl
+
+-- significant digits: at least 1 where only the most are said, and at most 65535 where only the least are
+abbrev digits : ℕ → ℕ → SignificantDigits
+digits least most = record { least = least; most = most }
+
+-- a rounding with its position and increment, and two counts of significant digits with a priority
+abbrev in_digits : ℤ → ℤ → ℤ → ℤ → ℤ → ℤ → List ℤ
+in_digits word position increment least most priority = pos 0 ∷ word ∷ position ∷ increment ∷ pos 0 ∷ pos 0 ∷ pos 0 ∷ least ∷ most ∷ priority ∷ []
+
+digits_to_three : number_options_of (in_digits (pos 0) (pos 0) (pos 0) (pos 0) (pos 3) (pos 0)) ≡ Some (asks (Significant (digits 1 3) (Unsigned HalfEven)))
+digits_to_three = refl
+
+digits_from_three : number_options_of (in_digits (pos 0) (pos 0) (pos 0) (pos 3) (pos 0) (pos 0)) ≡ Some (asks (Significant (digits 3 65535) (Unsigned HalfEven)))
+digits_from_three = refl
+
+digits_just_three : number_options_of (in_digits (pos 2) (pos 0) (pos 1) (pos 3) (pos 3) (pos 0)) ≡ Some (asks (Significant (digits 3 3) (Unsigned Trunc)))
+digits_just_three = refl
+
+most_significant : number_options_of (in_digits (pos 0) (pos 0) (pos 0) (pos 65535) (pos 65535) (pos 0)) ≡ Some (asks (Significant (digits 65535 65535) (Unsigned HalfEven)))
+most_significant = refl
+
+too_many_significant : number_options_of (in_digits (pos 0) (pos 0) (pos 0) (pos 0) (pos 65536) (pos 0)) ≡ None
+too_many_significant = refl
+
+significant_below : number_options_of (in_digits (pos 0) (pos 0) (pos 0) (negsuc 0) (pos 3) (pos 0)) ≡ None
+significant_below = refl
+
+least_above_most : number_options_of (in_digits (pos 0) (pos 0) (pos 0) (pos 4) (pos 3) (pos 0)) ≡ None
+least_above_most = refl
+
+-- the digits alone leave the position aside, which is looked at
+digits_for_position : number_options_of (in_digits (pos 9) (negsuc 1) (pos 0) (pos 2) (pos 3) (pos 0)) ≡ Some (asks (Significant (digits 2 3) (Unsigned HalfEven)))
+digits_for_position = refl
+
+digits_and_no_position : number_options_of (in_digits (pos 9) (pos 40000) (pos 0) (pos 2) (pos 3) (pos 0)) ≡ None
+digits_and_no_position = refl
+
+digits_of_multiples : number_options_of (in_digits (pos 0) (pos 0) (pos 5) (pos 2) (pos 3) (pos 0)) ≡ None
+digits_of_multiples = refl
+
+digits_in_cash : number_options_of (in_digits (pos 10) (pos 0) (pos 0) (pos 2) (pos 3) (pos 0)) ≡ None
+digits_in_cash = refl
+
+digits_not_rounded : number_options_of (in_digits (pos 11) (pos 0) (pos 0) (pos 2) (pos 3) (pos 0)) ≡ None
+digits_not_rounded = refl
+
+-- with a priority the position counts beside them, by a mode
+more_precision : number_options_of (in_digits (pos 9) (negsuc 1) (pos 1) (pos 2) (pos 3) (pos 1)) ≡ Some (asks (Either MorePrecision (negsuc 1) (digits 2 3) (Unsigned HalfEven)))
+more_precision = refl
+
+less_precision : number_options_of (in_digits (pos 3) (pos 0) (pos 0) (pos 0) (pos 3) (pos 2)) ≡ Some (asks (Either LessPrecision (pos 0) (digits 1 3) Ceil))
+less_precision = refl
+
+priority_without_mode : number_options_of (in_digits (pos 0) (pos 0) (pos 0) (pos 0) (pos 3) (pos 1)) ≡ None
+priority_without_mode = refl
+
+priority_alone : number_options_of (in_digits (pos 9) (pos 0) (pos 0) (pos 0) (pos 0) (pos 1)) ≡ None
+priority_alone = refl
+
+priority_unknown : number_options_of (in_digits (pos 9) (pos 0) (pos 0) (pos 0) (pos 3) (pos 3)) ≡ None
+priority_unknown = refl
+
+-- every word at once
+ten_words : number_options_of (pos 3 ∷ pos 5 ∷ negsuc 1 ∷ pos 0 ∷ pos 3 ∷ pos 2 ∷ pos 1 ∷ pos 2 ∷ pos 4 ∷ pos 2 ∷ [])
+    ≡ Some (record {
+      rounding = Either LessPrecision (negsuc 1) (digits 2 4) (Unsigned HalfExpand);
+      leading_zeros = TrimRoundedZero;
+      zeros = TrimAll;
+      integer_digits = pos 2;
+      fraction_digits = pos 1;
+      sign = Show display.Always;
+    })
+ten_words = refl
 
 -- a formatter's own options stay where there is no word, and none of them where there is one
 own_stay : options_of [] (asks Cash) ≡ Some (asks Cash)
@@ -298,7 +376,7 @@ currency_width_unknown : shape_of (pos 0 ∷ pos 0 ∷ pos 0 ∷ pos 0 ∷ pos 2
 currency_width_unknown = refl
 
 -- an unknown word comes before a text that is no code
-word_before_code : shape_of (pos 0 ∷ pos 0 ∷ pos 2 ∷ pos 0 ∷ pos 0 ∷ pos 4 ∷ []) (codes "euro") ≡ Err call.UnknownOption
+word_before_code : shape_of (pos 0 ∷ pos 0 ∷ pos 2 ∷ pos 0 ∷ pos 0 ∷ pos 5 ∷ []) (codes "euro") ≡ Err call.UnknownOption
 word_before_code = refl
 
 grouped_always : shape_of (pos 0 ∷ pos 0 ∷ pos 0 ∷ pos 0 ∷ pos 0 ∷ pos 2 ∷ []) [] ≡ Ok (record plain { grouping = grouping.Always })
@@ -306,6 +384,9 @@ grouped_always = refl
 
 grouped_by_two : shape_of (pos 0 ∷ pos 0 ∷ pos 0 ∷ pos 0 ∷ pos 0 ∷ pos 3 ∷ []) [] ≡ Ok (record plain { grouping = grouping.Min2 })
 grouped_by_two = refl
+
+grouped_aligned : shape_of (pos 0 ∷ pos 0 ∷ pos 0 ∷ pos 0 ∷ pos 0 ∷ pos 4 ∷ []) [] ≡ Ok (record plain { grouping = grouping.OnAligned })
+grouped_aligned = refl
 
 -- ---- columns
 
@@ -327,9 +408,3 @@ column_lines = refl
 
 column_ended : spelled_lines (55 ∷ 10 ∷ []) ≡ spelled (55 ∷ []) ∷ []
 column_ended = refl
-
-column_closed : column_fault {T = ℕ} {C = ℕ} None (λ tables. Some 0) ≡ Some call.Closed
-column_closed = refl
-
-column_unknown : column_fault {T = ℕ} {C = ℕ} (Some 0) (λ tables. None) ≡ Some call.UnknownOption
-column_unknown = refl

@@ -6,4 +6,5 @@ pub mod ListingLemmas
 pub mod NumbersLemmas
 pub mod PartsLemmas
 pub mod PuttingLemmas
+pub mod UsualLemmas
 pub mod WordLemmas

@@ -71,7 +71,7 @@ abbrev pub text_of : CallError → List ℕ
 text_of Memory = codes "out of memory"
 text_of Closed = codes "the handle is closed"
 text_of TooSmall = codes "more room is needed"
-text_of UnknownOption = codes "an unknown option, or a count of digits above 32767"
+text_of UnknownOption = codes "an unknown option, or a count of digits out of its range"
 text_of Tag = codes "no locale tag"
 text_of Table = codes "the book lacks a table for the tag"
 text_of Number = codes "no decimal number"

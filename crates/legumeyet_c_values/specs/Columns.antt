@@ -1,14 +1,14 @@
 -- What a call that writes a column leaves in the memory of its caller: the texts of the first numbers, one after the other, where each ends, and why the next number was not written.
 -- Defined in include/legumeyet.h, and docs/c-api.md, "Columns".
 -- Cited by the exports that write columns.
-use Rattle.std.specs.Prelude.{◌≡◌, ◌≢◌, ◌⊎◌, ℕ, ℤ, ◌+◌, ◌≤◌, List, [], ◌∷◌, ◌++◌, length, take, drop, map, Option, Some, None, Result, Err, IsOk, IfErr, IsErrOf}
+use Rattle.std.specs.Prelude.{◌≡◌, ◌≢◌, ◌⊎◌, ℕ, ℤ, ◌+◌, ◌≤◌, List, [], ◌∷◌, ◌++◌, length, take, drop, map, Result, Err, IsOk, IfErr, IsErrOf}
 use Rattle.std.specs.Float.Ieee.{Float}
 use Rattle.std.specs.List.{concat}
 use Rattle.locale_numbers_lines.specs.Lines.{lines_of}
 use Rattle.legumeyet_c_values.specs.Numbers.{Given, double, scaled, spelled}
 use Rattle.legumeyet_c_values.specs.Putting.{IsCut}
 use Rattle.legumeyet_c_values.specs.declared.call_error.CallError.{CallError}
-use Rattle.legumeyet_c_values.specs.declared.call_error.CallError.TheVariants.{Closed, TooSmall, UnknownOption}
+use Rattle.legumeyet_c_values.specs.declared.call_error.CallError.TheVariants.{TooSmall}
 use Rattle.legumeyet_c_values.specs.declared.columns.Column.{Column}
 use Rattle.legumeyet_c_values.specs.declared.columns.Column.TheVariants as column
 
@@ -86,20 +86,6 @@ pub record IsWrittenColumn (says : Given → List ℕ → Type 0) (fails : Given
 pub record IsRefusedColumn (fault : CallError) (before after : Room) (outcome : Result (Unit {0}) CallError) : Type 0 where
   pub cause : outcome ≡ Err fault
   pub untouched : after ≡ record before { count = 0 }
-
--- what comes before all numbers: a closed handle, then unknown options
-abbrev pub option_fault : {C : Type 0} → Option C → Option CallError
-option_fault None = Some UnknownOption
-option_fault (Some choices) = None
-
-abbrev pub column_fault : {T C : Type 0} → Option T → (T → Option C) → Option CallError
-column_fault None choices = Some Closed
-column_fault (Some tables) choices = option_fault (choices tables)
-
--- a column is written, or refused as a whole
-abbrev pub IsColumn : Option CallError → (Given → List ℕ → Type 0) → (Given → CallError → Type 0) → List Given → Room → Room → Result (Unit {0}) CallError → Type 0
-IsColumn (Some fault) says fails numbers before after outcome = IsRefusedColumn fault before after outcome
-IsColumn None says fails numbers before after outcome = IsWrittenColumn says fails numbers before after outcome
 
 -- ---- how far a column is written
 

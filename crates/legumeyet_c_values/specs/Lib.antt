@@ -1,9 +1,11 @@
 pub mod CallErrors
 pub mod Columns
+pub mod DigitWords
 pub mod Information
 pub mod LineBuffers
 pub mod Numbers
 pub mod Parts
 pub mod Putting
+pub mod UsualOptions
 pub mod WordLaws
 pub mod Words

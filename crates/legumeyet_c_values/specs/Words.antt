@@ -17,6 +17,7 @@ use Rattle.icu_dimension_fractions.specs.declared.CurrencyStyle.{CurrencyStyle}
 use Rattle.icu_dimension_fractions.specs.declared.CurrencyStyle.TheVariants as style
 use Rattle.icu_dimension_fractions.specs.declared.CurrencyWidth.{CurrencyWidth}
 use Rattle.icu_dimension_fractions.specs.declared.CurrencyWidth.TheVariants as currency_width
+use Rattle.legumeyet_c_values.specs.DigitWords.{rounding_by}
 use Rattle.legumeyet_c_values.specs.declared.call_error.CallError.{CallError}
 use Rattle.legumeyet_c_values.specs.declared.call_error.CallError.TheVariants.{Code, UnknownOption}
 use Rattle.locale_numbers_formats.specs.declared.CompactWidth.{CompactWidth}
@@ -30,10 +31,12 @@ use Rattle.locale_numbers_formats.specs.declared.NumberUnit.{NumberUnit}
 use Rattle.locale_numbers_formats.specs.declared.NumberUnit.TheVariants as beside
 use Rattle.locale_numbers_formats.specs.declared.Rounding.{Rounding}
 use Rattle.locale_numbers_formats.specs.declared.Rounding.TheVariants.{Usual, Cash, AsGiven, At}
+use Rattle.locale_numbers_formats.specs.declared.RoundingPriority.{RoundingPriority}
+use Rattle.locale_numbers_formats.specs.declared.RoundingPriority.TheVariants.{MorePrecision, LessPrecision}
 use Rattle.locale_numbers_formats.specs.declared.SignAsked.{SignAsked}
 use Rattle.locale_numbers_formats.specs.declared.SignAsked.TheVariants.{Keep as KeepSign, Show}
 use Rattle.locale_numbers_formats.specs.declared.TrailingZeros.{TrailingZeros}
-use Rattle.locale_numbers_formats.specs.declared.TrailingZeros.TheVariants.{Keep, Trim, TrimWhole}
+use Rattle.locale_numbers_formats.specs.declared.TrailingZeros.TheVariants.{Keep, Trim, TrimWhole, TrimAll}
 
 -- ---- words
 
@@ -67,7 +70,7 @@ abbrev pub roundings : ℤ → RoundingIncrement → List Rounding
 roundings position increment = Usual ∷ map (λ mode. At position mode increment) modes ++ Cash ∷ AsGiven ∷ []
 
 abbrev pub trimmings : List TrailingZeros
-trimmings = Keep ∷ Trim ∷ TrimWhole ∷ []
+trimmings = Keep ∷ Trim ∷ TrimWhole ∷ TrimAll ∷ []
 
 -- an increment is its number, and 0 is that of 1
 abbrev pub increment_of : ℤ → Option RoundingIncrement
@@ -90,13 +93,36 @@ abbrev pub count_of : ℤ → Option ℤ
 count_of (pos number) = if nat_lt number 32768 then Some (pos number) else None
 count_of (negsuc number) = None
 
-abbrev pub rounding_with : Option ℤ → Option RoundingIncrement → ℤ → Option Rounding
-rounding_with None increment word = None
-rounding_with (Some position) None word = None
-rounding_with (Some position) (Some increment) word = named (roundings position increment) word
+abbrev pub position_rounding_with : Option ℤ → Option RoundingIncrement → ℤ → Option Rounding
+position_rounding_with None increment word = None
+position_rounding_with (Some position) None word = None
+position_rounding_with (Some position) (Some increment) word = named (roundings position increment) word
 
+-- without significant digits
+abbrev pub position_rounding_of : List ℤ → Option Rounding
+position_rounding_of words = position_rounding_with (position_of (word_at words 2)) (increment_of (word_at words 3)) (word_at words 1)
+
+-- how many significant digits; 0 is not said
+abbrev pub significant_of : ℤ → Option ℕ
+significant_of (pos number) = if nat_lt number 65536 then Some number else None
+significant_of (negsuc number) = None
+
+-- the first is none: the digits alone count
+abbrev pub priorities : List (Option RoundingPriority)
+priorities = None ∷ Some MorePrecision ∷ Some LessPrecision ∷ []
+
+abbrev pub rounding_with : Option Rounding → Option RoundingIncrement → Option ℕ → Option ℕ → Option (Option RoundingPriority) → Option Rounding
+rounding_with None increment least most priority = None
+rounding_with (Some asked) None least most priority = None
+rounding_with (Some asked) (Some increment) None most priority = None
+rounding_with (Some asked) (Some increment) (Some least) None priority = None
+rounding_with (Some asked) (Some increment) (Some least) (Some most) None = None
+rounding_with (Some asked) (Some increment) (Some least) (Some most) (Some priority) = rounding_by least most priority increment asked
+
+-- at the position, or to the digits
 abbrev pub rounding_of : List ℤ → Option Rounding
-rounding_of words = rounding_with (position_of (word_at words 2)) (increment_of (word_at words 3)) (word_at words 1)
+rounding_of words =
+    rounding_with (position_rounding_of words) (increment_of (word_at words 3)) (significant_of (word_at words 7)) (significant_of (word_at words 8)) (named priorities (word_at words 9))
 
 -- what each word stands for, where each is known
 abbrev pub options_with : Option SignAsked → Option Rounding → Option TrailingZeros → Option ℤ → Option ℤ → Option NumberOptions
@@ -108,10 +134,10 @@ options_with (Some sign) (Some rounding) (Some zeros) (Some whole) None = None
 options_with (Some sign) (Some rounding) (Some zeros) (Some whole) (Some fraction) =
     Some (record { rounding = rounding; leading_zeros = TrimRoundedZero; zeros = zeros; integer_digits = whole; fraction_digits = fraction; sign = sign })
 
--- seven words: the sign, the rounding with its position and increment, the zeros at the end, and the least counts of digits
+-- ten words: the sign, the rounding with its position and increment, the zeros at the end, the least counts of digits, and the significant digits with their priority
 abbrev pub number_options_of : List ℤ → Option NumberOptions
 number_options_of words =
-    if is_known 7 words
+    if is_known 10 words
     then options_with (named signs (word_at words 0)) (rounding_of words) (named trimmings (word_at words 4)) (count_of (word_at words 5)) (count_of (word_at words 6))
     else None
 
@@ -134,7 +160,7 @@ abbrev pub notations : CompactWidth → List Notation
 notations width = Standard ∷ Compact width ∷ []
 
 abbrev pub groupings : List GroupingStrategy
-groupings = grouping.Auto ∷ grouping.Never ∷ grouping.Always ∷ grouping.Min2 ∷ []
+groupings = grouping.Auto ∷ grouping.Never ∷ grouping.Always ∷ grouping.Min2 ∷ grouping.OnAligned ∷ []
 
 abbrev pub styles : List CurrencyStyle
 styles = style.Standard ∷ style.Accounting ∷ []

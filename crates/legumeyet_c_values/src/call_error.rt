@@ -139,7 +139,7 @@ impl CallError {
             CallError::Memory => "out of memory",
             CallError::Closed => "the handle is closed",
             CallError::TooSmall => "more room is needed",
-            CallError::UnknownOption => "an unknown option, or a count of digits above 32767",
+            CallError::UnknownOption => "an unknown option, or a count of digits out of its range",
             CallError::Tag => "no locale tag",
             CallError::Table => "the book lacks a table for the tag",
             CallError::Number => "no decimal number",

@@ -6,7 +6,7 @@
 //! use legumeyet_c_values::{GivenNumber, answer, number_options_by, put};
 //!
 //! let options = number_options_by(&[3, 9, -1])?;                  // the sign always, to the nearest tenth
-//! let value = GivenNumber::Text(b"9.75").changed(alloc, options, None)?;      // 9.8, with the sign +
+//! GivenNumber::Text(b"9.75").assign_changed(alloc, &options, None, &mut value)?;      // 9.8, with the sign +
 //! let number = answer(put(&value, out, &mut length));             // 0; `out` begins with `+9.8`, and `length` is 4
 //! ```
 
@@ -14,6 +14,7 @@
 
 mod call_error;
 mod columns;
+mod digit_words;
 mod intervals;
 pub mod laws;
 mod line_buffers;
@@ -22,6 +23,7 @@ mod option_words;
 mod parts;
 mod putting;
 mod shape_words;
+mod usual_words;
 mod words;
 
 pub use call_error::{CallError, answer, error_of};
@@ -33,3 +35,4 @@ pub use option_words::{number_options_by, options_asked, usual_options};
 pub use parts::put_parts;
 pub use putting::{put, put_bytes};
 pub use shape_words::shape_by;
+pub use usual_words::is_usual;

@@ -179,12 +179,12 @@ pub enum GivenNumber<'a> {
 /// `Memory`: out of memory, which only multiples of 25 take; the number is then as it was.
 pub fn change(
     number: &mut Decimal,
-    options: NumberOptions,
+    options: &NumberOptions,
     fractions: Option<FractionInfo>,
 ) -> Result<(), CallError>
-    ensures value { OnOk result (number.new ≡ changed options fractions number.old) }
+    ensures value { OnOk result (number.new ≡ changed options.now fractions number.old) }
     ensures fault { IfErr result
-        (λ error. (error ≡ CallError.Memory) × MayGrowBy options.rounding fractions number.old) }
+        (λ error. (error ≡ CallError.Memory) × MayGrowBy options.now.rounding fractions number.old) }
 {
     match options.change(fractions, number) {
         Ok(()) => Ok(()),
@@ -210,42 +210,41 @@ impl<'a> GivenNumber<'a> {
         }
     }
 
-    /// The number, changed as options ask for, `fractions` being the digits of its currency, where it is an amount of
-    /// money: the text `9.75`, at -1 to the even one, with the sign always, is 9.8 with a plus.
+    /// Replaces a number by this one, changed as options ask for, `fractions` being the digits of its currency, where it is
+    /// an amount of money: the text `9.75`, at -1 to the even one, with the sign always, is 9.8 with a plus.
     ///
     /// `Number`: a text is no decimal number, or a double is not finite. `Limit`: a digit would be beyond the magnitudes
     /// -32768 to 32767. `Memory`: out of memory, which a number of sixteen digits at most takes only by multiples of 25.
-    pub fn changed(
+    pub fn assign_changed(
         self,
         alloc: Global,
-        options: NumberOptions,
+        options: &NumberOptions,
         fractions: Option<FractionInfo>,
-    ) -> Result<Decimal, CallError>
-        ensures value { IfOk result
-            (λ value. Gives options fractions (IsGiven (given_of self.entry)) value) }
+        number: &mut Decimal,
+    ) -> Result<(), CallError>
+        ensures value { OnOk result (Gives options.now fractions (IsGiven (given_of self.entry)) number.new) }
         ensures fault { IfErr result
-            (λ error. IsChangeFault options fractions (IsGiven (given_of self.entry))
+            (λ error. IsChangeFault options.now fractions (IsGiven (given_of self.entry))
             (IsGivenFault (given_of self.entry)) error) }
     {
-        let mut value = Decimal::zero(alloc);
-        self.assign(alloc, &mut value)?;
-        match change(&mut value, options, fractions) {
-            Ok(()) => Ok(value),
+        self.assign(alloc, number)?;
+        match change(number, options, fractions) {
+            Ok(()) => Ok(()),
             Err(error) => Err(error),
         }
     }
 }
 
 /// The compact number that a text spells, its significand changed as options ask for: `1.25c3` to tenths is `1.2c3`. The
-/// errors are those of `GivenNumber::changed`.
+/// errors are those of `GivenNumber::assign_changed`.
 pub fn compact_of_text(
     alloc: Global,
     text: &[u8],
-    options: NumberOptions,
+    options: &NumberOptions,
     fractions: Option<FractionInfo>,
 ) -> Result<CompactDecimal, CallError>
-    ensures value { IfOk result (λ value. GivesCompact options fractions text.now value) }
-    ensures fault { IfErr result (λ error. IsCompactChangeFault options fractions text.now error) }
+    ensures value { IfOk result (λ value. GivesCompact options.now fractions text.now value) }
+    ensures fault { IfErr result (λ error. IsCompactChangeFault options.now fractions text.now error) }
 {
     let value = read_compact(alloc, text)?;
     let exponent = value.exponent();

@@ -1,11 +1,14 @@
 //! What is made of a number before it is written, by words: `legumeyet_options`.
 
 ghost use Rattle.std.specs.Prelude.{◌≡◌, [], Some};
-ghost use Rattle.legumeyet_c_values.specs.Words.{count_of, increment_of, named, number_options_of, options_of, position_of, rounding_of, roundings, signs, trimmings, usual};
+ghost use Rattle.legumeyet_c_values.specs.Words.{count_of, increment_of, named, number_options_of, options_of, position_of, position_rounding_of, priorities, rounding_of, roundings, significant_of, signs, trimmings, usual};
 
+use crate::digit_words::rounding_by;
 use crate::words::{are_zeros, is_known, word_at};
 use fixed_decimal::{RoundingIncrement, SignDisplay, SignedRoundingMode, UnsignedRoundingMode};
-use locale_numbers_formats::{LeadingZeros, NumberOptions, Rounding, SignAsked, TrailingZeros};
+use locale_numbers_formats::{
+    LeadingZeros, NumberOptions, Rounding, RoundingPriority, SignAsked, TrailingZeros,
+};
 
 // The sign of a word.
 fn sign_by(word: i32) -> Option<SignAsked>
@@ -65,6 +68,7 @@ fn zeros_by(word: i32) -> Option<TrailingZeros>
         0 => Some(TrailingZeros::Keep),
         1 => Some(TrailingZeros::Trim),
         2 => Some(TrailingZeros::TrimWhole),
+        3 => Some(TrailingZeros::TrimAll),
         _ => None,
     }
 }
@@ -91,13 +95,48 @@ fn count_by(word: i32) -> Option<i16>
     }
 }
 
-// The rounding that words ask for.
-fn rounding_by(words: &[i32]) -> Option<Rounding>
-    ensures { result ≡ rounding_of words.now }
+// A count of significant digits of a word; 0 is not said.
+fn significant_by(word: i32) -> Option<u16>
+    ensures { result ≡ significant_of word }
+{
+    if 0 <= word && word <= 65535 {
+        Some(word as u16)
+    } else {
+        None
+    }
+}
+
+// The priority of a word; 0 is none.
+fn priority_by(word: i32) -> Option<Option<RoundingPriority>>
+    ensures { result ≡ named priorities word }
+{
+    match word {
+        0 => Some(None),
+        1 => Some(Some(RoundingPriority::MorePrecision)),
+        2 => Some(Some(RoundingPriority::LessPrecision)),
+        _ => None,
+    }
+}
+
+// The rounding at a position that words ask for.
+fn position_rounding_by(words: &[i32]) -> Option<Rounding>
+    ensures { result ≡ position_rounding_of words.now }
 {
     let position = position_by(word_at(words, 2))?;
     let increment = increment_by(word_at(words, 3))?;
     rounding_named(word_at(words, 1), position, increment)
+}
+
+// The rounding that words ask for.
+fn rounding_of(words: &[i32]) -> Option<Rounding>
+    ensures { result ≡ rounding_of words.now }
+{
+    let asked = position_rounding_by(words)?;
+    let increment = increment_by(word_at(words, 3))?;
+    let least = significant_by(word_at(words, 7))?;
+    let most = significant_by(word_at(words, 8))?;
+    let priority = priority_by(word_at(words, 9))?;
+    rounding_by(least, most, priority, increment, asked)
 }
 
 /// The options of no words: an amount of money is rounded to the digits of its currency, and nothing else changes.
@@ -116,18 +155,18 @@ pub fn usual_options() -> NumberOptions
 }
 
 /// What the words of `legumeyet_options` ask for, where each is known: of `3, 9, -1` the sign always, to the nearest
-/// tenth. A word that is not given counts as 0, and one past the seven that are known must be 0.
+/// tenth. A word that is not given counts as 0, and one past the ten that are known must be 0.
 pub fn number_options_by(words: &[i32]) -> Option<NumberOptions>
     ensures { result ≡ number_options_of words.now }
 {
     if are_zeros(words) {
         return Some(usual_options());
     }
-    if !is_known(7, words) {
+    if !is_known(10, words) {
         return None;
     }
     let sign = sign_by(word_at(words, 0))?;
-    let rounding = rounding_by(words)?;
+    let rounding = rounding_of(words)?;
     let zeros = zeros_by(word_at(words, 4))?;
     let integer_digits = count_by(word_at(words, 5))?;
     let fraction_digits = count_by(word_at(words, 6))?;
@@ -142,11 +181,11 @@ pub fn number_options_by(words: &[i32]) -> Option<NumberOptions>
 }
 
 /// What the words ask for, as `number_options_by` has it, and a formatter's own options where there is no word.
-pub fn options_asked(words: &[i32], own: NumberOptions) -> Option<NumberOptions>
-    ensures { result ≡ options_of words.now own }
+pub fn options_asked(words: &[i32], own: &NumberOptions) -> Option<NumberOptions>
+    ensures { result ≡ options_of words.now own.now }
 {
     if words.is_empty() {
-        Some(own)
+        Some(*own)
     } else {
         number_options_by(words)
     }

@@ -29,6 +29,7 @@ fn grouping_by(word: i32) -> Option<GroupingStrategy>
         1 => Some(GroupingStrategy::Never),
         2 => Some(GroupingStrategy::Always),
         3 => Some(GroupingStrategy::Min2),
+        4 => Some(GroupingStrategy::OnAligned),
         _ => None,
     }
 }

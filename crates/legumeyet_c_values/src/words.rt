@@ -22,7 +22,12 @@ fn is_zero(word: i32) -> bool
 pub(crate) fn are_zeros(words: &[i32]) -> bool
     ensures { result ≡ list_all is_zero words.now }
 {
-    words.iter().all(|word| is_zero(*word))
+    for word in words {
+        if !is_zero(*word) {
+            return false;
+        }
+    }
+    true
 }
 
 // Whether the words past the first ones, so many, are 0.

@@ -12,12 +12,12 @@ returns-in-Ok c =
     let number = given_of c.args.number in
     let asked : Asked = record { tables = c.asked.inside.held.now.tables; options = c.asked.inside.options } in
     asked_put IsShownText IsShownFault (GivesNumber number) (IsNumberRefused number) (Ok c.args.asked.now) (Ok asked) _ _ _ _ _ (ap (λ (a : Asked). Ok a) c.asked.view_is)
-    (written IsShownText IsShownFault (GivesNumber number) (IsNumberRefused number) asked c.get-formatter.result.now c.in-Ok.value _ _ _ _ _ (c.get-formatter.ensures ∙ c.lent-lent.ensures)
-    (gives_number number asked c.get-formatter.result.now c.fractions.result c.in-Ok.value (c.get-formatter.ensures ∙ c.lent-lent.ensures) c.fractions.ensures c.in-Ok.ensures.value)
+    (written IsShownText IsShownFault (GivesNumber number) (IsNumberRefused number) asked c.get-formatter.result.now c.assign_changed.new.number _ _ _ _ _ (c.get-formatter.ensures ∙ c.lent-lent.ensures)
+    (gives_number number asked c.get-formatter.result.now c.fractions.result c.assign_changed.new.number (c.get-formatter.ensures ∙ c.lent-lent.ensures) c.fractions.ensures c.in-Ok.ensures.value)
     c.put_shown.ensures)
 
-pub returns-in-Err : goal.returns-in-Err
-returns-in-Err c =
+pub returns : goal.returns
+returns c =
     let number = given_of c.args.number in
     let asked : Asked = record { tables = c.asked.inside.held.now.tables; options = c.asked.inside.options } in
     let refused = refuses_number number asked c.get-formatter.result.now c.fractions.result c.in-Err.error (c.get-formatter.ensures ∙ c.lent-lent.ensures) c.fractions.ensures c.in-Err.ensures.fault in
