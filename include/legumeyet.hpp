@@ -103,7 +103,8 @@ enum class CurrencyStyle : int32_t { Standard = LEGUMEYET_STYLE_STANDARD, Accoun
 enum class CurrencyWidth : int32_t { Symbol = LEGUMEYET_CURRENCY_SYMBOL, Code = LEGUMEYET_CURRENCY_CODE };
 // When grouping separators are written: LEGUMEYET_GROUPING.
 enum class Grouping : int32_t {
-    Auto = LEGUMEYET_GROUPING_AUTO, Never = LEGUMEYET_GROUPING_NEVER, Always = LEGUMEYET_GROUPING_ALWAYS, Min2 = LEGUMEYET_GROUPING_MIN2
+    Auto = LEGUMEYET_GROUPING_AUTO, Never = LEGUMEYET_GROUPING_NEVER, Always = LEGUMEYET_GROUPING_ALWAYS, Min2 = LEGUMEYET_GROUPING_MIN2,
+    OnAligned = LEGUMEYET_GROUPING_ON_ALIGNED
 };
 
 // Which sign is written: LEGUMEYET_SIGN.
@@ -125,7 +126,12 @@ enum class Rounding : int32_t {
 enum class Increment : int32_t { One = 1, Two = 2, Five = 5, TwentyFive = 25 };
 // What becomes of the zeros at the end of the fraction digits: LEGUMEYET_TRAILING_ZEROS.
 enum class TrailingZeros : int32_t {
-    Keep = LEGUMEYET_TRAILING_ZEROS_KEEP, Trim = LEGUMEYET_TRAILING_ZEROS_TRIM, TrimWhole = LEGUMEYET_TRAILING_ZEROS_TRIM_WHOLE
+    Keep = LEGUMEYET_TRAILING_ZEROS_KEEP, Trim = LEGUMEYET_TRAILING_ZEROS_TRIM, TrimWhole = LEGUMEYET_TRAILING_ZEROS_TRIM_WHOLE,
+    TrimAll = LEGUMEYET_TRAILING_ZEROS_TRIM_ALL
+};
+// Which rounding counts, where a number has significant digits and a position: LEGUMEYET_PRIORITY.
+enum class RoundingPriority : int32_t {
+    Auto = LEGUMEYET_PRIORITY_AUTO, MorePrecision = LEGUMEYET_PRIORITY_MORE_PRECISION, LessPrecision = LEGUMEYET_PRIORITY_LESS_PRECISION
 };
 
 // What a part of a text is: LEGUMEYET_PART. A later library may have other kinds.
@@ -232,6 +238,7 @@ struct Format {
 //
 //     german.format(1.255, {.rounding = Rounding::HalfEven, .position = -2, .trailing_zeros = TrailingZeros::Trim});
 //     german.format(1.255, Options().with_rounding(Rounding::HalfEven, -2).with_trailing_zeros(TrailingZeros::Trim));
+//     german.format(12345, Options().with_maximum_significant_digits(3)); // 12.300
 //
 // A call without options is by the formatter's own: those of its skeleton, or that a NumberFormatter was opened with, and else Options().
 struct Options {
@@ -242,10 +249,13 @@ struct Options {
     Increment increment = Increment::One;
     int32_t minimum_integer_digits = 0;
     int32_t minimum_fraction_digits = 0;
+    int32_t minimum_significant_digits = 0; // 0 is none
+    int32_t maximum_significant_digits = 0; // 0 is none
+    RoundingPriority rounding_priority = RoundingPriority::Auto;
     bool is_own = false; // whether they are the formatter's own, and none of these
 
     // The formatter's own, for a function that passes options on.
-    static constexpr Options own() noexcept { return {{}, {}, 0, {}, Increment::One, 0, 0, true}; }
+    static constexpr Options own() noexcept { return {{}, {}, 0, {}, Increment::One, 0, 0, 0, 0, {}, true}; }
 
     // The same with another choice. An integer that has no room in its field is refused by the call that is given the options: Code::Option.
     constexpr Options with_sign(Sign it) const noexcept { return inner::with(*this, &Options::sign, it); }
@@ -256,11 +266,14 @@ struct Options {
     constexpr Options with_increment(Increment it) const noexcept { return inner::with(*this, &Options::increment, it); }
     constexpr Options with_minimum_integer_digits(inner::Word count) const noexcept { return inner::with(*this, &Options::minimum_integer_digits, count); }
     constexpr Options with_minimum_fraction_digits(inner::Word count) const noexcept { return inner::with(*this, &Options::minimum_fraction_digits, count); }
+    constexpr Options with_minimum_significant_digits(inner::Word count) const noexcept { return inner::with(*this, &Options::minimum_significant_digits, count); }
+    constexpr Options with_maximum_significant_digits(inner::Word count) const noexcept { return inner::with(*this, &Options::maximum_significant_digits, count); }
+    constexpr Options with_rounding_priority(RoundingPriority it) const noexcept { return inner::with(*this, &Options::rounding_priority, it); }
 
     // The same for legumeyet.h.
     constexpr explicit operator legumeyet_options() const noexcept {
-        return {static_cast<int32_t>(sign),           static_cast<int32_t>(rounding), position, static_cast<int32_t>(increment),
-                static_cast<int32_t>(trailing_zeros), minimum_integer_digits,         minimum_fraction_digits};
+        return {static_cast<int32_t>(sign), static_cast<int32_t>(rounding), position, static_cast<int32_t>(increment), static_cast<int32_t>(trailing_zeros),
+                minimum_integer_digits, minimum_fraction_digits, minimum_significant_digits, maximum_significant_digits, static_cast<int32_t>(rounding_priority)};
     }
 };
 

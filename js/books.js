@@ -1,5 +1,4 @@
 // Books of tables, and what formatters and answers are opened from.
-import { alwaysOf } from "./always.js";
 import { LoadError, NONE, age, begun, calls, expected, got, inside, put, written } from "./instance.js";
 import { Open, closeHandle, handleOf, isOpen, openHandle } from "./open.js";
 import { forget } from "./sharing.js";
@@ -7,10 +6,9 @@ import { forget } from "./sharing.js";
 const { at: atOf } = Open;
 
 /**
- * What a book is opened from, again too: `isKept` says whether its memory is never given back, `other` is open in its place where it was closed,
- * and `always` is the book of the same tables in which the least count of digits is 1. One that is inside the module has a place there, and no JSON.
- * @typedef {{ json: string | Uint8Array, isKept: boolean, handle: import("./open.js").Handle, other?: import("./open.js").Handle, always?: Book,
- *   place?: number }} Source
+ * What a book is opened from, again too: `isKept` says whether its memory is never given back, and `other` is open in its place where it was closed.
+ * That which is inside the module has no JSON.
+ * @typedef {{ json: string | Uint8Array | null, isKept: boolean, handle: import("./open.js").Handle, other?: import("./open.js").Handle }} Source
  */
 
 /** The same memory as a typed array of JavaScript's own, where it is one of a subclass. */
@@ -74,8 +72,8 @@ function localeAt(at, index) {
 }
 
 function openBook(source, handle) {
-  if (source.place !== undefined) {
-    Object.assign(handle, { at: inside(() => calls.js_book_inside(source.place)), age });
+  if (source === INSIDE) {
+    Object.assign(handle, { at: inside(() => calls.js_book_inside()), age });
     return;
   }
   openHandle(handle, (at) => {
@@ -102,28 +100,15 @@ export function withBook(source, use) {
   }
 }
 
-/**
- * The same tables, but with separators from the first group on also in a locale that has them later, as Spanish has.
- * @param {Source} source
- * @returns {Source}
- */
-export function alwaysGrouped(source) {
-  if (source === INSIDE) return ALWAYS_INSIDE;
-  source.always ??= new Book(alwaysOf(source.json));
-  const found = Book.source(source.always);
-  if (source.isKept && !found.isKept) source.always.keep();
-  return found;
-}
-
-// The books inside a module of pages: that of formatters, and that with separators from the first group on.
-const [INSIDE, ALWAYS_INSIDE] = [0, 1].map((place) => ({ json: "", isKept: true, handle: handleOf(""), place }));
+// The book inside a module of pages.
+const INSIDE = { json: null, isKept: true, handle: handleOf("") };
 
 let world = null;
 
 /** Makes the book inside the module that of formatters for which none is named. Throws a LoadError where there is none. */
 export function useInside() {
   begun();
-  if (calls.js_book_inside(INSIDE.place) === 0) throw new LoadError("the module", "module", "there is no book inside: legumeyet-page makes one that has it");
+  if (calls.js_book_inside() === 0) throw new LoadError("the module", "module", "there is no book inside: legumeyet-page makes one that has it");
   world = INSIDE;
 }
 

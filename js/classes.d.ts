@@ -14,6 +14,8 @@ export type SignDisplay = "keep" | "auto" | "never" | "always" | "exceptZero" | 
 export type RoundingMode =
   | "expand" | "trunc" | "ceil" | "floor" | "halfExpand" | "halfTrunc" | "halfCeil" | "halfFloor" | "halfEven";
 export type RoundingIncrement = 1 | 2 | 5 | 10 | 20 | 25 | 50 | 100 | 200 | 250 | 500 | 1000 | 2000 | 2500 | 5000;
+export type RoundingPriority = "auto" | "morePrecision" | "lessPrecision";
+export type TrailingZeroDisplay = "auto" | "stripIfInteger";
 export type Locales = string | Intl.Locale | readonly (string | Intl.Locale)[];
 
 /** The options of a call, which take the place of all that its formatter has. */
@@ -36,6 +38,17 @@ export interface DecimalCallOptions extends CallOptions {
   minimumFractionDigits?: number;
   /** Without it, and without `position`, all digits are shown. */
   maximumFractionDigits?: number;
+  /** As many digits are shown at least, from the first one on that is not zero: 5 with 3 of them is `5.00`. 1 to 65535, and 1 without it. */
+  minimumSignificantDigits?: number;
+  /** The number is rounded to as many digits: 12345 with 3 of them is `12,300`. 1 to 65535; without it no digit is rounded off. */
+  maximumSignificantDigits?: number;
+  /**
+   * Which counts, significant digits or fraction digits: `auto` without it, the significant digits where there are some. `morePrecision` and
+   * `lessPrecision` take what shows more or fewer digits, and need both; an amount has the fraction digits of its currency without others.
+   */
+  roundingPriority?: RoundingPriority;
+  /** `stripIfInteger` writes 5.00 as `5`, and 5.50 as `5.50`; `auto` without it. */
+  trailingZeroDisplay?: TrailingZeroDisplay;
 }
 
 export interface CurrencyCallOptions extends DecimalCallOptions {

@@ -1,6 +1,6 @@
 // Formatters, as classes in the manner of Intl: one over the module's, and its faces.
 import { ErrorNumber, LegumeyetError, ask, calling, calls, partsWritten, putBoth, written } from "./instance.js";
-import { alwaysGrouped, sourceOf, withBook } from "./books.js";
+import { sourceOf, withBook } from "./books.js";
 import { allWritten } from "./columns.js";
 import { digitsOf } from "./numbers.js";
 import { closesAtEnd, isOpen, openHandle } from "./open.js";
@@ -10,7 +10,6 @@ import { CLOSED, shared } from "./sharing.js";
 import { reading } from "./skeletons.js";
 import { isTag, listed, tagsOf } from "./tags.js";
 
-const PLAIN = readOptions("decimal", {});
 // What a module of pages may be made without, by the kind of numbers that needs it.
 const PARTS = { compact: "js_compact", percent: "js_units", currency: "js_units" };
 
@@ -43,19 +42,6 @@ function openNative(native, { source, tag, opening: { format, unit, isSkeleton, 
  */
 const askedFor = (source, tag, opening) => ({ source, key: `${opening.key}\n${tag}`, close: "js_formatter_close", open: openNative, tag, opening });
 
-// Whether a locale has its first separator later than before the last group, as 1000 is written without one in Spanish.
-function isGroupedLater(source, tag) {
-  const { at } = shared(askedFor(source, tag, PLAIN));
-  return !partsWritten(at, calls.js_formatter_parts, PLAIN.call.how, "1000").some(({ type }) => type === "group");
-}
-
-// What is asked for of a tag, once it is open.
-function opened(source, tag, opening) {
-  const asked = askedFor(source, tag, opening);
-  shared(asked);
-  return opening.isAlways && isGroupedLater(source, tag) ? askedFor(alwaysGrouped(source), tag, opening) : asked;
-}
-
 function isWithoutTables(error) {
   return error instanceof LegumeyetError && error.number === ErrorNumber.TABLE;
 }
@@ -64,7 +50,8 @@ function isWithoutTables(error) {
 function firstOpened(source, tags, opening) {
   for (let at = 0; ; at += 1) {
     try {
-      const asked = opened(source, tags[at], opening);
+      const asked = askedFor(source, tags[at], opening);
+      shared(asked);
       const wrong = tags.find((it, other) => other > at && !isTag(it));
       if (wrong !== undefined) throw new LegumeyetError(ErrorNumber.TAG, hint(ErrorNumber.TAG, wrong, ""));
       return asked;
@@ -188,37 +175,20 @@ class Formatter {
 }
 closesAtEnd(Formatter);
 
+// The formatter of a kind.
+const of = (kind) => class extends Formatter {
+  constructor(locales, options = {}) {
+    super(kind, locales, options);
+  }
+};
+
 /** Writes numbers as a skeleton says, `currency/EUR .00`, and reads them back. */
-export class NumberFormatter extends Formatter {
-  constructor(locales, options = {}) {
-    super("skeleton", locales, options);
-  }
-}
-
+export class NumberFormatter extends of("skeleton") {}
 /** Writes plain numbers for a locale, and reads them back. */
-export class DecimalFormatter extends Formatter {
-  constructor(locales, options = {}) {
-    super("decimal", locales, options);
-  }
-}
-
+export class DecimalFormatter extends of("decimal") {}
 /** Writes compact numbers for a locale. */
-export class CompactDecimalFormatter extends Formatter {
-  constructor(locales, options = {}) {
-    super("compact", locales, options);
-  }
-}
-
+export class CompactDecimalFormatter extends of("compact") {}
 /** Writes percents for a locale, and reads them back. A percent is written as it is given: a ratio is multiplied by 100 first. */
-export class PercentFormatter extends Formatter {
-  constructor(locales, options = {}) {
-    super("percent", locales, options);
-  }
-}
-
+export class PercentFormatter extends of("percent") {}
 /** Writes amounts of money in a currency for a locale, and reads them back. */
-export class CurrencyFormatter extends Formatter {
-  constructor(locales, options = {}) {
-    super("currency", locales, options);
-  }
-}
+export class CurrencyFormatter extends of("currency") {}

@@ -1,19 +1,24 @@
 // The options of formatters: Intl's words, and what these are in the library's words, those of legumeyet_format and legumeyet_options.
 import { NONE } from "./instance.js";
 
-const GROUPINGS = { auto: 0, false: 1, always: 2, true: 2, min2: 3 };
+const GROUPINGS = { auto: 0, false: 1, always: 4, true: 4, min2: 3 };
 const SIGNS = { keep: 0, auto: 1, never: 2, always: 3, exceptZero: 4, negative: 5 };
 const MODES = { expand: 1, trunc: 2, ceil: 3, floor: 4, halfExpand: 5, halfTrunc: 6, halfCeil: 7, halfFloor: 8, halfEven: 9 };
 const WIDTHS = { short: 0, long: 1 };
 const CURRENCY_SIGNS = { standard: 0, accounting: 1 };
 const CURRENCY_DISPLAYS = { symbol: 0, code: 1 };
+const PRIORITIES = { auto: 0, morePrecision: 1, lessPrecision: 2 };
+const ZEROS = { auto: 0, stripIfInteger: 2 }; // beside those that are trimmed, 1, both are 3
 const CURRENCY_DIGITS = { standard: 0, cash: 10, given: 11 }; // roundings that have no position
 const INCREMENTS = [1, 2, 5, 10, 20, 25, 50, 100, 200, 250, 500, 1000, 2000, 2500, 5000];
-const MOST = 32767;
+const [MOST, MOST_SIGNIFICANT] = [32767, 65535];
 const UNITS = { percent: 1, currency: 2 };
 // The options of a kind: of its calls, and of its opening alone.
 const OF_EACH = ["signDisplay", "position", "roundingMode", "roundingIncrement"];
-const OF_DIGITS = [...OF_EACH, "minimumIntegerDigits", "minimumFractionDigits", "maximumFractionDigits"];
+const OF_DIGITS = [
+  ...OF_EACH, "minimumIntegerDigits", "minimumFractionDigits", "maximumFractionDigits", "minimumSignificantDigits", "maximumSignificantDigits", "roundingPriority",
+  "trailingZeroDisplay",
+];
 const OF_CALLS = { decimal: OF_DIGITS, compact: OF_EACH, percent: OF_DIGITS, currency: [...OF_DIGITS, "currencyDigits"], skeleton: [] };
 const OF_FORMATS = {
   decimal: ["useGrouping"], compact: ["useGrouping", "compactDisplay"], percent: ["useGrouping"],
@@ -38,9 +43,9 @@ export const isOfHalves = (mode) => mode >= MODES.halfExpand;
  * @typedef {{ kind: string, how: Int32Array, rounding: number, multiple: number, learned: string | null, units?: Map<number, Int32Array> }} Call
  */
 
-/** The words of options. Without one nothing is changed. */
-export function wordsOf({ sign = 0, mode = 0, position = 0, increment = 0, zeros = 0, integer = 0, fraction = 0 }) {
-  return Int32Array.of(7, sign, mode, position, increment, zeros, integer, fraction);
+/** The words of options. Without one nothing is changed. `least` and `most` are significant digits. */
+export function wordsOf({ sign = 0, mode = 0, position = 0, increment = 0, zeros = 0, integer = 0, fraction = 0, least = 0, most = 0, priority = 0 }) {
+  return Int32Array.of(10, sign, mode, position, increment, zeros, integer, fraction, least, most, priority);
 }
 
 /** The words for a number that is not rounded, with so many digits of the fraction at least. */
@@ -79,6 +84,17 @@ function fractionOf(kind, options) {
   return { least, most };
 }
 
+// Significant digits as Intl has them, and whether they count alone; null where there are none.
+function significantOf(options) {
+  const least = whole(options, "minimumSignificantDigits", 1, MOST_SIGNIFICANT);
+  const most = whole(options, "maximumSignificantDigits", 1, MOST_SIGNIFICANT);
+  const priority = chosen(options, "roundingPriority", PRIORITIES, "auto");
+  if (most !== undefined && least > most) throw new RangeError(`minimumSignificantDigits ${least} is above maximumSignificantDigits ${most}`);
+  if (least !== undefined || most !== undefined) return { least: least ?? 1, most: most ?? MOST_SIGNIFICANT, priority };
+  if (priority !== 0) throw new RangeError(`roundingPriority ${options.roundingPriority} needs maximumSignificantDigits or minimumSignificantDigits`);
+  return null;
+}
+
 /**
  * A rounding at a position to multiples of an increment, which Intl has as 1, 2, 5 or 25 times a power of ten, as the library has it: `fraction` is
  * how many digits have to be shown for it.
@@ -108,7 +124,7 @@ function unplacedOf(kind, options, rounding, fraction = 0) {
   const multiple = options.roundingIncrement === undefined ? 0 : incrementOf(options);
   const isOwn = rounding === MODES.halfEven && multiple === 0; // the library's
   const place = { compact: "shown", currency: "currency" }[kind];
-  return { words: { mode, fraction }, multiple, learned: isOwn || mode === CURRENCY_DIGITS.given ? null : (place ?? null) };
+  return { words: { mode, fraction, zeros: chosen(options, "trailingZeroDisplay", ZEROS, "auto") }, multiple, learned: isOwn || mode === CURRENCY_DIGITS.given ? null : (place ?? null) };
 }
 
 // The rounding at the place that is said, and what its fraction shows then. A compact number may show no digit there.
@@ -118,7 +134,20 @@ function placedOf(kind, options, { least, most }, mode) {
   const { position, increment, fraction } = multiplesOf(given, most === undefined ? options.position : 0 - most);
   const isTrimmed = most !== undefined && most !== (least ?? 0);
   const shown = isTrimmed || most === undefined ? Math.max(least ?? 0, fraction) : fraction;
-  return { words: { mode, position, increment, zeros: isTrimmed ? 1 : 0, fraction: shown }, multiple: 0, learned: kind === "compact" ? "shown" : null };
+  const zeros = chosen(options, "trailingZeroDisplay", ZEROS, "auto") + (isTrimmed ? 1 : 0);
+  return { words: { mode, position, increment, zeros, fraction: shown }, multiple: 0, learned: kind === "compact" ? "shown" : null };
+}
+
+// The rounding to significant digits, alone or beside the place that is said, which is that of a currency where nothing says another.
+function significantRounding(kind, options, found, rounding, { priority, ...digits }, isPlaced) {
+  if (incrementOf(options) !== 1) throw new TypeError("roundingIncrement is of fraction digits, and not of significant ones");
+  const beside = ["currencyDigits", ...(priority === 0 ? ["position"] : [])].find((it) => options[it] !== undefined);
+  if (beside !== undefined) throw new RangeError(`${beside} says how to round, and so do significant digits`);
+  if (priority !== 0 && !isPlaced && kind !== "currency") throw new RangeError(`roundingPriority ${options.roundingPriority} needs maximumFractionDigits or position`);
+  const zeros = chosen(options, "trailingZeroDisplay", ZEROS, "auto");
+  if (priority === 0) return { words: { mode: rounding, zeros, ...digits }, multiple: 0, learned: null };
+  const { words } = isPlaced ? placedOf(kind, options, found, rounding) : { words: { fraction: found.least, zeros } };
+  return { words: { ...words, ...digits, priority }, multiple: 1, learned: isPlaced ? null : "currency" };
 }
 
 // The rounding of a number, wherever it is.
@@ -127,6 +156,8 @@ function roundingOf(kind, options) {
   const rounding = chosen(options, "roundingMode", MODES, "halfExpand");
   const isPlaced = found.most !== undefined || whole(options, "position", -32768, MOST) !== undefined;
   if (isPlaced && options.currencyDigits !== undefined) throw new RangeError("currencyDigits says how to round, and so does maximumFractionDigits or position");
+  const digits = significantOf(options);
+  if (digits !== null) return { rounding, ...significantRounding(kind, options, found, rounding, digits, isPlaced) };
   return { rounding, ...(isPlaced ? placedOf(kind, options, found, rounding) : unplacedOf(kind, options, rounding, found.least)) };
 }
 
@@ -138,7 +169,8 @@ function callOf(kind, options) {
 }
 
 // Each option that says something, as it was given or as it is without.
-function resolvedOf(kind, options, mode) {
+function resolvedOf(kind, options, how) {
+  const [mode, least, priority] = [how[2], how[8], how[10]];
   const given = Object.entries(options).filter(([name, value]) => !HOW_OPENED.includes(name) && value !== undefined);
   /** @type {Record<string, any>} */
   const found = { useGrouping: kind === "compact" ? "min2" : "auto", signDisplay: "auto", ...Object.fromEntries(given) };
@@ -151,6 +183,8 @@ function resolvedOf(kind, options, mode) {
   }
   const isRounded = kind === "compact" || (kind === "currency" ? mode !== CURRENCY_DIGITS.given : mode !== 0);
   if (isRounded) found.roundingMode ??= "halfExpand";
+  if (least !== 0) found.minimumSignificantDigits ??= 1;
+  if (least !== 0 && priority === 0) for (const idle of ["minimumFractionDigits", "maximumFractionDigits"]) delete found[idle];
   return found;
 }
 
@@ -161,7 +195,7 @@ function ofSkeleton({ skeleton }) {
   const kind = Object.keys(OF_SKELETONS).find((it) => words.some(OF_SKELETONS[it])) ?? "decimal";
   /** @type {Call} */
   const call = { kind, how: NONE, rounding: 0, multiple: 0, learned: null };
-  return { format: NONE, unit: skeleton, isSkeleton: true, isAlways: false, key: `skeleton ${skeleton}`, call, resolved: { skeleton } };
+  return { format: NONE, unit: skeleton, isSkeleton: true, key: `skeleton ${skeleton}`, call, resolved: { skeleton } };
 }
 
 function ofWords(kind, options) {
@@ -172,7 +206,7 @@ function ofWords(kind, options) {
   const width = chosen(options, "compactDisplay", WIDTHS, "short");
   const format = Int32Array.of(6, kind === "compact" ? 1 : 0, width, UNITS[kind] ?? 0, style, display, grouping);
   const call = callOf(kind, options);
-  return { format, unit, isSkeleton: false, isAlways: grouping === GROUPINGS.always, key: `${format} ${unit}`, call, resolved: resolvedOf(kind, options, call.how[2]) };
+  return { format, unit, isSkeleton: false, key: `${format} ${unit}`, call, resolved: resolvedOf(kind, options, call.how) };
 }
 
 function checked(options, names, of) {
@@ -187,7 +221,7 @@ const defaults = new Map();
 /**
  * What a kind of formatters, as `decimal`, is opened with: the words of its format, with the code of its currency, or a skeleton; `key` is one text for
  * all that have both alike. `call` is what the options say to calls that are given none, and `resolved` what resolvedOptions tells.
- * @typedef {{ format: Int32Array, unit: string, isSkeleton: boolean, isAlways: boolean, key: string, call: Call, resolved: Record<string, any> }} Opening
+ * @typedef {{ format: Int32Array, unit: string, isSkeleton: boolean, key: string, call: Call, resolved: Record<string, any> }} Opening
  * @returns {Opening}
  */
 export function read(kind, options) {

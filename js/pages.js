@@ -1,6 +1,5 @@
 // A WebAssembly module with a book inside: that of pages, with the memory as it is once the book is open, and without what opens books.
 import { smallerBook } from "./smaller.js";
-import { alwaysOf } from "./always.js";
 
 const HEAD = [0, 0x61, 0x73, 0x6d, 1, 0, 0, 0];
 const [CUSTOM, MEMORY, GLOBAL, EXPORT, CODE, DATA, DATA_COUNT] = [0, 5, 6, 7, 10, 11, 12];
@@ -133,18 +132,16 @@ function stackOf(sections) {
   return reader.number();
 }
 
-// Opens books in an instance, each from its JSON, and leaves them inside.
-function openInside(calls, books) {
-  for (const [place, json] of books.entries()) {
-    const bytes = new TextEncoder().encode(json);
-    const book = calls.js_new();
-    const input = calls.js_large_in(bytes.length);
-    new Uint8Array(calls.memory.buffer).set(bytes, input);
-    const told = calls.js_book_open(book, bytes.length) || calls.js_book_keep(book);
-    if (told !== 0) throw new RangeError(`the book is refused: ${0 - told}`);
-    calls.js_let_go();
-    calls.js_book_put_inside(book, place);
-  }
+// Opens a book in an instance, from its JSON, and leaves it inside.
+function openInside(calls, json) {
+  const bytes = new TextEncoder().encode(json);
+  const book = calls.js_new();
+  const input = calls.js_large_in(bytes.length);
+  new Uint8Array(calls.memory.buffer).set(bytes, input);
+  const told = calls.js_book_open(book, bytes.length) || calls.js_book_keep(book);
+  if (told !== 0) throw new RangeError(`the book is refused: ${0 - told}`);
+  calls.js_let_go();
+  calls.js_book_put_inside(book);
   calls.js_zero_freed();
 }
 
@@ -179,9 +176,8 @@ export function pageModule(module, json, tags, options = {}) {
   const sections = sectionsOf(module);
   const left = leftOf(noteOf(sections), without);
   const book = smallerBook(json, tags);
-  const always = alwaysOf(book);
   const { exports } = /** @type {{ exports: any }} */ (new WebAssembly.Instance(new WebAssembly.Module(module), {}));
-  openInside(exports, always === book ? [book] : [book, always]);
+  openInside(exports, book);
   const memory = new Uint8Array(exports.memory.buffer);
   zeroStatics(memory, left.statics, stackOf(sections));
   return withMemory(sections, memory, left);

@@ -57,7 +57,7 @@ number legumeyet_error_text(number, TEXT);
 u32 legumeyet_version(void);
 u32 legumeyet_minor(void);
 
-enum { ROOM = 512, HOW = 8, PARTS = 64, NUMBERS = 512, TEXTS = 1 << 14, MEMORY = 1, TOO_SMALL = 3 };
+enum { ROOM = 512, HOW = 11, PARTS = 64, NUMBERS = 512, TEXTS = 1 << 14, MEMORY = 1, TOO_SMALL = 3 };
 
 static u8 small_in[ROOM], small_out[ROOM];
 static interval small_parts[PARTS];
@@ -193,16 +193,10 @@ void js_book_close(handle *it) {
     free(it);
 }
 
-/*
- * The books inside a module that is made of this one's memory, once they are kept: that of formatters, and that of the same tables with separators
- * from the first group on, where there is one.
- */
-enum { INSIDE = 2 };
-static handle *inside[INSIDE];
-void js_book_put_inside(handle *book, u32 place) {
-    if (place < INSIDE) inside[place] = book;
-}
-handle *js_book_inside(u32 place) { return place < INSIDE ? inside[place] : 0; }
+/* The book inside a module that is made of this one's memory, once it is kept. */
+static handle *inside;
+void js_book_put_inside(handle *book) { inside = book; }
+handle *js_book_inside(void) { return inside; }
 void js_zero_freed(void) { zero_freed(); }
 
 /* Answers to request lines. */

@@ -27,13 +27,30 @@ function isRoundedTwice(form, position, number) {
   return WIDTHS.includes(form) && position < Math.log10(Math.abs(Number(number))) - 1;
 }
 
+// The options of digits of a rounding, as `f0-2,s1-3,more,half-even,whole`.
+function digitsOf(words) {
+  const found = {};
+  for (const word of words) {
+    const [, letter, least, most] = /^([fs])(\d+)-(\d+)$/.exec(word) ?? [];
+    const name = letter === "f" ? "FractionDigits" : "SignificantDigits";
+    if (letter) Object.assign(found, { [`minimum${name}`]: Number(least), [`maximum${name}`]: Number(most) });
+    else if (word === "whole") found.trailingZeroDisplay = "stripIfInteger";
+    else if (["more", "less"].includes(word)) found.roundingPriority = `${word}Precision`;
+    else if (word !== "1") found.roundingMode = camel(word);
+  }
+  return found;
+}
+
 // What a formatter says to a line, as an answer; null where none can. In lines `always` is `auto`, and halves of what is shown go to the even one.
 function said(book, line) {
   const [tag, form, grouping, sign, rounding, number] = line.split("\t");
   if (!FORMS.includes(form)) return null;
-  const options = { book, useGrouping: grouping === "never" ? false : grouping === "always" ? "auto" : grouping, signDisplay: camel(sign) };
+  const options = { book, useGrouping: { never: false, always: "auto", "on-aligned": "always" }[grouping] ?? grouping, signDisplay: camel(sign) };
   const width = form.replace("exact-", "");
-  if (rounding !== "-") {
+  if (/^[fs]\d/.test(rounding)) {
+    if (WIDTHS.includes(width)) return null; // of compact numbers they are not asked for
+    Object.assign(options, digitsOf(rounding.split(",")));
+  } else if (rounding !== "-") {
     const [position, mode, increment] = rounding.split(",");
     if (isRoundedTwice(form, position, number)) return null;
     Object.assign(options, { position: Number(position), roundingMode: camel(mode), roundingIncrement: Number(increment) });

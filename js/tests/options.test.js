@@ -8,6 +8,7 @@ const SIGNS = ["keep", "auto", "never", "always", "exceptZero", "negative"].map(
 const NUMBERS = ["0", "-0", "+5", "1650", "-1250", "1.005", "-2.325", "0.0125", "999999.995", "1234567", 2.5, -7n];
 const DIGITS = [
   {}, ...SIGNS, { maximumFractionDigits: 0 }, { minimumFractionDigits: 1, maximumFractionDigits: 2 }, { minimumIntegerDigits: 4 }, { position: 2 }, { position: -1, roundingIncrement: 5 },
+  { maximumSignificantDigits: 3 }, { minimumSignificantDigits: 3, trailingZeroDisplay: "stripIfInteger" }, { maximumSignificantDigits: 2, maximumFractionDigits: 1, roundingPriority: "lessPrecision" },
   ...MODES.map((roundingMode) => ({ maximumFractionDigits: 1, roundingMode })),
 ];
 const SHOWN = [...SIGNS, { position: 2, roundingIncrement: 5 }, ...MODES.flatMap((roundingMode) => [{ roundingMode }, { roundingMode, position: 2 }])];

@@ -102,3 +102,58 @@ test("plain numbers and percents", () => {
     assert.throws(() => new kind("en", { roundingMode: "floor" }), RangeError);
   }
 });
+
+// Options of Intl by their names: of each list one, or none.
+function* choices(lists) {
+  const [[name, values], ...others] = lists;
+  for (const rest of others.length === 0 ? [{}] : choices(others)) for (const value of values) yield value === undefined ? rest : { [name]: value, ...rest };
+}
+
+const FEW = ["0", "1", "25", "99.5", "999.5", "1250", "12500", "1.05", "0.0125", "1.005", "9.995", "1.000", "0.09996", "123456789.987654321", "1e-7", "-7.5"];
+
+test("significant digits, alone and beside fraction digits, as Intl has them", { skip: !isNew }, () => {
+  const fractions = [[], [0, 0], [0, 2], [1, 2], [2, 2], [2, 4]].map(([minimumFractionDigits, maximumFractionDigits]) => ({ minimumFractionDigits, maximumFractionDigits }));
+  const all = [...choices([
+    ["minimumSignificantDigits", [undefined, 1, 3]], ["maximumSignificantDigits", [undefined, 2, 3, 21]], ["roundingPriority", [undefined, "auto", "morePrecision", "lessPrecision"]],
+    ["trailingZeroDisplay", [undefined, "stripIfInteger"]], ["roundingMode", [undefined, "floor"]],
+  ])].flatMap((it) => fractions.map((fraction) => ({ ...it, ...fraction })));
+  for (const options of all.filter((it) => !(it.minimumSignificantDigits > it.maximumSignificantDigits))) {
+    const [hasDigits, hasFraction] = [options.minimumSignificantDigits ?? options.maximumSignificantDigits, options.maximumFractionDigits].map((it) => it !== undefined);
+    const isEither = options.roundingPriority?.endsWith("Precision");
+    for (const [Type, own, theirs] of [[DecimalFormatter, {}, {}], [PercentFormatter, {}, {}], [CurrencyFormatter, { currency: "USD" }, { style: "currency", currency: "USD" }]]) {
+      if (isEither ? !hasDigits || !(hasFraction || own.currency) : !hasDigits && !hasFraction) continue; // Intl has defaults of its own there
+      const [it, other] = [new Type("en", { ...own, ...options }), new Intl.NumberFormat("en", { ...theirs, ...options })];
+      for (const number of FEW) assert.equal(it.format(number).replace("%", ""), other.format(number), `${Type.name} ${JSON.stringify(options)} ${number}`);
+      assert.deepEqual(it.formatAll(FEW), FEW.map((number) => it.format(number)));
+    }
+  }
+});
+
+test("what of digits does not go together", () => {
+  const rows = [
+    [RangeError, { minimumSignificantDigits: 3, maximumSignificantDigits: 2 }], [RangeError, { maximumSignificantDigits: 0 }], [RangeError, { maximumSignificantDigits: 65536 }], [RangeError, { minimumSignificantDigits: 1.5 }],
+    [RangeError, { maximumSignificantDigits: null }], [RangeError, { roundingPriority: "x" }], [RangeError, { trailingZeroDisplay: "x" }], [TypeError, { roundingIncrement: 5, maximumSignificantDigits: 3 }],
+    [TypeError, { roundingIncrement: 5, maximumSignificantDigits: 3, minimumFractionDigits: 2, maximumFractionDigits: 2, roundingPriority: "morePrecision" }],
+  ];
+  for (const [wanted, options] of rows) {
+    if (isNew && options.maximumSignificantDigits !== 65536 && options.minimumSignificantDigits !== 1.5) assert.throws(() => new Intl.NumberFormat("en", options), wanted, JSON.stringify(options));
+    for (const Type of [DecimalFormatter, PercentFormatter]) assert.throws(() => new Type("en", options), (error) => error.constructor === wanted, JSON.stringify(options));
+    assert.throws(() => new CurrencyFormatter("en", { currency: "USD", ...options }), (error) => error.constructor === wanted, JSON.stringify(options));
+  }
+  const own = [{ position: -1, maximumSignificantDigits: 3 }, { roundingPriority: "morePrecision" }, { roundingPriority: "lessPrecision", maximumFractionDigits: 2 }, { roundingPriority: "lessPrecision", maximumSignificantDigits: 2 }];
+  for (const options of own) assert.throws(() => new DecimalFormatter("en", options), (error) => error.constructor === RangeError && !(error instanceof LegumeyetError), JSON.stringify(options));
+  assert.throws(() => new CurrencyFormatter("en", { currency: "CHF", currencyDigits: "cash", maximumSignificantDigits: 3 }), RangeError);
+  assert.throws(() => new CompactDecimalFormatter("en", { maximumSignificantDigits: 3 }), RangeError);
+});
+
+test("significant digits of what Intl has not", () => {
+  const rows = [
+    [{ maximumSignificantDigits: 2, position: 0, roundingPriority: "morePrecision" }, "123.4", "123"], [{ maximumSignificantDigits: 2, position: 0, roundingPriority: "lessPrecision" }, "123.4", "120"],
+    [{ minimumSignificantDigits: 3 }, "1234567890.12345678901234567890", "1,234,567,890.1234567890123456789"], [{ trailingZeroDisplay: "stripIfInteger" }, "2.00", "2"], [{ trailingZeroDisplay: "stripIfInteger" }, "2.50", "2.50"],
+    [{ trailingZeroDisplay: "stripIfInteger", minimumFractionDigits: 2 }, "2", "2"], [{ trailingZeroDisplay: "stripIfInteger", minimumFractionDigits: 2 }, "2.5", "2.50"],
+  ];
+  for (const [options, number, text] of rows) assert.equal(new DecimalFormatter("en", options).format(number), text, JSON.stringify(options));
+  const resolved = (options) => new DecimalFormatter("en", options).resolvedOptions();
+  assert.deepEqual(resolved({ maximumSignificantDigits: 3, maximumFractionDigits: 1 }), { locale: "en", useGrouping: "auto", signDisplay: "auto", maximumSignificantDigits: 3, roundingMode: "halfExpand", minimumSignificantDigits: 1 });
+  assert.equal(resolved({ maximumSignificantDigits: 3, maximumFractionDigits: 1, roundingPriority: "lessPrecision" }).maximumFractionDigits, 1);
+});

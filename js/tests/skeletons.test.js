@@ -12,7 +12,8 @@ test("numbers by skeletons", () => {
     ["en", "", "1234.5", "1,234.5"], ["en", " ", "007.50", "7.5"], ["en", "", "1.23456789", "1.234568"], ["ar-EG", "", "-1234.5", "\u061c-١٬٢٣٤٫٥"], ["hi", "", 999999n, "9,99,999"],
     ["en", ".00", 1234.5, "1,234.50"], ["de", ".00##", "-1234567.89123", "-1.234.567,8912"], ["en", ".00*", "1.5", "1.50"], ["en", ".00*", "1.23456", "1.23456"], ["en", ".", "2.5", "2"],
     ["en", ".00/w", "5", "5"], ["en", ".00/w", "5.5", "5.50"], ["en", ".+", "1.23456789", "1.23456789"], ["en", "integer-width/*000", "7", "007"], ["en", "000 .0", "7", "007.0"],
-    ["en", "group-off", "1234.5", "1234.5"], ["en", "group-min2", "1234", "1234"], ["en", "group-min2", "12345", "12,345"], ["es", "", "1234", "1234"],
+    ["en", "group-off", "1234.5", "1234.5"], ["en", "group-min2", "1234", "1234"], ["en", "group-min2", "12345", "12,345"], ["es", "", "1234", "1234"], ["es", "group-on-aligned", "1234.5", "1.234,5"],
+    ["en", "@@@", "9.996", "10.0"], ["en", "@@#/w", "1234.5", "1,230"], ["en", "@@*", "0.1", "0.10"], ["en", ".0#/@@r", "0.00123", "0.0012"], ["en", ".0#/@@s", "0.00123", "0.0"], ["en", ".0#/w", "3", "3"],
     ["en", "sign-always", "5", "+5"], ["en", "+_", "-5", "5"], ["en", "sign-except-zero", "0", "0"], ["en", "sign-negative", "-0", "0"], ["en", "rounding-mode-floor .0", "-1.21", "-1.3"],
     ["tr", "percent", "12.50", "%12,5"], ["de", "% .00", "-12.5", "-12,50\u00a0%"],
     ["de", "currency/EUR", "-1234567.891", "-1.234.567,89\u00a0€"], ["en", "currency/eur", "5", "€5.00"], ["en", "currency/USD sign-accounting", "-5", "($5.00)"], ["en", "currency/JPY", "2.5", "¥2"],
@@ -36,7 +37,10 @@ test("skeletons as Intl means them", () => {
   const money = (currency, more) => ({ style: "currency", currency, ...more });
   const choices = [
     ["", six], [".00", { minimumFractionDigits: 2, maximumFractionDigits: 2 }], [".00##", { minimumFractionDigits: 2, maximumFractionDigits: 4 }], [".", { maximumFractionDigits: 0 }],
-    ["integer-width/*0000", { ...six, minimumIntegerDigits: 4 }], ["group-off", { ...six, useGrouping: false }], ["group-min2", { ...six, useGrouping: "min2" }],
+    ["@@@", { minimumSignificantDigits: 3, maximumSignificantDigits: 3 }], ["@@#", { minimumSignificantDigits: 2, maximumSignificantDigits: 3 }], ["@@+", { minimumSignificantDigits: 2 }],
+    ...["r", "s"].map((end) => [`.0#/@#${end}`, { minimumFractionDigits: 1, maximumFractionDigits: 2, maximumSignificantDigits: 2, roundingPriority: `${end === "r" ? "more" : "less"}Precision` }]),
+    ["@@@/w", { minimumSignificantDigits: 3, maximumSignificantDigits: 3, trailingZeroDisplay: "stripIfInteger" }], [".0##/w", { minimumFractionDigits: 1, maximumFractionDigits: 3, trailingZeroDisplay: "stripIfInteger" }],
+    ["integer-width/*0000", { ...six, minimumIntegerDigits: 4 }], ["group-on-aligned", { ...six, useGrouping: "always" }], ["group-off", { ...six, useGrouping: false }], ["group-min2", { ...six, useGrouping: "min2" }],
     ["sign-always", { ...six, signDisplay: "always" }], ["sign-never", { ...six, signDisplay: "never" }], ["sign-except-zero", { ...six, signDisplay: "exceptZero" }], ["sign-negative", { ...six, signDisplay: "negative" }],
     ...["floor", "ceil", "trunc", "expand"].map((mode) => [`.0 rounding-mode-${{ floor: "floor", ceil: "ceiling", trunc: "down", expand: "up" }[mode]}`, { minimumFractionDigits: 1, maximumFractionDigits: 1, roundingMode: mode }]),
     ["currency/EUR", money("EUR")], ["currency/JPY", money("JPY")], ["currency/KWD .0", money("KWD", { minimumFractionDigits: 1, maximumFractionDigits: 1 })],
@@ -45,7 +49,7 @@ test("skeletons as Intl means them", () => {
     ["compact-short", { notation: "compact" }], ["compact-long", { notation: "compact", compactDisplay: "long" }], ["K sign-always", { notation: "compact", signDisplay: "always" }],
   ];
   for (const [skeleton, options] of choices) {
-    if (!isNew && (options.roundingMode || options.useGrouping === "min2" || options.signDisplay === "negative")) continue;
+    if (!isNew && (options.roundingMode || options.useGrouping === "min2" || options.signDisplay === "negative" || options.roundingPriority || options.trailingZeroDisplay)) continue;
     for (const locale of ["en", "de", "fr", "hi", "ja", "ar-EG", "es"]) {
       const [ours, theirs] = [by(locale, skeleton), new Intl.NumberFormat(locale, options)];
       for (const number of numbers) assert.equal(ours.format(number), theirs.format(number), `${locale} ${skeleton} ${number}`);
@@ -105,7 +109,7 @@ test("the normal text", () => {
   const rows = [
     ["", ""], ["   ", ""], ["sign-auto", ""], ["K  sign-auto", "compact-short"], ["KK", "compact-long"], ["% .00", "percent .00"], ["currency/eur .00", "currency/EUR .00"], [".", "precision-integer"],
     ["K currency/EUR", "compact-short currency/EUR"], ["currency/EUR K", "compact-short currency/EUR"], ["000", "integer-width/*000"], [",_ +! .0#", ".0# group-off sign-always"], ["K group-auto", "compact-short group-auto"], ["group-auto", ""],
-    ["currency/USD ()! unit-width-iso-code", "currency/USD unit-width-iso-code sign-accounting-always"], [".00/w", ".00/w"], [".00+", ".00*"],
+    ["currency/USD ()! unit-width-iso-code", "currency/USD unit-width-iso-code sign-accounting-always"], [".00/w", ".00/w"], [".00+", ".00*"], ["@@+ ,!", "@@* group-on-aligned"], [".##/@@@+", ".##/@##r"],
   ];
   for (const [skeleton, normal] of rows) assert.deepEqual([skeleton, normal].map(normalSkeleton), [normal, normal], skeleton);
   assert.equal(normalSkeleton(`.${"0".repeat(100)}`).length, 101);

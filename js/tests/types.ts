@@ -30,7 +30,7 @@ const types: string[] = [...dollars.formatToParts(5), ...new PercentFormatter().
 const listed: string[] = [...new Book("[]").locales(), ...CurrencyFormatter.supportedLocalesOf("de", inAccounts), dollars.resolvedOptions().currency];
 const supported: string[] = DecimalFormatter.supportedLocalesOf(["de"]);
 const bySkeleton: NumberFormatterOptions = { skeleton: normalSkeleton("currency/EUR .00"), fallback: "en" };
-const asked: CurrencyCallOptions = { maximumFractionDigits: 2, signDisplay: "always" };
+const asked: CurrencyCallOptions = { maximumFractionDigits: 2, signDisplay: "always", maximumSignificantDigits: 3, roundingPriority: "morePrecision", trailingZeroDisplay: "stripIfInteger" };
 const euros = new NumberFormatter("de", bySkeleton);
 texts.push(euros.format(5, asked), euros.resolvedOptions().skeleton, german.shown(5), german.format(5, { position: 2 }), ...dollars.formatAll([1], { currencyDigits: "cash" }));
 const faults: string[] = [new SkeletonError(201, "foo", 0)].map(({ fault, place, number }) => `${fault} ${place + number}`);
@@ -57,6 +57,10 @@ german.formatAll(5);
 new DecimalFormatter("de", { style: "percent" });
 // @ts-expect-error
 new CompactDecimalFormatter("de", { maximumFractionDigits: 2 });
+// @ts-expect-error
+new CompactDecimalFormatter("de", { maximumSignificantDigits: 2 });
+// @ts-expect-error
+german.format(5, { roundingPriority: "more" });
 // @ts-expect-error
 new DecimalFormatter("de", { fallback: 5 });
 // @ts-expect-error

@@ -35,7 +35,7 @@ from ._formatters import (
     Answers, Book, CompactDecimalFormatter, CurrencyFormatter, DecimalFormatter, NumberFormatter, Part, PercentFormatter, normal_skeleton,
 )
 from ._locales import minor, tag_of_locale_name, version, world_locales
-from ._options import Fault, Grouping, Kind, Options, Rounding, Sign, TrailingZeros, Width
+from ._options import Fault, Grouping, Kind, Options, Rounding, RoundingPriority, Sign, TrailingZeros, Width
 
 __all__ = [
     "Answers",
@@ -56,6 +56,7 @@ __all__ = [
     "Part",
     "PercentFormatter",
     "Rounding",
+    "RoundingPriority",
     "Sign",
     "SkeletonError",
     "TrailingZeros",

@@ -12,8 +12,9 @@
 #include <structmember.h>
 #include <legumeyet.h>
 
-/* The room of a text and the count of its parts at first, the magnitudes of numbers, and how many bits 32,768 digits have at most. */
-enum { ROOM = 512, PLACES = 32, HIGHEST = 32767, LOWEST = -32768, BITS = 108853 };
+/* The room of a text and the count of its parts at first, the magnitudes of numbers, how many digits are between these, and how many bits 32,768
+ * digits have at most. */
+enum { ROOM = 512, PLACES = 32, HIGHEST = 32767, LOWEST = -32768, SPAN = 65535, BITS = 108853 };
 
 /* How many numbers of format_all are written together, from how many on other threads run meanwhile, how many bytes their digits have together
  * before one more is taken, and how much room each text has at first, and all together besides. */
@@ -23,7 +24,7 @@ enum { CHUNK = 4096, ASIDE = 64, DIGITS_AT_MOST = 1 << 20, EACH = 32, LEAST = 1 
 enum { PIECE = 1 << 16, PIECE_ASIDE = 1 << 10 };
 
 /* What the objects of an interpreter share of Python: the types of this module, and from REFUSAL on what its modules in Python give to `use`. */
-enum object { BOOK, FORMATTER, ANSWERS, REFUSAL, WRONG_NUMBER, PART_OF, ROW_OF, DECIMAL, SIGN, ROUNDING, TRAILING_ZEROS, OBJECTS };
+enum object { BOOK, FORMATTER, ANSWERS, REFUSAL, WRONG_NUMBER, PART_OF, ROW_OF, DECIMAL, SIGN, ROUNDING, TRAILING_ZEROS, PRIORITY, OBJECTS };
 
 /* What the objects of an interpreter share. It is freed with the last of them, which may come after the module. */
 struct shared {
@@ -33,7 +34,7 @@ struct shared {
 };
 
 /* The options of a call: the words of legumeyet_options, and behind them the power of ten that an integer is times. */
-enum { SIGN_WORD, ROUNDING_WORD, POSITION_WORD, INCREMENT_WORD, WORDS = sizeof(legumeyet_options) / sizeof(int32_t), EXPONENT = WORDS };
+enum { ROUNDING_WORD = 1, POSITION_WORD, INCREMENT_WORD, LEAST_WORD = 7, MOST_WORD, PRIORITY_WORD, WORDS = sizeof(legumeyet_options) / sizeof(int32_t), EXPONENT = WORDS };
 struct options {
     int32_t words[WORDS + 1];
     size_t count; /* WORDS where there are some, and 0 where they are the formatter's own */
@@ -320,6 +321,7 @@ static const struct {
 } known[WORDS + 1] = {
     {"sign", SIGN, 0, 0}, {"rounding", ROUNDING, 0, 0}, {"position", DECIMAL, LOWEST, HIGHEST}, {"increment", DECIMAL, 1, 25},
     {"trailing_zeros", TRAILING_ZEROS, 0, 0}, {"minimum_integer_digits", DECIMAL, 0, HIGHEST}, {"minimum_fraction_digits", DECIMAL, 0, HIGHEST},
+    {"minimum_significant_digits", DECIMAL, 0, SPAN}, {"maximum_significant_digits", DECIMAL, 0, SPAN}, {"rounding_priority", PRIORITY, 0, 0},
     {"exponent", DECIMAL, LOWEST, HIGHEST}};
 
 /* The word of an option that is of an enum. It looks at the type alone, and so runs nothing of Python before an error. */
@@ -355,18 +357,43 @@ static bool take_whole(int at, PyObject *option, int32_t *word) {
     return false;
 }
 
-/* Whether the rounding, the position and the increment go together; `told` has a bit for each that a call was given. A position without a rounding
- * is that of HALF_EVEN. */
-static bool is_rounding_whole(unsigned told, int32_t *words) {
-    const int32_t rounding = words[ROUNDING_WORD];
+/* Whether a rounding is none at a position. */
+static bool is_unplaced(int32_t rounding) {
+    return rounding == LEGUMEYET_ROUND_USUAL || rounding == LEGUMEYET_ROUND_CASH || rounding == LEGUMEYET_ROUND_NONE;
+}
+
+/* Why the rounding, the position and the increment do not go together, or NULL; `told` has a bit for each that a call was given. A position without
+ * a rounding is that of HALF_EVEN. */
+static const char *position_fault(unsigned told, int32_t *words) {
     const bool has_position = told >> POSITION_WORD & 1;
-    if (rounding != LEGUMEYET_ROUND_USUAL && rounding != LEGUMEYET_ROUND_CASH && rounding != LEGUMEYET_ROUND_NONE) return true;
-    if (has_position && told >> ROUNDING_WORD & 1)
-        return PyErr_SetString(PyExc_ValueError, "there is no position of Rounding.KEEP, CASH and NONE"), false;
-    if (!has_position && told >> INCREMENT_WORD & 1 && words[INCREMENT_WORD] != 1)
-        return PyErr_SetString(PyExc_ValueError, "an increment is of a rounding at a position: give position too"), false;
+    if (!is_unplaced(words[ROUNDING_WORD])) return NULL;
+    if (has_position && told >> ROUNDING_WORD & 1) return "there is no position of Rounding.KEEP, CASH and NONE";
+    if (!has_position && told >> INCREMENT_WORD & 1 && words[INCREMENT_WORD] != 1) return "an increment is of a rounding at a position: give position too";
     if (has_position) words[ROUNDING_WORD] = LEGUMEYET_ROUND_HALF_EVEN;
-    return true;
+    return NULL;
+}
+
+/* Why significant digits do not go with these, or NULL. Where a call is given one of a position and of digits, it takes the place of the other one,
+ * which the formatter was opened with. */
+static const char *digits_fault(unsigned told, int32_t *words) {
+    const bool has_position = told >> POSITION_WORD & 1, are_told = (told >> LEAST_WORD & 3) != 0, is_alone = words[PRIORITY_WORD] == LEGUMEYET_PRIORITY_AUTO;
+    if (has_position && !are_told && is_alone) words[LEAST_WORD] = words[MOST_WORD] = 0;
+    if (words[LEAST_WORD] == 0 && words[MOST_WORD] == 0) return is_alone ? NULL : "a rounding_priority is of significant digits: give maximum_significant_digits too";
+    if (words[MOST_WORD] != 0 && words[LEAST_WORD] > words[MOST_WORD]) return "minimum_significant_digits is above maximum_significant_digits";
+    if (has_position && is_alone) return "position and significant digits both say where to round: give rounding_priority too";
+    if (are_told && is_alone && !(told >> ROUNDING_WORD & 1) && is_unplaced(words[ROUNDING_WORD])) words[ROUNDING_WORD] = LEGUMEYET_ROUND_USUAL;
+    if (are_told && is_alone && !(told >> INCREMENT_WORD & 1)) words[INCREMENT_WORD] = 1;
+    if (words[ROUNDING_WORD] == LEGUMEYET_ROUND_CASH || words[ROUNDING_WORD] == LEGUMEYET_ROUND_NONE) return "Rounding.CASH and NONE are of no significant digits";
+    if (words[INCREMENT_WORD] > 1) return "an increment is of no significant digits";
+    return !is_alone && words[ROUNDING_WORD] == LEGUMEYET_ROUND_USUAL ? "a rounding_priority is of a position: give position too" : NULL;
+}
+
+/* Whether what is said of the rounding goes together. */
+static bool is_rounding_whole(unsigned told, int32_t *words) {
+    const char *fault = position_fault(told, words);
+    if (fault == NULL) fault = digits_fault(told, words);
+    if (fault != NULL) PyErr_SetString(PyExc_ValueError, fault);
+    return fault == NULL;
 }
 
 /* Takes the options that a call is given by their names; a rounding or a position that is None is as it was, and an exponent is taken where there
@@ -928,10 +955,12 @@ static PyMethodDef formatter_methods[] = {
      "The text of a number: a Decimal, an int, a float, or a str as '-1234.5'. A float is written by the shortest digits that give it back.\n"
      "An int is times ten to the power exponent: -12345 and -2 are -123.45. A percent is written as it is given, so a ratio is multiplied by\n"
      "100 first. An amount has the digits of its currency, half to even, and those that it has in cash with Rounding.CASH.\n\n"
-     "The options are sign, rounding, position, increment, trailing_zeros, minimum_integer_digits and minimum_fraction_digits; those that are\n"
-     "not given are the ones that the formatter was opened with. With a rounding the number is rounded at the position first, to a multiple\n"
-     "of the increment, which is 1, 2, 5 or 25: 0, as without a position, is the ones, -2 the hundredths. A position without a rounding is\n"
-     "that of HALF_EVEN, and an increment without both is a ValueError. Options that are given take the place of all that a skeleton says.\n\n"
+     "The options are sign, rounding, position, increment, trailing_zeros, minimum_integer_digits, minimum_fraction_digits,\n"
+     "minimum_significant_digits, maximum_significant_digits and rounding_priority; those that are not given are the ones that the formatter\n"
+     "was opened with. With a rounding the number is rounded at the position first, to a multiple of the increment, which is 1, 2, 5 or 25: 0,\n"
+     "as without a position, is the ones, -2 the hundredths. A position without a rounding is that of HALF_EVEN, and so are significant digits,\n"
+     "which are counted from the first one that is not zero on. Options that do not go together, as an increment without a position, are a\n"
+     "ValueError. Options that are given take the place of all that a skeleton says.\n\n"
      "Raises Error 7 where the text is no number, or a float is not finite, 8 where a digit is beyond the magnitudes -32768 to 32767, 9 where\n"
      "what is shown in compact form does, 2 where the formatter is closed, 1 where memory was refused.\n\n"
      ">>> german, yen = DecimalFormatter('de'), CurrencyFormatter('en', 'JPY')\n"
@@ -941,6 +970,8 @@ static PyMethodDef formatter_methods[] = {
      "('9,6', '+9,7')\n"
      ">>> german.format(1.995, position=-2, trailing_zeros=TrailingZeros.TRIM), german.format(7, minimum_integer_digits=3)\n"
      "('2', '007')\n"
+     ">>> german.format(12345, maximum_significant_digits=3), german.format(5, minimum_significant_digits=3)\n"
+     "('12.300', '5,00')\n"
      ">>> yen.format(2.5), yen.format(2.5, rounding=Rounding.NONE), yen.format(1234.5, position=2)\n"
      "('\u00a52', '\u00a52.5', '\u00a51,200')"},
     {"format_all", CALL(format_all),

@@ -6,7 +6,7 @@ from typing_extensions import Unpack
 
 from ._errors import Error
 from ._formatters import Format, Part, Text
-from ._options import Options, Rounding, Sign, TrailingZeros
+from ._options import Options, Rounding, RoundingPriority, Sign, TrailingZeros
 
 VERSION: int
 MINOR: int
@@ -54,5 +54,6 @@ def use(
     sign: Type[Sign],
     rounding: Type[Rounding],
     trailing_zeros: Type[TrailingZeros],
+    priority: Type[RoundingPriority],
     /,
 ) -> None: ...

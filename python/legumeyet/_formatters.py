@@ -7,7 +7,7 @@ from typing import TYPE_CHECKING, Any, Dict, NamedTuple, NoReturn, Optional, Tup
 
 from . import _core
 from ._errors import refusal, wrong_number
-from ._options import Grouping, Kind, Options, Rounding, Sign, TrailingZeros, Width, kind_of, number_of
+from ._options import Grouping, Kind, Options, Rounding, RoundingPriority, Sign, TrailingZeros, Width, kind_of, number_of
 
 if TYPE_CHECKING:
     from typing_extensions import Unpack
@@ -56,7 +56,7 @@ def row_of(numbers: Any, has_exponent: bool) -> Optional[Tuple[str, int, bytes]]
     return (kind, memory.itemsize, memory.tobytes()) if is_row else None
 
 
-_core.use(refusal, wrong_number, part_of, row_of, Decimal, Sign, Rounding, TrailingZeros)
+_core.use(refusal, wrong_number, part_of, row_of, Decimal, Sign, Rounding, TrailingZeros, RoundingPriority)
 if hasattr(os, "register_at_fork"):
     os.register_at_fork(after_in_child=_core.forked)
 
@@ -201,7 +201,23 @@ def normal_skeleton(skeleton: Text) -> str:
     return _core.normal_skeleton(skeleton)
 
 
-class DecimalFormatter(NumberFormatter):
+class Grouped(NumberFormatter):
+    """A formatter with no choice of its own but when separators are written."""
+
+    __slots__ = ()
+    _unit = 0
+
+    @overload
+    def __init__(self, tag: Text, /, *, grouping: Grouping = ..., **options: "Unpack[Options]") -> None: ...
+
+    @overload
+    def __init__(self, book: Book, tag: Text, /, *, grouping: Grouping = ..., **options: "Unpack[Options]") -> None: ...
+
+    def __init__(self, book: Union[Book, Text], tag: Optional[Text] = None, /, *, grouping: Grouping = Grouping.AUTO, **options: Any) -> None:
+        self._open(*named_by(book, tag), Format(unit=self._unit, grouping=number_of(Grouping, grouping)), options)
+
+
+class DecimalFormatter(Grouped):
     """The formatter of plain numbers for a locale tag: of the world's book, or of a book that is given first, which it may outlive. Options are
     those of each call that is not given others; `format` has them.
 
@@ -220,15 +236,6 @@ class DecimalFormatter(NumberFormatter):
     """
 
     __slots__ = ()
-
-    @overload
-    def __init__(self, tag: Text, /, *, grouping: Grouping = ..., **options: "Unpack[Options]") -> None: ...
-
-    @overload
-    def __init__(self, book: Book, tag: Text, /, *, grouping: Grouping = ..., **options: "Unpack[Options]") -> None: ...
-
-    def __init__(self, book: Union[Book, Text], tag: Optional[Text] = None, /, *, grouping: Grouping = Grouping.AUTO, **options: Any) -> None:
-        self._open(*named_by(book, tag), Format(grouping=number_of(Grouping, grouping)), options)
 
 
 class CompactDecimalFormatter(NumberFormatter):
@@ -267,7 +274,7 @@ class CompactDecimalFormatter(NumberFormatter):
         self._open(*named_by(book, tag), Format(COMPACT, number_of(Width, width), grouping=number_of(Grouping, grouping)), options)
 
 
-class PercentFormatter(NumberFormatter):
+class PercentFormatter(Grouped):
     """The formatter of percents for a locale tag: of the world's book, or of one that is given first. It may outlive the book. A percent is
     written as it is given, so a ratio is multiplied by 100 first.
 
@@ -280,15 +287,7 @@ class PercentFormatter(NumberFormatter):
     """
 
     __slots__ = ()
-
-    @overload
-    def __init__(self, tag: Text, /, *, grouping: Grouping = ..., **options: "Unpack[Options]") -> None: ...
-
-    @overload
-    def __init__(self, book: Book, tag: Text, /, *, grouping: Grouping = ..., **options: "Unpack[Options]") -> None: ...
-
-    def __init__(self, book: Union[Book, Text], tag: Optional[Text] = None, /, *, grouping: Grouping = Grouping.AUTO, **options: Any) -> None:
-        self._open(*named_by(book, tag), Format(unit=PERCENT, grouping=number_of(Grouping, grouping)), options)
+    _unit = PERCENT
 
 
 class CurrencyFormatter(NumberFormatter):

@@ -6,17 +6,19 @@ from typing import Optional, SupportsIndex, Type, TypedDict, Union
 class Grouping(IntEnum):
     """When grouping separators are written.
 
-    AUTO: where the sizes of the locale place them, `1,234,567`. NEVER: nowhere, `1234567`. ALWAYS: as AUTO. MIN2: as AUTO, but only
-    with two digits before the last separator, `1000` and `10,000`.
+    AUTO: where the sizes of the locale place them, `1,234,567`, and in some, as Spanish, only with two digits before the last separator.
+    NEVER: nowhere, `1234567`. ALWAYS: as AUTO. MIN2: as AUTO, but only with two digits before the last separator, `1000` and `10,000`.
+    ON_ALIGNED: already with one digit before it in each locale, as in a column.
 
-    >>> [DecimalFormatter("en", grouping=it).format(1000) for it in Grouping]
-    ['1,000', '1000', '1,000', '1000']
+    >>> [DecimalFormatter("es", grouping=it).format(1000) for it in Grouping]
+    ['1000', '1000', '1000', '1000', '1.000']
     """
 
     AUTO = 0
     NEVER = 1
     ALWAYS = 2
     MIN2 = 3
+    ON_ALIGNED = 4
 
 
 class Width(IntEnum):
@@ -96,14 +98,30 @@ class Rounding(IntEnum):
 class TrailingZeros(IntEnum):
     """What becomes of the zeros at the end of the fraction digits. KEEP: they stay, `1.50`. TRIM: they are trimmed, and the decimal separator
     where no digit is left, `1.5`, and `2` of `2.00`. TRIM_WHOLE: they are trimmed where no other digit is among them, `2` of `2.00`, and `1.50`.
+    TRIM_ALL: as TRIM, and again as TRIM_WHOLE what `minimum_fraction_digits` added, with 2 `1.50` and `2`.
 
     >>> [DecimalFormatter("en", trailing_zeros=it).format("1.50") for it in TrailingZeros]
-    ['1.50', '1.5', '1.50']
+    ['1.50', '1.5', '1.50', '1.5']
     """
 
     KEEP = 0
     TRIM = 1
     TRIM_WHOLE = 2
+    TRIM_ALL = 3
+
+
+class RoundingPriority(IntEnum):
+    """Which rounding counts, where a call has significant digits and a position. AUTO: it has one of both. MORE_PRECISION: the one that shows
+    more digits. LESS_PRECISION: the one that shows fewer.
+
+    >>> more, less = ({"maximum_significant_digits": 2, "position": 0, "rounding_priority": it} for it in list(RoundingPriority)[1:])
+    >>> [(DecimalFormatter("en").format(it, **more), DecimalFormatter("en").format(it, **less)) for it in (123.4, 1.234)]
+    [('123', '120'), ('1.2', '1')]
+    """
+
+    AUTO = 0
+    MORE_PRECISION = 1
+    LESS_PRECISION = 2
 
 
 class Fault(IntEnum):
@@ -143,6 +161,9 @@ class Options(TypedDict, total=False):
     trailing_zeros: TrailingZeros
     minimum_integer_digits: SupportsIndex
     minimum_fraction_digits: SupportsIndex
+    minimum_significant_digits: SupportsIndex
+    maximum_significant_digits: SupportsIndex
+    rounding_priority: RoundingPriority
 
 
 def number_of(kind: Type[IntEnum], option: IntEnum) -> int:

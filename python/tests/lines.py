@@ -7,7 +7,7 @@ import sys
 from decimal import Decimal
 
 import legumeyet
-from legumeyet import Book, CompactDecimalFormatter, DecimalFormatter, Grouping, Rounding, Sign, Width
+from legumeyet import Book, CompactDecimalFormatter, DecimalFormatter, Grouping, Rounding, RoundingPriority, Sign, TrailingZeros, Width
 
 WORDS = {5: "tag", 6: "table", 7: "number", 8: "limit", 9: "range", 11: "unreadable", 12: "not-written", 13: "exponent"}
 
@@ -17,16 +17,36 @@ def option(kind, word):
     return kind[word.upper().replace("-", "_")]
 
 
+def rounding_of(words):
+    """The options of a rounding, as `-2,half-even,1` or `f0-2,s1-3,more,half-even,whole`."""
+    found, zeros = {}, 0
+    for word in words.split(","):
+        letter, (least, _, most) = word[0], word[1:].partition("-")
+        if letter == "f" and least.isdigit():
+            zeros = 0 if least == most else 1
+            found.update(position=-int(most), minimum_fraction_digits=int(least))
+        elif letter == "s" and least.isdigit():
+            found.update(minimum_significant_digits=int(least), maximum_significant_digits=int(most))
+        elif word in ("more", "less"):
+            found["rounding_priority"] = option(RoundingPriority, f"{word}-precision")
+        elif word == "whole":
+            zeros += 2
+        elif word.isalpha() or "half" in word:
+            found["rounding"] = option(Rounding, word)
+        elif "rounding" not in found:
+            found["position"] = int(word)
+        elif word != "1":
+            found["increment"] = int(word)
+    return {**found, "trailing_zeros": TrailingZeros(zeros)}
+
+
 def text_for(book, fields):
     """The text for the fields of a request by the call of a formatter, or the number that is read. KeyError: none says what is asked."""
     tag, form, grouping, sign, rounding, number = fields
     grouping, sign = option(Grouping, grouping), option(Sign, sign)
     options = {"sign": sign}
     if rounding != "-":
-        position, mode, increment = rounding.split(",")
-        options.update(rounding=option(Rounding, mode), position=int(position))
-        if increment != "1":
-            options.update(increment=int(increment))
+        options.update(rounding_of(rounding))
     if form == "plain":
         return DecimalFormatter(book, tag, grouping=grouping).format(number, **options)
     if form == "read":

@@ -31,7 +31,7 @@ from fractions import Fraction
 import legumeyet
 from legumeyet import (
     Answers, Book, ClosedError, CompactDecimalFormatter, CurrencyFormatter, DecimalFormatter, Error, Grouping, InputError, Kind,
-    OutOfMemoryError, PercentFormatter, Rounding, Sign, TrailingZeros, Width, _core, _errors, _formatters, _locales, _options,
+    OutOfMemoryError, PercentFormatter, Rounding, RoundingPriority, Sign, TrailingZeros, Width, _core, _errors, _formatters, _locales, _options,
 )
 from legumeyet.__main__ import main
 
@@ -150,10 +150,43 @@ class Calls(unittest.TestCase):
             (self.english, "000", {}, "000"), (self.english, "000", {"position": 0}, "000"), (dollars, 400, {"position": 3}, "$0"),
             (dollars, 5, {"trailing_zeros": whole}, "$5"), (dollars, 5.5, {"trailing_zeros": whole}, "$5.50"),
             (dollars, 0.001, {"trailing_zeros": whole}, "$0"), (self.english, "1.50", {"trailing_zeros": whole}, "1.50"),
-            (self.english, "2.00", {"trailing_zeros": whole, "minimum_fraction_digits": 1}, "2.0"),
+            (self.english, "2.00", {"trailing_zeros": whole, "minimum_fraction_digits": 1}, "2"),
         ]:
             self.assertEqual(formatter.format(number, **options), text)
             self.assertEqual(formatter.format_all([number] * 2, **options), [text] * 2)
+
+    def test_significant_digits(self):
+        """Significant digits, alone and beside a position, and what does not go together."""
+        dollars, cash, whole = CurrencyFormatter("en", "USD"), CurrencyFormatter("en", "CHF", cash=True), TrailingZeros.TRIM_WHOLE
+        tenths, twentieths = DecimalFormatter("en", position=-1), DecimalFormatter("en", position=-2, increment=5)
+        three = DecimalFormatter("en", maximum_significant_digits=3)
+        least, none, most, two = ({f"{it}imum_significant_digits": count} for it, count in (("min", 3), ("min", 0), ("max", 3), ("max", 2)))
+        more, less = ({**two, "position": -1, "rounding_priority": it} for it in list(RoundingPriority)[1:])
+        for formatter, number, options, text in [
+            (self.english, 12345, most, "12,300"), (self.english, -0.012345, most, "-0.0123"), (self.english, 5, least, "5.00"), (self.english, 0, least, "0.00"),
+            (self.english, 12345.678, least, "12,345.678"), (self.english, "1.999", {**two, **least, **most}, "2.00"), (self.english, "1.5000", most, "1.5"),
+            (self.english, "999.5", most, "1,000"), (self.english, "2.15", {**two, "rounding": Rounding.CEIL}, "2.2"), (self.english, 5, {**least, "trailing_zeros": whole}, "5"),
+            (self.english, 5.1, {**least, "trailing_zeros": whole}, "5.10"), (dollars, 1234.5, most, "$1,230"), (dollars, 5, most, "$5"), (cash, "2.345", most, "CHF\xa02.34"),
+            (PercentFormatter("en"), "12.345", two, "12%"), (self.english, 1234.56, more, "1,234.6"), (self.english, 1234.56, less, "1,200"), (self.english, 1.04, more, "1"),
+            (self.english, 1.04, less, "1.0"), (tenths, 12345, most, "12,300"), (twentieths, 123.456, most, "123"), (three, 1234.56, {"position": -1}, "1,234.6"),
+            (three, 1234.56, {"sign": Sign.ALWAYS}, "+1,230"), (three, 1234.56, {**most, **none, "rounding": Rounding.CEIL}, "1,240"),
+            (three, 1234.56, {"maximum_significant_digits": 0}, "1,234.56"), (three, 1234.56, less, "1,200"),
+            (self.english, "1.9996", {"position": -3, "trailing_zeros": TrailingZeros.TRIM_ALL, "minimum_fraction_digits": 2}, "2"),
+            (self.english, "1.5", {"position": -3, "trailing_zeros": TrailingZeros.TRIM_ALL, "minimum_fraction_digits": 2}, "1.50"),
+        ]:
+            self.assertEqual(formatter.format(number, **options), text)
+            self.assertEqual(formatter.format_all([number] * 2, **options), [text] * 2)
+        for options, said in [
+            ({**most, "minimum_significant_digits": 4}, "is above"), ({**most, "position": -1}, "give rounding_priority too"), ({"maximum_significant_digits": 65536}, "from 0 to 65535"),
+            ({"minimum_significant_digits": -1}, "from 0 to 65535"), ({**most, "rounding": Rounding.CASH}, "of no significant"), ({**most, "rounding": Rounding.NONE}, "of no significant"),
+            ({**most, "rounding": Rounding.CEIL, "increment": 5}, "of no significant"), ({**more, "increment": 2}, "of no significant"),
+            ({**most, "rounding_priority": RoundingPriority.MORE_PRECISION}, "give position too"), ({"rounding_priority": RoundingPriority.LESS_PRECISION}, "too"),
+        ]:
+            self.assertRaisesRegex(ValueError, said, self.english.format, 1, **options)
+            self.assertRaisesRegex(ValueError, said, DecimalFormatter, self.book, "en", **options)
+        for options in ({**more, "rounding_priority": 1}, {"maximum_significant_digits": 3.0}, {"minimum_significant_digits": None}, {"rounding_priority": Sign.AUTO}):
+            self.assertRaises(TypeError, self.english.format, 1, **options)
+        self.assertEqual(DecimalFormatter("es", grouping=Grouping.ON_ALIGNED).format(1234.5), "1.234,5")
 
     def test_compact(self):
         for number, text in [

@@ -32,6 +32,8 @@ class Skeletons(unittest.TestCase):
             ("en", ".00", 5, "5.00"), ("en", ".00##", 1.5, "1.50"), ("en", ".00##", 1.23456, "1.2346"), ("en", ".", 2.5, "2"), ("en", ".0*", 2, "2.0"),
             ("en", "rounding-mode-ceiling .", 2.1, "3"), ("en", "group-off", 12345, "12345"), ("en", "group-min2", 1234, "1234"),
             ("en", "sign-always", 5, "+5"), ("en", "sign-never", -5, "5"), ("en", "sign-except-zero", 0, "0"), ("en", "000", 7, "007"),
+            ("en", "@@@", 9.996, "10.0"), ("en", "@@#/w", 12345, "12,300"), ("en", "@@*", 0.1, "0.10"), ("en", ".0#/@@r", 0.00123, "0.0012"),
+            ("en", ".0#/@@s", 0.00123, "0.0"), ("en", ".0#/w", 3, "3"), ("es", "", 1234.5, "1234,5"), ("es", "group-on-aligned", 1234.5, "1.234,5"),
             (b"en", b"  .00   percent  ", 1, "1.00%"), ("hi", "compact-long", 1234567, "12 लाख"),
         ]:
             formatter = NumberFormatter(tag, skeleton)
@@ -135,6 +137,7 @@ class Skeletons(unittest.TestCase):
             ("", ""), ("   ", ""), ("%", "percent"), ("currency/eur", "currency/EUR"), ("currency/EUR  K sign-auto", "compact-short currency/EUR"),
             ("+! KK", "compact-long sign-always"), (b".00##", ".00##"), (".", "precision-integer"), ("K group-auto", "compact-short group-auto"),
             ("K group-min2", "compact-short"), ("notation-simple base-unit sign-auto", ""), ("000", "integer-width/*000"),
+            ("@@+ ,!", "@@* group-on-aligned"), (".##/@@@+", ".##/@##r"),
         ]:
             self.assertEqual(normal_skeleton(skeleton), text)
             self.assertEqual(normal_skeleton(text), text)

@@ -3,24 +3,43 @@
 //!
 //! usage: lines BOOK < LINES > ANSWERS
 
-use legumeyet::{Book, CompactDecimalFormatter, DecimalFormatter, Error, Options};
+use legumeyet::{Book, CompactDecimalFormatter, DecimalFormatter, Error, Options, Rounding, TrailingZeros};
 use std::error;
 use std::io::{self, BufRead, Write};
 
-/// The options of two fields, where a formatter has them.
+/// The counts of a word, as `f0-2`.
+fn counts_of(word: &str, letter: char) -> Option<(u16, u16)> {
+    let (least, most) = word.strip_prefix(letter)?.split_once('-')?;
+    Some((least.parse().ok()?, most.parse().ok()?))
+}
+
+/// The options with a word of a rounding.
+fn with_word(options: Options, word: &str) -> Option<Options> {
+    if let Some((least, most)) = counts_of(word, 'f') {
+        let zeros = if least == most { TrailingZeros::Keep } else { TrailingZeros::Trim };
+        return Some(options.rounded(options.rounding, -i16::try_from(most).ok()?).trailing_zeros(zeros).minimum_fraction_digits(least));
+    }
+    if let Some((least, most)) = counts_of(word, 's') {
+        return Some(options.minimum_significant_digits(least).maximum_significant_digits(most));
+    }
+    if word == "whole" {
+        let is_trimmed = options.trailing_zeros == TrailingZeros::Trim;
+        return Some(options.trailing_zeros(if is_trimmed { TrailingZeros::TrimAll } else { TrailingZeros::TrimWhole }));
+    }
+    if let Ok(priority) = word.parse() {
+        return Some(options.rounding_priority(priority));
+    }
+    match word.parse() {
+        Ok(mode) => Some(options.rounding(mode)),
+        Err(_) if options.rounding == Rounding::Keep => Some(options.rounded(Rounding::Keep, word.parse().ok()?)),
+        Err(_) => Some(options.increment(word.parse().ok()?)),
+    }
+}
+
+/// The options of two fields, where a formatter has them; a rounding is `-`, or as `-2,half-even,1` or `f0-2,s1-3,more,half-even,whole`.
 fn options_of(sign: &str, rounding: &str) -> Option<Options> {
-    let sign = sign.parse().ok()?;
-    if rounding == "-" {
-        return Some(Options::default().sign(sign));
-    }
-    let words: Vec<&str> = rounding.split(',').collect();
-    match words[..] {
-        [position, mode, increment] => {
-            let rounded = Options::default().sign(sign).rounded(mode.parse().ok()?, position.parse().ok()?);
-            Some(rounded.increment(increment.parse().ok()?))
-        }
-        _ => None,
-    }
+    let options = Options::default().sign(sign.parse().ok()?);
+    rounding.split(',').filter(|it| *it != "-").try_fold(options, with_word)
 }
 
 /// The text for a number in compact form; but for an exact form with the value shown after a tab.

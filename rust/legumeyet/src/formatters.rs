@@ -2,7 +2,7 @@
 
 use crate::column::lines_of;
 use crate::number::Of;
-use crate::options::words_of;
+use crate::options::{words_of, Words};
 use crate::owned::{annotated, written, written_to, Owned, Shared};
 use crate::world::with_book;
 use crate::{
@@ -15,7 +15,7 @@ use std::str::FromStr;
 macro_rules! calls {
     ($type:ident: $of:ident, $format:ident) => {
         impl $type {
-            fn call(&self, number: &Number<'_>, (words, count): &([i32; 7], usize), out: *mut u8, room: usize, length: *mut usize) -> i32 {
+            fn call(&self, number: &Number<'_>, (words, count): &Words, out: *mut u8, room: usize, length: *mut usize) -> i32 {
                 let words = words.as_ptr();
                 // SAFETY: a text is memory of its length, `out` is memory of `room`, and no other call has a handle that is not shared.
                 unsafe {

@@ -20,8 +20,8 @@ pub use formatters::{
 };
 pub use number::Number;
 pub use options::{
-    CurrencyOptions, CurrencyStyle, CurrencyWidth, Format, Grouping, Increment, Kind, Notation, Options, Rounding, Sign, TrailingZeros,
-    Unit, Width,
+    CurrencyOptions, CurrencyStyle, CurrencyWidth, Format, Grouping, Increment, Kind, Notation, Options, Rounding, RoundingPriority, Sign,
+    TrailingZeros, Unit, Width,
 };
 pub use world::{tag_of_locale_name, world_locales};
 

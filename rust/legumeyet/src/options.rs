@@ -26,11 +26,12 @@ macro_rules! words {
     };
 }
 
-words!(Grouping: "auto" Auto, "never" Never, "always" Always, "min2" Min2);
+words!(Grouping: "auto" Auto, "never" Never, "always" Always, "min2" Min2, "on-aligned" OnAligned);
 words!(Width: "short" Short, "long" Long);
 words!(Sign: "keep" Keep, "auto" Auto, "never" Never, "always" Always, "except-zero" ExceptZero, "negative" Negative);
 words!(Increment: "1" One, "2" Two, "5" Five, "25" TwentyFive);
-words!(TrailingZeros: "keep" Keep, "trim" Trim, "trim-whole" TrimWhole);
+words!(TrailingZeros: "keep" Keep, "trim" Trim, "trim-whole" TrimWhole, "trim-all" TrimAll);
+words!(RoundingPriority: "auto" Auto, "more" MorePrecision, "less" LessPrecision);
 words!(Rounding: "keep" Keep, "expand" Expand, "trunc" Trunc, "ceil" Ceil, "floor" Floor, "half-expand" HalfExpand,
     "half-trunc" HalfTrunc, "half-ceil" HalfCeil, "half-floor" HalfFloor, "half-even" HalfEven, "cash" Cash, "none" None);
 words!(CurrencyStyle: "standard" Standard, "accounting" Accounting);
@@ -54,7 +55,7 @@ macro_rules! changes {
 changes!(CurrencyOptions: style CurrencyStyle, width CurrencyWidth, grouping Grouping);
 changes!(Format<'_>: notation Notation, currency_style CurrencyStyle, currency_width CurrencyWidth, grouping Grouping);
 changes!(Options: sign Sign, rounding Rounding, increment Increment, trailing_zeros TrailingZeros, minimum_integer_digits u16,
-    minimum_fraction_digits u16);
+    minimum_fraction_digits u16, minimum_significant_digits u16, maximum_significant_digits u16, rounding_priority RoundingPriority);
 
 /// When grouping separators are written.
 #[derive(Clone, Copy, Debug, Default, PartialEq, Eq, Hash)]
@@ -69,6 +70,8 @@ pub enum Grouping {
     Always = 2,
     /// As `Auto`, but only with two digits before the last separator: `1000`, `10,000`. The usual one of compact numbers.
     Min2 = 3,
+    /// As `Auto`, but already with one digit before the last separator also where `Auto` has two: `1.234` in Spanish, and not `1234`.
+    OnAligned = 4,
 }
 
 /// Which patterns compact numbers are written in.
@@ -335,6 +338,34 @@ pub enum TrailingZeros {
     Trim = 1,
     /// They are trimmed where no other digit is among them: `2` of `2.00`, and `1.50`.
     TrimWhole = 2,
+    /// As `Trim`, and again as `TrimWhole` what `minimum_fraction_digits` added: with 2 `1.50`, and `2` of `2.000`.
+    TrimAll = 3,
+}
+
+/// Which rounding counts, where options have significant digits and a position.
+///
+/// # Examples
+///
+/// ```
+/// use legumeyet::{DecimalFormatter, Options, Rounding, RoundingPriority};
+///
+/// let either = Options::default().maximum_significant_digits(2).rounded(Rounding::HalfEven, 0);
+/// let english = DecimalFormatter::new("en")?;
+/// for (priority, text) in [(RoundingPriority::MorePrecision, "123"), (RoundingPriority::LessPrecision, "120")] {
+///     assert_eq!(english.format(123.4, &either.rounding_priority(priority))?, text);
+/// }
+/// # Ok::<(), legumeyet::Error>(())
+/// ```
+#[derive(Clone, Copy, Debug, Default, PartialEq, Eq, Hash)]
+#[non_exhaustive]
+pub enum RoundingPriority {
+    /// That to significant digits, wherever the position is.
+    #[default]
+    Auto = 0,
+    /// The one that shows more digits.
+    MorePrecision = 1,
+    /// The one that shows fewer.
+    LessPrecision = 2,
 }
 
 /// What is made of a number before it is written: it is rounded, then trimmed, then padded, and then its sign is chosen. By default it stays
@@ -353,6 +384,7 @@ pub enum TrailingZeros {
 /// assert_eq!(german.format(1.995, &at_most_two.minimum_fraction_digits(1))?, "2,0");
 /// let twentieths = Options::default().rounded(Rounding::HalfEven, -2).increment(Increment::Five);
 /// assert_eq!(german.format("1.23", &twentieths)?, "1,25");
+/// assert_eq!(german.format(12345, &Options::default().maximum_significant_digits(3))?, "12.300");
 /// # Ok::<(), legumeyet::Error>(())
 /// ```
 #[derive(Clone, Copy, Debug, Default, PartialEq, Eq, Hash)]
@@ -372,6 +404,14 @@ pub struct Options {
     pub minimum_integer_digits: u16,
     /// As many fraction digits are shown at least, by zeros at the end: with 2 7.5 is `7.50`. Up to 32767.
     pub minimum_fraction_digits: u16,
+    /// As many significant digits are shown at least, from the first one on that is not zero: with 3 5 is `5.00`. 0 is none, or 1 beside
+    /// `maximum_significant_digits`.
+    pub minimum_significant_digits: u16,
+    /// It is rounded to as many significant digits: with 3 12345 is `12,300`. 0 is no such rounding. They take no increment, and the rounding
+    /// `Rounding::Keep` is then half to even; `Cash`, `None` and a least count above the greatest are [`Error::OPTION`](crate::Error::OPTION).
+    pub maximum_significant_digits: u16,
+    /// Which of them and of the position counts. Other than `Auto` it needs a rounding that has a position, and significant digits.
+    pub rounding_priority: RoundingPriority,
 }
 
 impl Options {
@@ -383,11 +423,14 @@ impl Options {
 }
 
 /// The words of options, as legumeyet.h has them, and how many there are: none for those of a formatter itself.
-pub(crate) fn words_of(options: Option<&Options>) -> ([i32; 7], usize) {
-    options.map_or(([0; 7], 0), |it| {
+pub(crate) type Words = ([i32; 10], usize);
+
+pub(crate) fn words_of(options: Option<&Options>) -> Words {
+    options.map_or(([0; 10], 0), |it| {
         let (sign, rounding, increment, zeros) = (it.sign as i32, it.rounding as i32, it.increment as i32, it.trailing_zeros as i32);
-        let digits = [it.minimum_integer_digits, it.minimum_fraction_digits].map(i32::from);
-        ([sign, rounding, it.position.into(), increment, zeros, digits[0], digits[1]], 7)
+        let least = [it.minimum_integer_digits, it.minimum_fraction_digits, it.minimum_significant_digits].map(i32::from);
+        let most = it.maximum_significant_digits.into();
+        ([sign, rounding, it.position.into(), increment, zeros, least[0], least[1], least[2], most, it.rounding_priority as i32], 10)
     })
 }
 

@@ -4,7 +4,7 @@
 
 use legumeyet::{
     Book, CompactDecimalFormatter, CurrencyFormatter, CurrencyOptions, CurrencyStyle, CurrencyWidth, DecimalFormatter, Error, Grouping,
-    Increment, Kind, OpenError, Options, PercentFormatter, Rounding, Sign, TrailingZeros, UnknownWord, Width, WriteError,
+    Increment, Kind, OpenError, Options, PercentFormatter, Rounding, RoundingPriority, Sign, TrailingZeros, UnknownWord, Width, WriteError,
 };
 use std::{collections::HashMap, env, fmt, fs, io, process, thread};
 
@@ -211,6 +211,47 @@ fn newer_options() {
 }
 
 #[test]
+fn significant_digits() {
+    let (english, none) = (english(), Options::default());
+    let [least, most, two] = [none.minimum_significant_digits(3), none.maximum_significant_digits(3), none.maximum_significant_digits(2)];
+    let (either, whole) = (two.rounded(Rounding::HalfEven, -1), TrailingZeros::TrimWhole);
+    let [more, less] = [RoundingPriority::MorePrecision, RoundingPriority::LessPrecision].map(|it| either.rounding_priority(it));
+    let all = none.rounded(Rounding::HalfEven, -3).trailing_zeros(TrailingZeros::TrimAll).minimum_fraction_digits(2);
+    for (number, options, text) in [
+        (12345.0, most, "12,300"),
+        (-0.012345, most, "-0.0123"),
+        (5.0, least, "5.00"),
+        (0.0, least, "0.00"),
+        (12345.678, least, "12,345.678"),
+        (1.999, most.minimum_significant_digits(2), "2.0"),
+        (5.0, least.trailing_zeros(whole), "5"),
+        (5.1, least.trailing_zeros(whole), "5.10"),
+        (2.15, most.maximum_significant_digits(2).rounding(Rounding::Ceil), "2.2"),
+        (1234.56, either, "1,200"),
+        (1234.56, more, "1,234.6"),
+        (1234.56, less, "1,200"),
+        (1.04, more, "1"),
+        (1.04, less, "1.0"),
+        (1.9996, all, "2"),
+        (1.5, all, "1.50"),
+    ] {
+        assert_eq!(english.format(number, &options).unwrap(), text, "{number} {options:?}");
+    }
+    for wrong in [
+        most.minimum_significant_digits(4),
+        most.rounding(Rounding::Cash),
+        most.rounding(Rounding::None),
+        most.increment(Increment::Two),
+        most.rounding_priority(RoundingPriority::MorePrecision),
+        none.rounded(Rounding::Floor, 0).rounding_priority(RoundingPriority::LessPrecision),
+    ] {
+        assert_eq!(english.format(1, &wrong), Err(Error::OPTION), "{wrong:?}");
+    }
+    assert_eq!(["more", "less", "auto"].map(|it| it.parse::<RoundingPriority>().unwrap().to_string()), ["more", "less", "auto"]);
+    assert_eq!((TrailingZeros::TrimAll.to_string(), "on-aligned".parse()), ("trim-all".to_string(), Ok(Grouping::OnAligned)));
+}
+
+#[test]
 fn compact_numbers() {
     let (short, nines) = (compact(Width::Short), "9".repeat(32768));
     for (number, text, value) in [("-1172700", "-1.2M", "-1.2c6"), ("950", "950", "950"), ("12345678901", "12,346M", "12346c6")] {
@@ -318,6 +359,8 @@ fn world() {
     }
     let never = DecimalFormatter::with_grouping("de", Grouping::Never).unwrap();
     assert_eq!(never.format("1234", &Options::default()).unwrap(), "1234");
+    let aligned = DecimalFormatter::with_grouping("es", Grouping::OnAligned).unwrap();
+    assert_eq!(aligned.format("1234", &Options::default()).unwrap(), "1.234");
     let long = CompactDecimalFormatter::new("hi", Width::Long).unwrap();
     assert_eq!(long.format("1234567", &Options::default()).unwrap(), "12 लाख");
     let never = CompactDecimalFormatter::with_grouping("en", Width::Short, Grouping::Never).unwrap();
