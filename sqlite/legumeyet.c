@@ -2,8 +2,9 @@
  * Numbers written and read as the readers of a locale do, for SQLite: a loadable extension, docs/databases.md.
  *
  * The process has one book of all locales, which is kept, and from which each connection opens its formatters; the linker is told never to
- * unload this file, so it is opened once. To open a formatter is a call on the book, so it has a lock. A formatter belongs to the statement
- * that opened it, by sqlite3_set_auxdata, as long as the tag and the format are constants there.
+ * unload this file, so it is opened once. To open a formatter is a call on the book, so it has a lock. A connection keeps the formatters of
+ * the tags and formats that it used last, in a table of a fixed size, so a column of a million tags holds no more memory than one of a
+ * hundred. The functions of a connection have the table; it is freed with them. SQLite calls them one at a time.
  */
 #include <sqlite3ext.h>
 SQLITE_EXTENSION_INIT1
@@ -23,22 +24,53 @@ static pthread_mutex_t lock = PTHREAD_MUTEX_INITIALIZER;
 static legumeyet_book world;
 static int has_world;
 
-/* A formatter, and how many arguments of a statement have it. */
-typedef struct {
-    legumeyet_formatter handle;
-    int users;
-} Formatter;
-
-/* A text of a value: no NUL need be at its end. */
+/* A text: no NUL need be at its end. */
 typedef struct {
     const uint8_t *bytes;
     size_t length;
 } Text;
 
+/* A tag and a format that a row asks for. */
+typedef struct {
+    Text tag, format;
+} Asked;
+
+/* A formatter that is kept, with what it was asked for by: the tag and then the format are in `key`. */
+typedef struct {
+    uint64_t used; /* when it was used last, in uses of all */
+    legumeyet_formatter formatter;
+    uint32_t hash;
+    size_t tag_length, format_length;
+    uint8_t key[];
+} Kept;
+
+/* The table of a connection. A hash has one set, which has the four of its formatters that were used last. */
+#define SETS 64
+#define IN_A_SET 4
+/* A tag and a format of more bytes than these have the one place for such. */
+#define LONGEST 256
+typedef struct {
+    Kept *sets[SETS][IN_A_SET], *longer;
+    uint64_t uses;
+    int users; /* how many functions have the table */
+} Table;
+
+/* The text of a value; where there is no memory for it, the empty one. */
 static Text text_of(sqlite3_value *value) {
     Text text = {sqlite3_value_text(value), 0};
-    text.length = (size_t)sqlite3_value_bytes(value);
+    if (text.bytes == NULL)
+        text.bytes = (const uint8_t *)"";
+    else
+        text.length = (size_t)sqlite3_value_bytes(value);
     return text;
+}
+
+/* The tag and the format that the arguments of a call have. */
+static Asked asked_of(int count, sqlite3_value **arguments) {
+    Asked asked = {text_of(arguments[1]), {(const uint8_t *)"", 0}};
+    if (count == 3)
+        asked.format = text_of(arguments[2]);
+    return asked;
 }
 
 /* Ends a call by an error whose text is made as that of printf is. */
@@ -90,7 +122,7 @@ static void refuse_text(sqlite3_context *context, int32_t error, Text given) {
     }
     if (legumeyet_error_text(error, (uint8_t *)text, sizeof text, &length) != LEGUMEYET_OK)
         length = 0;
-    refuse(context, "legumeyet: %.*s: '%.*s'%s", (int)length, text, (int)shown, given.bytes ? (const char *)given.bytes : "",
+    refuse(context, "legumeyet: %.*s: '%.*s'%s", (int)length, text, (int)shown, (const char *)given.bytes,
            shown < given.length ? "..." : "");
 }
 
@@ -116,7 +148,8 @@ static int is_plain(Text format) {
     return at == format.length;
 }
 
-static int32_t open_handle(Text tag, Text format, size_t *place, legumeyet_formatter *formatter) {
+static int32_t open_handle(const Asked *asked, size_t *place, legumeyet_formatter *formatter) {
+    Text tag = asked->tag, format = asked->format;
     int32_t error;
     pthread_mutex_lock(&lock);
     if (is_plain(format))
@@ -127,70 +160,106 @@ static int32_t open_handle(Text tag, Text format, size_t *place, legumeyet_forma
     return error;
 }
 
-/* Ends what one argument has of a formatter; the last one closes it. */
-static void end_use(void *data) {
-    Formatter *formatter = data;
-    if (--formatter->users > 0)
-        return;
-    legumeyet_formatter_close(&formatter->handle);
-    sqlite3_free(formatter);
+/* Ends a call by the number of a formatter that can't be opened. */
+static void refuse_formatter(sqlite3_context *context, int32_t error, const Asked *asked, size_t place) {
+    Text format = asked->format, word = {format.bytes + place, format.length - place};
+    if (error >= LEGUMEYET_SKELETON_UNKNOWN && error <= LEGUMEYET_SKELETON_UNSUPPORTED)
+        refuse_text(context, error, word);
+    else if (error == LEGUMEYET_TABLE && !is_plain(format))
+        refuse_text(context, error, format);
+    else
+        refuse_text(context, error, asked->tag);
 }
 
-/* Opens the formatter of the tag and the format of a call, which has one user then; NULL where the call has ended by an error. */
-static Formatter *opened(sqlite3_context *context, int count, sqlite3_value **arguments) {
-    Text tag = text_of(arguments[1]), format = {NULL, 0};
-    Formatter *formatter = sqlite3_malloc(sizeof *formatter);
+/* Closes a formatter that was kept. */
+static void end_kept(Kept *kept) {
+    if (kept == NULL)
+        return;
+    legumeyet_formatter_close(&kept->formatter);
+    sqlite3_free(kept);
+}
+
+/* Ends what a function has of a table; the last one frees it. */
+static void end_use(void *data) {
+    Table *table = data;
+    size_t set, at;
+    if (--table->users > 0)
+        return;
+    for (set = 0; set < SETS; set++)
+        for (at = 0; at < IN_A_SET; at++)
+            end_kept(table->sets[set][at]);
+    end_kept(table->longer);
+    sqlite3_free(table);
+}
+
+/* The hash of a text that follows one of this hash, by FNV-1a. */
+static uint32_t hash_after(uint32_t hash, Text text) {
+    size_t at;
+    for (at = 0; at < text.length; at++)
+        hash = (hash ^ text.bytes[at]) * 16777619u;
+    return hash;
+}
+
+static int is_of(const Kept *kept, uint32_t hash, const Asked *asked) {
+    return kept != NULL && kept->hash == hash && kept->tag_length == asked->tag.length && kept->format_length == asked->format.length &&
+           memcmp(kept->key, asked->tag.bytes, kept->tag_length) == 0 &&
+           memcmp(kept->key + kept->tag_length, asked->format.bytes, kept->format_length) == 0;
+}
+
+/* The place that has the formatter, or else that of its set which is empty or was used longest ago. */
+static Kept **place_of(Table *table, uint32_t hash, const Asked *asked) {
+    Kept **set = table->sets[hash % SETS], **oldest = set;
+    size_t at;
+    if (asked->tag.length > LONGEST || asked->format.length > LONGEST - asked->tag.length)
+        return &table->longer;
+    for (at = 0; at < IN_A_SET; at++) {
+        if (is_of(set[at], hash, asked))
+            return &set[at];
+        if (*oldest != NULL && (set[at] == NULL || set[at]->used < (*oldest)->used))
+            oldest = &set[at];
+    }
+    return oldest;
+}
+
+/* Opens the formatter of what is asked for; NULL where the call has ended by an error. */
+static Kept *opened(sqlite3_context *context, uint32_t hash, const Asked *asked) {
+    Kept *kept = sqlite3_malloc64(sizeof *kept + asked->tag.length + asked->format.length);
     size_t place = 0;
     int32_t error;
-    if (count == 3)
-        format = text_of(arguments[2]);
-    if (formatter == NULL) {
+    if (kept == NULL) {
         sqlite3_result_error_nomem(context);
         return NULL;
     }
-    memset(formatter, 0, sizeof *formatter);
-    formatter->users = 1;
-    error = open_handle(tag, format, &place, &formatter->handle);
-    if (error == LEGUMEYET_OK)
-        return formatter;
-    if (error >= LEGUMEYET_SKELETON_UNKNOWN && error <= LEGUMEYET_SKELETON_UNSUPPORTED) {
-        Text word = {format.bytes + place, format.length - place};
-        refuse_text(context, error, word);
-    } else if (error == LEGUMEYET_TABLE && !is_plain(format)) {
-        refuse_text(context, error, format);
-    } else {
-        refuse_text(context, error, tag);
+    memset(kept, 0, sizeof *kept);
+    error = open_handle(asked, &place, &kept->formatter);
+    if (error != LEGUMEYET_OK) {
+        refuse_formatter(context, error, asked, place);
+        sqlite3_free(kept);
+        return NULL;
     }
-    sqlite3_free(formatter);
-    return NULL;
+    kept->hash = hash;
+    kept->tag_length = asked->tag.length;
+    kept->format_length = asked->format.length;
+    memcpy(kept->key, asked->tag.bytes, kept->tag_length);
+    memcpy(kept->key + kept->tag_length, asked->format.bytes, kept->format_length);
+    return kept;
 }
 
-/* The formatter that the arguments of a statement have from an earlier row: both have it where neither has changed. */
-static Formatter *kept(sqlite3_context *context, int count) {
-    Formatter *formatter = sqlite3_get_auxdata(context, 1);
-    return formatter != NULL && (count == 2 || sqlite3_get_auxdata(context, 2) == formatter) ? formatter : NULL;
-}
-
-/* Keeps a formatter with each argument that says how it is opened. SQLite ends the use at once where one is no constant. */
-static void keep(sqlite3_context *context, int count, Formatter *formatter) {
-    int at;
-    for (at = 1; at < count; at++) {
-        formatter->users++;
-        sqlite3_set_auxdata(context, at, formatter, end_use);
+/* The formatter of a call, which is there until the next call; NULL where this one has ended by an error. What had its place is closed. */
+static legumeyet_formatter *formatter_of(sqlite3_context *context, int count, sqlite3_value **arguments) {
+    Table *table = sqlite3_user_data(context);
+    Asked asked = asked_of(count, arguments);
+    uint32_t hash = hash_after(hash_after(2166136261u, asked.tag), asked.format);
+    Kept **place = place_of(table, hash, &asked);
+    if (!is_of(*place, hash, &asked)) {
+        Kept *kept = opened(context, hash, &asked);
+        if (kept == NULL)
+            return NULL;
+        end_kept(*place);
+        *place = kept;
     }
-}
-
-/* The formatter of a call, with a use of it that the caller ends; NULL where the call has ended by an error. */
-static Formatter *use_formatter(sqlite3_context *context, int count, sqlite3_value **arguments) {
-    Formatter *formatter = kept(context, count);
-    if (formatter != NULL) {
-        formatter->users++;
-        return formatter;
-    }
-    formatter = opened(context, count, arguments);
-    if (formatter != NULL)
-        keep(context, count, formatter);
-    return formatter;
+    (*place)->used = ++table->uses;
+    return &(*place)->formatter;
 }
 
 static int has_null(int count, sqlite3_value **arguments) {
@@ -232,7 +301,7 @@ static void write_number(sqlite3_context *context, legumeyet_formatter *formatte
 }
 
 static void format_call(sqlite3_context *context, int count, sqlite3_value **arguments) {
-    Formatter *formatter;
+    legumeyet_formatter *formatter;
     if (has_null(count, arguments))
         return;
     if (sqlite3_value_type(arguments[0]) == SQLITE_BLOB) {
@@ -243,11 +312,9 @@ static void format_call(sqlite3_context *context, int count, sqlite3_value **arg
         refuse(context, "legumeyet: infinity is no number to write");
         return;
     }
-    formatter = use_formatter(context, count, arguments);
-    if (formatter == NULL)
-        return;
-    write_number(context, &formatter->handle, arguments[0]);
-    end_use(formatter);
+    formatter = formatter_of(context, count, arguments);
+    if (formatter != NULL)
+        write_number(context, formatter, arguments[0]);
 }
 
 /*
@@ -295,9 +362,9 @@ static void read_number(sqlite3_context *context, legumeyet_formatter *formatter
         sqlite3_free(out);
 }
 
-static void read_call(sqlite3_context *context, int count, sqlite3_value **arguments) {
-    int or_null = sqlite3_user_data(context) != NULL, type = sqlite3_value_type(arguments[0]);
-    Formatter *formatter;
+static void read_value(sqlite3_context *context, int count, sqlite3_value **arguments, int or_null) {
+    int type = sqlite3_value_type(arguments[0]);
+    legumeyet_formatter *formatter;
     if (has_null(count, arguments))
         return;
     if (type == SQLITE_INTEGER || type == SQLITE_FLOAT)
@@ -306,11 +373,17 @@ static void read_call(sqlite3_context *context, int count, sqlite3_value **argum
         refuse(context, "legumeyet: a blob is no text");
     if (type != SQLITE_TEXT)
         return;
-    formatter = use_formatter(context, count, arguments);
-    if (formatter == NULL)
-        return;
-    read_number(context, &formatter->handle, text_of(arguments[0]), or_null);
-    end_use(formatter);
+    formatter = formatter_of(context, count, arguments);
+    if (formatter != NULL)
+        read_number(context, formatter, text_of(arguments[0]), or_null);
+}
+
+static void read_call(sqlite3_context *context, int count, sqlite3_value **arguments) {
+    read_value(context, count, arguments, 0);
+}
+
+static void read_or_null_call(sqlite3_context *context, int count, sqlite3_value **arguments) {
+    read_value(context, count, arguments, 1);
 }
 
 static void version_call(sqlite3_context *context, int count, sqlite3_value **arguments) {
@@ -323,36 +396,46 @@ static void version_call(sqlite3_context *context, int count, sqlite3_value **ar
         sqlite3_result_text(context, text, -1, sqlite3_free);
 }
 
+/* A table without formatters, with one user; NULL where there is no memory. */
+static Table *new_table(void) {
+    Table *table = sqlite3_malloc64(sizeof *table);
+    if (table != NULL) {
+        memset(table, 0, sizeof *table);
+        table->users = 1;
+    }
+    return table;
+}
+
 /* Defines the functions for a connection. SQLite finds this call by the name of the file. */
 int sqlite3_legumeyet_init(sqlite3 *connection, char **message, const sqlite3_api_routines *api);
 int sqlite3_legumeyet_init(sqlite3 *connection, char **message, const sqlite3_api_routines *api) {
-    static int or_null;
     static const struct {
         const char *name;
         int arguments;
-        void *data;
         void (*call)(sqlite3_context *, int, sqlite3_value **);
     } calls[] = {
-        {"legumeyet_format", 2, NULL, format_call},
-        {"legumeyet_format", 3, NULL, format_call},
-        {"legumeyet_read", 2, NULL, read_call},
-        {"legumeyet_read", 3, NULL, read_call},
-        {"legumeyet_read_or_null", 2, &or_null, read_call},
-        {"legumeyet_read_or_null", 3, &or_null, read_call},
-        {"legumeyet_version", 0, NULL, version_call},
+        {"legumeyet_format", 2, format_call},
+        {"legumeyet_format", 3, format_call},
+        {"legumeyet_read", 2, read_call},
+        {"legumeyet_read", 3, read_call},
+        {"legumeyet_read_or_null", 2, read_or_null_call},
+        {"legumeyet_read_or_null", 3, read_or_null_call},
+        {"legumeyet_version", 0, version_call},
     };
     const int how = SQLITE_UTF8 | SQLITE_DETERMINISTIC | SQLITE_INNOCUOUS;
+    int result = SQLITE_OK;
+    Table *table;
     size_t at;
     SQLITE_EXTENSION_INIT2(api);
-    if (open_world() != LEGUMEYET_OK)
+    if (open_world() != LEGUMEYET_OK || (table = new_table()) == NULL)
         return SQLITE_NOMEM;
-    for (at = 0; at < sizeof calls / sizeof *calls; at++) {
-        int result = sqlite3_create_function_v2(connection, calls[at].name, calls[at].arguments, how, calls[at].data, calls[at].call, NULL,
-                                                NULL, NULL);
-        if (result != SQLITE_OK) {
+    for (at = 0; at < sizeof calls / sizeof *calls && result == SQLITE_OK; at++) {
+        table->users++; /* which SQLite ends too where it refuses the function */
+        result = sqlite3_create_function_v2(connection, calls[at].name, calls[at].arguments, how, table, calls[at].call, NULL, NULL,
+                                            end_use);
+        if (result != SQLITE_OK)
             *message = sqlite3_mprintf("%s can't be defined", calls[at].name);
-            return result;
-        }
     }
-    return SQLITE_OK;
+    end_use(table);
+    return result;
 }

@@ -1,4 +1,4 @@
-"""Rows of the extension of SQLite, by Python's module: LEGUMEYET_SQLITE is the path of legumeyet.so. Each value is that of CLDR, or of docs/."""
+"""Rows of the extension of SQLite, by Python's module: LEGUMEYET_SQLITE is the path of legumeyet.so. Each value is that of CLDR, of ICU4C or of docs/."""
 import os
 import sqlite3
 import threading
@@ -26,6 +26,11 @@ WRITTEN = [
     (12.5, "tr", "percent", "%12,5"), (1650, "en", "compact-short", "1.6K"), (12345678, "hi", "compact-long", "1.2 करोड़"),
     (1234567, "de", "group-off", "1234567"), (5, "en", "sign-always", "+5"), (1.2, "en", ".00##", "1.20"),
     ("0.123456789", "en", "sign-auto", "0.123457"), ("1.50", "en", "sign-auto", "1.5"),
+    (1234567.891, "de", "@@#", "1.230.000"), (0.0012345, "de", "@@#", "0,00123"), (5, "en", "@@#", "5.0"), ("1.500", "en", "@@#", "1.5"),
+    (12345678, "hi", "currency/INR @@#", "₹1,23,00,000"), (12.345, "en", "@@# percent", "12.3%"), (1234.567, "de", ".0#/@@r", "1.234,57"),
+    (0.012345, "de", ".0#/@@r", "0,012"), (5, "de", ".0#/@@r", "5,0"), (1234.567, "de", ".0#/@@s", "1.200"), (1234.5, "es", "", "1234,5"),
+    (1234.5, "es", "group-on-aligned", "1.234,5"), (1234, "pl", ",!", "1\u00a0234"),
+    (1234.5, "es", "currency/EUR group-on-aligned", "1.234,50\u00a0€"),
 ]
 READ = [
     # the text, the tag and the format; the number
@@ -35,13 +40,14 @@ READ = [
     ("9,223,372,036,854,775,808", "en", "", "9223372036854775808"), ("99,999,999,999,999.99", "en", "", "99999999999999.99"),
     ("123456789012345", "en", "", 123456789012345), ("1234567890123.45", "en", "", 1234567890123.45), ("0.1", "en", "", 0.1),
     ("0.0000000000000000000001", "en", "", 1e-22), ("0.00000000000000000000001", "en", "", "0.00000000000000000000001"),
-    ("007", "en", "", 7), ("0.30", "en", "", 0.3), (1234.5, "de", "", 1234.5), (7, "de", "", 7),
+    ("1.234,5", "es", "group-on-aligned", 1234.5), ("1234,5", "es", "group-on-aligned", 1234.5), ("007", "en", "", 7), ("0.30", "en", "", 0.3), (1234.5, "de", "", 1234.5), (7, "de", "", 7),
 ]
 REFUSED = [
     # a call; what the message has
     ("legumeyet_format(1, 'e')", "'e'"), ("legumeyet_format(1, '')", "''"), ("legumeyet_format(1, 'de_DE')", "'de_DE'"),
     ("legumeyet_format(1, 'xx')", "'xx'"), ("legumeyet_format(1, 'en', 'percent foo')", "'foo'"), ("legumeyet_format(1, 'en', 'currency/EURO')", "'currency/EURO'"),
     ("legumeyet_format(1, 'en', 'compact-short currency/EUR')", "'compact-short currency/EUR'"), ("legumeyet_format(1, 'en', 'permille')", "'permille'"),
+    ("legumeyet_format(1, 'en', 'compact-short @@#')", "'@@#'"),
     ("legumeyet_format('5.', 'en')", "'5.'"), ("legumeyet_format('12 apples', 'en')", "'12 apples'"), ("legumeyet_format('', 'en')", "''"),
     ("legumeyet_format(x'31', 'en')", "a blob is no number"), ("legumeyet_format(9e999, 'en')", "infinity"), ("legumeyet_format(-9e999, 'en')", "infinity"),
     ("legumeyet_format('NaN', 'en')", "'NaN'"), ("legumeyet_format('1e40000', 'en')", "'1e40000'"), ("legumeyet_format(1, x'65ff')", "legumeyet: "),
@@ -140,6 +146,28 @@ class Columns(unittest.TestCase):
         both = self.column("legumeyet_format(n, 'de') || legumeyet_format(n, 'en', '.00')")
         self.assertEqual(both, [text(at, "de", "") + text(at, "en", ".00") for at in range(600)])
         self.assertEqual(self.column("legumeyet_read(typed, tag)"), [1.5] * 600)
+
+    def test_more_tags_than_are_kept(self):
+        texts = [f"{at},5" for at in range(600)]
+        for tag in ("'de-x-a' || at", "'de-x-a' || (at % 300)", "substr('de-x-abcdefgh', 1, 6 + at % 8)", f"'de-x-a' || (at % 2) || '{'-abcdefgh' * 40}'"):
+            with self.subTest(tag=tag):
+                self.assertEqual(self.column(f"legumeyet_format(n, {tag})"), texts)
+        both = self.column("legumeyet_format(n, 'de-x-a' || at, '.00') || legumeyet_format(n, 'en-x-a' || at) || legumeyet_format(n, 'de', '.0' || printf('%300c', ' '))")
+        self.assertEqual(both, [f"{at},50{at}.5{at},5" for at in range(600)])
+
+    def test_a_second_load(self):
+        def load():
+            self.connection.enable_load_extension(True)
+            self.connection.load_extension(EXTENSION)
+
+        texts = self.column("legumeyet_format(n, tag, form)")
+        load()
+        self.assertEqual(self.column("legumeyet_format(n, tag, form)"), texts)
+        rows = self.connection.execute("SELECT legumeyet_format(n, tag, form) FROM t ORDER BY at")
+        self.assertEqual(next(rows)[0], texts[0])
+        with self.assertRaises(sqlite3.OperationalError):
+            load()
+        self.assertEqual([row[0] for row in rows], texts[1:])
 
     def test_a_row_that_is_refused(self):
         self.connection.execute("UPDATE t SET tag = 'e' WHERE at = 300")

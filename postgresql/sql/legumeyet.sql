@@ -1,4 +1,4 @@
--- Rows of the extension. Each value is that of CLDR for the locale, or of docs/.
+-- Rows of the extension. Each value is that of CLDR for the locale, of ICU4C or of docs/.
 CREATE EXTENSION legumeyet;
 \pset format unaligned
 \pset tuples_only on
@@ -24,6 +24,12 @@ SELECT legumeyet.format(12.5, 'tr', 'percent'), legumeyet.format(1.005, 'en', '.
 SELECT legumeyet.format(1650, 'en', 'compact-short'), legumeyet.format(12345678, 'hi', 'compact-long'), legumeyet.format(-1172700.0, 'en', 'compact-short');
 SELECT legumeyet.format(1234567, 'de', 'group-off'), legumeyet.format(5, 'en', 'sign-always');
 SELECT legumeyet.format(0.123456789, 'en', 'sign-auto'), legumeyet.format(1.50, 'en', 'sign-auto');
+-- significant digits, either of two precisions, and groups of four digits too
+SELECT legumeyet.format(1234567.891, 'de', '@@#'), legumeyet.format(0.0012345, 'de', '@@#'), legumeyet.format(5, 'en', '@@#'), legumeyet.format(1.500, 'en', '@@#');
+SELECT legumeyet.format(12345678, 'hi', 'currency/INR @@#'), legumeyet.format(12.345::double precision, 'en', '@@# percent');
+SELECT legumeyet.format(1234.567, 'de', '.0#/@@r'), legumeyet.format(0.012345, 'de', '.0#/@@r'), legumeyet.format(5, 'de', '.0#/@@r'), legumeyet.format(1234.567, 'de', '.0#/@@s');
+SELECT legumeyet.format(1234.5, 'es'), legumeyet.format(1234.5, 'es', 'group-on-aligned'), legumeyet.format(1234, 'pl', ',!'), legumeyet.format(1234.5, 'es', 'currency/EUR group-on-aligned');
+SELECT legumeyet.read('1.234,5', 'es', 'group-on-aligned'), legumeyet.read('1234,5', 'es', 'group-on-aligned');
 -- read back what people type
 SELECT legumeyet.read('1.234,5', 'de'), legumeyet.read(' 1234,50 ', 'de'), legumeyet.read('१२३', 'hi'), legumeyet.read('.5', 'en');
 SELECT legumeyet.read('1.234,50 €', 'de', 'currency/EUR'), legumeyet.read('12,5 %', 'de', 'percent'), legumeyet.read('-5', 'en');
@@ -55,6 +61,7 @@ SELECT legumeyet.format(1, 'en', 'latin');
 SELECT legumeyet.format(1, 'en', 'permille');
 SELECT legumeyet.format(1, 'en', 'decimal-always');
 SELECT legumeyet.format(1, 'en', 'compact-short currency/EUR');
+SELECT legumeyet.format(1, 'en', 'compact-short @@#');
 SELECT legumeyet.format(1, repeat('é', 60));
 SELECT legumeyet.format(('1' || repeat('0', 32768))::numeric, 'en');
 \echo :SQLSTATE

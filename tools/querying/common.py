@@ -8,6 +8,8 @@ TOP = pathlib.Path(__file__).resolve().parent.parent.parent
 # So many seconds a command has at most.
 BOUND = 900
 WIDTH = 400  # of a line of what a command said
+# So many kilobytes a process grows by at most, from a thousand tags to a million.
+MOST_GROWTH = 4096
 SANITIZE = ("-fsanitize=address,undefined", "-fno-sanitize-recover=all", "-fno-omit-frame-pointer", "-g")
 
 
@@ -60,10 +62,10 @@ def header_version():
     return ".".join(re.search(rf"^#define LEGUMEYET_{name} (\d+)$", text, re.M)[1] for name in ("VERSION", "MINOR"))
 
 
-def page_block(name):
-    """What docs/databases.md has somebody type below the heading of a database, and what it says is printed then: each line without its blanks."""
-    page = (TOP / "docs/databases.md").read_text(encoding="utf-8")
-    part = page.partition(f"\n## {name}\n")[2]
+def page_block(heading, page="databases"):
+    """What a page of docs/ has somebody type below a heading, and what it says is printed then: each line without its blanks."""
+    text = (TOP / f"docs/{page}.md").read_text(encoding="utf-8")
+    part = text.partition(f"\n## {heading}\n")[2]
     typed, shown = re.search(r"<<'END'\n(.*?)END\n```\n\n```\n(.*?)```", part, re.DOTALL).groups()
     return typed, trimmed(shown)
 

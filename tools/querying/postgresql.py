@@ -9,7 +9,7 @@ import signal
 import subprocess
 import time
 
-from .common import BOUND, TOP, Missing, Wrong, environment, expect, header_version, need, page_block, run, trimmed
+from .common import BOUND, MOST_GROWTH, TOP, Missing, Wrong, environment, expect, header_version, need, page_block, run, trimmed
 
 VERSIONS = pathlib.Path("/usr/lib/postgresql")
 # (the headers of PostgreSQL are not looked at)
@@ -31,7 +31,6 @@ SELECT count(legumeyet.format(n, 'de-x-a' || n, CASE n % 3 WHEN 0 THEN '' ELSE '
 SELECT count(legumeyet.read('1,5', 'de-x-b' || n)) FROM generate_series(1, 100000) n;
 \\! grep VmRSS /proc/$PID/status
 """
-MOST_GROWTH = 4096
 # A statement that is cancelled, and one after it in the same session.
 CANCELLED = f"""\
 SET statement_timeout = 300;
@@ -125,16 +124,23 @@ class Server:
 
     def start(self, *settings):
         """Starts the server, and waits until it answers."""
+        # (the port only names the socket, so no other server meets it)
         own = ("listen_addresses=", f"unix_socket_directories={self.folder}", "port=5433", "fsync=off", "max_connections=40", *settings)
         options = " ".join(f"-c {it}" for it in own)
         try:
-            self.run(self.bin / "pg_ctl", "-D", self.data, "-l", self.log, "-w", "-t", "120", "-o", options, "start")
+            self.run(self.bin / "pg_ctl", "-D", self.data, "-l", self.log, "-w", "-t", "60", "-o", options, "start")
         except Wrong as wrong:
             raise Wrong(f"{wrong}\n    {self.last_of_log()}") from None
 
     def stop(self):
-        """Stops the server."""
-        self.run(self.bin / "pg_ctl", "-D", self.data, "-w", "-m", "fast", "stop")
+        """Stops the server, if need be at once."""
+        words = (self.bin / "pg_ctl", "-D", self.data, "-w", "-t", "20", "-m")
+        if not (self.data / "postmaster.pid").exists():
+            return
+        try:
+            self.run(*words, "fast", "stop")
+        except Wrong:
+            self.run(*words, "immediate", "stop")
 
     def last_of_log(self):
         """The last lines of the server's log."""
@@ -345,8 +351,8 @@ def try_preloaded(server, name):
 def try_server(server):
     """All trials on one server."""
     server.initialize()
-    server.start()
     try:
+        server.start()
         try_rows(server)
         name = server.database("tried")
         server.psql("CREATE EXTENSION legumeyet", name)
