@@ -4,8 +4,8 @@
 usage: bench/databases.py LIBRARY [ROWS]
 
 LIBRARY is a folder of tools/build_c. The servers are those of tools/try_databases: one of the newest version that is installed, in a temporary folder,
-with what a server has without settings. A row of the output is an expression and the milliseconds of its fastest run of five, by the clock, of a
-query that counts its values; in PostgreSQL without parallel workers, and with four.
+with what a server has without settings. A row of the output is an expression and the milliseconds, by the clock and of processor, of the fastest of
+five runs of a query that counts its values; in PostgreSQL without parallel workers, and with four, whose processor time is not counted.
 """
 import os
 import pathlib
@@ -37,9 +37,14 @@ OF_SQLITE = [
 ]
 
 
-def fastest(said, form, factor):
-    """The milliseconds of the fastest run, of what a shell said of each."""
-    return round(factor * min(map(float, re.findall(form, said))))
+# What is printed before and after each query: the ticks of the backend.
+TICKS = "\\! cut -d' ' -f14,15 /proc/$PID/stat\n"
+
+
+def spent(said):
+    """The least milliseconds of processor, of what the system said of a backend between queries."""
+    ticks = [int(user) + int(system) for user, system in re.findall(r"^(\d+) (\d+)$", said, re.M)]
+    return round(1000 / os.sysconf("SC_CLK_TCK") * min(after - before for before, after in zip(ticks, ticks[1:])))
 
 
 def of_postgresql(library, folder, rows):
@@ -48,15 +53,16 @@ def of_postgresql(library, folder, rows):
     server = Server(made(folder, version), version)
     server.build(library)
     server.initialize()
-    server.start()
     try:
+        server.start()
         server.psql(f"CREATE EXTENSION legumeyet; {TABLE.format(rows=rows)}; ANALYZE amounts")
         for workers in (0, 4):
             settings = f"SET max_parallel_workers_per_gather = {workers}; SET parallel_setup_cost = 0; SET parallel_tuple_cost = 0;"
             for it in OF_POSTGRESQL:
-                query = f"SELECT count({it}) FROM amounts;\n"
-                said = server.psql(f"{settings}\n\\timing on\n{RUNS * query}")
-                print(f"PostgreSQL {version}, {workers} workers\t{it}\t{fastest(said, r'Time: ([0-9.]+) ms', 1)}", flush=True)
+                query = f"SELECT count({it}) FROM amounts;\n{TICKS}"
+                said = server.psql(f"SELECT pg_backend_pid() AS pid \\gset\n\\setenv PID :pid\n{settings}\n\\timing on\n{TICKS}{RUNS * query}")
+                clock = round(min(map(float, re.findall(r"Time: ([0-9.]+) ms", said))))
+                print(f"PostgreSQL {version}, {workers} workers\t{it}\t{clock}\t{spent(said) if workers == 0 else '-'}", flush=True)
     finally:
         server.stop()
 
@@ -70,8 +76,10 @@ def of_sqlite(library, folder, rows):
 
     ask(ROWS_OF_SQLITE.format(rows=rows))
     for it in OF_SQLITE:
-        query = f"SELECT count({it}) FROM amounts;\n"
-        print(f"SQLite\t{it}\t{fastest(ask(f'.timer on{os.linesep}{RUNS * query}'), r'real ([0-9.]+)', 1000)}", flush=True)
+        said = ask(".timer on\n" + RUNS * f"SELECT count({it}) FROM amounts;\n")
+        times = [tuple(map(float, run)) for run in re.findall(r"real ([0-9.]+) user ([0-9.]+) sys ([0-9.]+)", said)]
+        clock, processor = min(real for real, _, _ in times), min(user + system for _, user, system in times)
+        print(f"SQLite\t{it}\t{round(1000 * clock)}\t{round(1000 * processor)}", flush=True)
 
 
 def main():
