@@ -9,7 +9,7 @@ import typing
 from look_up import LETTERS, PLACEHOLDER, locale_of
 
 FORM = re.compile("(read-)?(?:percent|(currency|code|accounting)-([A-Z]{3}))", re.A)
-GROUPINGS = ("auto", "never", "always", "min2")
+GROUPINGS = ("auto", "never", "always", "min2", "on-aligned")
 SIGNS = ("keep", "auto", "never", "always", "except-zero", "negative")
 ROUNDINGS = ("-", "cash")
 NUMBER = re.compile(r"([-+]?)(?=[0-9]|\.[0-9])([0-9]*)(?:\.([0-9]+))?", re.A)
@@ -95,7 +95,7 @@ def with_sign(number, display):
 def groups_of(whole, symbols, grouping):
     """The digits before the point, cut into groups."""
     primary, secondary = symbols.primary, symbols.secondary or symbols.primary
-    least = max(symbols.least, 2 if grouping == "min2" else 1)
+    least = 1 if grouping == "on-aligned" else max(symbols.least, 2 if grouping == "min2" else 1)
     if primary == 0 or grouping == "never" or len(whole) < primary + least:
         return [whole]
     front, groups = whole[:-primary], [whole[-primary:]]
