@@ -93,11 +93,6 @@ fn exponent_of(digits: &[u8]) -> Option<u8>
     }
 }
 
-// What holds of every exponent.
-fn is_in_range(exponent: u8)
-    ensures { exponent < 256 }
-{}
-
 impl CompactDecimal {
     /// The decimal with this exponent shown beside it: 1.2 and 6 give `1.2c6`. It does not allocate.
     pub fn from_significand_and_exponent(significand: Decimal, exponent: u8) -> CompactDecimal
@@ -139,11 +134,11 @@ impl CompactDecimal {
         ensures room { OnErr result (IsLong self.now.significand.absolute.count) }
         ensures number { IsCompact self.now }
     {
-        is_in_range(self.exponent);
+        let exponent = self.exponent();
         let significand = self.significand.try_clone()?;
         Ok(CompactDecimal {
             significand,
-            exponent: self.exponent,
+            exponent,
         })
     }
 

@@ -39,6 +39,7 @@ fn answer_by(alloc: Global, kind: &str, fields: &[&str], out: &mut String) -> Re
         "run_calls_in_room" => runs::answer_in_room(alloc, fields, out),
         "expand_byte" => counted::byte_answer(alloc, fields, out),
         "differ_from_one_byte" => one_byte::answer(alloc, fields, out),
+        "rounded_unlike_one_byte" => one_byte::rounded_answer(alloc, fields, out),
         _ => errors::answer(kind, fields, out),
     }
 }

@@ -77,6 +77,8 @@ pub mod HeldTag
 -- What the readers follow, piece by piece.
 pub use Rattle.icu_locale_core_grammar.specs.Stepping
 pub use Rattle.icu_locale_core_grammar.specs.TagStages
+-- What a text gives, as one computation: its meaning, or the fault.
+pub use Rattle.icu_locale_core_grammar.specs.KnownRows
 -- When two locales are one.
 pub use Rattle.icu_locale_core_locale.specs.LocaleOrders
 pub use Rattle.icu_locale_core_locale.specs.LocaleValue

@@ -1,7 +1,7 @@
 -- Subtags put into a value one by one, and items that never come.
 use Rattle.std.proofs.Common.{◌≡◌, Bool, true, false, not, List, [], ◌∷◌, ◌++◌, Option, Some, cond, refl, sym, ap, ◌∙◌, subst, append-nil}
 use Rattle.std.specs.Prelude.{if◌then◌else◌}
-use Rattle.std.specs.Iterator.{Yields}
+use Rattle.std.specs.Iterator.{Yields, HoldsAlong}
 use Rattle.std.proofs.lemmas.List.Elements.{filter-append}
 use Rattle.icu_locale_core_grammar.specs.Subtags.{Text, is_true, true_text, same_text, lower}
 use Rattle.icu_locale_core_grammar.proofs.CollectionLemmas.{same_text_swapped}
@@ -26,3 +26,21 @@ pub none_comes : {S A : Type 0} (gives : S → Option A → S → Type 0) (first
     → ((y : A) (j : S) → ¬ (gives first (Some y) j)) → Yields gives first came now → gives now (Some x) next → ⊥
 none_comes gives first now next [] x none so_far comes = none x next (subst (λ s. gives s (Some x) next) (sym so_far) comes)
 none_comes gives first now next (y ∷ ys) x none so_far comes = none y so_far.0 so_far.1
+
+-- some items, and one more
+Yields-push : {S A : Type 0} (gives : S → Option A → S → Type 0) (first now next : S) (came : List A) (x : A)
+    → Yields gives first came now → gives now (Some x) next → Yields gives first (came ++ x ∷ []) next
+Yields-push gives first now next [] x so_far comes = (next, subst (λ s. gives s (Some x) next) (sym so_far) comes, refl)
+Yields-push gives first now next (y ∷ ys) x so_far comes = (so_far.0, so_far.1, Yields-push gives so_far.0 now next ys x so_far.2 comes)
+
+-- of an iterator whose subtags are all `true` each that comes is
+pub true_comes : {S : Type 0} (gives : S → Option Text → S → Type 0) (first now next : S) (came : List Text) (v : Text)
+    → HoldsAlong gives first (λ vs. without_true vs ≡ []) → Yields gives first came now → gives now (Some v) next → is_true v ≡ true
+true_comes gives first now next came v all_true so_far comes =
+    by_test (is_true v) (without_true came)
+    (sym (filter-append (λ w. not (is_true w)) came (v ∷ [])) ∙ all_true (came ++ v ∷ []) next (Yields-push gives first now next came v so_far comes))
+  where
+    by_test : (b : Bool) (kept : List Text) → kept ++ cond (not b) (v ∷ []) [] ≡ [] → b ≡ true
+    by_test true kept e = refl
+    by_test false [] e = cc
+    by_test false (w ∷ ws) e = cc

@@ -1,7 +1,7 @@
 //! Values and maps out of iterators, and joined maps.
 
 ghost use Rattle.std.specs.Prelude.{◌≡◌, List, ℕ, [], IsOk, IfOk, OnOk, OnErr};
-ghost use Rattle.std.specs.Iterator.{AlwaysYields, Drains, IsFinite};
+ghost use Rattle.std.specs.Iterator.{AlwaysYields, Drains, HoldsAlong, IsFinite};
 ghost use Rattle.icu_locale_core_grammar.specs.Collections.{Entry, map_of};
 ghost use Rattle.icu_locale_core_keywords_fields.specs.EntryChanges.{joined_maps, HasKeysOf};
 ghost use Rattle.icu_locale_core_keywords_fields.specs.Values.{without_true};
@@ -17,7 +17,8 @@ use std::marker::PhantomData;
 impl<K: EntryKind> ValueOf<K> {
     /// The value of the subtags in their order, without `true`: of `abc`, `true`, `def` it is `abc-def`.
     ///
-    /// The condition is that the iterator ends. `AllocError`: out of memory. Without an item it does not allocate.
+    /// The condition is that the iterator ends. `AllocError`: out of memory. Where each subtag is `true`, or there is
+    /// none, it does not allocate.
     pub fn try_from_iter<I: IntoIterator<Item = Subtag>>(
         alloc: Global,
         iter: I,
@@ -25,6 +26,8 @@ impl<K: EntryKind> ValueOf<K> {
         requires { (it : I.IntoIter) → I.into_iter_gives iter it
             → I.IntoIter.can_next it × IsFinite (I.IntoIter.remaining it) }
         ensures succeeds { ((it : I.IntoIter) → I.into_iter_gives iter it
+            → HoldsAlong I.IntoIter.next_gives it (λ subtags. without_true subtags ≡ [])) → IsOk result }
+        ensures empty { ((it : I.IntoIter) → I.into_iter_gives iter it
             → AlwaysYields I.IntoIter.next_gives (λ x. x) it []) → IsOk result }
         ensures value { IfOk result
             (λ v. (it : I.IntoIter) × (subtags : List (List ℕ)) × I.into_iter_gives iter it

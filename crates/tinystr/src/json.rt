@@ -1,6 +1,6 @@
 //! The JSON form of both types: a text.
 
-ghost use Rattle.std.specs.Prelude.{◌≡◌, ◌≤◌, ◌<◌, ℕ, List, length, Some, None, Ok, Err, IfOk};
+ghost use Rattle.std.specs.Prelude.{◌≡◌, ◌≤◌, ◌<◌, ℕ, List, [], length, Some, None, Ok, Err, IsOk, IfOk};
 ghost use Rattle.serde_json.specs.Data.{string};
 ghost use Rattle.serde_json.specs.Find.{as_str};
 ghost use Rattle.serde_json.specs.View.{view};
@@ -12,11 +12,16 @@ use serde_json::Value;
 use std::alloc::{AllocError, Global};
 
 impl<const N: usize> TinyAsciiStr<N> {
-    /// The text as a JSON value: `ab` gives `"ab"`. It allocates. `AllocError`: out of memory.
+    /// The text as a JSON value: `ab` gives `"ab"`. It allocates, but for the empty text. `AllocError`: out of memory.
     pub fn to_json(&self, alloc: Global) -> Result<Value, AllocError>
-        ensures { IfOk result (λ value. view value ≡ string self.now) }
+        ensures succeeds { self.now ≡ [] → IsOk result }
+        ensures value { IfOk result (λ value. view value ≡ string self.now) }
     {
-        let text = String::from_str(alloc, self.as_str())?;
+        let text = if self.is_empty() {
+            String::new(alloc)
+        } else {
+            String::from_str(alloc, self.as_str())?
+        };
         Ok(Value::String(text))
     }
 
