@@ -1,0 +1,9 @@
+pub mod ExponentialText
+pub mod HeldTables
+pub mod ReadingSteps
+pub mod Scientific
+pub mod ScientificLaws
+pub mod ScientificReading
+pub mod ScientificTextLaws
+pub mod ShownNumbers
+pub mod Steps
