@@ -20,6 +20,7 @@ pub use Rattle.icu_dimension_affixes.specs.UnitText
 pub use Rattle.icu_dimension_affixes.specs.UnitTextLaws
 -- What people type of numbers with a unit.
 pub use Rattle.icu_dimension_lenient.specs.Agreement
+pub use Rattle.icu_dimension_lenient.specs.GroupedUnitLaws
 pub use Rattle.icu_dimension_lenient.specs.HeldPairs
 pub use Rattle.icu_dimension_lenient.specs.LenientUnitLaws
 pub use Rattle.icu_dimension_lenient.specs.LenientUnits

@@ -21,10 +21,10 @@ euro = 226 ∷ 130 ∷ 172 ∷ []
 abbrev no_break_space : List ℕ
 no_break_space = 194 ∷ 160 ∷ []
 
-abbrev before : List ℕ → List ℕ → List ℕ → AffixesText
+abbrev pub before : List ℕ → List ℕ → List ℕ → AffixesText
 before first second third = record { place = Before; first = first; second = second; third = third }
 
-abbrev settings : PatternTexts → List ℕ → UnitSettings
+abbrev pub settings : PatternTexts → List ℕ → UnitSettings
 settings pattern unit = record { tables = english; pattern = pattern; unit = record { kind = Currency; text = unit } }
 
 -- in English `€`, in accounting `$`, and `Rs`, which is written `Rs 5`

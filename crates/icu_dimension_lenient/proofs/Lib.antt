@@ -1,9 +1,12 @@
 pub mod AgreementSteps
 pub mod EndLemmas
+pub mod GroupedUnitLemmas
+pub mod KnownGroupedUnits
 pub mod KnownNativeUnits
 pub mod KnownUnits
 pub mod NativeUnitLemmas
 pub mod OwnUnitLemmas
+pub mod SpelledLemmas
 pub mod TypedUnitLemmas
 pub mod UnitSteps
 pub mod UnitLawLemmas

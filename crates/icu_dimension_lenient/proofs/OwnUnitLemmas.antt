@@ -30,10 +30,10 @@ same_tests false true there back = back refl
 same_tests false false there back = refl
 
 -- what is between affixes is found
-between_some : (pair : AffixPair) (inner : List ℕ) → between pair (text_between pair inner) ≡ Some inner
+pub between_some : (pair : AffixPair) (inner : List ℕ) → between pair (text_between pair inner) ≡ Some inner
 between_some pair inner = ap (back_of_some pair.after) (front_some pair.before (inner ++ pair.after)) ∙ back_some pair.after inner
 
-inner_same : (pair : AffixPair) (one other : List ℕ) → text_between pair one ≡ text_between pair other → one ≡ other
+pub inner_same : (pair : AffixPair) (one other : List ℕ) → text_between pair one ≡ text_between pair other → one ≡ other
 inner_same pair one other same = append_cancel_right one other pair.after (append_cancel_left pair.before (one ++ pair.after) (other ++ pair.after) same)
 
 none_some : (inner : List ℕ) → None ≡ Some inner → ⊥

@@ -215,7 +215,7 @@ module _ (t : Tables) (are : AreTables t) where
           let found = from_signed (read_either folded inner) sign v e in
           (found.signed, record { inner = inner; between = between_again pair text inner is; number = from_either t inner (unsigned v) are found.number })
 
-  own_is : (pairs : SignPairs) (text : List ℕ) (v : SignedValue Number) → read_own folded pairs text ≡ decimal v → IsOwnSpelling folded pairs text v
+  pub own_is : (pairs : SignPairs) (text : List ℕ) (v : SignedValue Number) → read_own folded pairs text ≡ decimal v → IsOwnSpelling folded pairs text v
   own_is pairs text v e =
       first (from_else v (read_between folded NoSign pairs.none text) (or_else (read_between folded Negative pairs.minus text) (read_between folded Positive pairs.plus text)) e)
     where

@@ -99,7 +99,7 @@ none_between t pair sign text tables readable is = λ n number written.
     absurd (cc)
 
 -- readable tables are not refused
-signed_unreadable : (sign : Sign) (reading : PlainReading) → signed_as sign reading ≡ unreadable → reading ≡ unreadable
+pub signed_unreadable : (sign : Sign) (reading : PlainReading) → signed_as sign reading ≡ unreadable → reading ≡ unreadable
 signed_unreadable sign unreadable is = refl
 signed_unreadable sign not_written is = absurd (cc)
 signed_unreadable sign (decimal u) is = at u.sign is

@@ -1,4 +1,5 @@
 pub mod Agreement
+pub mod GroupedUnitLaws
 pub mod HeldPairs
 pub mod LenientUnitLaws
 pub mod LenientUnits

@@ -1,5 +1,6 @@
 //! Laws of lenient reading of numbers with a unit. No call is made: each clause is the law.
 
+ghost use Rattle.icu_dimension_lenient.specs.GroupedUnitLaws.{EachUnitGroupingIsLenient, EachUnitGroupingIsNoOther, EachUnitGroupingIsOneWay, UnitGroupingsHaveOneDecimal};
 ghost use Rattle.icu_dimension_lenient.specs.LenientUnitLaws.{ExactUnitIsLenient, HasOneLenientUnitReading, LenientUnitIsTyped, LenientUnitMisses, UnitMayBeLeftOff, UnitWaysAgree, WrittenUnitReadsLeniently};
 ghost use Rattle.icu_dimension_lenient.specs.NativeUnitLaws.{ArabicUnitIsRead, HasOneExactReading, HasOneReadingByFunction, LenientUnitIsNativeSo, NativeUnitIsAscii, NativeUnitIsTyped, OnlyArabicUnitDiffers, OtherUnitsStay};
 
@@ -27,6 +28,21 @@ pub fn lenient_reading_agrees()
 /// that number: `1234.5` is 1234.5 in English.
 pub fn unit_may_be_left_off()
     ensures { UnitMayBeLeftOff }
+{}
+
+/// A law: under two groupings no two decimals share a text with their unit: in English with `€` only 1234 is written
+/// `€1234` or `€1,234`.
+pub fn unit_groupings_have_one_decimal()
+    ensures { UnitGroupingsHaveOneDecimal }
+{}
+
+/// A law: what is written under another grouping is read leniently as the decimal that was written, where no way reads
+/// another one: in English with `€` both `€1234` and `€1,234` are 1234. Else it is not read, and never as another one.
+/// Texts are trimmed, so no white space may be at the ends of the folded affixes.
+pub fn each_unit_grouping_is_lenient()
+    ensures way { EachUnitGroupingIsOneWay }
+    ensures lenient { EachUnitGroupingIsLenient }
+    ensures other { EachUnitGroupingIsNoOther }
 {}
 
 /// A law: the readings without native digits are answered by functions: in English with `€` of `€1,234.50` both the exact
