@@ -33,6 +33,7 @@ pub use Rattle.icu_decimal_plurals.specs.Categories
 pub use Rattle.icu_decimal_plurals.specs.ConditionGrammar
 pub use Rattle.icu_decimal_plurals.specs.Conditions
 pub use Rattle.icu_decimal_plurals.specs.ExactNumbers
+pub use Rattle.icu_decimal_plurals.specs.ListedRules
 pub use Rattle.icu_decimal_plurals.specs.Operands
 pub use Rattle.icu_decimal_plurals.specs.Reading
 pub use Rattle.icu_decimal_plurals.specs.Rules

@@ -4,8 +4,10 @@ pub mod Operands
 pub mod Conditions
 pub mod ExactNumbers
 pub mod Rules
+pub mod ListedRules
 pub mod Tokens
 pub mod ConditionGrammar
 pub mod Reading
 -- What serves proofs alone.
+pub mod HeldCategories
 pub mod PieceSteps

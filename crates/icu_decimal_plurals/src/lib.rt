@@ -4,6 +4,7 @@
 //! rules of this crate are in docs/plurals.md, after UTS 35, part 3, section 5 (plural rules).
 #![tactic(auto)]
 
+mod categories;
 mod category;
 mod condition;
 mod copying;
@@ -21,6 +22,7 @@ mod separator;
 mod token;
 mod tokens;
 
+pub use categories::PluralCategories;
 pub use category::PluralCategory;
 pub use marker::PluralsCardinalV1;
 pub use operands::PluralOperands;

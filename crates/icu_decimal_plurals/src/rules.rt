@@ -3,6 +3,7 @@
 ghost use Rattle.std.specs.Prelude.{◌≡◌, ◌≢◌, ◌⊎◌, Some, None, Err, IfOk, IfErr, IsErrOf};
 ghost use Rattle.icu_decimal_plurals.specs.Rules.{is_met};
 
+use crate::categories::PluralCategories;
 use crate::category::PluralCategory;
 use crate::condition::Condition;
 use crate::error::ConditionError;
@@ -44,6 +45,7 @@ fn applies(condition: &Option<Condition>, operands: &PluralOperands) -> bool
 
 impl PluralRules {
     ghost use Rattle.icu_decimal_plurals.specs.Reading.{MayBeRules, NamesOther, pairs_of, rules_of};
+    ghost use Rattle.icu_decimal_plurals.specs.ListedRules.{categories_of};
     ghost use Rattle.icu_decimal_plurals.specs.Rules.{category_of};
 
     /// The rules of these categories and conditions, as CLDR writes them: of `one` and `i = 1 and v = 0 @integer 1`
@@ -85,6 +87,23 @@ impl PluralRules {
             PluralCategory::Many
         } else {
             PluralCategory::Other
+        }
+    }
+    /// The categories that numbers may have: those that have a condition, and `other`, from `zero` to `other`. By the
+    /// rules of English they are `one`, `other`. It does not allocate.
+    ///
+    /// After ICU4X's call of this name.
+    #[tactic(auto, using(crate::proofs::ListedLemmas::held_of))]
+    pub fn categories(&self) -> PluralCategories
+        ensures { result ≡ categories_of self.now }
+    {
+        PluralCategories {
+            zero: self.zero.is_some(),
+            one: self.one.is_some(),
+            two: self.two.is_some(),
+            few: self.few.is_some(),
+            many: self.many.is_some(),
+            other: true,
         }
     }
 }

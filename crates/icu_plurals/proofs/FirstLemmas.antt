@@ -8,8 +8,8 @@ use Rattle.icu_decimal_plurals.specs.Conditions.{ConditionData, condition_holds}
 use Rattle.icu_decimal_plurals.specs.Operands.{Operands}
 use Rattle.icu_decimal_plurals.specs.Rules.{Rules, category_of, is_met}
 use Rattle.icu_plurals.specs.Laws.{IsCategory, NoneHolds}
-use Rattle.icu_plurals.specs.ListedRules.{Conditioned, categories_of, listed, with_condition}
-use Rattle.icu_plurals.proofs.ListedLemmas.{from_few, from_many, from_one, from_two, names}
+use Rattle.icu_decimal_plurals.specs.ListedRules.{Conditioned, categories_of, listed, with_condition}
+use Rattle.icu_decimal_plurals.proofs.ListedLemmas.{from_few, from_many, from_one, from_two, names}
 
 abbrev first_of : Operands → List Conditioned → PluralCategory
 first_of o [] = Other

@@ -4,7 +4,7 @@ use Rattle.icu_decimal_plurals.specs.declared.category.PluralCategory.{PluralCat
 use Rattle.icu_decimal_plurals.specs.declared.category.PluralCategory.TheVariants.{Zero, One, Two, Few, Many, Other}
 use Rattle.icu_decimal_plurals.specs.Reading.{rules_of}
 use Rattle.icu_plurals.specs.declared.ranges.PluralRange.{PluralRange}
-use Rattle.icu_plurals.specs.ListedRules.{categories_of}
+use Rattle.icu_decimal_plurals.specs.ListedRules.{categories_of}
 use Rattle.icu_plurals.specs.Ranges.{range_category}
 
 abbrev had_by : List (PluralCategory × List ℕ) → Option (List PluralCategory)

@@ -1,4 +1,3 @@
 mod KnownValues
 pub mod FirstLemmas
-pub mod ListedLemmas
 pub mod TimesLemmas

@@ -9,9 +9,9 @@ use Rattle.icu_decimal_plurals.specs.Reading.{is_same}
 use Rattle.icu_decimal_plurals.specs.Rules.{Rules}
 use Rattle.icu_plurals.specs.declared.ranges.PluralRange.{PluralRange}
 use Rattle.icu_plurals.specs.Laws.{is_had, times}
-use Rattle.icu_plurals.specs.ListedRules.{Conditioned, categories_of, with_condition}
+use Rattle.icu_decimal_plurals.specs.ListedRules.{Conditioned, categories_of, with_condition}
 use Rattle.icu_plurals.specs.Ranges.{is_for, range_category}
-use Rattle.icu_plurals.proofs.ListedLemmas.{from_few, from_many, from_one, from_two, names}
+use Rattle.icu_decimal_plurals.proofs.ListedLemmas.{from_few, from_many, from_one, from_two, names}
 
 -- how often a category is what a condition is given for
 abbrev once : PluralCategory → PluralCategory → Option ConditionData → ℕ

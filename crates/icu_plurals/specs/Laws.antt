@@ -11,7 +11,7 @@ use Rattle.icu_decimal_plurals.specs.Operands.{Operands, operands_of}
 use Rattle.icu_decimal_plurals.specs.Reading.{is_same}
 use Rattle.icu_decimal_plurals.specs.Rules.{Rules, category_of}
 use Rattle.icu_plurals.specs.declared.ranges.PluralRange.{PluralRange}
-use Rattle.icu_plurals.specs.ListedRules.{Conditioned, listed, categories_of}
+use Rattle.icu_decimal_plurals.specs.ListedRules.{Conditioned, listed, categories_of}
 use Rattle.icu_plurals.specs.Ranges.{range_category}
 
 -- ---- the category of a number

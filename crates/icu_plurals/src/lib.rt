@@ -5,14 +5,10 @@
 //! of this crate are in docs/plurals.md, after UTS 35, part 3, section 5 (plural rules).
 #![tactic(auto)]
 
-mod categories;
 pub mod laws;
 mod ranges;
 mod rule_type;
-mod rules;
 
-pub use categories::PluralCategories;
-pub use icu_decimal_plurals::{PluralCategory, PluralOperands};
+pub use icu_decimal_plurals::{PluralCategories, PluralCategory, PluralOperands, PluralRules};
 pub use ranges::{PluralRange, PluralRulesWithRanges};
 pub use rule_type::PluralRuleType;
-pub use rules::PluralRules;

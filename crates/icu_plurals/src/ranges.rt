@@ -3,8 +3,7 @@
 ghost use Rattle.std.specs.Prelude.{◌≡◌};
 ghost use Rattle.icu_plurals.specs.Ranges.{is_for, range_category};
 
-use crate::rules::PluralRules;
-use icu_decimal_plurals::{PluralCategory, PluralOperands};
+use icu_decimal_plurals::{PluralCategory, PluralOperands, PluralRules};
 
 /// The category of ranges whose ends have these categories. In English a range from `other` to `one`, as 0 to 1, is of
 /// `other`.

@@ -1,2 +1,1 @@
 mod LinesLemmas
-mod TrimmingLemmas

@@ -1,5 +1,5 @@
 -- The first line of bytes, the lines after it, and what is shown of both.
-use Rattle.std.proofs.Common.{◌≡◌, ℕ, suc, ◌+◌, ◌<◌, ◌≤◌, List, [], ◌∷◌, ◌++◌, Bool, true, false, cond, eqb, length, map, take, Option, None, Some, refl, sym, ap, subst, ◌∙◌, arith, append-nil, take_all}
+use Rattle.std.proofs.Common.{◌≡◌, ℕ, suc, ◌+◌, ◌<◌, ◌≤◌, List, [], ◌∷◌, ◌++◌, Bool, true, false, cond, length, map, take, Option, None, Some, refl, sym, ap, ◌∙◌, arith, append-nil, take_all}
 use Rattle.std.specs.Prelude.{◌==◌, if◌then◌else◌, nat_lt}
 use Rattle.std.specs.List.{before_first, onto_first, position, position_or_len}
 use Rattle.std.specs.Io.BufRead.{take_through, drop_through}
@@ -11,7 +11,8 @@ use Rattle.legumeyet_options.specs.Sayings.{saying}
 use Rattle.legumeyet_options.specs.declared.Invalid.{Invalid}
 use Rattle.legumeyet_options.specs.declared.Sayer.{Sayer}
 use Rattle.legumeyet.specs.Output.{input_shown, is_last, shown, status_said, texts_shown}
-use Rattle.legumeyet.specs.Trimming.{is_feed, trimmed}
+use Rattle.legumeyet_columns.specs.Trimming.{trimmed}
+use Rattle.legumeyet.specs.Feeds.{is_feed}
 
 -- what is before the place of a line feed
 pub before_place : (xs : List ℕ) (end : ℕ) → Some end ≡ position is_feed xs → take end xs ≡ before_first is_feed xs

@@ -1,12 +1,19 @@
 -- What the words say: where an option is not given, another word or another way.
 -- Defined in docs/command.md, "Options" and "Refused numbers".
 -- Cited by the private calls that read the words.
-use Rattle.std.specs.Prelude.{ℕ, Bool, true, false, if◌then◌else◌, List, Option, Some, None, unwrap_or, codes}
+use Rattle.std.specs.Prelude.{◌≡◌, ℕ, Bool, true, false, if◌then◌else◌, List, Option, Some, None, option_map, unwrap_or, codes}
 use Rattle.std.specs.Str.{bytes_eq}
+use Rattle.clap.specs.Matches.{first_value}
+use Rattle.clap.specs.declared.parser.matches.Found.{Found}
+use Rattle.icu_plurals.specs.declared.PluralRuleType.TheVariants.{Cardinal, Ordinal}
 use Rattle.legumeyet_options.specs.Invalids.{invalid_named}
+use Rattle.legumeyet_options.specs.declared.DigitWords.{DigitWords}
 use Rattle.legumeyet_options.specs.declared.Invalid.{Invalid}
+use Rattle.legumeyet_options.specs.declared.NumberWords.{NumberWords}
 use Rattle.locale_numbers_formats.specs.declared.NumberUnit.{NumberUnit}
 use Rattle.locale_numbers_formats.specs.declared.NumberUnit.TheVariants as unit
+use Rattle.locale_numbers_requests.specs.declared.Task.{Task}
+use Rattle.locale_numbers_requests.specs.declared.Task.TheVariants.{Write, WriteExact, Read, ReadLenient, Category, RangeCategory}
 
 abbrev pub word_by : Option (List ℕ) → List ℕ → List ℕ
 word_by said other = unwrap_or said other
@@ -20,7 +27,34 @@ abbrev pub without_dash : Option (List ℕ) → Option (List ℕ)
 without_dash None = None
 without_dash (Some word) = if bytes_eq word (codes "-") then None else Some word
 
+-- the words of the options of digits are those that were found
+pub record DigitsIn (found : Found) (words : DigitWords) : Type 0 where
+  pub round : option_map (λ word. word.now) words.round ≡ without_dash (first_value found (codes "round"))
+  pub digits : option_map (λ word. word.now) words.digits ≡ first_value found (codes "digits")
+  pub max_digits : option_map (λ word. word.now) words.max_digits ≡ first_value found (codes "max-digits")
+  pub min_digits : option_map (λ word. word.now) words.min_digits ≡ first_value found (codes "min-digits")
+  pub significant : option_map (λ word. word.now) words.significant ≡ first_value found (codes "significant")
+  pub priority : option_map (λ word. word.now) words.priority ≡ first_value found (codes "priority")
+
+-- and those of the others
+pub record NumbersIn (found : Found) (words : NumberWords) : Type 0 where
+  pub form : option_map (λ word. word.now) words.form ≡ first_value found (codes "form")
+  pub format : option_map (λ word. word.now) words.format ≡ first_value found (codes "format")
+  pub currency : option_map (λ word. word.now) words.currency ≡ first_value found (codes "currency")
+  pub grouping : option_map (λ word. word.now) words.grouping ≡ first_value found (codes "grouping")
+  pub sign : option_map (λ word. word.now) words.sign ≡ first_value found (codes "sign")
+
 abbrev pub has_unit : NumberUnit → Bool
 has_unit unit.None = false
 has_unit unit.Percent = true
 has_unit (unit.Currency currency) = true
+
+-- ordinal rules, or the categories of ranges
+abbrev pub asks_more : Task → Bool
+asks_more (Category Ordinal) = true
+asks_more (Category Cardinal) = false
+asks_more RangeCategory = true
+asks_more Write = false
+asks_more WriteExact = false
+asks_more Read = false
+asks_more ReadLenient = false

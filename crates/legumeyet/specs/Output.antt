@@ -1,14 +1,14 @@
 -- What is written for numbers and texts, in order: what is said of each in a line, with its parts behind it, or what stands for a refused one.
 -- Defined in docs/command.md, "Output" and "Refused numbers".
 -- Cited by `put_number`, `put_texts`, `put_words`, `put_lines` and the steps of them.
-use Rattle.std.specs.Prelude.{◌≢◌, ℕ, List, [], ◌∷◌, ◌++◌, ◌==◌, Bool, false, map, Result, Ok, Err, if◌then◌else◌, codes}
+use Rattle.std.specs.Prelude.{◌≢◌, ℕ, List, [], ◌∷◌, ◌++◌, ◌==◌, Bool, false, map, Ok, Err, if◌then◌else◌, codes}
 use Rattle.legumeyet_options.specs.Sayings.{Saying, saying}
 use Rattle.legumeyet_options.specs.declared.Invalid.{Invalid}
 use Rattle.legumeyet_options.specs.declared.Invalid.TheVariants.{Empty, Keep, Skip, Abort}
 use Rattle.legumeyet_options.specs.declared.Sayer.{Sayer}
 use Rattle.locale_numbers_lines.specs.Lines.{lines_of, ended}
 use Rattle.legumeyet.specs.Parts.{part_lines}
-use Rattle.legumeyet.specs.Trimming.{trimmed}
+use Rattle.legumeyet_columns.specs.Trimming.{trimmed}
 
 -- what stands for a text that is refused
 abbrev pub stand_in : Invalid → List ℕ → List ℕ

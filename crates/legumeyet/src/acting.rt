@@ -1,8 +1,8 @@
 //! What the words ask for.
 
-use crate::asking::{has_unit, invalid_of, word, words_of};
+use crate::asking::{invalid_of, word, words_of};
 use crate::book_text::{book_of, read_text, world_text_for};
-use crate::column_words::{have_units, tell_wrong_table};
+use crate::column_words::{parts_needed, tell_wrong_table};
 use crate::environment::tag_for;
 use crate::fault::CallFault;
 use crate::listing::{list_of_file, list_of_world};
@@ -19,6 +19,63 @@ use locale_numbers_requests::Task;
 use std::alloc::AllocError;
 use std::io::Write;
 
+// How the numbers of the words are written.
+#[derive(Clone, Copy)]
+struct Manner<'m> {
+    /// The word of `--round`.
+    round: &'m str,
+    /// Whether their parts are written too.
+    has_parts: bool,
+    /// What is written for those that are refused.
+    of_words: Invalid,
+    /// The same for those of standard input.
+    of_input: Invalid,
+}
+
+// What the words say of it.
+fn manner_of<'m>(matches: &'m ArgMatches<'_>) -> Manner<'m> {
+    Manner {
+        round: word(matches, "round", "-"),
+        has_parts: matches.get_flag("parts"),
+        of_words: invalid_of(matches, Invalid::Skip),
+        of_input: invalid_of(matches, Invalid::Empty),
+    }
+}
+
+// Writes the numbers of the words, with this for those of standard input that are refused, and returns the status.
+fn put_asked<W: Write>(
+    rt: &HostRuntime,
+    asked: &Asked<'_, '_>,
+    of_input: Invalid,
+    texts: &[&str],
+    out: &mut W,
+) -> Result<u8, CallFault> {
+    let asked_of_input = Asked {
+        invalid: of_input,
+        ..*asked
+    };
+    put_words(rt, asked, &asked_of_input, texts, out)
+}
+
+// Writes the numbers of the words by what says them, in this manner, and returns the status.
+fn put_in_manner<W: Write>(
+    rt: &HostRuntime,
+    sayer: &Sayer<'_>,
+    manner: Manner<'_>,
+    tag: &str,
+    texts: &[&str],
+    out: &mut W,
+) -> Result<u8, CallFault> {
+    let asked = Asked {
+        tag,
+        round: manner.round,
+        sayer,
+        has_parts: manner.has_parts,
+        invalid: manner.of_words,
+    };
+    put_asked(rt, &asked, manner.of_input, texts, out)
+}
+
 // Writes the numbers of the words by what says them, and returns the status.
 fn put_said_by<W: Write>(
     rt: &HostRuntime,
@@ -28,23 +85,7 @@ fn put_said_by<W: Write>(
     texts: &[&str],
     out: &mut W,
 ) -> Result<u8, CallFault> {
-    let round = word(matches, "round", "-");
-    let has_parts = matches.get_flag("parts");
-    let asked = Asked {
-        tag,
-        round,
-        sayer,
-        has_parts,
-        invalid: invalid_of(matches, Invalid::Skip),
-    };
-    let asked_of_input = Asked {
-        tag,
-        round,
-        sayer,
-        has_parts,
-        invalid: invalid_of(matches, Invalid::Empty),
-    };
-    put_words(rt, &asked, &asked_of_input, texts, out)
+    put_in_manner(rt, sayer, manner_of(matches), tag, texts, out)
 }
 
 // Writes the numbers that are to be written, where there are some, and returns the status.
@@ -63,6 +104,25 @@ fn put_written<W: Write>(
     put_said_by(rt, &sayer, matches, tag, texts, out)
 }
 
+// Writes the numbers of texts by what reads them, and returns the status.
+fn put_read_by<W: Write>(
+    rt: &HostRuntime,
+    sayer: &Sayer<'_>,
+    tag: &str,
+    texts: &[&str],
+    invalid: Invalid,
+    out: &mut W,
+) -> Result<u8, CallFault> {
+    let asked = Asked {
+        tag,
+        round: "-",
+        sayer,
+        has_parts: false,
+        invalid,
+    };
+    put_texts(rt, &asked, texts, out)
+}
+
 // Writes the numbers of the texts of an option, where there are some, and returns the status.
 fn put_read<W: Write>(
     rt: &HostRuntime,
@@ -77,14 +137,7 @@ fn put_read<W: Write>(
         return Ok(0);
     };
     let sayer = sayer_of(rt.alloc(), book, tag, numbers)?;
-    let asked = Asked {
-        tag,
-        round: "-",
-        sayer: &sayer,
-        has_parts: false,
-        invalid,
-    };
-    put_texts(rt, &asked, texts, out)
+    put_read_by(rt, &sayer, tag, texts, invalid, out)
 }
 
 // Writes what is read leniently, what is read exactly and what is written, in this order, and returns the status.
@@ -163,11 +216,7 @@ fn text_of_world(
     if matches.get_flag("lines") {
         world_text(rt.alloc())
     } else {
-        world_text_for(
-            rt.alloc(),
-            tag,
-            has_unit(numbers) || have_units(matches, numbers),
-        )
+        world_text_for(rt.alloc(), tag, parts_needed(matches, numbers))
     }
 }
 

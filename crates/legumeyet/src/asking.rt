@@ -2,11 +2,13 @@
 
 ghost use Rattle.std.specs.Prelude.{◌≡◌, codes, option_map};
 ghost use Rattle.clap.specs.Matches.{first_value, found_of};
-ghost use Rattle.legumeyet.specs.Asking.{has_unit, invalid_by, word_by, without_dash};
+ghost use Rattle.legumeyet.specs.Asking.{DigitsIn, NumbersIn, asks_more, has_unit, invalid_by, word_by, without_dash};
 
 use clap::ArgMatches;
+use icu_plurals::PluralRuleType;
 use legumeyet_options::{DigitWords, Invalid, NumberWords, NumbersAsked};
 use locale_numbers_formats::NumberUnit;
+use locale_numbers_requests::Task;
 
 /// A word of an option, or another where it has none.
 pub fn word<'a>(matches: &ArgMatches<'a>, id: &str, other: &'static str) -> &'a str
@@ -39,27 +41,36 @@ fn round_of<'a>(matches: &ArgMatches<'a>) -> Option<&'a str>
     }
 }
 
+// By which rules the plural category of each number is asked for.
+fn rule_type_of(matches: &ArgMatches<'_>) -> Option<PluralRuleType> {
+    if matches.get_flag("plural") {
+        Some(PluralRuleType::Cardinal)
+    } else if matches.get_flag("ordinal") {
+        Some(PluralRuleType::Ordinal)
+    } else {
+        None
+    }
+}
+
+// The words of the options of digits.
+fn digits_of<'a>(matches: &ArgMatches<'a>) -> DigitWords<'a>
+    ensures words { DigitsIn (found_of matches.now) result }
+{
+    DigitWords {
+        is_in_cash: matches.get_flag("cash"),
+        round: round_of(matches),
+        digits: matches.get_str("digits"),
+        max_digits: matches.get_str("max-digits"),
+        min_digits: matches.get_str("min-digits"),
+        significant: matches.get_str("significant"),
+        priority: matches.get_str("priority"),
+    }
+}
+
 /// The words of the options that say how numbers are written.
 pub fn words_of<'a>(matches: &ArgMatches<'a>) -> NumberWords<'a>
-    ensures form { option_map (λ word. word.now) result.form ≡ first_value (found_of matches.now) (codes "form") }
-    ensures format { option_map (λ word. word.now) result.format ≡ first_value (found_of matches.now) (codes "format") }
-    ensures currency { option_map (λ word. word.now) result.currency
-        ≡ first_value (found_of matches.now) (codes "currency") }
-    ensures grouping { option_map (λ word. word.now) result.grouping
-        ≡ first_value (found_of matches.now) (codes "grouping") }
-    ensures sign { option_map (λ word. word.now) result.sign ≡ first_value (found_of matches.now) (codes "sign") }
-    ensures round { option_map (λ word. word.now) result.chosen.round
-        ≡ without_dash (first_value (found_of matches.now) (codes "round")) }
-    ensures digits { option_map (λ word. word.now) result.chosen.digits
-        ≡ first_value (found_of matches.now) (codes "digits") }
-    ensures max_digits { option_map (λ word. word.now) result.chosen.max_digits
-        ≡ first_value (found_of matches.now) (codes "max-digits") }
-    ensures min_digits { option_map (λ word. word.now) result.chosen.min_digits
-        ≡ first_value (found_of matches.now) (codes "min-digits") }
-    ensures significant { option_map (λ word. word.now) result.chosen.significant
-        ≡ first_value (found_of matches.now) (codes "significant") }
-    ensures priority { option_map (λ word. word.now) result.chosen.priority
-        ≡ first_value (found_of matches.now) (codes "priority") }
+    ensures words { NumbersIn (found_of matches.now) result }
+    ensures digits { DigitsIn (found_of matches.now) result.chosen }
 {
     NumberWords {
         form: matches.get_str("form"),
@@ -70,24 +81,61 @@ pub fn words_of<'a>(matches: &ArgMatches<'a>) -> NumberWords<'a>
         is_percent: matches.get_flag("percent"),
         grouping: matches.get_str("grouping"),
         sign: matches.get_str("sign"),
-        chosen: DigitWords {
-            is_in_cash: matches.get_flag("cash"),
-            round: round_of(matches),
-            digits: matches.get_str("digits"),
-            max_digits: matches.get_str("max-digits"),
-            min_digits: matches.get_str("min-digits"),
-            significant: matches.get_str("significant"),
-            priority: matches.get_str("priority"),
-        },
+        chosen: digits_of(matches),
+        rule_type: rule_type_of(matches),
     }
 }
 
-/// Whether numbers have a unit, so that the book's units are needed.
-pub fn has_unit(asked: &NumbersAsked) -> bool
+// Whether numbers have a unit.
+fn has_unit(asked: &NumbersAsked) -> bool
     ensures value { result ≡ has_unit asked.now.format.shape.unit }
 {
     match asked.format.shape.unit {
         NumberUnit::None => false,
         NumberUnit::Percent | NumberUnit::Currency(_) => true,
+    }
+}
+
+// Whether ordinal rules are asked for, or the categories of ranges.
+fn asks_more(task: Task) -> bool
+    ensures value { result ≡ asks_more task }
+{
+    match task {
+        Task::Category(PluralRuleType::Ordinal) | Task::RangeCategory => true,
+        Task::Category(PluralRuleType::Cardinal)
+        | Task::Write
+        | Task::WriteExact
+        | Task::Read
+        | Task::ReadLenient => false,
+    }
+}
+
+/// Which parts of a book are asked for, beside the tables of numbers.
+#[derive(Clone, Copy)]
+pub struct PartsNeeded {
+    /// Those of units.
+    pub units: bool,
+    /// Ordinal rules and the categories of ranges.
+    pub plurals: bool,
+}
+
+impl PartsNeeded {
+    /// These and others.
+    pub fn with(self, others: PartsNeeded) -> PartsNeeded {
+        PartsNeeded {
+            units: self.units || others.units,
+            plurals: self.plurals || others.plurals,
+        }
+    }
+}
+
+/// Those that are asked for where this is asked of numbers.
+pub fn parts_of(asked: &NumbersAsked) -> PartsNeeded
+    ensures units { result.units ≡ has_unit asked.now.format.shape.unit }
+    ensures plurals { result.plurals ≡ asks_more asked.now.task }
+{
+    PartsNeeded {
+        units: has_unit(asked),
+        plurals: asks_more(asked.task),
     }
 }

@@ -7,6 +7,7 @@ ghost use Rattle.locale_numbers.specs.SelectedText.{selected_text};
 ghost use Rattle.locale_numbers.specs.Wanted.{wanted_of};
 ghost use Rattle.locale_numbers.specs.declared.BookTexts.{BookTexts};
 
+use crate::asking::PartsNeeded;
 use locale_numbers::{Book, BookTexts, ProgramFault, book_text_for, world_text, world_texts};
 use locale_numbers_book::read_preferences;
 use std::alloc::{AllocError, Global};
@@ -33,14 +34,20 @@ pub fn book_of(alloc: Global, text: &[u8]) -> Result<Book, ProgramFault>
     }
 }
 
-// The texts of the world's book, without units where none are asked for.
-fn texts_for(has_units: bool) -> BookTexts<'static> {
+// The texts of the world's book, without those parts that are not asked for. Plural rules stand beside units.
+fn texts_for(needed: PartsNeeded) -> BookTexts<'static> {
     let texts = world_texts();
-    if has_units {
+    if needed.plurals {
         texts
+    } else if needed.units {
+        BookTexts {
+            plurals: None,
+            ..texts
+        }
     } else {
         BookTexts {
             units: None,
+            plurals: None,
             ..texts
         }
     }
@@ -49,13 +56,13 @@ fn texts_for(has_units: bool) -> BookTexts<'static> {
 /// The text of the small book that the lines of a tag can ask for, of the world's book. Where the tag is none, it is the
 /// whole: each line is then refused by any book.
 ///
-/// It answers lines of this tag only, and without units only those of numbers. `AllocError`: out of memory.
-pub fn world_text_for(alloc: Global, tag: &str, has_units: bool) -> Result<String, AllocError>
+/// It answers lines of this tag only, and without other parts only those of numbers. `AllocError`: out of memory.
+pub fn world_text_for(alloc: Global, tag: &str, needed: PartsNeeded) -> Result<String, AllocError>
     ensures small { (preferences : Preferences) → wanted_of tag.now ≡ Some preferences → IfOk result (λ text.
         (texts : BookTexts) × (string_bytes text ≡ selected_text texts preferences)) }
 {
     match read_preferences(alloc, tag.as_bytes()) {
-        Ok(Some(preferences)) => book_text_for(alloc, &texts_for(has_units), &preferences),
+        Ok(Some(preferences)) => book_text_for(alloc, &texts_for(needed), &preferences),
         Ok(None) => world_text(alloc),
         Err(refused) => Err(refused),
     }

@@ -1,34 +1,65 @@
 //! What the words ask of the fields of a table.
 
-use crate::asking::{has_unit, invalid_of, word};
+use crate::asking::{PartsNeeded, invalid_of, parts_of, word};
 use crate::report::{tell_delimiter, tell_field_word, tell_padding, tell_skeleton};
 use clap::ArgMatches;
+use icu_plurals::PluralRuleType;
 use legumeyet_columns::{Dialect, OnRefusal, Padding, TableAsked};
 use legumeyet_options::{DigitWords, Invalid, NumberWords, NumbersAsked, OptionFault};
 use locale_numbers_requests::Task;
 
-/// A word of `--field`: the number or the name of a field, and its skeleton where it has one.
+/// Why a word of `--field` is wrong whose field another one chooses.
+pub const TWICE: &str = "the field is chosen already";
+
+/// A word of `--field`: the number or the name of a field, and the format that it has of its own.
 #[derive(Clone, Copy)]
 pub struct FieldWord<'a> {
     pub name: &'a str,
+    /// By which rules the plural category of each number is asked for.
+    pub rule_type: Option<PluralRuleType>,
     pub skeleton: Option<&'a str>,
 }
 
-/// What a word of `--field` is: `share` and `percent` of `share=percent`. An empty skeleton is none.
+// A text that is not empty.
+fn if_some(text: &str) -> Option<&str> {
+    if text.is_empty() { None } else { Some(text) }
+}
+
+// What stands in front of the colons of a format, and the skeleton behind them.
+fn cut_format(format: &str) -> (&str, Option<&str>) {
+    match format.split_once("::") {
+        Some((front, skeleton)) => (front, if_some(skeleton)),
+        None => (format, None),
+    }
+}
+
+// A field with its format: a skeleton, or `plural` or `ordinal` with a skeleton behind two colons or none.
+fn field_with<'a>(name: &'a str, format: &'a str) -> FieldWord<'a> {
+    let (front, skeleton) = cut_format(format);
+    match front {
+        "plural" => FieldWord {
+            name,
+            rule_type: Some(PluralRuleType::Cardinal),
+            skeleton,
+        },
+        "ordinal" => FieldWord {
+            name,
+            rule_type: Some(PluralRuleType::Ordinal),
+            skeleton,
+        },
+        _ => FieldWord {
+            name,
+            rule_type: None,
+            skeleton: if_some(format),
+        },
+    }
+}
+
+/// What a word of `--field` is: `share` and `percent` of `share=percent`. An empty format is none.
 pub fn field_said(word: &str) -> FieldWord<'_> {
     match word.rsplit_once('=') {
-        Some((name, "")) => FieldWord {
-            name,
-            skeleton: None,
-        },
-        Some((name, skeleton)) => FieldWord {
-            name,
-            skeleton: Some(skeleton),
-        },
-        None => FieldWord {
-            name: word,
-            skeleton: None,
-        },
+        Some((name, format)) => field_with(name, format),
+        None => field_with(word, ""),
     }
 }
 
@@ -43,6 +74,19 @@ pub fn index_said(field: &FieldWord<'_>) -> Option<usize> {
         Ok(number) => number.checked_sub(1),
         Err(_) => None,
     }
+}
+
+// Whether two words choose a field by the same number, or by the same name.
+fn is_same(one: &FieldWord<'_>, other: &FieldWord<'_>) -> bool {
+    if is_named(one) || is_named(other) {
+        return one.name == other.name;
+    }
+    index_said(one) == index_said(other)
+}
+
+// Whether a field is chosen by one of these words.
+fn is_among(words: &[&str], field: &FieldWord<'_>) -> bool {
+    words.iter().any(|word| is_same(&field_said(word), field))
 }
 
 // What a skeleton asks of numbers.
@@ -65,43 +109,98 @@ fn numbers_by(skeleton: &str) -> Result<NumbersAsked, OptionFault> {
             significant: None,
             priority: None,
         },
+        rule_type: None,
     };
     words.asked()
 }
 
-/// What is asked of the numbers of a field, where its skeleton is one: that of the options, or that of the skeleton; and
-/// that they are read, where the options say so.
+// The same numbers, of which plural categories by these rules are asked for.
+fn categories_by(
+    asked: &NumbersAsked,
+    rule_type: PluralRuleType,
+) -> Result<NumbersAsked, OptionFault> {
+    match asked.task {
+        Task::Category(_) => Ok(NumbersAsked {
+            task: Task::Category(rule_type),
+            format: asked.format,
+            is_coarse: asked.is_coarse,
+        }),
+        Task::Write | Task::WriteExact | Task::Read | Task::ReadLenient | Task::RangeCategory => {
+            asked.categories(rule_type)
+        }
+    }
+}
+
+// The same, where they are asked for.
+fn with_rules(
+    asked: &NumbersAsked,
+    rule_type: Option<PluralRuleType>,
+) -> Result<NumbersAsked, OptionFault> {
+    match rule_type {
+        None => Ok(*asked),
+        Some(rule_type) => categories_by(asked, rule_type),
+    }
+}
+
+// The format of a field: that of the options, or its own.
+fn format_of(numbers: &NumbersAsked, field: &FieldWord<'_>) -> Result<NumbersAsked, OptionFault> {
+    match field.skeleton {
+        None => with_rules(numbers, field.rule_type),
+        Some(skeleton) => match numbers_by(skeleton) {
+            Ok(asked) => with_rules(&asked, field.rule_type),
+            Err(fault) => Err(fault),
+        },
+    }
+}
+
+// What is asked of numbers in a format, where that of the options is this: they are read, or their plural categories are
+// asked for.
+fn as_options_say(task: Task, asked: &NumbersAsked) -> Result<NumbersAsked, OptionFault> {
+    match task {
+        Task::Read | Task::ReadLenient => reading_of(asked, task),
+        Task::Category(rule_type) if asked.task == Task::Write => asked.categories(rule_type),
+        Task::Write | Task::WriteExact | Task::Category(_) | Task::RangeCategory => Ok(*asked),
+    }
+}
+
+/// What is asked of the numbers of a field, where its format is one: what the options say, or the format of its own; and
+/// that they are read, or that their plural categories are asked for, where the options say so.
 pub fn numbers_of(
     matches: &ArgMatches<'_>,
     numbers: &NumbersAsked,
     field: &FieldWord<'_>,
 ) -> Result<NumbersAsked, OptionFault> {
-    let asked = match field.skeleton {
-        None => *numbers,
-        Some(skeleton) => numbers_by(skeleton)?,
+    let task = if matches.get_flag("read-fields") {
+        Task::ReadLenient
+    } else {
+        numbers.task
     };
-    if matches.get_flag("read-fields") {
-        return Ok(asked.reading(Task::ReadLenient));
-    }
-    match numbers.task {
-        Task::Write | Task::WriteExact => Ok(asked),
-        Task::Read | Task::ReadLenient => Ok(asked.reading(numbers.task)),
+    match format_of(numbers, field) {
+        Ok(asked) => as_options_say(task, &asked),
+        Err(fault) => Err(fault),
     }
 }
 
-/// Whether a field has numbers with a unit, so that the book's units are needed.
-pub fn have_units(matches: &ArgMatches<'_>, numbers: &NumbersAsked) -> bool {
+// The same of texts that are read, which have no plural categories.
+fn reading_of(asked: &NumbersAsked, task: Task) -> Result<NumbersAsked, OptionFault> {
+    match asked.task {
+        Task::Category(_) | Task::RangeCategory => Err(OptionFault::Categories),
+        Task::Write | Task::WriteExact | Task::Read | Task::ReadLenient => Ok(asked.reading(task)),
+    }
+}
+
+/// Which parts of a book are asked for, beside the tables of numbers: by the options, and by the formats of fields.
+pub fn parts_needed(matches: &ArgMatches<'_>, numbers: &NumbersAsked) -> PartsNeeded {
+    let mut needed = parts_of(numbers);
     let Some(words) = matches.get_strs("field") else {
-        return false;
+        return needed;
     };
     for word in words {
         if let Ok(asked) = numbers_of(matches, numbers, &field_said(word)) {
-            if has_unit(&asked) {
-                return true;
-            }
+            needed = needed.with(parts_of(&asked));
         }
     }
-    false
+    needed
 }
 
 // The dialect that a word of `--delimiter` says: a tab is without quotes.
@@ -156,20 +255,29 @@ pub fn table_said(matches: &ArgMatches<'_>) -> Option<TableAsked> {
     })
 }
 
-// Tells what is wrong with a word of `--field`, and returns the status.
+// Why a field has no plural categories.
+const CATEGORIES: &str =
+    "plural categories are for numbers that are written, and not by exact forms";
+
+// Tells what is wrong with a word of `--field` after others, and returns the status.
 fn tell_wrong_field(
     rt: &HostRuntime,
     matches: &ArgMatches<'_>,
     numbers: &NumbersAsked,
+    others: &[&str],
     word: &str,
 ) -> Option<u8> {
     let field = field_said(word);
+    if is_among(others, &field) {
+        return Some(tell_field_word(rt, word, TWICE));
+    }
     if !is_named(&field) && index_said(&field).is_none() {
         return Some(tell_field_word(rt, word, "the number of a field is from 1 on"));
     }
     match numbers_of(matches, numbers, &field) {
         Ok(_) => None,
         Err(OptionFault::Format(error)) => Some(tell_skeleton(rt, word, error)),
+        Err(OptionFault::Categories) => Some(tell_field_word(rt, word, CATEGORIES)),
         Err(_) => Some(tell_field_word(rt, word, "this is no skeleton")),
     }
 }
@@ -189,8 +297,8 @@ pub fn tell_wrong_table(
         return Some(tell_padding(rt, padding));
     }
     let words = matches.get_strs("field")?;
-    for word in words {
-        let told = tell_wrong_field(rt, matches, numbers, word);
+    for (index, word) in words.iter().enumerate() {
+        let told = tell_wrong_field(rt, matches, numbers, &words[..index], word);
         if told.is_some() {
             return told;
         }

@@ -2,19 +2,19 @@
 
 ghost use Rattle.std.specs.Prelude.{◌≡◌, IfOk, option_map};
 ghost use Rattle.legumeyet_columns.specs.Cells.{PutCell};
-ghost use Rattle.legumeyet_options.specs.Sayings.{saying};
-ghost use Rattle.legumeyet.specs.ColumnTexts.{is_there, misses, said_at, sayer_at, text_said};
+ghost use Rattle.legumeyet_options.specs.Sayings.{saying, text_said};
+ghost use Rattle.legumeyet.specs.ColumnTexts.{all_before, is_there, misses, said_at, sayer_at};
 
 use crate::report::{tell_field, tell_missing, tell_open, tell_refused_field};
 use legumeyet_columns::{FieldFault, FieldSayer};
-use legumeyet_options::{NotSaid, Sayer};
+use legumeyet_options::{KeptSayer, NotSaid};
 use std::alloc::AllocError;
 
 /// A chosen field: its index, from 0 on, and what says its texts.
 #[derive(Drop)]
 pub struct Column<'a> {
     pub index: usize,
-    pub sayer: Sayer<'a>,
+    pub sayer: KeptSayer<'a>,
 }
 
 /// What says the texts of chosen fields, and tells what is refused.
@@ -29,7 +29,7 @@ pub struct Columns<'m, 'a> {
 }
 
 // What says the texts of the field of this index.
-fn sayer_at<'s, 'a>(columns: &'s [Column<'a>], index: usize) -> Option<&'s Sayer<'a>>
+fn sayer_at<'s, 'a>(columns: &'s [Column<'a>], index: usize) -> Option<&'s KeptSayer<'a>>
     ensures value { option_map (λ sayer. sayer.now) result ≡ sayer_at columns.now index }
 {
     for column in columns {
@@ -65,7 +65,7 @@ impl Columns<'_, '_> {
     // Puts what a sayer says of the text of a field, and returns whether it says something.
     fn say_by(
         &self,
-        sayer: &Sayer<'_>,
+        sayer: &KeptSayer<'_>,
         number: u64,
         index: usize,
         text: &[u8],
@@ -74,11 +74,8 @@ impl Columns<'_, '_> {
         ensures text { IfOk result (λ is_said.
             PutCell (text_said (saying sayer.now text.now)) out.old.items out.new.items is_said) }
     {
-        match sayer.say(self.rt.alloc(), text) {
-            Ok(sink) => {
-                out.extend_from_slice(sink.text().as_bytes())?;
-                Ok(true)
-            }
+        match sayer.put(self.rt.alloc(), text, out) {
+            Ok(()) => Ok(true),
             Err(NotSaid::Memory) => Err(AllocError),
             Err(why) => {
                 tell_refused_field(self.rt, number, index, self.tag, self.round, text, why);
@@ -94,6 +91,8 @@ impl FieldSayer for Columns<'_, '_> {
     ghost said = { λ it index text. said_at (sayer_at it.columns.now index) text };
 
     ghost misses = { λ it count. misses it.columns.now count };
+
+    ghost all_before = { λ it count later none bound. all_before it.columns.now count later none bound };
 
     fn is_chosen(&self, index: usize) -> bool {
         sayer_at(self.columns, index).is_some()
@@ -120,8 +119,11 @@ impl FieldSayer for Columns<'_, '_> {
         tell_open(self.rt, number);
     }
 
-    fn tell_missing(&self, number: u64, count: usize) -> bool {
-        tell_lacking(self.rt, self.columns, number, count);
+    fn misses(&self, count: usize) -> bool {
         misses(self.columns, count)
+    }
+
+    fn tell_missing(&self, number: u64, count: usize) {
+        tell_lacking(self.rt, self.columns, number, count);
     }
 }

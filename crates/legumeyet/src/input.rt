@@ -5,54 +5,13 @@ ghost use Rattle.std.specs.List.{before_first, position};
 ghost use Rattle.std.specs.Io.BufRead.{drop_through, take_through};
 ghost use Rattle.std.specs.Io.KnownBytes.{Appends, IsAtEnd, Keeps};
 ghost use Rattle.std.specs.Io.Buffered.{reader_remaining};
+ghost use Rattle.legumeyet.specs.Feeds.{is_feed};
 ghost use Rattle.legumeyet.specs.Output.{input_shown};
-ghost use Rattle.legumeyet.specs.Trimming.{is_blank, is_feed, trimmed, without_end, without_front};
 
 use crate::fault::CallFault;
 use crate::numbers::{Asked, is_last, put_number};
+use legumeyet_columns::trimmed;
 use std::io::{self, BufRead, BufReader, Read, Write};
-
-// Whether a byte is a space, a tab or a carriage return.
-fn is_blank(byte: u8) -> bool
-    ensures value { result ≡ is_blank byte }
-{
-    byte == b' ' || byte == b'\t' || byte == b'\r'
-}
-
-// What is after the blanks in front.
-fn without_front(text: &[u8]) -> &[u8]
-    ensures value { result.now ≡ without_front text.now }
-{
-    let mut left = text;
-    while let Some((first, rest)) = left.split_first() {
-        if !is_blank(*first) {
-            return left;
-        }
-        left = rest;
-    }
-    left
-}
-
-// What is before the blanks at the end.
-fn without_end(text: &[u8]) -> &[u8]
-    ensures value { result.now ≡ without_end text.now }
-{
-    let mut left = text;
-    while let Some((last, rest)) = left.split_last() {
-        if !is_blank(*last) {
-            return left;
-        }
-        left = rest;
-    }
-    left
-}
-
-// A text without the blanks around it.
-fn trimmed(text: &[u8]) -> &[u8]
-    ensures value { result.now ≡ trimmed text.now }
-{
-    without_end(without_front(text))
-}
 
 // Where the line feed of a line is, where it has one.
 fn feed_place(line: &[u8]) -> Option<usize>
@@ -102,7 +61,7 @@ fn flush_if_waiting<R: Read, W: Write>(reader: &BufReader<R>, out: &mut W) -> Re
 // Writes each number that a reader has in a line of its own, and returns the status.
 fn put_lines<R: Read, W: Write>(
     rt: &HostRuntime,
-    asked: &Asked<'_>,
+    asked: &Asked<'_, '_>,
     reader: &mut BufReader<R>,
     out: &mut W,
 ) -> Result<u8, CallFault>
@@ -131,7 +90,7 @@ fn put_lines<R: Read, W: Write>(
 /// Writes the numbers of standard input, and returns the status: 1 where one is refused.
 pub fn put_input<W: Write>(
     rt: &HostRuntime,
-    asked: &Asked<'_>,
+    asked: &Asked<'_, '_>,
     out: &mut W,
 ) -> Result<u8, CallFault> {
     let Ok(mut reader) = BufReader::new(rt.alloc(), rt.stdin()) else {

@@ -13,13 +13,13 @@ use std::io::Write;
 
 /// What is asked of numbers or of texts.
 #[derive(Clone, Copy)]
-pub struct Asked<'m> {
+pub struct Asked<'m, 's> {
     /// The tag, for what is told of refusals.
     pub tag: &'m str,
     /// The word of `--round`, for the same.
     pub round: &'m str,
     /// What they are said by.
-    pub sayer: &'m Sayer<'m>,
+    pub sayer: &'m Sayer<'s>,
     /// Whether their parts are written too.
     pub has_parts: bool,
     /// What is written for those that are refused.
@@ -50,7 +50,7 @@ fn put_stand_in<W: Write>(invalid: Invalid, text: &[u8], out: &mut W) -> Result<
 // Tells that a text is refused, after what was written before, and writes what stands for it.
 fn put_refused<W: Write>(
     rt: &HostRuntime,
-    asked: &Asked<'_>,
+    asked: &Asked<'_, '_>,
     text: &[u8],
     why: NotSaid,
     out: &mut W,
@@ -70,7 +70,7 @@ fn put_refused<W: Write>(
 /// is refused.
 pub fn put_number<W: Write>(
     rt: &HostRuntime,
-    asked: &Asked<'_>,
+    asked: &Asked<'_, '_>,
     text: &[u8],
     out: &mut W,
 ) -> Result<u8, CallFault>
@@ -94,7 +94,7 @@ pub fn put_number<W: Write>(
 /// Writes what is said of each text in a line of its own, and returns the status: 1 where one is refused.
 pub fn put_texts<W: Write>(
     rt: &HostRuntime,
-    asked: &Asked<'_>,
+    asked: &Asked<'_, '_>,
     texts: &[&str],
     out: &mut W,
 ) -> Result<u8, CallFault>

@@ -10,8 +10,8 @@ use crate::fault::CallFault;
 use std::io::Write;
 use writeable::{Part, PartsSink};
 
-/// Writes a piece of a line.
-pub fn put_piece<W: Write>(piece: &[u8], out: &mut W) -> Result<(), CallFault>
+// Writes a piece of a line.
+fn put_piece<W: Write>(piece: &[u8], out: &mut W) -> Result<(), CallFault>
     ensures output { OnOk result (Appends (W.contents out.old) (W.contents out.new) piece.now) }
 {
     match out.write_all(piece) {

@@ -6,6 +6,7 @@ ghost use Rattle.legumeyet.specs.CallFaults.{call_status};
 use crate::fault::CallFault;
 use crate::messages::{Shown, ShownBytes};
 use clap::error::ErrorKind;
+use icu_plurals::PluralRuleType;
 use legumeyet_columns::{FieldFault, LONGEST};
 use legumeyet_options::{DigitWords, NotSaid, NumberWords, OptionFault};
 use locale_numbers_formats::SkeletonError;
@@ -17,7 +18,9 @@ fn meaning(refusal: Refusal) -> &'static str {
     match refusal {
         Refusal::Shape => "the text is not UTF-8",
         Refusal::Tag => "this is no locale tag, as de or pt-BR are",
-        Refusal::Number => "the text is no decimal number",
+        Refusal::Number => {
+            "the text is no decimal number, as 1234.5 is; --read and --read-fields read what people type"
+        }
         Refusal::Limit => "the number has a digit or an exponent beyond magnitudes -32768 to 32767",
         Refusal::Table => "the book has no tables for the tag",
         Refusal::Range => {
@@ -50,7 +53,7 @@ impl fmt::Display for Why<'_> {
     }
 }
 
-/// Tells that a number or a text is refused, and why: `legumeyet: abc (de): the text is no decimal number`. `round` is the
+/// Tells that a number or a text is refused, and why: `legumeyet: abc (de): the text is no decimal number, ..`. `round` is the
 /// word of `--round`.
 pub fn tell_refused(rt: &HostRuntime, tag: &str, round: &str, text: &[u8], why: NotSaid) {
     let (text, tag, why) = (ShownBytes(text), Shown(tag), Why { round, why });
@@ -207,6 +210,14 @@ fn name_of_digits(words: &DigitWords<'_>) -> &'static str {
     }
 }
 
+// The name of the option of categories that is given.
+fn name_of_categories(words: &NumberWords<'_>) -> &'static str {
+    match words.rule_type {
+        Some(PluralRuleType::Ordinal) => "--ordinal",
+        Some(PluralRuleType::Cardinal) | None => "--plural",
+    }
+}
+
 // Tells that a word of an option is wrong, and why.
 fn tell_word(rt: &HostRuntime, option: &str, said: Option<&str>, why: &str) {
     let said = Shown(said.unwrap_or(""));
@@ -225,7 +236,7 @@ const SIGNIFICANT: &str =
     "significant digits are a number from 1 to 65535, or two with a minus between, as 1-3, of which the second is not below the first";
 
 const ROUNDING: &str =
-    "a rounding is a position from -32768 to 32767, then, where given, a mode and an increment of 1, 2, 5 or 25, as -2,half-even,5";
+    "a rounding is a position from -32768 to 32767, then, where given, a mode and an increment, as -2,half-even,5: 1, 2, 5 or 25, or one of these with zeros up to 5000 behind a position from -32767, where its multiples are at most at 32767";
 
 /// Tells which of the options that are given is wrong, and returns the status.
 pub fn tell_option(rt: &HostRuntime, words: &NumberWords<'_>, fault: OptionFault) -> u8
@@ -297,6 +308,12 @@ pub fn tell_option(rt: &HostRuntime, words: &NumberWords<'_>, fault: OptionFault
             words,
             name_of_digits(&words.chosen),
             "a number that is read has the digits of its text",
+        ),
+        OptionFault::Categories => tell_form(
+            rt,
+            words,
+            name_of_categories(words),
+            "plural categories are for numbers that are written, and not by exact forms",
         ),
     }
     2

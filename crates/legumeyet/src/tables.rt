@@ -1,18 +1,19 @@
 //! The table of standard input, with the chosen fields written anew.
 
 use crate::asking::word;
-use crate::column_words::{FieldWord, field_said, index_said, is_named, numbers_of, table_said};
+use crate::column_words::{
+    FieldWord, TWICE, field_said, index_said, is_named, numbers_of, table_said,
+};
 use crate::columns::{Column, Columns};
 use crate::fault::CallFault;
-use crate::parts::put_piece;
 use crate::report::{tell_field_word, tell_long};
 use crate::sayers::sayer_of;
 use clap::ArgMatches;
 use legumeyet_columns::{
-    Dialect, Found, TableAsked, TableFault, body_of, is_in_quotes, is_last, put_row, put_rows,
-    read_first_record, read_record, split_field, unquoted, without_mark,
+    Buffers, Dialect, TableAsked, TableFault, body_of, is_in_quotes, is_last, put_row, put_rows,
+    read_first_row, read_row, split_field, unquoted, without_mark,
 };
-use legumeyet_options::NumbersAsked;
+use legumeyet_options::{KeptSayer, NumbersAsked};
 use locale_numbers_book::Book;
 use std::alloc::Global;
 use std::io::{BufReader, Read, Write};
@@ -77,28 +78,42 @@ fn index_of(
     }
 }
 
-// Puts a field that is chosen, with what says its texts, after others, and returns whether it is there.
+// Whether the field of this index is chosen.
+fn is_chosen(columns: &[Column<'_>], index: usize) -> bool {
+    for column in columns {
+        if column.index == index {
+            return true;
+        }
+    }
+    false
+}
+
+// Puts a field that is chosen, with what says its texts, after others; or returns why it is wrong.
 fn put_column<'m>(
     table: &Table<'m, '_>,
     header: Option<&[u8]>,
     word: &str,
     columns: &mut Vec<Column<'m>>,
-) -> Result<bool, CallFault> {
+) -> Result<Option<&'static str>, CallFault> {
     let field = field_said(word);
     let Some(index) = index_of(table, header, &field)? else {
-        return Ok(false);
+        return Ok(Some("the header has no field of this name"));
     };
+    if is_chosen(columns.as_slice(), index) {
+        return Ok(Some(TWICE));
+    }
     let Ok(asked) = numbers_of(table.matches, table.numbers, &field) else {
-        return Ok(false);
+        return Ok(Some("this is no skeleton"));
     };
     let sayer = sayer_of(table.rt.alloc(), table.book, table.tag, &asked)?;
+    let sayer = KeptSayer::new(sayer);
     match columns.push(Column { index, sayer }) {
-        Ok(()) => Ok(true),
+        Ok(()) => Ok(None),
         Err(_) => Err(CallFault::MEMORY),
     }
 }
 
-// Puts the fields that are chosen, and returns whether all are there; else that is told.
+// Puts the fields that are chosen, and returns whether all are right; else that is told.
 fn put_columns<'m>(
     table: &Table<'m, '_>,
     header: Option<&[u8]>,
@@ -106,8 +121,8 @@ fn put_columns<'m>(
     columns: &mut Vec<Column<'m>>,
 ) -> Result<bool, CallFault> {
     for word in words {
-        if !put_column(table, header, word, columns)? {
-            tell_field_word(table.rt, word, "the header has no field of this name");
+        if let Some(why) = put_column(table, header, word, columns)? {
+            tell_field_word(table.rt, word, why);
             return Ok(false);
         }
     }
@@ -123,100 +138,62 @@ fn headers_said(matches: &ArgMatches<'_>, words: &[&str]) -> u16 {
     }
 }
 
-// The status of a table of which so much is written.
-fn status_of(rt: &HostRuntime, done: Result<bool, TableFault>) -> Result<u8, CallFault> {
-    match done {
-        Ok(is_refused) => Ok(u8::from(is_refused)),
-        Err(TableFault::Read(error)) => Err(CallFault::of_read(error)),
-        Err(TableFault::Write(error)) => Err(CallFault::Write(error)),
-        Err(TableFault::Memory) => Err(CallFault::MEMORY),
-        Err(TableFault::Long(number)) => Ok(tell_long(rt, number)),
+// Writes bytes as they are.
+fn put_bytes<W: Write>(bytes: &[u8], out: &mut W) -> Result<(), TableFault> {
+    match out.write_all(bytes) {
+        Ok(()) => Ok(()),
+        Err(error) => Err(TableFault::Write(error)),
     }
 }
 
-// Writes the records that are left of a table, of which the first has this number, and returns the status.
-fn put_left<R: Read, W: Write>(
-    asked: &TableAsked,
-    sayer: &Columns<'_, '_>,
-    first: u64,
-    reader: &mut BufReader<R>,
-    out: &mut W,
-) -> Result<u8, CallFault> {
-    let done = put_rows(sayer.rt.alloc(), asked, sayer, first, reader, out);
-    status_of(sayer.rt, done)
-}
-
-// Writes a table without a header, of which this is the first record, and returns the status.
+// Writes a table without a header, of which this is the first record, and returns whether something is refused.
 fn put_plain<R: Read, W: Write>(
     asked: &TableAsked,
     sayer: &Columns<'_, '_>,
     first: &[u8],
     reader: &mut BufReader<R>,
     out: &mut W,
-) -> Result<u8, CallFault> {
-    let mut line = Vec::new(sayer.rt.alloc());
-    let done = put_row(sayer.rt.alloc(), asked, sayer, 1, first, &mut line, out);
-    let status = status_of(sayer.rt, done)?;
-    if is_last(asked.on_refusal, status != 0) {
-        return Ok(status);
+) -> Result<bool, TableFault> {
+    let alloc = sayer.rt.alloc();
+    let mut buffers = Buffers::new(alloc);
+    let is_refused = put_row(alloc, asked, sayer, 1, first, &mut buffers, out)?;
+    if is_last(asked.on_refusal, is_refused) {
+        return Ok(is_refused);
     }
-    let others = put_left(asked, sayer, 2, reader, out)?;
-    Ok(status | others)
+    let are_others = put_rows(alloc, asked, sayer, 2, reader, out)?;
+    Ok(is_refused || are_others)
 }
 
-// Writes so many records of a header as they are, but the first, and those after them, and returns the status.
+// Writes so many records of a header as they are, but the first, and those after them, and returns whether something is
+// refused.
 fn put_headed<R: Read, W: Write>(
     asked: &TableAsked,
     sayer: &Columns<'_, '_>,
     headers: u16,
     reader: &mut BufReader<R>,
     out: &mut W,
-) -> Result<u8, CallFault> {
-    let mut row = Vec::new(sayer.rt.alloc());
-    for number in 1..headers {
-        match read_record(asked.dialect, reader, &mut row) {
-            Ok(Found::End) => return Ok(0),
-            Ok(Found::Record) => put_piece(row.as_slice(), out)?,
-            Ok(Found::Open) => put_piece(row.as_slice(), out)?,
-            Ok(Found::Long) => return Ok(tell_long(sayer.rt, u64::from(number))),
-            Err(error) => return Err(CallFault::of_read(error)),
+) -> Result<bool, TableFault> {
+    let alloc = sayer.rt.alloc();
+    let mut row = Vec::new(alloc);
+    for before in 1..headers {
+        let number = u64::from(before).saturating_add(1);
+        if !read_row(asked.dialect, number, reader, &mut row)? {
+            return Ok(false);
         }
+        put_bytes(row.as_slice(), out)?;
     }
-    put_left(
-        asked,
-        sayer,
-        u64::from(headers).saturating_add(1),
-        reader,
-        out,
-    )
+    let first = u64::from(headers).saturating_add(1);
+    put_rows(alloc, asked, sayer, first, reader, out)
 }
 
 const MARK: &[u8] = b"\xEF\xBB\xBF";
 
 // Writes the byte order mark where this record has one in front of it.
-fn put_mark<W: Write>(row: &[u8], out: &mut W) -> Result<(), CallFault> {
+fn put_mark<W: Write>(row: &[u8], out: &mut W) -> Result<(), TableFault> {
     if without_mark(row).len() < row.len() {
-        put_piece(MARK, out)?;
+        put_bytes(MARK, out)?;
     }
     Ok(())
-}
-
-// Writes a table by what says its texts, of which this is the first record, and returns the status.
-fn put_said_by<R: Read, W: Write>(
-    asked: &TableAsked,
-    sayer: &Columns<'_, '_>,
-    headers: u16,
-    row: &[u8],
-    reader: &mut BufReader<R>,
-    out: &mut W,
-) -> Result<u8, CallFault> {
-    put_mark(row, out)?;
-    let first = without_mark(row);
-    if headers == 0 {
-        return put_plain(asked, sayer, first, reader, out);
-    }
-    put_piece(first, out)?;
-    put_headed(asked, sayer, headers, reader, out)
 }
 
 // What says the texts of these fields.
@@ -234,7 +211,45 @@ fn sayer_by<'m, 'a>(
     }
 }
 
-// Writes a table with these fields chosen, of which this is the first record, and returns the status.
+// Writes a table by what says its texts, of which this is the first record, and returns whether something is refused.
+fn put_said_by<R: Read, W: Write>(
+    asked: &TableAsked,
+    sayer: &Columns<'_, '_>,
+    headers: u16,
+    row: &[u8],
+    reader: &mut BufReader<R>,
+    out: &mut W,
+) -> Result<bool, TableFault> {
+    put_mark(row, out)?;
+    let first = without_mark(row);
+    if headers == 0 {
+        return put_plain(asked, sayer, first, reader, out);
+    }
+    put_bytes(first, out)?;
+    put_headed(asked, sayer, headers, reader, out)
+}
+
+// The first record, where it is a header.
+fn header_of(headers: u16, row: &[u8]) -> Option<&[u8]> {
+    if headers == 0 {
+        None
+    } else {
+        Some(body_of(without_mark(row)))
+    }
+}
+
+// The status of a table of which so much is written.
+fn status_of(rt: &HostRuntime, done: Result<bool, TableFault>) -> Result<u8, CallFault> {
+    match done {
+        Ok(is_refused) => Ok(u8::from(is_refused)),
+        Err(TableFault::Read(error)) => Err(CallFault::of_read(error)),
+        Err(TableFault::Write(error)) => Err(CallFault::Write(error)),
+        Err(TableFault::Memory) => Err(CallFault::MEMORY),
+        Err(TableFault::Long(number)) => Ok(tell_long(rt, number)),
+    }
+}
+
+// Writes a table with these fields chosen, of which this is the first record, and returns whether something is refused.
 fn put_chosen<R: Read, W: Write>(
     rt: &HostRuntime,
     tag: &str,
@@ -245,18 +260,9 @@ fn put_chosen<R: Read, W: Write>(
     row: &[u8],
     reader: &mut BufReader<R>,
     out: &mut W,
-) -> Result<u8, CallFault> {
+) -> Result<bool, TableFault> {
     let sayer = sayer_by(rt, tag, round, columns);
     put_said_by(asked, &sayer, headers, row, reader, out)
-}
-
-// The first record, where it is a header.
-fn header_of(headers: u16, row: &[u8]) -> Option<&[u8]> {
-    if headers == 0 {
-        None
-    } else {
-        Some(body_of(without_mark(row)))
-    }
 }
 
 // Writes a table of which this is the first record, with the byte order mark in front of it where there is one, and returns
@@ -276,7 +282,7 @@ fn put_begun<R: Read, W: Write>(
         return Ok(2);
     }
     let round = word(table.matches, "round", "-");
-    put_chosen(
+    let done = put_chosen(
         table.rt,
         table.tag,
         round,
@@ -286,7 +292,8 @@ fn put_begun<R: Read, W: Write>(
         row,
         reader,
         out,
-    )
+    );
+    status_of(table.rt, done)
 }
 
 // Writes the table that a reader has, and returns the status.
@@ -296,12 +303,9 @@ fn put_read<R: Read, W: Write>(
     out: &mut W,
 ) -> Result<u8, CallFault> {
     let mut row = Vec::new(table.rt.alloc());
-    match read_first_record(table.asked.dialect, reader, &mut row) {
-        Ok(Found::End) => Ok(0),
-        Ok(Found::Record) => put_begun(table, row.as_slice(), reader, out),
-        Ok(Found::Open) => put_begun(table, row.as_slice(), reader, out),
-        Ok(Found::Long) => Ok(tell_long(table.rt, 1)),
-        Err(error) => Err(CallFault::of_read(error)),
+    match read_first_row(table.asked.dialect, reader, &mut row) {
+        Ok(true) => put_begun(table, row.as_slice(), reader, out),
+        other => status_of(table.rt, other),
     }
 }
 

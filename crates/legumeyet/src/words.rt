@@ -14,8 +14,8 @@ use std::io::Write;
 // status.
 fn put_word<W: Write>(
     rt: &HostRuntime,
-    asked: &Asked<'_>,
-    asked_of_input: &Asked<'_>,
+    asked: &Asked<'_, '_>,
+    asked_of_input: &Asked<'_, '_>,
     number: &str,
     out: &mut W,
 ) -> Result<u8, CallFault>
@@ -35,8 +35,8 @@ fn put_word<W: Write>(
 /// status.
 pub fn put_words<W: Write>(
     rt: &HostRuntime,
-    asked: &Asked<'_>,
-    asked_of_input: &Asked<'_>,
+    asked: &Asked<'_, '_>,
+    asked_of_input: &Asked<'_, '_>,
     numbers: &[&str],
     out: &mut W,
 ) -> Result<u8, CallFault>

@@ -1,5 +1,5 @@
 -- What a call asks for, and what follows of what is written of a value that is given.
-use Rattle.std.proofs.Common.{arith, ◌≡◌, ◌≢◌, ℕ, ◌<◌, ◌≤◌, List, Option, Some, None, Result, Ok, Err, IfOk, IfErr, refl, subst, inl, inr}
+use Rattle.std.proofs.Common.{arith, ◌≡◌, ◌≢◌, ℕ, ◌<◌, ◌≤◌, List, Option, Some, None, Result, Ok, Err, IfOk, IfErr, refl, subst, ap, inl, inr}
 use Rattle.std.proofs.Math.Nat.{lt_of_not-le}
 use Rattle.std.specs.Prelude.{ℤ}
 use Rattle.fixed_decimal.specs.CompactText.{CompactValue}
@@ -17,56 +17,57 @@ use Rattle.legumeyet_c_values.specs.declared.CallError.TheVariants.{TooSmall, Un
 use Rattle.legumeyet_c_values.proofs.NumbersLemmas.{change_fault_other}
 use Rattle.legumeyet_c_values.proofs.PuttingLemmas.{put_by, put_refused}
 use Rattle.legumeyet_c.specs.Formatted.{IsFormatFault, IsFormatText, IsPartsFault}
-use Rattle.legumeyet_c.specs.HeldFormats.{HeldFormat}
-use Rattle.legumeyet_c.specs.Writing.{Asked, GivesNumber, IsNumberRefused, IsNumberWritingFault, IsWritingFault, Writes, asked_by, asked_of}
+use Rattle.legumeyet_c.specs.HeldFormats.{HeldFormat, Plurals, Wording}
+use Rattle.legumeyet_c.specs.Worded.{IsInPartsFault, IsInPartsFaultBy, IsWordPartsFault}
+use Rattle.legumeyet_c.specs.Writing.{Asked, GivesNumber, IsNumberRefused, IsNumberWritingFault, IsWritingFault, Writes, asked_by, asked_for, asked_of, asked_with, range_asked_by, range_asked_of}
 
 -- ---- what is asked
 
 -- a formatter that is open, with options that are known
 pub asked_known : (open_format : Option HeldFormat) (held : HeldFormat) (words : List ℤ) (options : NumberOptions)
-    → Some held ≡ open_format → Some options ≡ options_of words held.options → Ok (record { tables = held.tables; options = options }) ≡ asked_of open_format words
+    → Some held ≡ open_format → Some options ≡ options_of words held.options → Ok (asked_for held.wording options) ≡ asked_of open_format words
 asked_known open_format held words options is known =
-    subst (λ (o : Option HeldFormat). Ok (record { tables = held.tables; options = options }) ≡ asked_of o words) is
-    (subst (λ (o : Option NumberOptions). Ok (record { tables = held.tables; options = options }) ≡ asked_by held.tables o) known refl)
+    subst (λ (o : Option HeldFormat). Ok (asked_for held.wording options) ≡ asked_of o words) is
+    (subst (λ (o : Option NumberOptions). Ok (asked_for held.wording options) ≡ asked_by held.wording o) known refl)
 
 -- with options that are not
 pub asked_unknown : (open_format : Option HeldFormat) (held : HeldFormat) (words : List ℤ)
     → Some held ≡ open_format → None ≡ options_of words held.options → Err UnknownOption ≡ asked_of open_format words
 asked_unknown open_format held words is unknown =
     subst (λ (o : Option HeldFormat). Err UnknownOption ≡ asked_of o words) is
-    (subst (λ (o : Option NumberOptions). Err UnknownOption ≡ asked_by held.tables o) unknown refl)
+    (subst (λ (o : Option NumberOptions). Err UnknownOption ≡ asked_by held.wording o) unknown refl)
 
 -- why nothing is asked is not that a text is too long
-options_other : (tables : FormatTables) (options : Option NumberOptions) (error : CallError) → Err error ≡ asked_by tables options → error ≢ TooSmall
-options_other tables None error is = λ same. absurd (cc (is, same))
-options_other tables (Some options) error is = absurd (cc is)
+options_other : (wording : Wording) (options : Option NumberOptions) (error : CallError) → Err error ≡ asked_by wording options → error ≢ TooSmall
+options_other wording None error is = λ same. absurd (cc (is, same))
+options_other wording (Some options) error is = absurd (cc is)
 
 pub asked_other : (open_format : Option HeldFormat) (words : List ℤ) (error : CallError) → Err error ≡ asked_of open_format words → error ≢ TooSmall
 asked_other None words error is = λ same. absurd (cc (is, same))
-asked_other (Some held) words error is = options_other held.tables (options_of words held.options) error is
+asked_other (Some held) words error is = options_other held.wording (options_of words held.options) error is
 
 -- ---- a text
 
--- what these tables write of the value that is given to them
-pub written : {N : Type 0} (says : FormatTables → N → List ℕ → Type 0) (fails : FormatTables → N → CallError → Type 0) (gives : Asked → N → Type 0) (fault : Asked → CallError → Type 0)
-    (asked : Asked) (tables : FormatTables) (value : N) (before after : List ℕ) (was told : ℕ) (outcome : Result (Unit {0}) CallError)
-    → tables ≡ asked.tables → gives asked value → IsPut (says tables value) (fails tables value) before after was told outcome
+-- what is written with this of the value that is given to it
+pub written : {N : Type 0} (says : Wording → N → List ℕ → Type 0) (fails : Wording → N → CallError → Type 0) (gives : Asked → N → Type 0) (fault : Asked → CallError → Type 0)
+    (asked : Asked) (wording : Wording) (value : N) (before after : List ℕ) (was told : ℕ) (outcome : Result (Unit {0}) CallError)
+    → wording ≡ asked.wording → gives asked value → IsPut (says wording value) (fails wording value) before after was told outcome
     → IsPut (Writes says gives (Ok asked)) (IsWritingFault fails gives fault (Ok asked)) before after was told outcome
-written says fails gives fault asked tables value before after was told outcome is given put =
+written says fails gives fault asked wording value before after was told outcome is given put =
     put_by before after was told outcome
-    (λ text said. record { value = value; given = given; said = subst (λ (t : FormatTables). says t value text) is said })
-    (λ error failed. inr (record { value = value; given = given; failed = subst (λ (t : FormatTables). fails t value error) is failed }))
+    (λ text said. record { value = value; given = given; said = subst (λ (w : Wording). says w value text) is said })
+    (λ error failed. inr (record { value = value; given = given; failed = subst (λ (w : Wording). fails w value error) is failed }))
     put
 
 -- no value is given
-pub ungiven : {N : Type 0} (says : FormatTables → N → List ℕ → Type 0) (fails : FormatTables → N → CallError → Type 0) (gives : Asked → N → Type 0) (fault : Asked → CallError → Type 0)
+pub ungiven : {N : Type 0} (says : Wording → N → List ℕ → Type 0) (fails : Wording → N → CallError → Type 0) (gives : Asked → N → Type 0) (fault : Asked → CallError → Type 0)
     (asked : Asked) (out : List ℕ) (told : ℕ) (error : CallError) → error ≢ TooSmall → fault asked error
     → IsPut (Writes says gives (Ok asked)) (IsWritingFault fails gives fault (Ok asked)) out out told told (Err error)
 ungiven says fails gives fault asked out told error other refused =
     put_refused (Writes says gives (Ok asked)) (IsWritingFault fails gives fault (Ok asked)) out told error other (inl refused)
 
 -- what is written as is asked is written by the call that asks it
-pub asked_put : {N : Type 0} (says : FormatTables → N → List ℕ → Type 0) (fails : FormatTables → N → CallError → Type 0) (gives : Asked → N → Type 0) (fault : Asked → CallError → Type 0)
+pub asked_put : {N : Type 0} (says : Wording → N → List ℕ → Type 0) (fails : Wording → N → CallError → Type 0) (gives : Asked → N → Type 0) (fault : Asked → CallError → Type 0)
     (asking asked : Result Asked CallError) (before after : List ℕ) (was told : ℕ) (outcome : Result (Unit {0}) CallError) → asked ≡ asking
     → IsPut (Writes says gives asked) (IsWritingFault fails gives fault asked) before after was told outcome
     → IsPut (Writes says gives asking) (IsWritingFault fails gives fault asking) before after was told outcome
@@ -74,12 +75,36 @@ asked_put says fails gives fault asking asked before after was told outcome is p
     subst (λ (a : Result Asked CallError). IsPut (Writes says gives a) (IsWritingFault fails gives fault a) before after was told outcome) is put
 
 -- nothing is asked
-pub unasked_put : {N : Type 0} (says : FormatTables → N → List ℕ → Type 0) (fails : FormatTables → N → CallError → Type 0) (gives : Asked → N → Type 0) (fault : Asked → CallError → Type 0)
+pub unasked_put : {N : Type 0} (says : Wording → N → List ℕ → Type 0) (fails : Wording → N → CallError → Type 0) (gives : Asked → N → Type 0) (fault : Asked → CallError → Type 0)
     (open_format : Option HeldFormat) (words : List ℤ) (out : List ℕ) (told : ℕ) (error : CallError) → Err error ≡ asked_of open_format words
     → IsPut (Writes says gives (asked_of open_format words)) (IsWritingFault fails gives fault (asked_of open_format words)) out out told told (Err error)
 unasked_put says fails gives fault open_format words out told error is =
     asked_put says fails gives fault (asked_of open_format words) (Err error) out out told told (Err error) is
     (put_refused (Writes says gives (Err error)) (IsWritingFault fails gives fault (Err error)) out told error (asked_other open_format words error is) refl)
+
+-- nor of a range
+pub range_unasked : {N : Type 0} (says : Wording → N → List ℕ → Type 0) (fails : Wording → N → CallError → Type 0) (gives : Asked → N → Type 0) (fault : Asked → CallError → Type 0)
+    (open_format : Option HeldFormat) (words : List ℤ) (out : List ℕ) (told : ℕ) (error : CallError) → Err error ≡ asked_of open_format words
+    → IsPut (Writes says gives (range_asked_of open_format words)) (IsWritingFault fails gives fault (range_asked_of open_format words)) out out told told (Err error)
+range_unasked says fails gives fault open_format words out told error is =
+    asked_put says fails gives fault (range_asked_of open_format words) (Err error) out out told told (Err error) (ap range_asked_by is)
+    (put_refused (Writes says gives (Err error)) (IsWritingFault fails gives fault (Err error)) out told error (asked_other open_format words error is) refl)
+
+-- a formatter without rules is asked for no range
+pub range_unworded : {N : Type 0} (says : Wording → N → List ℕ → Type 0) (fails : Wording → N → CallError → Type 0) (gives : Asked → N → Type 0) (fault : Asked → CallError → Type 0)
+    (asked : Asked) (out : List ℕ) (told : ℕ) → None ≡ asked.wording.plurals
+    → IsPut (Writes says gives (range_asked_by (Ok asked))) (IsWritingFault fails gives fault (range_asked_by (Ok asked))) out out told told (Err UnknownOption)
+range_unworded says fails gives fault asked out told none =
+    asked_put says fails gives fault (range_asked_by (Ok asked)) (Err UnknownOption) out out told told (Err UnknownOption) (ap (λ (p : Option Plurals). asked_with p asked) none)
+    (put_refused (Writes says gives (Err UnknownOption)) (IsWritingFault fails gives fault (Err UnknownOption)) out told UnknownOption (λ same. absurd (cc same)) refl)
+
+-- and one with rules as any other call
+pub range_worded : {N : Type 0} (says : Wording → N → List ℕ → Type 0) (fails : Wording → N → CallError → Type 0) (gives : Asked → N → Type 0) (fault : Asked → CallError → Type 0)
+    (asked : Asked) (plurals : Plurals) (before after : List ℕ) (was told : ℕ) (outcome : Result (Unit {0}) CallError) → Some plurals ≡ asked.wording.plurals
+    → IsPut (Writes says gives (Ok asked)) (IsWritingFault fails gives fault (Ok asked)) before after was told outcome
+    → IsPut (Writes says gives (range_asked_by (Ok asked))) (IsWritingFault fails gives fault (range_asked_by (Ok asked))) before after was told outcome
+range_worded says fails gives fault asked plurals before after was told outcome some put =
+    asked_put says fails gives fault (range_asked_by (Ok asked)) (Ok asked) before after was told outcome (ap (λ (p : Option Plurals). asked_with p asked) some) put
 
 -- what is written with one of two tables that are the same
 pub put_with : (tables other : FormatTables) (value : SignedValue Number) (before after : List ℕ) (was told : ℕ) (outcome : Result (Unit {0}) CallError) → tables ≡ other
@@ -90,64 +115,68 @@ put_with tables other value before after was told outcome is put =
 
 -- ---- numbers
 
--- a number that is given to these tables is one that is asked
-pub gives_number : (number : Given) (asked : Asked) (tables : FormatTables) (fractions : Option FractionInfo) (value : SignedValue Number)
-    → tables ≡ asked.tables → fractions ≡ fractions_in tables → Gives asked.options fractions (IsGiven number) value
-    → Gives asked.options (fractions_in asked.tables) (IsGiven number) value
-gives_number number asked tables fractions value is counted given =
-    subst (λ (t : FormatTables). Gives asked.options (fractions_in t) (IsGiven number) value) is
+-- a number that is given to this is one that is asked
+pub gives_number : (number : Given) (asked : Asked) (wording : Wording) (fractions : Option FractionInfo) (value : SignedValue Number)
+    → wording ≡ asked.wording → fractions ≡ fractions_in wording.tables → Gives asked.options fractions (IsGiven number) value
+    → Gives asked.options (fractions_in asked.wording.tables) (IsGiven number) value
+gives_number number asked wording fractions value is counted given =
+    subst (λ (w : Wording). Gives asked.options (fractions_in w.tables) (IsGiven number) value) is
     (subst (λ (f : Option FractionInfo). Gives asked.options f (IsGiven number) value) counted given)
 
-pub refuses_number : (number : Given) (asked : Asked) (tables : FormatTables) (fractions : Option FractionInfo) (error : CallError)
-    → tables ≡ asked.tables → fractions ≡ fractions_in tables → IsChangeFault asked.options fractions (IsGiven number) (IsGivenFault number) error
-    → IsChangeFault asked.options (fractions_in asked.tables) (IsGiven number) (IsGivenFault number) error
-refuses_number number asked tables fractions error is counted refused =
-    subst (λ (t : FormatTables). IsChangeFault asked.options (fractions_in t) (IsGiven number) (IsGivenFault number) error) is
+pub refuses_number : (number : Given) (asked : Asked) (wording : Wording) (fractions : Option FractionInfo) (error : CallError)
+    → wording ≡ asked.wording → fractions ≡ fractions_in wording.tables → IsChangeFault asked.options fractions (IsGiven number) (IsGivenFault number) error
+    → IsChangeFault asked.options (fractions_in asked.wording.tables) (IsGiven number) (IsGivenFault number) error
+refuses_number number asked wording fractions error is counted refused =
+    subst (λ (w : Wording). IsChangeFault asked.options (fractions_in w.tables) (IsGiven number) (IsGivenFault number) error) is
     (subst (λ (f : Option FractionInfo). IsChangeFault asked.options f (IsGiven number) (IsGivenFault number) error) counted refused)
 
 -- the same of an exact form
-pub gives_form : (spelled : List ℕ) (asked : Asked) (tables : FormatTables) (fractions : Option FractionInfo) (form : CompactValue)
-    → tables ≡ asked.tables → fractions ≡ fractions_in tables → GivesCompact asked.options fractions spelled form
-    → GivesCompact asked.options (fractions_in asked.tables) spelled form
-gives_form spelled asked tables fractions form is counted given =
-    subst (λ (t : FormatTables). GivesCompact asked.options (fractions_in t) spelled form) is
+pub gives_form : (spelled : List ℕ) (asked : Asked) (wording : Wording) (fractions : Option FractionInfo) (form : CompactValue)
+    → wording ≡ asked.wording → fractions ≡ fractions_in wording.tables → GivesCompact asked.options fractions spelled form
+    → GivesCompact asked.options (fractions_in asked.wording.tables) spelled form
+gives_form spelled asked wording fractions form is counted given =
+    subst (λ (w : Wording). GivesCompact asked.options (fractions_in w.tables) spelled form) is
     (subst (λ (f : Option FractionInfo). GivesCompact asked.options f spelled form) counted given)
 
-pub refuses_form : (spelled : List ℕ) (asked : Asked) (tables : FormatTables) (fractions : Option FractionInfo) (error : CallError)
-    → tables ≡ asked.tables → fractions ≡ fractions_in tables → IsCompactChangeFault asked.options fractions spelled error
-    → IsCompactChangeFault asked.options (fractions_in asked.tables) spelled error
-refuses_form spelled asked tables fractions error is counted refused =
-    subst (λ (t : FormatTables). IsCompactChangeFault asked.options (fractions_in t) spelled error) is
+pub refuses_form : (spelled : List ℕ) (asked : Asked) (wording : Wording) (fractions : Option FractionInfo) (error : CallError)
+    → wording ≡ asked.wording → fractions ≡ fractions_in wording.tables → IsCompactChangeFault asked.options fractions spelled error
+    → IsCompactChangeFault asked.options (fractions_in asked.wording.tables) spelled error
+refuses_form spelled asked wording fractions error is counted refused =
+    subst (λ (w : Wording). IsCompactChangeFault asked.options (fractions_in w.tables) spelled error) is
     (subst (λ (f : Option FractionInfo). IsCompactChangeFault asked.options f spelled error) counted refused)
 
 -- ---- with parts
 
--- what these tables say of the value that is given to them, where they say something
-pub says_given : {N T X : Type 0} (says : FormatTables → N → X → Type 0) (gives : Asked → N → Type 0) (text : T → X) (asked : Asked) (tables : FormatTables) (value : N)
-    (outcome : Result T CallError) → tables ≡ asked.tables → gives asked value → IfOk outcome (λ said. says tables value (text said))
+-- what is said with this of the value that is given to it, where something is
+pub says_given : {N T X : Type 0} (says : Wording → N → X → Type 0) (gives : Asked → N → Type 0) (text : T → X) (asked : Asked) (wording : Wording) (value : N)
+    (outcome : Result T CallError) → wording ≡ asked.wording → gives asked value → IfOk outcome (λ said. says wording value (text said))
     → IfOk outcome (λ said. Writes says gives (Ok asked) (text said))
-says_given says gives text asked tables value (Ok said) is given holds =
-    record { value = value; given = given; said = subst (λ (t : FormatTables). says t value (text said)) is holds }
-says_given says gives text asked tables value (Err error) is given holds = tt
+says_given says gives text asked wording value (Ok said) is given holds =
+    record { value = value; given = given; said = subst (λ (w : Wording). says w value (text said)) is holds }
+says_given says gives text asked wording value (Err error) is given holds = tt
 
-pub fails_given : {N T : Type 0} (fails : FormatTables → N → CallError → Type 0) (gives : Asked → N → Type 0) (fault : Asked → CallError → Type 0) (asked : Asked) (tables : FormatTables)
-    (value : N) (outcome : Result T CallError) → tables ≡ asked.tables → gives asked value → IfErr outcome (λ error. fails tables value error)
+pub fails_given : {N T : Type 0} (fails : Wording → N → CallError → Type 0) (gives : Asked → N → Type 0) (fault : Asked → CallError → Type 0) (asked : Asked) (wording : Wording)
+    (value : N) (outcome : Result T CallError) → wording ≡ asked.wording → gives asked value → IfErr outcome (λ error. fails wording value error)
     → IfErr outcome (λ error. IsWritingFault fails gives fault (Ok asked) error)
-fails_given fails gives fault asked tables value (Ok said) is given failed = tt
-fails_given fails gives fault asked tables value (Err error) is given failed =
-    inr (record { value = value; given = given; failed = subst (λ (t : FormatTables). fails t value error) is failed })
+fails_given fails gives fault asked wording value (Ok said) is given failed = tt
+fails_given fails gives fault asked wording value (Err error) is given failed =
+    inr (record { value = value; given = given; failed = subst (λ (w : Wording). fails w value error) is failed })
 
 -- why there is no text with its parts is not that it is too long
-asked_parts_other : (tables : FormatTables) (options : Option NumberOptions) (number : Given) (error : CallError)
-    → IsWritingFault IsPartsFault (GivesNumber number) (IsNumberRefused number) (asked_by tables options) error → error ≢ TooSmall
-asked_parts_other tables None number error is = λ same. absurd (cc (is, same))
-asked_parts_other tables (Some options) number error (inl refused) = change_fault_other options (fractions_in tables) number error refused
-asked_parts_other tables (Some options) number error (inr failed) = λ same. subst (λ (e : CallError). IsPartsFault tables failed.value e) same failed.failed
+in_parts_other : (plurals : Option Plurals) (f : FormatTables) (value : SignedValue Number) (error : CallError) → IsInPartsFaultBy plurals f value error → error ≢ TooSmall
+in_parts_other None f value error failed = λ same. subst (λ (e : CallError). IsPartsFault f value e) same failed
+in_parts_other (Some plurals) f value error failed = λ same. subst (λ (e : CallError). IsWordPartsFault plurals.0 f value e) same failed
+
+asked_parts_other : (wording : Wording) (options : Option NumberOptions) (number : Given) (error : CallError)
+    → IsWritingFault IsInPartsFault (GivesNumber number) (IsNumberRefused number) (asked_by wording options) error → error ≢ TooSmall
+asked_parts_other wording None number error is = λ same. absurd (cc (is, same))
+asked_parts_other wording (Some options) number error (inl refused) = change_fault_other options (fractions_in wording.tables) number error refused
+asked_parts_other wording (Some options) number error (inr failed) = in_parts_other wording.plurals wording.tables failed.value error failed.failed
 
 pub parts_other : (open_format : Option HeldFormat) (words : List ℤ) (number : Given) (error : CallError)
-    → IsNumberWritingFault IsPartsFault open_format words number error → error ≢ TooSmall
+    → IsNumberWritingFault IsInPartsFault open_format words number error → error ≢ TooSmall
 parts_other None words number error is = λ same. absurd (cc (is, same))
-parts_other (Some held) words number error is = asked_parts_other held.tables (options_of words held.options) number error is
+parts_other (Some held) words number error is = asked_parts_other held.wording (options_of words held.options) number error is
 
 -- ---- exact forms
 

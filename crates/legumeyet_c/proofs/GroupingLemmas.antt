@@ -1,6 +1,7 @@
--- What a book has for a format has the strategy that is asked for, so a copy with that strategy is the same.
-use Rattle.std.proofs.Common.{◌≡◌, ℕ, Bool, true, false, List, Option, Some, None, Result, Ok, Err, IfOk, IfSome, refl, subst, ap, sym, ◌∙◌}
-use Rattle.std.specs.Prelude.{if◌then◌else◌, option_map}
+-- What a book has for a format has the strategy that is asked for, so a copy with that strategy is the same; what is found beside it is held with it.
+use Rattle.std.proofs.Common.{◌≡◌, ℕ, Bool, true, false, List, Option, Some, None, Result, Ok, Err, IfOk, IfSome, refl, subst, ap, sym, ◌∙◌, inl, inr}
+use Rattle.std.specs.Option.{option_and_then}
+use Rattle.std.specs.Prelude.{◌⊎◌, if◌then◌else◌, option_map}
 use Rattle.std.specs.Result.{result_map_both, result_ok}
 use Rattle.std.specs.Str.{bytes_eq}
 use Rattle.icu_decimal.specs.Choice.{first_found}
@@ -14,6 +15,7 @@ use Rattle.icu_decimal.specs.KeptEntries.{CompactTable}
 use Rattle.icu_decimal.specs.Options.{strategy_in}
 use Rattle.icu_decimal.specs.PlainText.{Tables}
 use Rattle.icu_decimal.specs.Rules.{Rules}
+use Rattle.icu_decimal.specs.SameSymbols.{same_symbols}
 use Rattle.icu_decimal.specs.Symbols.{Symbols}
 use Rattle.icu_decimal.specs.declared.error.DataError.{DataError}
 use Rattle.icu_decimal.specs.declared.options.GroupingStrategy.{GroupingStrategy}
@@ -26,25 +28,26 @@ use Rattle.icu_dimension.specs.declared.CurrencyFormatterOptions.{CurrencyFormat
 use Rattle.icu_dimension.specs.declared.FractionInfo.{FractionInfo}
 use Rattle.icu_locale_core.specs.TagPreferences.{DataLocaleMeaning, Preferences}
 use Rattle.locale_numbers.specs.Book.{BookTables}
-use Rattle.locale_numbers.specs.FoundFormats.{amount_options, beside_latin, both_found, compact_found, formats_for, found_for, in_latin, latin_for, mapped, notation_found, standard_found}
+use Rattle.locale_numbers.specs.FoundFormats.{amount_options, amounts_by, beside_second, both_found, compact_found, formats_for, found_for, in_ascii, in_latin, mapped, notation_found, plainly_written, second_for, standard_found, with_symbols_of}
 use Rattle.locale_numbers.specs.Tables.{chain_in, digits_under, rules_under, symbols_under}
 use Rattle.locale_numbers.specs.TagFormatters.{currencies_in, currency_found_in, found_beside, found_by, found_plain, or_no_table, patterns_under, percent_found_in, percents_in}
 use Rattle.locale_numbers.specs.Wanted.{wanted_of}
 use Rattle.locale_numbers.specs.declared.FormatterError.{FormatterError}
+use Rattle.locale_numbers.specs.declared.FormatterError.TheVariants as fault
 use Rattle.locale_numbers_formats.specs.declared.CompactWidth.{CompactWidth}
 use Rattle.locale_numbers_formats.specs.declared.CurrencyUnit.{CurrencyUnit}
 use Rattle.locale_numbers_formats.specs.declared.Notation.{Notation}
 use Rattle.locale_numbers_formats.specs.declared.Notation.TheVariants.{Standard, Compact}
-use Rattle.locale_numbers_formats.specs.declared.NumberFormat.{NumberFormat}
+use Rattle.locale_numbers_formats.specs.declared.NumberOptions.{NumberOptions}
 use Rattle.locale_numbers_formats.specs.declared.NumberShape.{NumberShape}
 use Rattle.locale_numbers_formats.specs.declared.NumberUnit.{NumberUnit}
 use Rattle.locale_numbers_formats.specs.declared.NumberUnit.TheVariants as unit
-use Rattle.locale_numbers_formatter.specs.FormatText.{FormatTables, compact_tables, digit_tables, plain_tables, unit_tables}
-use Rattle.locale_numbers_formatter.specs.FormatTyped.{where_native}
+use Rattle.locale_numbers_formatter.specs.FormatText.{FormatTables, UnitFormat, compact_tables, digit_tables, plain_tables, unit_tables}
 use Rattle.locale_numbers_formatter.specs.HeldFormats.{currency_format, percent_format}
 use Rattle.locale_numbers_formatter.specs.Regrouped.{regrouped}
-use Rattle.legumeyet_c.specs.HeldFormats.{HeldFormat, held_format}
-use Rattle.legumeyet_c.specs.Opening.{format_found}
+use Rattle.legumeyet_c.specs.HeldFormats.{HeldFormat, Plurals, held_format}
+use Rattle.legumeyet_c.specs.Opening.{format_found, held_with, plurals_found}
+use Rattle.legumeyet_c.specs.declared.asked_format.AskedFormat.{AskedFormat}
 
 -- ---- the tables of plain numbers
 
@@ -157,9 +160,9 @@ found_has shape book p = notation_has shape.notation shape.unit book p shape.gro
 
 -- ---- both
 
-native_has : {T : Type 0} (is_plain : Bool) (second : Option T) (P : T → Type 0) → IfSome second P → IfSome (if is_plain then None else second) P
-native_has true second P has = tt
-native_has false second P has = has
+either_has : {T : Type 0} (is_plain : Bool) (first second : Option T) (P : T → Type 0) → IfSome first P → IfSome second P → IfSome (if is_plain then first else second) P
+either_has true first second P has other = has
+either_has false first second P has other = other
 
 ok_has : {T : Type 0} (found : Result T DataError) (P : T → Type 0) → IfOk found P → IfSome (result_ok found) P
 ok_has (Ok t) P has = has
@@ -168,14 +171,32 @@ ok_has (Err error) P has = tt
 abbrev BothHave : GroupingStrategy → FormatTables × Option FormatTables → Type 0
 BothHave strategy both = HasStrategy strategy both.0 × IfSome both.1 (HasStrategy strategy)
 
-latin_has : (shape : NumberShape) (book : BookTables) (p : Preferences) (f : FormatTables) → IfSome (latin_for shape book p f) (HasStrategy shape.grouping)
-latin_has shape book p f =
-    native_has (bytes_eq (digit_tables f).digits plain_digits) (result_ok (found_for shape book (in_latin p))) (HasStrategy shape.grouping)
+-- amounts by the symbols of plain numbers
+symbols_of_have : (strategy : GroupingStrategy) (plain : Tables) (u : UnitFormat) (fractions : Option FractionInfo) → plain.strategy ≡ strategy
+    → IfSome (with_symbols_of plain u fractions) (HasStrategy strategy)
+symbols_of_have strategy plain u None has = tt
+symbols_of_have strategy plain u (Some fractions) has =
+    either_has (same_symbols plain.symbols u.settings.tables.symbols) None (Some (unit_tables (record u { settings = record u.settings { tables = plain } }))) (HasStrategy strategy) tt has
+
+amounts_by_have : (strategy : GroupingStrategy) (plain : Tables) (f : FormatTables) → plain.strategy ≡ strategy → IfSome (amounts_by plain f) (HasStrategy strategy)
+amounts_by_have strategy plain (plain_tables t) has = tt
+amounts_by_have strategy plain (compact_tables t) has = tt
+amounts_by_have strategy plain (unit_tables u) has = symbols_of_have strategy plain u u.fractions has
+
+plainly_have : (strategy : GroupingStrategy) (found : Result Tables DataError) (f : FormatTables) → IfOk found (λ (t : Tables). t.strategy ≡ strategy)
+    → IfSome (option_and_then (λ plain. amounts_by plain f) (result_ok found)) (HasStrategy strategy)
+plainly_have strategy (Ok plain) f has = amounts_by_have strategy plain f has
+plainly_have strategy (Err error) f has = tt
+
+second_has : (shape : NumberShape) (book : BookTables) (p : Preferences) (f : FormatTables) → IfSome (second_for shape book p f) (HasStrategy shape.grouping)
+second_has shape book p f =
+    either_has (bytes_eq (digit_tables f).digits plain_digits) (plainly_written shape book p f) (in_ascii shape book p) (HasStrategy shape.grouping)
+    (plainly_have shape.grouping (found_plain book p (Some shape.grouping)) f (tables_have (chain_in book) (symbols_under book) (digits_under book) p (Some shape.grouping)))
     (ok_has (found_for shape book (in_latin p)) (HasStrategy shape.grouping) (found_has shape book (in_latin p)))
 
 both_have : (shape : NumberShape) (book : BookTables) (p : Preferences) → IfOk (both_found shape book p) (BothHave shape.grouping)
 both_have shape book p =
-    mapped_have (beside_latin shape book p) (found_for shape book p) (HasStrategy shape.grouping) (BothHave shape.grouping) (λ f has. (has, latin_has shape book p f)) (found_has shape book p)
+    mapped_have (beside_second shape book p) (found_for shape book p) (HasStrategy shape.grouping) (BothHave shape.grouping) (λ f has. (has, second_has shape book p f)) (found_has shape book p)
 
 table_has : {T : Type 0} (found : Result T DataError) (P : T → Type 0) → IfOk found P → IfOk (or_no_table found) P
 table_has (Ok t) P has = has
@@ -195,26 +216,47 @@ regrouped_same strategy (plain_tables t) has = subst (λ (g : GroupingStrategy).
 regrouped_same strategy (compact_tables t) has = subst (λ (g : GroupingStrategy). regrouped g (compact_tables t) ≡ compact_tables t) has refl
 regrouped_same strategy (unit_tables u) has = subst (λ (g : GroupingStrategy). regrouped g (unit_tables u) ≡ unit_tables u) has refl
 
-latin_same : (strategy : GroupingStrategy) (latin : Option FormatTables) → IfSome latin (HasStrategy strategy) → option_map (regrouped strategy) latin ≡ latin
-latin_same strategy None has = refl
-latin_same strategy (Some f) has = ap Some (regrouped_same strategy f has)
+second_same : (strategy : GroupingStrategy) (second : Option FormatTables) → IfSome second (HasStrategy strategy) → option_map (regrouped strategy) second ≡ second
+second_same strategy None has = refl
+second_same strategy (Some f) has = ap Some (regrouped_same strategy f has)
 
 -- what is found is held
-pub found_held : (book : BookTables) (format : NumberFormat) (tag : List ℕ) (first : FormatTables) (latin : Option FormatTables)
-    → formats_for book tag format.shape ≡ Ok (first, latin) → format_found book format tag ≡ Ok (held_format first latin format.options)
-found_held book format tag first latin found =
-    ap (λ (r : Result (FormatTables × Option FormatTables) FormatterError). result_map_both (λ (both : FormatTables × Option FormatTables). held_format both.0 both.1 format.options) (λ error. error) r) found
+pub found_held : (book : BookTables) (asked : AskedFormat) (tag : List ℕ) (first : FormatTables) (second : Option FormatTables) (plurals : Option Plurals)
+    → formats_for book tag asked.format.shape ≡ Ok (first, second) → plurals_found book asked.plurals tag ≡ Ok plurals
+    → format_found book asked tag ≡ Ok (held_format first plurals second asked.format.options)
+found_held book asked tag first second plurals found rules =
+    ap (λ (r : Result (FormatTables × Option FormatTables) FormatterError). held_with asked.format.options r (plurals_found book asked.plurals tag)) found
+    ∙ ap (λ (r : Result (Option Plurals) FormatterError). held_with asked.format.options (Ok (first, second)) r) rules
 
--- and so is a copy of it with the strategy of the format
-pub copy_held : (book : BookTables) (format : NumberFormat) (tag : List ℕ) (first : FormatTables) (latin : Option FormatTables) (held : HeldFormat)
-    → formats_for book tag format.shape ≡ Ok (first, latin)
-    → held ≡ held_format (regrouped format.shape.grouping first) (option_map (regrouped format.shape.grouping) latin) format.options
-    → format_found book format tag ≡ Ok held
-copy_held book format tag first latin held found is =
-    let strategy : GroupingStrategy = format.shape.grouping in
-    let have : BothHave strategy (first, latin) =
-    subst (λ (r : Result (FormatTables × Option FormatTables) FormatterError). IfOk r (BothHave strategy)) found (formats_have format.shape book tag) in
-    let same : held_format (regrouped strategy first) (option_map (regrouped strategy) latin) format.options ≡ held_format first latin format.options =
-    ap (λ (f : FormatTables). held_format f (option_map (regrouped strategy) latin) format.options) (regrouped_same strategy first have.0)
-    ∙ ap (λ (o : Option FormatTables). held_format first o format.options) (latin_same strategy latin have.1) in
-    found_held book format tag first latin found ∙ ap Ok (sym (is ∙ same))
+-- why it is not
+pub tables_missed : (book : BookTables) (asked : AskedFormat) (tag : List ℕ) (missing : FormatterError) → (missing ≡ fault.Memory) ⊎ (formats_for book tag asked.format.shape ≡ Err missing)
+    → (missing ≡ fault.Memory) ⊎ (format_found book asked tag ≡ Err missing)
+tables_missed book asked tag missing (inl memory) = inl memory
+tables_missed book asked tag missing (inr missed) =
+    inr (ap (λ (r : Result (FormatTables × Option FormatTables) FormatterError). held_with asked.format.options r (plurals_found book asked.plurals tag)) missed)
+
+pub plurals_missed : (book : BookTables) (asked : AskedFormat) (tag : List ℕ) (both : FormatTables × Option FormatTables) (missing : FormatterError) → formats_for book tag asked.format.shape ≡ Ok both
+    → (missing ≡ fault.Memory) ⊎ (plurals_found book asked.plurals tag ≡ Err missing) → (missing ≡ fault.Memory) ⊎ (format_found book asked tag ≡ Err missing)
+plurals_missed book asked tag both missing found (inl memory) = inl memory
+plurals_missed book asked tag both missing found (inr missed) =
+    inr (ap (λ (r : Result (FormatTables × Option FormatTables) FormatterError). held_with asked.format.options r (plurals_found book asked.plurals tag)) found
+    ∙ ap (λ (r : Result (Option Plurals) FormatterError). held_with asked.format.options (Ok both) r) missed)
+
+-- what is made of two that are the same
+pub held_same : {X Y : Type 0} (make : X → Y → HeldFormat) (held : HeldFormat) (x other : X) (y another : Y) → held ≡ make x y → x ≡ other → y ≡ another → held ≡ make other another
+held_same make held x other y another is same alike = is ∙ ap (λ a. make a y) same ∙ ap (λ b. make other b) alike
+
+-- and a copy with the strategy of the format is what is held
+pub copy_held : (book : BookTables) (asked : AskedFormat) (tag : List ℕ) (first : FormatTables) (second : Option FormatTables) (plurals : Option Plurals) (held : HeldFormat)
+    → formats_for book tag asked.format.shape ≡ Ok (first, second) → plurals_found book asked.plurals tag ≡ Ok plurals
+    → held ≡ held_format (regrouped asked.format.shape.grouping first) plurals (option_map (regrouped asked.format.shape.grouping) second) asked.format.options
+    → format_found book asked tag ≡ Ok held
+copy_held book asked tag first second plurals held found rules is =
+    let strategy : GroupingStrategy = asked.format.shape.grouping in
+    let options : NumberOptions = asked.format.options in
+    let have : BothHave strategy (first, second) =
+    subst (λ (r : Result (FormatTables × Option FormatTables) FormatterError). IfOk r (BothHave strategy)) found (formats_have asked.format.shape book tag) in
+    let same : held_format (regrouped strategy first) plurals (option_map (regrouped strategy) second) options ≡ held_format first plurals second options =
+    ap (λ (f : FormatTables). held_format f plurals (option_map (regrouped strategy) second) options) (regrouped_same strategy first have.0)
+    ∙ ap (λ (o : Option FormatTables). held_format first plurals o options) (second_same strategy second have.1) in
+    found_held book asked tag first second plurals found rules ∙ ap Ok (sym (is ∙ same))

@@ -1,27 +1,35 @@
--- What comes first where a call writes, and exact forms without compact patterns: the order of include/legumeyet.h.
-use Rattle.std.proofs.Common.{◌≡◌, [], ◌∷◌, Some, None, Ok, Err, refl}
+-- What comes first where a call writes, exact forms without compact patterns, words of plural categories, and facts: those of include/legumeyet.h.
+use Rattle.std.proofs.Common.{◌≡◌, ℕ, [], ◌∷◌, Some, None, Ok, Err, refl}
 use Rattle.std.specs.Prelude.{codes, pos}
+use lib.Utf8.{encode}
 use Rattle.fixed_decimal.specs.Number.{Number}
 use Rattle.fixed_decimal.specs.SignedValue.{SignedValue}
+use Rattle.fixed_decimal.specs.declared.Sign.TheVariants as sign
 use Rattle.icu_decimal.specs.PlainText.{Tables}
 use Rattle.icu_decimal.specs.Symbols.{english_symbols}
 use Rattle.icu_decimal.specs.declared.options.GroupingStrategy.TheVariants.{Auto}
+use Rattle.icu_plurals.specs.Reading.{rules_of}
+use Rattle.icu_plurals.specs.Rules.{Rules}
+use Rattle.icu_plurals.specs.declared.PluralCategory.TheVariants.{One, Other}
 use Rattle.locale_numbers_formatter.specs.ExactForms.{exact_format_text, exact_shown}
 use Rattle.locale_numbers_formatter.specs.FormatText.{FormatTables, format_text, plain_tables}
+use Rattle.legumeyet_c_values.specs.Facts.{fact_numbered}
 use Rattle.legumeyet_c_values.specs.Words.{usual}
 use Rattle.legumeyet_c_values.specs.declared.CallError.TheVariants.{Closed, UnknownOption}
-use Rattle.legumeyet_c.specs.HeldFormats.{HeldFormat, held_format}
-use Rattle.legumeyet_c.specs.Writing.{asked_of}
+use Rattle.legumeyet_c.specs.HeldFormats.{HeldFormat, Plurals, Wording, held_format, in_numbers}
+use Rattle.legumeyet_c.specs.Telling.{fact_in}
+use Rattle.legumeyet_c.specs.Worded.{category_word, form_word, range_word}
+use Rattle.legumeyet_c.specs.Writing.{asked_for, asked_of, range_asked_of}
 
 abbrev english : FormatTables
 english = plain_tables (record { symbols = english_symbols; digits = codes "0123456789"; strategy = Auto })
 
 abbrev held : HeldFormat
-held = held_format english None usual
+held = held_format english None None usual
 
 -- ---- what is asked
 
-own_options : asked_of (Some held) [] ≡ Ok (record { tables = english; options = usual })
+own_options : asked_of (Some held) [] ≡ Ok (asked_for (in_numbers english) usual)
 own_options = refl
 
 unknown_sign : asked_of (Some held) (pos 6 ∷ []) ≡ Err UnknownOption
@@ -32,7 +40,7 @@ closed_first : asked_of None (pos 6 ∷ []) ≡ Err Closed
 closed_first = refl
 
 -- a word that is not known has to be 0
-known_words : asked_of (Some held) (pos 0 ∷ pos 0 ∷ pos 0 ∷ pos 0 ∷ pos 0 ∷ pos 0 ∷ pos 0 ∷ pos 0 ∷ []) ≡ Ok (record { tables = english; options = usual })
+known_words : asked_of (Some held) (pos 0 ∷ pos 0 ∷ pos 0 ∷ pos 0 ∷ pos 0 ∷ pos 0 ∷ pos 0 ∷ pos 0 ∷ []) ≡ Ok (asked_for (in_numbers english) usual)
 known_words = refl
 
 later_word : asked_of (Some held) (pos 0 ∷ pos 0 ∷ pos 0 ∷ pos 0 ∷ pos 0 ∷ pos 0 ∷ pos 0 ∷ pos 0 ∷ pos 0 ∷ pos 0 ∷ pos 1 ∷ []) ≡ Err UnknownOption
@@ -45,3 +53,30 @@ exponent_zero value = refl
 
 exponent_three : (value : SignedValue Number) → exact_shown english (record { significand = value; exponent = 3 }) ≡ None
 exponent_three value = refl
+
+-- ---- words
+
+-- ranges alone want rules
+no_range : range_asked_of (Some held) [] ≡ Err UnknownOption
+no_range = refl
+
+closed_range : range_asked_of None (pos 6 ∷ []) ≡ Err Closed
+closed_range = refl
+
+-- ---- facts
+
+decimal_separator : fact_in (in_numbers english) (fact_numbered 1) ≡ Some (codes ".")
+decimal_separator = refl
+
+ten_digits : fact_in (in_numbers english) (fact_numbered 7) ≡ Some (codes "0123456789")
+unfolding encode
+ten_digits = refl
+
+no_currency : fact_in (in_numbers english) (fact_numbered 8) ≡ None
+no_currency = refl
+
+no_categories : fact_in (in_numbers english) (fact_numbered 11) ≡ None
+no_categories = refl
+
+no_fact : fact_in (in_numbers english) (fact_numbered 12) ≡ None
+no_fact = refl

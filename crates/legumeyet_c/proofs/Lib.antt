@@ -1,5 +1,6 @@
 pub mod AsBox
 pub mod AskedLemmas
+pub mod CategoryLemmas
 pub mod DirectLemmas
 pub mod GroupingLemmas
 pub mod KnownWriting
@@ -7,6 +8,9 @@ pub mod LentSent
 pub mod LentSteps
 pub mod OpeningLemmas
 pub mod PointerValues
+pub mod RangeLemmas
 pub mod ReadingLemmas
 pub mod Sent
 pub mod SkeletonLemmas
+pub mod TellingLemmas
+pub mod WordedLemmas

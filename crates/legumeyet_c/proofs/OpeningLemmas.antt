@@ -1,9 +1,9 @@
 -- Outcomes of calls that open, one by the other.
 use Rattle.std.proofs.Common.{◌≡◌, ℕ, List, Option, Some, None, Result, Ok, Err, refl, sym, subst}
 use Rattle.locale_numbers.specs.Book.{BookTables}
-use Rattle.locale_numbers_formats.specs.declared.NumberFormat.{NumberFormat}
 use Rattle.legumeyet_c_values.specs.declared.CallError.{CallError}
 use Rattle.legumeyet_c_values.specs.declared.CallError.TheVariants.{Memory}
+use Rattle.legumeyet_c.specs.declared.asked_format.AskedFormat.{AskedFormat}
 use Rattle.legumeyet_c.specs.declared.content.Content.{Content}
 use Rattle.legumeyet_c.specs.HeldFormats.{HeldFormat}
 use Rattle.legumeyet_c.specs.Kinds.{format_in}
@@ -32,15 +32,15 @@ opening_by seen before after (Err error) text cause opening = record {
 }
 
 -- where something is found, out of memory is a fault
-pub memory_misses : (book : Option BookTables) (asked : Result NumberFormat CallError) (tag : List ℕ) (held : HeldFormat) → FindsFormat book asked tag held
+pub memory_misses : (book : Option BookTables) (asked : Result AskedFormat CallError) (tag : List ℕ) (held : HeldFormat) → FindsFormat book asked tag held
     → (error : CallError) → error ≡ Memory → IsFindingFault book asked tag error
 memory_misses None asked tag held found error is = absurd found
 memory_misses (Some book) (Err fault) tag held found error is = absurd found
 memory_misses (Some book) (Ok format) tag held found error is = subst (λ (e : CallError). IsTagFault (format_found book format tag) tag e) (sym is) tt
 
 -- the same of what is asked, which is known to be another one
-pub opening_asked : (book : Option BookTables) (asked known : Result NumberFormat CallError) (tag : List ℕ) (before after : Option Content) (outcome : Result (Unit {0}) CallError)
+pub opening_asked : (book : Option BookTables) (asked known : Result AskedFormat CallError) (tag : List ℕ) (before after : Option Content) (outcome : Result (Unit {0}) CallError)
     → asked ≡ known → IsOpening format_in (FindsFormat book asked tag) (IsFindingFault book asked tag) before after outcome
     → IsOpening format_in (FindsFormat book known tag) (IsFindingFault book known tag) before after outcome
 opening_asked book asked known tag before after outcome is opening =
-    subst (λ (a : Result NumberFormat CallError). IsOpening format_in (FindsFormat book a tag) (IsFindingFault book a tag) before after outcome) is opening
+    subst (λ (a : Result AskedFormat CallError). IsOpening format_in (FindsFormat book a tag) (IsFindingFault book a tag) before after outcome) is opening

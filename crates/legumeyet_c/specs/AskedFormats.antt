@@ -1,4 +1,4 @@
--- Which format words or a skeleton ask for, where a skeleton is wrong, and its normal text.
+-- Which format words or a skeleton ask for, and whether the words of plural categories are written; where a skeleton is wrong, and its normal text.
 -- Defined in include/legumeyet.h, and docs/skeletons.md.
 -- Cited by `legumeyet_formatter_open`, `legumeyet_formatter_open_skeleton` and `legumeyet_skeleton_normal`.
 use Rattle.std.specs.Prelude.{◌≡◌, ℕ, ℤ, List, Option, Some, None, Result, Ok, Err}
@@ -8,22 +8,26 @@ use Rattle.locale_numbers_formats.specs.NormalText.{skeleton_text}
 use Rattle.locale_numbers_formats.specs.SkeletonErrors.{place_of}
 use Rattle.locale_numbers_formats.specs.SkeletonFormats.{format_of}
 use Rattle.locale_numbers_formats.specs.Skeletons.{skeleton_of}
-use Rattle.locale_numbers_formats.specs.declared.NumberFormat.{NumberFormat}
 use Rattle.locale_numbers_formats.specs.declared.Skeleton.{Skeleton as NumberSkeleton}
 use Rattle.locale_numbers_formats.specs.declared.SkeletonError.{SkeletonError}
 use Rattle.legumeyet_c_values.specs.Words.{shape_of, usual}
 use Rattle.legumeyet_c_values.specs.declared.CallError.{CallError}
 use Rattle.legumeyet_c_values.specs.declared.CallError.TheVariants.{Memory, Closed, TooSmall, UnknownOption, Tag, Table, Number, Limit, Range, NoUtf8, Unreadable, NotWritten, Exponent, Code, Unkept, Book, Skeleton}
+use Rattle.legumeyet_c.specs.declared.asked_format.AskedFormat.{AskedFormat}
 
 -- ---- formats
 
 -- by words: a shape, with the options that no word changes
-abbrev pub format_by_words : List ℤ → List ℕ → Result NumberFormat CallError
-format_by_words words unit = result_map_both (λ shape. record { shape = shape; options = usual }) (λ error. error) (shape_of words unit)
+abbrev pub format_by_words : List ℤ → List ℕ → Result AskedFormat CallError
+format_by_words words unit =
+    result_map_both (λ asked. record { format = record { shape = asked.shape; options = usual }; plurals = asked.plurals }) (λ error. error) (shape_of words unit)
 
--- by a skeleton
-abbrev pub format_by_skeleton : List ℕ → Result NumberFormat CallError
-format_by_skeleton text = result_map_both format_of Skeleton (skeleton_of text)
+-- by a skeleton, of numbers
+abbrev pub numbers_by : NumberSkeleton → AskedFormat
+numbers_by skeleton = record { format = format_of skeleton; plurals = None }
+
+abbrev pub format_by_skeleton : List ℕ → Result AskedFormat CallError
+format_by_skeleton text = result_map_both numbers_by Skeleton (skeleton_of text)
 
 -- ---- the place of a fault
 

@@ -5,16 +5,16 @@ use Rattle.std.specs.Prelude.{ℕ, ℤ, List, Option, Result, Ok, Err}
 use Rattle.legumeyet_c_values.specs.Columns.{IsRefusedColumn, IsWrittenColumn, Room}
 use Rattle.legumeyet_c_values.specs.Numbers.{Given}
 use Rattle.legumeyet_c_values.specs.declared.CallError.{CallError}
-use Rattle.legumeyet_c.specs.Formatted.{IsFormatFault, IsFormatText}
 use Rattle.legumeyet_c.specs.HeldFormats.{HeldFormat}
+use Rattle.legumeyet_c.specs.Worded.{IsText, IsTextFault}
 use Rattle.legumeyet_c.specs.Writing.{Asked, GivesNumber, IsNumberRefused, IsWritingFault, Writes, asked_of}
 
 -- the text of one of the numbers, and why it has none
 abbrev pub WritesAsked : Asked → Given → List ℕ → Type 0
-WritesAsked asked number text = Writes IsFormatText (GivesNumber number) (Ok asked) text
+WritesAsked asked number text = Writes IsText (GivesNumber number) (Ok asked) text
 
 abbrev pub IsAskedFault : Asked → Given → CallError → Type 0
-IsAskedFault asked number error = IsWritingFault IsFormatFault (GivesNumber number) (IsNumberRefused number) (Ok asked) error
+IsAskedFault asked number error = IsWritingFault IsTextFault (GivesNumber number) (IsNumberRefused number) (Ok asked) error
 
 -- a closed handle or unknown options refuse the column as a whole, and then no number is looked at
 abbrev pub IsAskedColumn : Result Asked CallError → List Given → Room → Room → Result (Unit {0}) CallError → Type 0

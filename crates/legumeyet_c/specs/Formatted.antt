@@ -1,6 +1,6 @@
 -- What a format writes for a number: its text, the same with its parts, the value that it shows, and an exact form, or why it writes nothing.
 -- Defined in include/legumeyet.h, docs/formatters.md, "One formatter" and "Parts", and docs/compact-text.md, "Exact forms".
--- Cited by the exports that write numbers, through Writing.antt.
+-- Cited by the exports that write numbers, through Worded.antt and Writing.antt.
 use Rattle.std.specs.Prelude.{◌≡◌, ℕ, List, Some, None}
 use Rattle.fixed_decimal.specs.CompactText.{CompactValue, compact_text_of}
 use Rattle.fixed_decimal.specs.Number.{Number}

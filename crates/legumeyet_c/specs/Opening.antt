@@ -7,16 +7,20 @@ use Rattle.std.specs.Result.{result_map_both}
 use Rattle.serde_json.specs.Data.{Data}
 use Rattle.locale_numbers.specs.Book.{BookTables, IsBook}
 use Rattle.locale_numbers.specs.BookRefusal.{IsRefused}
+use Rattle.icu_plurals.specs.declared.PluralRuleType.{PluralRuleType}
 use Rattle.locale_numbers.specs.FoundFormats.{formats_for}
+use Rattle.locale_numbers.specs.FoundRules.{plural_rules_of}
 use Rattle.locale_numbers.specs.Json.{Reads}
 use Rattle.locale_numbers.specs.declared.BookError.{BookError}
 use Rattle.locale_numbers.specs.declared.FormatterError.{FormatterError}
 use Rattle.locale_numbers.specs.declared.FormatterError.TheVariants as formatter
-use Rattle.locale_numbers_formats.specs.declared.NumberFormat.{NumberFormat}
+use Rattle.locale_numbers_formats.specs.declared.NumberOptions.{NumberOptions}
+use Rattle.locale_numbers_formatter.specs.FormatText.{FormatTables}
 use Rattle.legumeyet_c_values.specs.declared.CallError.{CallError}
 use Rattle.legumeyet_c_values.specs.declared.CallError.TheVariants.{Memory, Closed, Tag, Table, Code, Book}
-use Rattle.legumeyet_c.specs.HeldFormats.{HeldFormat, held_format}
+use Rattle.legumeyet_c.specs.HeldFormats.{HeldFormat, Plurals, held_format}
 use Rattle.legumeyet_c.specs.Kinds.{book_in, is_kept}
+use Rattle.legumeyet_c.specs.declared.asked_format.AskedFormat.{AskedFormat}
 use Rattle.legumeyet_c.specs.declared.content.Content.{Content}
 
 -- what was found is open to the calls that see this of a content, and is not kept; after a fault the handle has what it had, of whatever kind
@@ -50,22 +54,32 @@ IsTagFault found tag Memory = Unit {0}
 IsTagFault found tag Code = found ≡ Err formatter.Code
 IsTagFault found tag _ = ⊥
 
+-- the rules that are asked for, where words are written
+abbrev pub plurals_found : BookTables → Option PluralRuleType → List ℕ → Result (Option Plurals) FormatterError
+plurals_found book None tag = Ok None
+plurals_found book (Some rule_type) tag = result_map_both (λ plurals. Some plurals) (λ error. error) (plural_rules_of book tag rule_type)
+
+-- all that is found, where it is; what is wrong with the tables comes first
+abbrev pub held_with : NumberOptions → Result (FormatTables × Option FormatTables) FormatterError → Result (Option Plurals) FormatterError → Result HeldFormat FormatterError
+held_with options (Err error) plurals = Err error
+held_with options (Ok both) (Err error) = Err error
+held_with options (Ok both) (Ok plurals) = Ok (held_format both.0 plurals both.1 options)
+
 -- what an open book has for a tag and a format
-abbrev pub format_found : BookTables → NumberFormat → List ℕ → Result HeldFormat FormatterError
-format_found book format tag =
-    result_map_both (λ both. held_format both.0 both.1 format.options) (λ error. error) (formats_for book tag format.shape)
+abbrev pub format_found : BookTables → AskedFormat → List ℕ → Result HeldFormat FormatterError
+format_found book asked tag = held_with asked.format.options (formats_for book tag asked.format.shape) (plurals_found book asked.plurals tag)
 
 -- what is found in an open book
-abbrev pub FindsFormat : Option BookTables → Result NumberFormat CallError → List ℕ → HeldFormat → Type 0
+abbrev pub FindsFormat : Option BookTables → Result AskedFormat CallError → List ℕ → HeldFormat → Type 0
 FindsFormat None asked tag held = ⊥
 FindsFormat (Some book) (Err error) tag held = ⊥
-FindsFormat (Some book) (Ok format) tag held = format_found book format tag ≡ Ok held
+FindsFormat (Some book) (Ok asked) tag held = format_found book asked tag ≡ Ok held
 
 -- a closed book comes first, then what is wrong with what is asked
-abbrev pub IsFindingFault : Option BookTables → Result NumberFormat CallError → List ℕ → CallError → Type 0
+abbrev pub IsFindingFault : Option BookTables → Result AskedFormat CallError → List ℕ → CallError → Type 0
 IsFindingFault None asked tag error = error ≡ Closed
 IsFindingFault (Some book) (Err fault) tag error = error ≡ fault
-IsFindingFault (Some book) (Ok format) tag error = IsTagFault (format_found book format tag) tag error
+IsFindingFault (Some book) (Ok asked) tag error = IsTagFault (format_found book asked tag) tag error
 
 -- ---- closing
 

@@ -10,17 +10,22 @@ use Rattle.locale_numbers_formatter.specs.FormatReading.{format_reading}
 use Rattle.locale_numbers_formatter.specs.FormatTyped.{format_typed_reading}
 use Rattle.legumeyet_c_values.specs.declared.CallError.{CallError}
 use Rattle.legumeyet_c_values.specs.declared.CallError.TheVariants.{Memory, Closed, NoUtf8, Unreadable, NotWritten}
-use Rattle.legumeyet_c.specs.HeldFormats.{HeldFormat}
+use Rattle.legumeyet_c.specs.HeldFormats.{HeldFormat, Plurals}
 
 -- ---- of a text
 
+-- words of plural categories are no texts of numbers: many have one
+abbrev pub unless_words : Option Plurals → PlainReading → PlainReading
+unless_words None reading = reading
+unless_words (Some plurals) reading = unreadable
+
 -- as the formatter writes numbers
 abbrev pub exact_reading : HeldFormat → List ℕ → PlainReading
-exact_reading held text = format_reading held.tables text
+exact_reading held text = unless_words held.wording.plurals (format_reading held.wording.tables text)
 
--- as people type them, also in the digits of ASCII
+-- as people type them, also by the second tables
 abbrev pub typed_reading : HeldFormat → List ℕ → PlainReading
-typed_reading held text = format_typed_reading held.tables held.latin text
+typed_reading held text = unless_words held.wording.plurals (format_typed_reading held.wording.tables held.second text)
 
 -- ---- by the formatter of a handle
 

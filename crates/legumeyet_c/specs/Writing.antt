@@ -1,86 +1,123 @@
--- What the formatter of a handle writes for a number, or for an exact form, changed as options say, or why it writes nothing.
+-- What the formatter of a handle writes for a number, for an exact form, or for a range, changed as options say, or why it writes nothing.
 -- Defined in include/legumeyet.h.
--- Cited by the exports that write numbers; Formatted.antt has what is written of a changed number.
+-- Cited by the exports that write numbers; Worded.antt has what is written of a changed number.
 use Rattle.std.specs.Prelude.{◌≡◌, ◌⊎◌, ℕ, ℤ, List, Option, Some, None, Result, Ok, Err}
 use Rattle.fixed_decimal.specs.CompactText.{CompactValue}
 use Rattle.fixed_decimal.specs.Number.{Number}
 use Rattle.fixed_decimal.specs.SignedValue.{SignedValue}
 use Rattle.locale_numbers_formats.specs.declared.NumberOptions.{NumberOptions}
-use Rattle.locale_numbers_formatter.specs.FormatText.{FormatTables, fractions_in}
+use Rattle.locale_numbers_formatter.specs.FormatText.{fractions_in}
 use Rattle.legumeyet_c_values.specs.Numbers.{Given, Gives, GivesCompact, IsChangeFault, IsCompactChangeFault, IsGiven, IsGivenFault}
 use Rattle.legumeyet_c_values.specs.Words.{options_of}
 use Rattle.legumeyet_c_values.specs.declared.CallError.{CallError}
 use Rattle.legumeyet_c_values.specs.declared.CallError.TheVariants.{Closed, UnknownOption}
-use Rattle.legumeyet_c.specs.Formatted.{IsExactFault, IsExactText}
-use Rattle.legumeyet_c.specs.HeldFormats.{HeldFormat}
+use Rattle.legumeyet_c.specs.HeldFormats.{HeldFormat, Plurals, Wording}
+use Rattle.legumeyet_c.specs.Worded.{Ends, IsForm, IsFormFault, IsRange, IsRangeFault}
 
 -- ---- what is asked
 
 -- what numbers are written with, and what is made of each
 pub record Asked : Type 0 where
-  pub tables : FormatTables
+  pub wording : Wording
   pub options : NumberOptions
 
-abbrev pub asked_by : FormatTables → Option NumberOptions → Result Asked CallError
-asked_by tables None = Err UnknownOption
-asked_by tables (Some options) = Ok (record { tables = tables; options = options })
+abbrev pub asked_for : Wording → NumberOptions → Asked
+asked_for wording options = record { wording = wording; options = options }
+
+abbrev pub asked_by : Wording → Option NumberOptions → Result Asked CallError
+asked_by wording None = Err UnknownOption
+asked_by wording (Some options) = Ok (asked_for wording options)
 
 -- a closed handle comes first, then unknown options; without words they are the formatter's own
 abbrev pub asked_of : Option HeldFormat → List ℤ → Result Asked CallError
 asked_of None words = Err Closed
-asked_of (Some held) words = asked_by held.tables (options_of words held.options)
+asked_of (Some held) words = asked_by held.wording (options_of words held.options)
 
 -- ---- a value that is given
 
--- what tables say of the value that is given
-pub record SaysGiven {N X : Type 0} (says : FormatTables → N → X → Type 0) (is_given : N → Type 0) (tables : FormatTables) (text : X) : Type 0 where
+-- what is said of the value that is given
+pub record SaysGiven {N X : Type 0} (says : Wording → N → X → Type 0) (is_given : N → Type 0) (wording : Wording) (text : X) : Type 0 where
   pub value : N
   pub given : is_given value
-  pub said : says tables value text
+  pub said : says wording value text
 
 -- nothing is said where the handle is closed, or the options are unknown
-abbrev pub Writes : {N X : Type 0} → (FormatTables → N → X → Type 0) → (Asked → N → Type 0) → Result Asked CallError → X → Type 0
+abbrev pub Writes : {N X : Type 0} → (Wording → N → X → Type 0) → (Asked → N → Type 0) → Result Asked CallError → X → Type 0
 Writes says gives (Err cause) text = ⊥
-Writes says gives (Ok asked) text = SaysGiven says (gives asked) asked.tables text
+Writes says gives (Ok asked) text = SaysGiven says (gives asked) asked.wording text
 
--- why tables say nothing of the value that is given
-pub record FailsGiven {N : Type 0} (fails : FormatTables → N → CallError → Type 0) (is_given : N → Type 0) (tables : FormatTables) (error : CallError) : Type 0 where
+-- why nothing is said of the value that is given
+pub record FailsGiven {N : Type 0} (fails : Wording → N → CallError → Type 0) (is_given : N → Type 0) (wording : Wording) (error : CallError) : Type 0 where
   pub value : N
   pub given : is_given value
-  pub failed : fails tables value error
+  pub failed : fails wording value error
 
 -- what is asked comes first, then why no value is given, then why the one that is given is not written
-abbrev pub IsWritingFault : {N : Type 0} → (FormatTables → N → CallError → Type 0) → (Asked → N → Type 0) → (Asked → CallError → Type 0) → Result Asked CallError → CallError → Type 0
+abbrev pub IsWritingFault : {N : Type 0} → (Wording → N → CallError → Type 0) → (Asked → N → Type 0) → (Asked → CallError → Type 0) → Result Asked CallError → CallError → Type 0
 IsWritingFault fails gives fault (Err cause) error = error ≡ cause
-IsWritingFault fails gives fault (Ok asked) error = fault asked error ⊎ FailsGiven fails (gives asked) asked.tables error
+IsWritingFault fails gives fault (Ok asked) error = fault asked error ⊎ FailsGiven fails (gives asked) asked.wording error
 
 -- ---- of numbers
 
 -- the number that is given, changed as is asked: an amount by the digits of its currency
 abbrev pub GivesNumber : Given → Asked → SignedValue Number → Type 0
-GivesNumber number asked value = Gives asked.options (fractions_in asked.tables) (IsGiven number) value
+GivesNumber number asked value = Gives asked.options (fractions_in asked.wording.tables) (IsGiven number) value
 
 -- why there is none
 abbrev pub IsNumberRefused : Given → Asked → CallError → Type 0
-IsNumberRefused number asked error = IsChangeFault asked.options (fractions_in asked.tables) (IsGiven number) (IsGivenFault number) error
+IsNumberRefused number asked error = IsChangeFault asked.options (fractions_in asked.wording.tables) (IsGiven number) (IsGivenFault number) error
 
-abbrev pub WritesNumber : {X : Type 0} → (FormatTables → SignedValue Number → X → Type 0) → Option HeldFormat → List ℤ → Given → X → Type 0
+abbrev pub WritesNumber : {X : Type 0} → (Wording → SignedValue Number → X → Type 0) → Option HeldFormat → List ℤ → Given → X → Type 0
 WritesNumber says held words number text = Writes says (GivesNumber number) (asked_of held words) text
 
-abbrev pub IsNumberWritingFault : (FormatTables → SignedValue Number → CallError → Type 0) → Option HeldFormat → List ℤ → Given → CallError → Type 0
+abbrev pub IsNumberWritingFault : (Wording → SignedValue Number → CallError → Type 0) → Option HeldFormat → List ℤ → Given → CallError → Type 0
 IsNumberWritingFault fails held words number error = IsWritingFault fails (GivesNumber number) (IsNumberRefused number) (asked_of held words) error
 
 -- ---- of exact forms
 
 -- the form that a text spells, its significand changed as is asked
 abbrev pub GivesForm : List ℕ → Asked → CompactValue → Type 0
-GivesForm spelled asked form = GivesCompact asked.options (fractions_in asked.tables) spelled form
+GivesForm spelled asked form = GivesCompact asked.options (fractions_in asked.wording.tables) spelled form
 
 abbrev pub IsFormRefused : List ℕ → Asked → CallError → Type 0
-IsFormRefused spelled asked error = IsCompactChangeFault asked.options (fractions_in asked.tables) spelled error
+IsFormRefused spelled asked error = IsCompactChangeFault asked.options (fractions_in asked.wording.tables) spelled error
 
 abbrev pub WritesForm : Option HeldFormat → List ℤ → List ℕ → List ℕ → Type 0
-WritesForm held words spelled text = Writes IsExactText (GivesForm spelled) (asked_of held words) text
+WritesForm held words spelled text = Writes IsForm (GivesForm spelled) (asked_of held words) text
 
 abbrev pub IsFormWritingFault : Option HeldFormat → List ℤ → List ℕ → CallError → Type 0
-IsFormWritingFault held words spelled error = IsWritingFault IsExactFault (GivesForm spelled) (IsFormRefused spelled) (asked_of held words) error
+IsFormWritingFault held words spelled error = IsWritingFault IsFormFault (GivesForm spelled) (IsFormRefused spelled) (asked_of held words) error
+
+-- ---- of ranges
+
+-- a range has no text, but only a word
+abbrev pub asked_with : Option Plurals → Asked → Result Asked CallError
+asked_with None asked = Err UnknownOption
+asked_with (Some plurals) asked = Ok asked
+
+abbrev pub range_asked_by : Result Asked CallError → Result Asked CallError
+range_asked_by (Err cause) = Err cause
+range_asked_by (Ok asked) = asked_with asked.wording.plurals asked
+
+abbrev pub range_asked_of : Option HeldFormat → List ℤ → Result Asked CallError
+range_asked_of held words = range_asked_by (asked_of held words)
+
+-- both ends, each changed as is asked
+abbrev pub GivesEnds : Given → Given → Asked → Ends → Type 0
+GivesEnds first second asked ends = GivesNumber first asked ends.0 × GivesNumber second asked ends.1
+
+-- what is wrong with the first end comes first
+pub record IsSecondRefused (first second : Given) (asked : Asked) (error : CallError) : Type 0 where
+  pub value : SignedValue Number
+  pub given : GivesNumber first asked value
+  pub refused : IsNumberRefused second asked error
+
+abbrev pub AreEndsRefused : Given → Given → Asked → CallError → Type 0
+AreEndsRefused first second asked error = IsNumberRefused first asked error ⊎ IsSecondRefused first second asked error
+
+abbrev pub WritesRange : Option HeldFormat → List ℤ → Given → Given → List ℕ → Type 0
+WritesRange held words first second text = Writes IsRange (GivesEnds first second) (range_asked_of held words) text
+
+abbrev pub IsRangeWritingFault : Option HeldFormat → List ℤ → Given → Given → CallError → Type 0
+IsRangeWritingFault held words first second error =
+    IsWritingFault IsRangeFault (GivesEnds first second) (AreEndsRefused first second) (range_asked_of held words) error

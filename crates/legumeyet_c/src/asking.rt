@@ -23,7 +23,7 @@ impl<'l> Model for AskedFormatter<'l> {
 
     ghost Value = { Asked };
 
-    ghost view = { λ a. record { tables = a.held.now.tables; options = a.options } };
+    ghost view = { λ a. record { wording = a.held.now.wording; options = a.options } };
 }
 
 // The formatter of what is open, with the options that words ask for, or its own without words. `Closed`; `UnknownOption`:

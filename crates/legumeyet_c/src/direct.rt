@@ -6,7 +6,8 @@ ghost use Rattle.icu_decimal_direct.specs.TextTables.{text_tables};
 ghost use Rattle.legumeyet_c_values.specs.Numbers.{Gives, IsGiven, given_of, spelled};
 ghost use Rattle.legumeyet_c_values.specs.Putting.{IsPut};
 ghost use Rattle.locale_numbers_formatter.specs.FormatText.{plain_tables};
-ghost use Rattle.legumeyet_c.specs.Formatted.{IsFormatFault, IsFormatText};
+ghost use Rattle.legumeyet_c.specs.HeldFormats.{in_numbers};
+ghost use Rattle.legumeyet_c.specs.Worded.{IsText, IsTextFault};
 
 use icu_decimal_direct::{TextDigits, TextTables};
 use legumeyet_c_values::{CallError, GivenNumber, is_usual, put_bytes};
@@ -33,7 +34,7 @@ pub(crate) fn texts_of<'a>(formatter: &NumberFormatter<'a>) -> Option<TextTables
 
 // The digits of a text, where options leave its number as it is. `None`: they may change it, or it is not made of few
 // digits.
-fn text_digits<'t>(options: &NumberOptions, text: &'t [u8]) -> Option<TextDigits<'t>>
+pub(crate) fn text_digits<'t>(options: &NumberOptions, text: &'t [u8]) -> Option<TextDigits<'t>>
     ensures { IfSome result (λ digits. Gives options.now None (IsGiven (spelled text.now)) (number_spelled digits)) }
 {
     if !is_usual(options) {
@@ -68,9 +69,9 @@ pub(crate) fn put_digits(
     out: &mut [u8],
     length: &mut usize,
 ) -> Result<(), CallError>
-    ensures { IsPut (IsFormatText (plain_tables (text_tables texts.now)) (number_spelled digits.now))
-        (IsFormatFault (plain_tables (text_tables texts.now)) (number_spelled digits.now)) out.old out.new length.old
-        length.new result }
+    ensures { IsPut (IsText (in_numbers (plain_tables (text_tables texts.now))) (number_spelled digits.now))
+        (IsTextFault (in_numbers (plain_tables (text_tables texts.now))) (number_spelled digits.now)) out.old out.new
+        length.old length.new result }
 {
     plain_is_layered();
     let mut text = [0; ROOM];

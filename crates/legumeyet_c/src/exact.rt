@@ -3,10 +3,10 @@
 ghost use Rattle.std.specs.Prelude.{◌≡◌, Ok};
 ghost use Rattle.legumeyet_c_values.specs.Numbers.{given_of, spelled};
 ghost use Rattle.legumeyet_c_values.specs.Putting.{Answers, IsPut};
-ghost use Rattle.legumeyet_c.specs.Formatted.{IsExactFault, IsExactText, IsShownFault, IsShownText};
 ghost use Rattle.legumeyet_c.specs.Kinds.{format_in};
 ghost use Rattle.legumeyet_c.specs.Opened.{opened};
 ghost use Rattle.legumeyet_c.specs.Views.{format_content, format_open};
+ghost use Rattle.legumeyet_c.specs.Worded.{IsForm, IsFormFault, IsNotShown, IsShown};
 ghost use Rattle.legumeyet_c.specs.Writing.{GivesForm, GivesNumber, IsFormRefused, IsFormWritingFault, IsNumberRefused, IsNumberWritingFault, IsWritingFault, Writes, WritesForm, WritesNumber};
 
 use crate::asking::{AskedFormatter, asked};
@@ -25,14 +25,13 @@ fn write_form(
     out: &mut [u8],
     length: &mut usize,
 ) -> Result<(), CallError>
-    ensures { IsPut (Writes IsExactText (GivesForm number.now) (Ok asked.now))
-        (IsWritingFault IsExactFault (GivesForm number.now) (IsFormRefused number.now) (Ok asked.now)) out.old out.new
+    ensures { IsPut (Writes IsForm (GivesForm number.now) (Ok asked.now))
+        (IsWritingFault IsFormFault (GivesForm number.now) (IsFormRefused number.now) (Ok asked.now)) out.old out.new
         length.old length.new result }
 {
     let lent = asked.held.lent();
-    let formatter = lent.get();
-    match compact_of_text(alloc, number, &asked.options, formatter.fractions()) {
-        Ok(form) => put_form(formatter, &form, out, length),
+    match compact_of_text(alloc, number, &asked.options, lent.fractions()) {
+        Ok(form) => put_form(&lent, &form, out, length),
         Err(error) => Err(error),
     }
 }
@@ -45,15 +44,14 @@ fn write_shown(
     out: &mut [u8],
     length: &mut usize,
 ) -> Result<(), CallError>
-    ensures { IsPut (Writes IsShownText (GivesNumber (given_of number.entry)) (Ok asked.now))
-        (IsWritingFault IsShownFault (GivesNumber (given_of number.entry)) (IsNumberRefused (given_of number.entry))
+    ensures { IsPut (Writes IsShown (GivesNumber (given_of number.entry)) (Ok asked.now))
+        (IsWritingFault IsNotShown (GivesNumber (given_of number.entry)) (IsNumberRefused (given_of number.entry))
         (Ok asked.now)) out.old out.new length.old length.new result }
 {
     let lent = asked.held.lent();
-    let formatter = lent.get();
     let mut value = Decimal::zero(alloc);
-    match number.assign_changed(alloc, &asked.options, formatter.fractions(), &mut value) {
-        Ok(()) => put_shown(formatter, &value, out, length),
+    match number.assign_changed(alloc, &asked.options, lent.fractions(), &mut value) {
+        Ok(()) => put_shown(&lent, &value, out, length),
         Err(error) => Err(error),
     }
 }
@@ -88,8 +86,8 @@ pub(crate) fn answer_shown(
     length: &mut usize,
 ) -> i32
     ensures { Answers
-        (IsPut (WritesNumber IsShownText (format_in (opened content.entry)) words.now (spelled number.now))
-        (IsNumberWritingFault IsShownFault (format_in (opened content.entry)) words.now (spelled number.now)) out.old
+        (IsPut (WritesNumber IsShown (format_in (opened content.entry)) words.now (spelled number.now))
+        (IsNumberWritingFault IsNotShown (format_in (opened content.entry)) words.now (spelled number.now)) out.old
         out.new length.old length.new) result }
 {
     match asked(content, words) {
@@ -99,7 +97,8 @@ pub(crate) fn answer_shown(
 }
 
 /// Writes a significand with an exponent, its digits as they are: `-1.20c6` in short English as `-1.20M`, and without
-/// compact patterns, where the exponent is 0, `-1.20` as `-1.20`. The options change the significand.
+/// compact patterns, where the exponent is 0, `-1.20` as `-1.20`; with plurals the word of its category. The options change
+/// the significand.
 ///
 /// Returns 0; 2, the handle is closed; 4, an option is unknown; 7, the text is no compact number, as `1.2e6`; 8, its
 /// significand has a digit beyond the magnitudes -32768 to 32767, or its exponent is above 255; 1, out of memory, which
@@ -141,8 +140,8 @@ pub extern "C" fn legumeyet_formatter_shown(
 ) -> i32
     ensures same { format_content formatter.new ≡ format_content formatter.old }
     ensures told { Answers
-        (IsPut (WritesNumber IsShownText (format_open formatter.old) options.now (spelled number.now))
-        (IsNumberWritingFault IsShownFault (format_open formatter.old) options.now (spelled number.now)) out.old
+        (IsPut (WritesNumber IsShown (format_open formatter.old) options.now (spelled number.now))
+        (IsNumberWritingFault IsNotShown (format_open formatter.old) options.now (spelled number.now)) out.old
         out.new length.old length.new) result }
 {
     let content = formatter.handle.content();

@@ -1,33 +1,60 @@
 //! Handles opened with what a book has for a tag and a format.
 
-ghost use Rattle.std.specs.Prelude.{◌≡◌, ◌⊎◌, Ok, Err, IfOk, IfErr, IfSome};
+ghost use Rattle.std.specs.Prelude.{◌≡◌, ◌⊎◌, Ok, Err, IfOk, IfErr, IfSome, option_map};
+ghost use Rattle.locale_numbers.specs.FoundRules.{rules_held};
 ghost use Rattle.legumeyet_c.specs.Kinds.{book_in, format_in};
 ghost use Rattle.legumeyet_c.specs.Opened.{opened};
-ghost use Rattle.legumeyet_c.specs.Opening.{FindsFormat, IsFindingFault, IsOpening, IsTagFault, format_found};
+ghost use Rattle.legumeyet_c.specs.Opening.{FindsFormat, IsFindingFault, IsOpening, IsTagFault, format_found, plurals_found};
 
+use crate::asked_format::AskedFormat;
 use crate::content::{Content, ContentKind, kept_in};
 use crate::handle::Handle;
 use crate::held_formatter::HeldFormatter;
 use crate::opening::put_after;
+use icu_plurals::{PluralRuleType, PluralRulesWithRanges};
 use legumeyet_c_values::CallError;
 use locale_numbers::{Book, FormatterError};
-use locale_numbers_formats::NumberFormat;
 use std::alloc::Global;
+
+// The rules that are asked for, where words are written. `Tag`: the text is no locale tag. `Table`: the book lacks them.
+// `Memory`: out of memory.
+fn find_plurals<'b>(
+    alloc: Global,
+    book: &'b Book,
+    rule_type: Option<PluralRuleType>,
+    tag: &str,
+) -> Result<Option<PluralRulesWithRanges<'b>>, FormatterError>
+    ensures value { IfOk result
+        (λ plurals. plurals_found book.now rule_type tag.now ≡ Ok (option_map rules_held plurals)) }
+    ensures fault { IfErr result
+        (λ fault. (fault ≡ FormatterError.Memory) ⊎ (plurals_found book.now rule_type tag.now ≡ Err fault)) }
+{
+    let Some(rule_type) = rule_type else {
+        return Ok(None);
+    };
+    match book.plural_rules(alloc, tag, rule_type) {
+        Ok(plurals) => Ok(Some(plurals)),
+        Err(fault) => Err(fault),
+    }
+}
 
 // A copy of what a book has for a tag. `Tag`: it is no locale tag. `Table`: the book lacks a table for it. `Memory`: out
 // of memory.
 fn find(
     alloc: Global,
     book: &Book,
-    format: &NumberFormat,
+    asked: &AskedFormat,
     tag: &str,
 ) -> Result<HeldFormatter, FormatterError>
-    ensures value { IfOk result (λ held. format_found book.now format.now tag.now ≡ Ok held) }
+    ensures value { IfOk result (λ held. format_found book.now asked.now tag.now ≡ Ok held) }
     ensures fault { IfErr result (λ fault. (fault ≡ FormatterError.Memory)
-        ⊎ (format_found book.now format.now tag.now ≡ Err fault)) }
+        ⊎ (format_found book.now asked.now tag.now ≡ Err fault)) }
 {
-    let (formatter, latin) = book.number_formatter_with_latin(alloc, tag, &format.shape)?;
-    match HeldFormatter::own(alloc, &formatter, latin.as_ref(), format) {
+    let shape = &asked.format.shape;
+    let (formatter, second) = book.number_formatter_with_second(alloc, tag, shape)?;
+    let plurals = find_plurals(alloc, book, asked.plurals, tag)?;
+    let (second, plurals) = (second.as_ref(), plurals.as_ref());
+    match HeldFormatter::own(alloc, &formatter, plurals, second, &asked.format) {
         Ok(held) => Ok(held),
         Err(_) => Err(FormatterError::Memory),
     }
@@ -37,15 +64,17 @@ fn find(
 fn find_kept(
     alloc: Global,
     book: &'static Book,
-    format: &NumberFormat,
+    asked: &AskedFormat,
     tag: &str,
 ) -> Result<HeldFormatter, FormatterError>
-    ensures value { IfOk result (λ held. format_found book.now format.now tag.now ≡ Ok held) }
+    ensures value { IfOk result (λ held. format_found book.now asked.now tag.now ≡ Ok held) }
     ensures fault { IfErr result (λ fault. (fault ≡ FormatterError.Memory)
-        ⊎ (format_found book.now format.now tag.now ≡ Err fault)) }
+        ⊎ (format_found book.now asked.now tag.now ≡ Err fault)) }
 {
-    let (formatter, latin) = book.number_formatter_with_latin(alloc, tag, &format.shape)?;
-    Ok(HeldFormatter::kept(formatter, latin, format.options))
+    let format = &asked.format;
+    let (formatter, second) = book.number_formatter_with_second(alloc, tag, &format.shape)?;
+    let plurals = find_plurals(alloc, book, asked.plurals, tag)?;
+    Ok(HeldFormatter::kept(formatter, plurals, second, format.options))
 }
 
 // The same, with the errors of calls; where the book is kept, its tables are borrowed.
@@ -53,19 +82,19 @@ fn find_for(
     alloc: Global,
     book: &Book,
     kept: Option<&'static Book>,
-    format: &NumberFormat,
+    asked: &AskedFormat,
     tag: &[u8],
 ) -> Result<HeldFormatter, CallError>
     requires kept { IfSome kept (λ kept. book.now ≡ kept.now) }
-    ensures value { IfOk result (λ held. format_found book.now format.now tag.now ≡ Ok held) }
-    ensures fault { IfErr result (λ error. IsTagFault (format_found book.now format.now tag.now) tag.now error) }
+    ensures value { IfOk result (λ held. format_found book.now asked.now tag.now ≡ Ok held) }
+    ensures fault { IfErr result (λ error. IsTagFault (format_found book.now asked.now tag.now) tag.now error) }
 {
     let Ok(tag) = str::from_utf8(tag) else {
         return Err(CallError::Tag);
     };
     let found = match kept {
-        Some(kept) => find_kept(alloc, kept, format, tag),
-        None => find(alloc, book, format, tag),
+        Some(kept) => find_kept(alloc, kept, asked, tag),
+        None => find(alloc, book, asked, tag),
     };
     match found {
         Ok(held) => Ok(held),
@@ -80,7 +109,7 @@ fn find_for(
 fn find_opened(
     alloc: Global,
     content: Option<&Content>,
-    asked: &Result<NumberFormat, CallError>,
+    asked: &Result<AskedFormat, CallError>,
     tag: &[u8],
 ) -> Result<HeldFormatter, CallError>
     ensures value { IfOk result (λ held. FindsFormat (book_in (opened content.entry)) asked.now tag.now held) }
@@ -101,7 +130,7 @@ fn find_opened(
 pub(crate) fn open(
     alloc: Global,
     book: &mut Handle,
-    asked: &Result<NumberFormat, CallError>,
+    asked: &Result<AskedFormat, CallError>,
     tag: &[u8],
     handle: &mut Handle,
 ) -> Result<(), CallError>

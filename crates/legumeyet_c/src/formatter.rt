@@ -8,35 +8,23 @@ ghost use Rattle.legumeyet_c.specs.Kinds.{format_in};
 ghost use Rattle.legumeyet_c.specs.Opening.{FindsFormat, IsClosing, IsFindingFault, IsOpening};
 ghost use Rattle.legumeyet_c.specs.Views.{book_content, book_open, format_content, format_open};
 
+use crate::asked_format::{format_by_skeleton, format_by_words};
 use crate::format_opening::open;
 use crate::handles::{BookHandle, FormatterHandle};
 use crate::held_formatter::HeldFormatter;
 use crate::opening::close;
-use crate::skeletons::{format_by_skeleton, tell_place};
-use legumeyet_c_values::{CallError, answer, shape_by, usual_options};
-use locale_numbers_formats::NumberFormat;
+use crate::skeletons::tell_place;
+use legumeyet_c_values::answer;
 use std::alloc::Global;
 
-// The format that words ask for, with the options that no word changes.
-fn format_by_words(words: &[i32], unit: &[u8]) -> Result<NumberFormat, CallError>
-    ensures { result ≡ format_by_words words.now unit.now }
-{
-    match shape_by(words, unit) {
-        Ok(shape) => Ok(NumberFormat {
-            shape,
-            options: usual_options(),
-        }),
-        Err(error) => Err(error),
-    }
-}
-
 /// Opens the formatter of a format in words for a locale tag: without a word that of plain numbers, which for `en` writes
-/// -1234.5 as `-1,234.5`. It has its own copy of the tables, unless the book is kept. What the handle had open is closed,
-/// where the call returns 0, and else the handle is as it was; the book stays open.
+/// -1234.5 as `-1,234.5`; with plurals one that writes `other` of it. It has its own copy of the tables, unless the book is
+/// kept. What the handle had open is closed, where the call returns 0, and else the handle is as it was; the book stays
+/// open.
 ///
 /// Returns 0; 2, the book is closed; 4, a word has a number that is not in its list; 14, the unit is no code of a currency
 /// where the words ask for amounts, or a text where they don't; 5, the text is no locale tag; 6, the book lacks a table
-/// for it, or a compact number would have a unit; 1, out of memory, also in place of the last two.
+/// for it, or the plural rules, or a compact number would have a unit; 1, out of memory, also in place of the last two.
 #[unsafe(no_mangle)]
 pub extern "C" fn legumeyet_formatter_open(
     alloc: Global,

@@ -6,7 +6,10 @@ ghost use Rattle.legumeyet_c_values.specs.Parts.{held_text};
 ghost use Rattle.legumeyet_c_values.specs.Putting.{IsPut};
 ghost use Rattle.locale_numbers_formatter.specs.FormatText.{plain_tables};
 ghost use Rattle.legumeyet_c.specs.Formatted.{IsExactFault, IsExactText, IsFormatFault, IsFormatInParts, IsFormatText, IsPartsFault, IsShownFault, IsShownText};
+ghost use Rattle.legumeyet_c.specs.Worded.{IsForm, IsFormFault, IsInPartsFault, IsNotShown, IsShown, IsText, IsTextFault, IsTextInParts};
 
+use crate::categories::{category_in_parts, put_category, put_form_category};
+use crate::lent_formatter::LentFormatter;
 use fixed_decimal::{CompactDecimal, Decimal};
 use icu_decimal::DecimalFormatter;
 use legumeyet_c_values::{CallError, put};
@@ -50,7 +53,7 @@ fn put_formatted(
 }
 
 // Writes the text of a number.
-pub(crate) fn put_number(
+fn put_number(
     formatter: &NumberFormatter<'_>,
     value: &Decimal,
     out: &mut [u8],
@@ -67,8 +70,24 @@ pub(crate) fn put_number(
     }
 }
 
-// Writes the value that this text shows.
-pub(crate) fn put_shown(
+// Writes what a formatter writes of a number: its text, or the word of its category.
+pub(crate) fn put_text(
+    lent: &LentFormatter<'_>,
+    value: &mut Decimal,
+    out: &mut [u8],
+    length: &mut usize,
+) -> Result<(), CallError>
+    ensures { IsPut (IsText lent.now value.old) (IsTextFault lent.now value.old) out.old out.new length.old length.new
+        result }
+{
+    match lent.plurals() {
+        Some(plurals) => put_category(lent.get(), plurals.rules, value, out, length),
+        None => put_number(lent.get(), value, out, length),
+    }
+}
+
+// Writes the value that the text of a number shows.
+fn put_shown_value(
     formatter: &NumberFormatter<'_>,
     value: &Decimal,
     out: &mut [u8],
@@ -86,8 +105,21 @@ pub(crate) fn put_shown(
     }
 }
 
-// Writes an exact form.
-pub(crate) fn put_form(
+// The same by what writes numbers or words.
+pub(crate) fn put_shown(
+    lent: &LentFormatter<'_>,
+    value: &Decimal,
+    out: &mut [u8],
+    length: &mut usize,
+) -> Result<(), CallError>
+    ensures { IsPut (IsShown lent.now value.now) (IsNotShown lent.now value.now) out.old out.new length.old length.new
+        result }
+{
+    put_shown_value(lent.get(), value, out, length)
+}
+
+// Writes the text of an exact form.
+fn put_form_text(
     formatter: &NumberFormatter<'_>,
     form: &CompactDecimal,
     out: &mut [u8],
@@ -104,8 +136,24 @@ pub(crate) fn put_form(
     }
 }
 
+// Writes what a formatter writes of an exact form: its text, or the word of its category.
+pub(crate) fn put_form(
+    lent: &LentFormatter<'_>,
+    form: &CompactDecimal,
+    out: &mut [u8],
+    length: &mut usize,
+) -> Result<(), CallError>
+    ensures { IsPut (IsForm lent.now form.now) (IsFormFault lent.now form.now) out.old out.new length.old length.new
+        result }
+{
+    match lent.plurals() {
+        Some(plurals) => put_form_category(lent.get(), plurals.rules, form, out, length),
+        None => put_form_text(lent.get(), form, out, length),
+    }
+}
+
 // The text of a number with its parts.
-pub(crate) fn number_in_parts(
+fn number_in_parts(
     alloc: Global,
     formatter: &NumberFormatter<'_>,
     value: &Decimal,
@@ -123,5 +171,20 @@ pub(crate) fn number_in_parts(
     match text.write_to(&mut sink) {
         Ok(()) => Ok(sink),
         Err(_) => Err(CallError::Memory),
+    }
+}
+
+// What a formatter writes of a number with its parts: its text, or the word of its category, which has none.
+pub(crate) fn text_in_parts(
+    alloc: Global,
+    lent: &LentFormatter<'_>,
+    value: &mut Decimal,
+) -> Result<PartsSink, CallError>
+    ensures value { IfOk result (λ sink. IsTextInParts lent.now value.old (held_text sink)) }
+    ensures fault { IfErr result (λ error. IsInPartsFault lent.now value.old error) }
+{
+    match lent.plurals() {
+        Some(plurals) => category_in_parts(alloc, lent.get(), plurals.rules, value),
+        None => number_in_parts(alloc, lent.get(), value),
     }
 }

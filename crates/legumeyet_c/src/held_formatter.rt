@@ -3,25 +3,30 @@
 ghost use Rattle.std.specs.Prelude.{◌≡◌, IfOk, IfSome, IsErrOf, option_map};
 ghost use Rattle.icu_decimal.specs.PlainReading.{IsAnswered};
 ghost use Rattle.icu_decimal_direct.specs.TextTables.{text_tables};
+ghost use Rattle.locale_numbers.specs.FoundRules.{rules_held};
 ghost use Rattle.locale_numbers_formatter.specs.FormatReading.{format_reading, reader_of};
 ghost use Rattle.locale_numbers_formatter.specs.FormatText.{plain_tables};
 ghost use Rattle.locale_numbers_formatter.specs.FormatTyped.{format_typed_reading, typed_of};
 ghost use Rattle.locale_numbers_formatter.specs.Regrouped.{regrouped};
-ghost use Rattle.legumeyet_c.specs.HeldFormats.{ReadAllocates, TypedReadAllocates, held_format, latin_at, tables_at};
+ghost use Rattle.legumeyet_c.specs.HeldFormats.{ReadAllocates, TypedReadAllocates, held_format, in_numbers, plurals_at, second_at, tables_at};
+ghost use Rattle.legumeyet_c.specs.Reading.{exact_reading, typed_reading};
 
 use crate::direct::texts_of;
+use crate::held_plurals::{PluralsPlace, kept_plurals_of, own_plurals_of};
+use crate::lent_formatter::{LentFormatter, copied};
 use fixed_decimal::Decimal;
 use icu_decimal::error::ReadError;
 use icu_decimal::options::GroupingStrategy;
 use icu_decimal_direct::TextTables;
+use icu_plurals::PluralRulesWithRanges;
 use locale_numbers_formats::{NumberFormat, NumberOptions};
 use locale_numbers_formatter::{
-    FormatterKind, LenientNumberReader, NumberFormatter, NumberReader, OwnNumberTables,
+    LenientNumberReader, NumberFormatter, NumberReader, OwnNumberTables,
 };
 use std::alloc::{AllocError, Global};
 use std::marker::Model;
 
-// Where the tables are; beside them those of the digits of ASCII, by which what people type is read too.
+// Where the tables are; beside them second ones, by which what people type is read too.
 #[derive(Drop)]
 pub(crate) enum FormatPlace {
     // In memory of their own.
@@ -30,47 +35,13 @@ pub(crate) enum FormatPlace {
     Kept(NumberFormatter<'static>, Option<NumberFormatter<'static>>),
 }
 
-// The same formatter. It does not allocate.
-fn copied<'a>(formatter: &'a NumberFormatter<'static>) -> NumberFormatter<'a>
-    ensures { result ≡ formatter.now }
-{
-    match formatter.kind() {
-        FormatterKind::Plain(formatter) => NumberFormatter::from(*formatter),
-        FormatterKind::Compact(formatter) => NumberFormatter::from(*formatter),
-        FormatterKind::Percent(formatter) => NumberFormatter::from(*formatter),
-        FormatterKind::Currency(formatter) => NumberFormatter::of_amounts(formatter),
-    }
-}
-
-// What writes numbers, borrowed for a call.
-#[derive(Drop)]
-pub(crate) struct LentFormatter<'a> {
-    formatter: NumberFormatter<'a>,
-}
-
-impl<'a> Model for LentFormatter<'a> {
-    ghost use Rattle.locale_numbers_formatter.specs.FormatText.{FormatTables};
-
-    ghost Value = { FormatTables };
-
-    ghost view = { λ l. l.formatter };
-}
-
-impl<'a> LentFormatter<'a> {
-    // The formatter. It does not allocate.
-    pub(crate) fn get(&self) -> &NumberFormatter<'a>
-        ensures { result.now ≡ self.now }
-    {
-        &self.formatter
-    }
-}
-
 /// What a handle writes numbers with, and where it is of a kept book what their texts are put with directly, the reader of
-/// them, and that of what people type, each reader from the first text on that is read so. A contract sees both tables and
-/// the options.
+/// them, and that of what people type, each reader from the first text on that is read so. With rules it writes the words
+/// of plural categories. A contract sees both tables, the rules and the options.
 #[derive(Drop)]
 pub struct HeldFormatter {
     place: FormatPlace,
+    plurals: Option<PluralsPlace>,
     options: NumberOptions,
     texts: Option<TextTables<'static>>,
     exact: Option<Box<NumberReader<'static>>>,
@@ -83,15 +54,16 @@ impl Model for HeldFormatter {
     ghost use Rattle.locale_numbers_formatter.specs.FormatReading.{reader_of};
     ghost use Rattle.locale_numbers_formatter.specs.FormatText.{plain_tables};
     ghost use Rattle.locale_numbers_formatter.specs.FormatTyped.{typed_of};
-    ghost use Rattle.legumeyet_c.specs.HeldFormats.{HeldFormat, held_at, latin_at, tables_at};
+    ghost use Rattle.legumeyet_c.specs.HeldFormats.{HeldFormat, held_at, in_numbers, second_at, tables_at};
 
     ghost Value = { HeldFormat };
 
-    ghost view = { λ h. held_at h.place h.options };
+    ghost view = { λ h. held_at h.place h.plurals h.options };
 
-    ghost invariant = { λ h. IfSome h.texts (λ texts. plain_tables (text_tables texts) ≡ tables_at h.place)
+    ghost invariant = { λ h.
+        IfSome h.texts (λ texts. in_numbers (plain_tables (text_tables texts)) ≡ (held_at h.place h.plurals h.options).wording)
         × IfSome h.exact (λ reader. reader.value ≡ reader_of (tables_at h.place))
-        × IfSome h.typed (λ reader. reader.value ≡ typed_of (tables_at h.place) (latin_at h.place)) };
+        × IfSome h.typed (λ reader. reader.value ≡ typed_of (tables_at h.place) (second_at h.place)) };
 }
 
 // A copy of what a formatter writes with, with a strategy. `AllocError`: out of memory.
@@ -112,13 +84,13 @@ fn own_of(
 // The same of a formatter, where there is one.
 fn own_of_optional(
     alloc: Global,
-    latin: Option<&NumberFormatter<'_>>,
+    second: Option<&NumberFormatter<'_>>,
     strategy: GroupingStrategy,
 ) -> Result<Option<Box<OwnNumberTables>>, AllocError>
     ensures { IfOk result (λ own. option_map (λ tables. tables.value) own
-        ≡ option_map (regrouped strategy) (option_map (λ formatter. formatter.now) latin.entry)) }
+        ≡ option_map (regrouped strategy) (option_map (λ formatter. formatter.now) second.entry)) }
 {
-    let Some(formatter) = latin else {
+    let Some(formatter) = second else {
         return Ok(None);
     };
     match own_of(alloc, formatter, strategy) {
@@ -153,14 +125,32 @@ impl FormatPlace {
 
     // The reader of what people type, to be kept. `None`: out of memory, or the tables are its own.
     fn typed_reader(&self, alloc: Global) -> Option<Box<LenientNumberReader<'static>>>
-        ensures { IfSome result (λ reader. reader.value ≡ typed_of (tables_at self.now) (latin_at self.now)) }
+        ensures { IfSome result (λ reader. reader.value ≡ typed_of (tables_at self.now) (second_at self.now)) }
     {
-        let FormatPlace::Kept(formatter, latin) = self else {
+        let FormatPlace::Kept(formatter, second) = self else {
             return None;
         };
-        match formatter.lenient_reader(alloc, latin.as_ref()) {
+        match formatter.lenient_reader(alloc, second.as_ref()) {
             Ok(reader) => boxed(alloc, reader),
             Err(_) => None,
+        }
+    }
+
+    // A copy of the tables that formatters borrow, with a strategy. `AllocError`: out of memory.
+    fn own(
+        alloc: Global,
+        formatter: &NumberFormatter<'_>,
+        second: Option<&NumberFormatter<'_>>,
+        strategy: GroupingStrategy,
+    ) -> Result<FormatPlace, AllocError>
+        ensures tables { IfOk result (λ own. tables_at own ≡ regrouped strategy formatter.now) }
+        ensures second { IfOk result (λ own. second_at own
+            ≡ option_map (regrouped strategy) (option_map (λ f. f.now) second.entry)) }
+    {
+        let own = own_of(alloc, formatter, strategy)?;
+        match own_of_optional(alloc, second, strategy) {
+            Ok(second) => Ok(FormatPlace::Own(own, second)),
+            Err(refused) => Err(refused),
         }
     }
 }
@@ -169,14 +159,19 @@ impl HeldFormatter {
     // What writes with tables that are borrowed for the rest of the run. It does not allocate.
     pub(crate) fn kept(
         formatter: NumberFormatter<'static>,
-        latin: Option<NumberFormatter<'static>>,
+        plurals: Option<PluralRulesWithRanges<'static>>,
+        second: Option<NumberFormatter<'static>>,
         options: NumberOptions,
     ) -> HeldFormatter
-        ensures { result ≡ held_format formatter.entry latin.entry options }
+        ensures { result ≡ held_format formatter.entry (option_map rules_held plurals.entry) second.entry options }
     {
-        let texts = texts_of(&formatter);
+        let texts = match plurals {
+            Some(_) => None,
+            None => texts_of(&formatter),
+        };
         HeldFormatter {
-            place: FormatPlace::Kept(formatter, latin),
+            place: FormatPlace::Kept(formatter, second),
+            plurals: kept_plurals_of(plurals),
             options,
             texts,
             exact: None,
@@ -184,22 +179,24 @@ impl HeldFormatter {
         }
     }
 
-    // A copy of the tables that formatters borrow, with the strategy of the format. `AllocError`: out of memory.
+    // A copy of what formatters and rules borrow, with the strategy of the format. `AllocError`: out of memory.
     pub(crate) fn own(
         alloc: Global,
         formatter: &NumberFormatter<'_>,
-        latin: Option<&NumberFormatter<'_>>,
+        plurals: Option<&PluralRulesWithRanges<'_>>,
+        second: Option<&NumberFormatter<'_>>,
         format: &NumberFormat,
     ) -> Result<HeldFormatter, AllocError>
         ensures { IfOk result (λ held. held ≡ held_format (regrouped format.now.shape.grouping formatter.now)
-            (option_map (regrouped format.now.shape.grouping) (option_map (λ f. f.now) latin.entry))
+            (option_map rules_held (option_map (λ p. p.now) plurals.entry))
+            (option_map (regrouped format.now.shape.grouping) (option_map (λ f. f.now) second.entry))
             format.now.options) }
     {
-        let strategy = format.shape.grouping;
-        let own = own_of(alloc, formatter, strategy)?;
-        match own_of_optional(alloc, latin, strategy) {
-            Ok(latin) => Ok(HeldFormatter {
-                place: FormatPlace::Own(own, latin),
+        let place = FormatPlace::own(alloc, formatter, second, format.shape.grouping)?;
+        match own_plurals_of(alloc, plurals) {
+            Ok(plurals) => Ok(HeldFormatter {
+                place,
+                plurals,
                 options: format.options,
                 texts: None,
                 exact: None,
@@ -218,28 +215,44 @@ impl HeldFormatter {
 
     // What texts are put with directly, where that is known. It does not allocate.
     pub(crate) fn texts(&self) -> Option<&TextTables<'static>>
-        ensures { IfSome result (λ texts. plain_tables (text_tables texts.now) ≡ self.now.tables) }
+        ensures { IfSome result (λ texts. in_numbers (plain_tables (text_tables texts.now)) ≡ self.now.wording) }
     {
         self.texts.as_ref()
     }
 
-    // What writes with the tables, borrowed for a call. It does not allocate.
-    pub(crate) fn lent(&self) -> LentFormatter<'_>
-        ensures { result ≡ self.now.tables }
+    // The rules, borrowed for a call, where words are written. It does not allocate.
+    fn lent_plurals(&self) -> Option<PluralRulesWithRanges<'_>>
+        ensures { option_map rules_held result ≡ self.now.wording.plurals }
     {
-        match &self.place {
-            FormatPlace::Own(own, _) => LentFormatter {
-                formatter: own.lent(),
-            },
-            FormatPlace::Kept(formatter, _) => LentFormatter {
-                formatter: copied(formatter),
-            },
+        match &self.plurals {
+            Some(plurals) => Some(plurals.lent()),
+            None => None,
         }
     }
 
-    // What writes in the digits of ASCII, borrowed for a call, where it is another one. It does not allocate.
-    fn lent_latin(&self) -> Option<NumberFormatter<'_>>
-        ensures { result ≡ self.now.latin }
+    // What numbers are written with by the tables, borrowed for a call. It does not allocate.
+    fn lent_tables(&self) -> NumberFormatter<'_>
+        ensures { result ≡ self.now.wording.tables }
+    {
+        match &self.place {
+            FormatPlace::Own(own, _) => own.lent(),
+            FormatPlace::Kept(formatter, _) => copied(formatter),
+        }
+    }
+
+    // What writes with the tables and the rules, borrowed for a call. It does not allocate.
+    pub(crate) fn lent(&self) -> LentFormatter<'_>
+        ensures { result ≡ self.now.wording }
+    {
+        LentFormatter {
+            formatter: self.lent_tables(),
+            plurals: self.lent_plurals(),
+        }
+    }
+
+    // The second one, borrowed for a call, where there is one. It does not allocate.
+    fn lent_second(&self) -> Option<NumberFormatter<'_>>
+        ensures { result ≡ self.now.second }
     {
         match &self.place {
             FormatPlace::Own(_, Some(own)) => Some(own.lent()),
@@ -252,7 +265,7 @@ impl HeldFormatter {
     pub(crate) fn keep_exact_reader(&mut self, alloc: Global)
         ensures { self.new ≡ self.old }
     {
-        if self.exact.is_none() {
+        if self.exact.is_none() && self.plurals.is_none() {
             let reader = self.place.exact_reader(alloc);
             self.exact = reader;
         }
@@ -262,21 +275,21 @@ impl HeldFormatter {
     pub(crate) fn keep_typed_reader(&mut self, alloc: Global)
         ensures { self.new ≡ self.old }
     {
-        if self.typed.is_none() {
+        if self.typed.is_none() && self.plurals.is_none() {
             let reader = self.place.typed_reader(alloc);
             self.typed = reader;
         }
     }
 
-    // The number whose text this is, by the reader that is kept, or by one that is made for it.
-    pub(crate) fn read(&self, alloc: Global, text: &str) -> Result<Decimal, ReadError>
-        ensures answered { IsAnswered result (format_reading self.now.tables text.now) }
+    // The number whose text this is by the tables, by the reader that is kept, or by one that is made for it.
+    fn read_number(&self, alloc: Global, text: &str) -> Result<Decimal, ReadError>
+        ensures answered { IsAnswered result (format_reading self.now.wording.tables text.now) }
         ensures memory { IsErrOf result ReadError.Memory → ReadAllocates self.now text.now }
     {
         if let Some(reader) = &self.exact {
             return reader.read(alloc, text);
         }
-        match self.lent().get().reader(alloc) {
+        match self.lent_tables().reader(alloc) {
             Ok(reader) => reader.read(alloc, text),
             Err(_) => Err(ReadError::Memory),
         }
@@ -284,24 +297,48 @@ impl HeldFormatter {
 
     // The number that was typed, by a reader that is made for it.
     fn read_typed_once(&self, alloc: Global, text: &str) -> Result<Decimal, ReadError>
-        ensures answered { IsAnswered result (format_typed_reading self.now.tables self.now.latin text.now) }
+        ensures answered { IsAnswered result
+            (format_typed_reading self.now.wording.tables self.now.second text.now) }
         ensures memory { IsErrOf result ReadError.Memory → TypedReadAllocates self.now text.now }
     {
-        let latin = self.lent_latin();
-        match self.lent().get().lenient_reader(alloc, latin.as_ref()) {
+        let second = self.lent_second();
+        match self.lent_tables().lenient_reader(alloc, second.as_ref()) {
             Ok(reader) => reader.read(alloc, text),
             Err(_) => Err(ReadError::Memory),
         }
     }
 
     // The same by the reader that is kept, where there is one.
-    pub(crate) fn read_typed(&self, alloc: Global, text: &str) -> Result<Decimal, ReadError>
-        ensures answered { IsAnswered result (format_typed_reading self.now.tables self.now.latin text.now) }
+    fn read_typed_number(&self, alloc: Global, text: &str) -> Result<Decimal, ReadError>
+        ensures answered { IsAnswered result
+            (format_typed_reading self.now.wording.tables self.now.second text.now) }
         ensures memory { IsErrOf result ReadError.Memory → TypedReadAllocates self.now text.now }
     {
         match &self.typed {
             Some(reader) => reader.read(alloc, text),
             None => self.read_typed_once(alloc, text),
+        }
+    }
+
+    // The number whose text this is: none, where words are written.
+    pub(crate) fn read(&self, alloc: Global, text: &str) -> Result<Decimal, ReadError>
+        ensures answered { IsAnswered result (exact_reading self.now text.now) }
+        ensures memory { IsErrOf result ReadError.Memory → ReadAllocates self.now text.now }
+    {
+        match &self.plurals {
+            Some(_) => Err(ReadError::Unreadable),
+            None => self.read_number(alloc, text),
+        }
+    }
+
+    // The number that was typed: none, where words are written.
+    pub(crate) fn read_typed(&self, alloc: Global, text: &str) -> Result<Decimal, ReadError>
+        ensures answered { IsAnswered result (typed_reading self.now text.now) }
+        ensures memory { IsErrOf result ReadError.Memory → TypedReadAllocates self.now text.now }
+    {
+        match &self.plurals {
+            Some(_) => Err(ReadError::Unreadable),
+            None => self.read_typed_number(alloc, text),
         }
     }
 }

@@ -10,7 +10,7 @@ use legumeyet_c_values::{CallError, answer, error_of, put};
 pub const VERSION: u32 = 2;
 
 /// The minor version of the header, which rises when a call or a number is added.
-pub const MINOR: u32 = 0;
+pub const MINOR: u32 = 1;
 
 /// Writes what a number of a call means, in English: of 5 `no locale tag`.
 ///
@@ -37,7 +37,7 @@ pub extern "C" fn legumeyet_version() -> u32
 /// The minor version of the library: that of the header that it was built with.
 #[unsafe(no_mangle)]
 pub extern "C" fn legumeyet_minor() -> u32
-    ensures { result ≡ 0 }
+    ensures { result ≡ 1 }
 {
     MINOR
 }

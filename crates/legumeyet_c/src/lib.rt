@@ -11,8 +11,10 @@
 #![tactic(auto)]
 
 pub mod answering;
+mod asked_format;
 mod asking;
 pub mod book;
+mod categories;
 mod column_writing;
 pub mod columns;
 mod content;
@@ -26,20 +28,25 @@ mod handle;
 mod handles;
 mod held_answers;
 mod held_formatter;
+mod held_plurals;
 pub mod information;
 pub mod keeping;
 mod lent;
+mod lent_formatter;
 pub mod line_answers;
 pub mod locales;
 mod opening;
 pub mod parts;
+pub mod ranges;
 pub mod reading;
 pub mod shared_columns;
 pub mod shared_formatter;
 mod shared_handles;
 pub mod shared_reading;
+pub mod shared_telling;
 pub mod shared_writing;
 mod sharing;
 pub mod skeletons;
+pub mod telling;
 mod unboxed;
 pub mod writing;

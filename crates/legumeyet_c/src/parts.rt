@@ -4,15 +4,15 @@ ghost use Rattle.std.specs.Prelude.{◌≡◌, Ok, IfOk, IfErr};
 ghost use Rattle.legumeyet_c_values.specs.Numbers.{given_of, spelled};
 ghost use Rattle.legumeyet_c_values.specs.Parts.{IsPutInParts, given, held_text};
 ghost use Rattle.legumeyet_c_values.specs.Putting.{Answers};
-ghost use Rattle.legumeyet_c.specs.Formatted.{IsFormatInParts, IsPartsFault};
 ghost use Rattle.legumeyet_c.specs.Kinds.{format_in};
 ghost use Rattle.legumeyet_c.specs.Opened.{opened};
 ghost use Rattle.legumeyet_c.specs.Views.{format_content, format_open};
+ghost use Rattle.legumeyet_c.specs.Worded.{IsInPartsFault, IsTextInParts};
 ghost use Rattle.legumeyet_c.specs.Writing.{GivesNumber, IsNumberRefused, IsNumberWritingFault, IsWritingFault, Writes, WritesNumber};
 
 use crate::asking::{AskedFormatter, asked};
 use crate::content::Content;
-use crate::formatting::number_in_parts;
+use crate::formatting::text_in_parts;
 use crate::handles::FormatterHandle;
 use fixed_decimal::Decimal;
 use legumeyet_c_values::{CallError, GivenNumber, Interval, answer, put_parts};
@@ -26,16 +26,15 @@ fn asked_in_parts(
     number: GivenNumber<'_>,
 ) -> Result<PartsSink, CallError>
     ensures value { IfOk result
-        (λ sink. Writes IsFormatInParts (GivesNumber (given_of number.entry)) (Ok asked.now) (held_text sink)) }
+        (λ sink. Writes IsTextInParts (GivesNumber (given_of number.entry)) (Ok asked.now) (held_text sink)) }
     ensures fault { IfErr result
-        (λ error. IsWritingFault IsPartsFault (GivesNumber (given_of number.entry))
+        (λ error. IsWritingFault IsInPartsFault (GivesNumber (given_of number.entry))
         (IsNumberRefused (given_of number.entry)) (Ok asked.now) error) }
 {
     let lent = asked.held.lent();
-    let formatter = lent.get();
     let mut value = Decimal::zero(alloc);
-    match number.assign_changed(alloc, &asked.options, formatter.fractions(), &mut value) {
-        Ok(()) => number_in_parts(alloc, formatter, &value),
+    match number.assign_changed(alloc, &asked.options, lent.fractions(), &mut value) {
+        Ok(()) => text_in_parts(alloc, &lent, &mut value),
         Err(error) => Err(error),
     }
 }
@@ -48,10 +47,10 @@ fn opened_in_parts(
     words: &[i32],
 ) -> Result<PartsSink, CallError>
     ensures value { IfOk result
-        (λ sink. WritesNumber IsFormatInParts (format_in (opened content.entry)) words.now (spelled number.now)
+        (λ sink. WritesNumber IsTextInParts (format_in (opened content.entry)) words.now (spelled number.now)
         (held_text sink)) }
     ensures fault { IfErr result
-        (λ error. IsNumberWritingFault IsPartsFault (format_in (opened content.entry)) words.now (spelled number.now)
+        (λ error. IsNumberWritingFault IsInPartsFault (format_in (opened content.entry)) words.now (spelled number.now)
         error) }
 {
     match asked(content, words) {
@@ -73,8 +72,8 @@ pub(crate) fn answer_parts(
 ) -> i32
     ensures { Answers
         (IsPutInParts
-        (WritesNumber IsFormatInParts (format_in (opened content.entry)) words.now (spelled number.now))
-        (IsNumberWritingFault IsPartsFault (format_in (opened content.entry)) words.now (spelled number.now))
+        (WritesNumber IsTextInParts (format_in (opened content.entry)) words.now (spelled number.now))
+        (IsNumberWritingFault IsInPartsFault (format_in (opened content.entry)) words.now (spelled number.now))
         (given out.old length.old intervals.old count.old) (given out.new length.new intervals.new count.new))
         result }
 {
@@ -86,7 +85,8 @@ pub(crate) fn answer_parts(
 
 /// Writes a decimal number that is given as text, and lists the parts of its text in order of their beginning: of
 /// `-€1,234.50` the minus sign at 0 to 1, the currency at 1 to 4, the integer at 4 to 9, the group at 5 to 6, the decimal
-/// at 9 to 10 and the fraction at 10 to 12; of compact text those of its sign alone. `count` is how many.
+/// at 9 to 10 and the fraction at 10 to 12; of compact text those of its sign alone, and of the word of a plural category
+/// none. `count` is how many.
 ///
 /// Returns as `legumeyet_formatter_format`; 1 of any number; 3 also where the list needs more room.
 #[unsafe(no_mangle)]
@@ -102,8 +102,8 @@ pub extern "C" fn legumeyet_formatter_format_parts(
 ) -> i32
     ensures same { format_content formatter.new ≡ format_content formatter.old }
     ensures told { Answers
-        (IsPutInParts (WritesNumber IsFormatInParts (format_open formatter.old) options.now (spelled number.now))
-        (IsNumberWritingFault IsPartsFault (format_open formatter.old) options.now (spelled number.now))
+        (IsPutInParts (WritesNumber IsTextInParts (format_open formatter.old) options.now (spelled number.now))
+        (IsNumberWritingFault IsInPartsFault (format_open formatter.old) options.now (spelled number.now))
         (given out.old length.old intervals.old count.old) (given out.new length.new intervals.new count.new))
         result }
 {

@@ -5,8 +5,8 @@ ghost use Rattle.std.specs.Prelude.{pos};
 ghost use Rattle.legumeyet_c_values.specs.Numbers.{double, scaled, spelled};
 ghost use Rattle.legumeyet_c_values.specs.Parts.{IsPutInParts, given};
 ghost use Rattle.legumeyet_c_values.specs.Putting.{Answers, IsPut};
-ghost use Rattle.legumeyet_c.specs.Formatted.{IsFormatFault, IsFormatInParts, IsFormatText, IsPartsFault, IsShownFault, IsShownText};
 ghost use Rattle.legumeyet_c.specs.Views.{shared_format_open};
+ghost use Rattle.legumeyet_c.specs.Worded.{IsInPartsFault, IsNotShown, IsShown, IsText, IsTextFault, IsTextInParts};
 ghost use Rattle.legumeyet_c.specs.Writing.{IsFormWritingFault, IsNumberWritingFault, WritesForm, WritesNumber};
 
 use crate::exact::{answer_form, answer_shown};
@@ -29,8 +29,8 @@ pub extern "C" fn legumeyet_shared_formatter_format(
     length: &mut usize,
 ) -> i32
     ensures { Answers
-        (IsPut (WritesNumber IsFormatText (shared_format_open formatter.now) options.now (spelled number.now))
-        (IsNumberWritingFault IsFormatFault (shared_format_open formatter.now) options.now (spelled number.now))
+        (IsPut (WritesNumber IsText (shared_format_open formatter.now) options.now (spelled number.now))
+        (IsNumberWritingFault IsTextFault (shared_format_open formatter.now) options.now (spelled number.now))
         out.old out.new length.old length.new) result }
 {
     let number = GivenNumber::Text(number);
@@ -52,8 +52,8 @@ pub extern "C" fn legumeyet_shared_formatter_format_i64(
     length: &mut usize,
 ) -> i32
     ensures { Answers
-        (IsPut (WritesNumber IsFormatText (shared_format_open formatter.now) options.now (scaled mantissa exponent))
-        (IsNumberWritingFault IsFormatFault (shared_format_open formatter.now) options.now (scaled mantissa exponent))
+        (IsPut (WritesNumber IsText (shared_format_open formatter.now) options.now (scaled mantissa exponent))
+        (IsNumberWritingFault IsTextFault (shared_format_open formatter.now) options.now (scaled mantissa exponent))
         out.old out.new length.old length.new) result }
 {
     let number = GivenNumber::Scaled(mantissa, exponent);
@@ -77,8 +77,8 @@ pub extern "C" fn legumeyet_shared_formatter_format_u64(
 ) -> i32
     ensures { Answers
         (IsPut
-        (WritesNumber IsFormatText (shared_format_open formatter.now) options.now (scaled (pos mantissa) exponent))
-        (IsNumberWritingFault IsFormatFault (shared_format_open formatter.now) options.now
+        (WritesNumber IsText (shared_format_open formatter.now) options.now (scaled (pos mantissa) exponent))
+        (IsNumberWritingFault IsTextFault (shared_format_open formatter.now) options.now
         (scaled (pos mantissa) exponent)) out.old out.new length.old length.new) result }
 {
     let number = GivenNumber::ScaledUnsigned(mantissa, exponent);
@@ -99,8 +99,8 @@ pub extern "C" fn legumeyet_shared_formatter_format_double(
     length: &mut usize,
 ) -> i32
     ensures { Answers
-        (IsPut (WritesNumber IsFormatText (shared_format_open formatter.now) options.now (double number))
-        (IsNumberWritingFault IsFormatFault (shared_format_open formatter.now) options.now (double number)) out.old
+        (IsPut (WritesNumber IsText (shared_format_open formatter.now) options.now (double number))
+        (IsNumberWritingFault IsTextFault (shared_format_open formatter.now) options.now (double number)) out.old
         out.new length.old length.new) result }
 {
     let number = GivenNumber::Double(number);
@@ -142,8 +142,8 @@ pub extern "C" fn legumeyet_shared_formatter_shown(
     length: &mut usize,
 ) -> i32
     ensures { Answers
-        (IsPut (WritesNumber IsShownText (shared_format_open formatter.now) options.now (spelled number.now))
-        (IsNumberWritingFault IsShownFault (shared_format_open formatter.now) options.now (spelled number.now))
+        (IsPut (WritesNumber IsShown (shared_format_open formatter.now) options.now (spelled number.now))
+        (IsNumberWritingFault IsNotShown (shared_format_open formatter.now) options.now (spelled number.now))
         out.old out.new length.old length.new) result }
 {
     let content = formatter.handle.content();
@@ -166,8 +166,8 @@ pub extern "C" fn legumeyet_shared_formatter_format_parts(
 ) -> i32
     ensures { Answers
         (IsPutInParts
-        (WritesNumber IsFormatInParts (shared_format_open formatter.now) options.now (spelled number.now))
-        (IsNumberWritingFault IsPartsFault (shared_format_open formatter.now) options.now (spelled number.now))
+        (WritesNumber IsTextInParts (shared_format_open formatter.now) options.now (spelled number.now))
+        (IsNumberWritingFault IsInPartsFault (shared_format_open formatter.now) options.now (spelled number.now))
         (given out.old length.old intervals.old count.old) (given out.new length.new intervals.new count.new))
         result }
 {

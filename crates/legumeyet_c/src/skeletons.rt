@@ -3,20 +3,10 @@
 ghost use Rattle.std.specs.Prelude.{◌≡◌};
 ghost use Rattle.locale_numbers_formats.specs.Skeletons.{skeleton_of};
 ghost use Rattle.legumeyet_c_values.specs.Putting.{Answers, IsPut};
-ghost use Rattle.legumeyet_c.specs.AskedFormats.{IsSkeletonFault, SaysNormal, format_by_skeleton, place_by, place_of_outcome};
+ghost use Rattle.legumeyet_c.specs.AskedFormats.{IsSkeletonFault, SaysNormal, place_by, place_of_outcome};
 
 use legumeyet_c_values::{CallError, answer, put};
-use locale_numbers_formats::{NumberFormat, Skeleton};
-
-// The format that a skeleton asks for.
-pub(crate) fn format_by_skeleton(skeleton: &[u8]) -> Result<NumberFormat, CallError>
-    ensures { result ≡ format_by_skeleton skeleton.now }
-{
-    match Skeleton::try_from_utf8(skeleton) {
-        Ok(skeleton) => Ok(skeleton.format()),
-        Err(error) => Err(CallError::Skeleton(error)),
-    }
-}
+use locale_numbers_formats::Skeleton;
 
 // Tells where a skeleton is wrong, where a call was refused for it.
 pub(crate) fn tell_place(outcome: &Result<(), CallError>, place: &mut usize)

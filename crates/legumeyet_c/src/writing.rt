@@ -1,42 +1,68 @@
 //! Numbers written: `legumeyet_formatter_format`, `_format_i64`, `_format_u64` and `_format_double`.
 
-ghost use Rattle.std.specs.Prelude.{◌≡◌, Ok, pos};
+ghost use Rattle.std.specs.Prelude.{◌≡◌, pos};
 ghost use Rattle.legumeyet_c_values.specs.Numbers.{double, given_of, scaled, spelled};
 ghost use Rattle.legumeyet_c_values.specs.Putting.{Answers, IsPut};
-ghost use Rattle.legumeyet_c.specs.Formatted.{IsFormatFault, IsFormatText};
+ghost use Rattle.legumeyet_c.specs.ColumnWriting.{IsAskedFault, WritesAsked};
 ghost use Rattle.legumeyet_c.specs.Kinds.{format_in};
 ghost use Rattle.legumeyet_c.specs.Opened.{opened};
 ghost use Rattle.legumeyet_c.specs.Views.{format_content, format_open};
-ghost use Rattle.legumeyet_c.specs.Writing.{GivesNumber, IsNumberRefused, IsNumberWritingFault, IsWritingFault, Writes, WritesNumber};
+ghost use Rattle.legumeyet_c.specs.Worded.{IsText, IsTextFault};
+ghost use Rattle.legumeyet_c.specs.Writing.{IsNumberWritingFault, WritesNumber, asked_for};
 
 use crate::asking::{AskedFormatter, asked};
 use crate::content::Content;
 use crate::direct::{digits_given, put_digits};
-use crate::formatting::put_number;
+use crate::formatting::put_text;
 use crate::handles::FormatterHandle;
+use crate::lent_formatter::LentFormatter;
 use fixed_decimal::Decimal;
 use legumeyet_c_values::{CallError, GivenNumber, answer};
+use locale_numbers_formats::NumberOptions;
 use std::alloc::Global;
 
+// Writes a number, changed as options ask for; `value` is room for it.
+pub(crate) fn write_given(
+    alloc: Global,
+    lent: &LentFormatter<'_>,
+    options: &NumberOptions,
+    number: GivenNumber<'_>,
+    value: &mut Decimal,
+    out: &mut [u8],
+    length: &mut usize,
+) -> Result<(), CallError>
+    ensures { IsPut (WritesAsked (asked_for lent.now options.now) (given_of number.entry))
+        (IsAskedFault (asked_for lent.now options.now) (given_of number.entry)) out.old out.new length.old length.new
+        result }
+{
+    match number.assign_changed(alloc, options, lent.fractions(), value) {
+        Ok(()) => put_text(lent, value, out, length),
+        Err(error) => Err(error),
+    }
+}
+
 // Writes a number as is asked.
-fn write_given(
+fn write_lent(
     alloc: Global,
     asked: &AskedFormatter<'_>,
     number: GivenNumber<'_>,
     out: &mut [u8],
     length: &mut usize,
 ) -> Result<(), CallError>
-    ensures { IsPut (Writes IsFormatText (GivesNumber (given_of number.entry)) (Ok asked.now))
-        (IsWritingFault IsFormatFault (GivesNumber (given_of number.entry)) (IsNumberRefused (given_of number.entry))
-        (Ok asked.now)) out.old out.new length.old length.new result }
+    ensures { IsPut (WritesAsked asked.now (given_of number.entry)) (IsAskedFault asked.now (given_of number.entry))
+        out.old out.new length.old length.new result }
 {
     let lent = asked.held.lent();
-    let formatter = lent.get();
     let mut value = Decimal::zero(alloc);
-    match number.assign_changed(alloc, &asked.options, formatter.fractions(), &mut value) {
-        Ok(()) => put_number(formatter, &value, out, length),
-        Err(error) => Err(error),
-    }
+    write_given(
+        alloc,
+        &lent,
+        &asked.options,
+        number,
+        &mut value,
+        out,
+        length,
+    )
 }
 
 // The same, a text directly where it can be.
@@ -47,16 +73,15 @@ fn write_asked(
     out: &mut [u8],
     length: &mut usize,
 ) -> Result<(), CallError>
-    ensures { IsPut (Writes IsFormatText (GivesNumber (given_of number.entry)) (Ok asked.now))
-        (IsWritingFault IsFormatFault (GivesNumber (given_of number.entry)) (IsNumberRefused (given_of number.entry))
-        (Ok asked.now)) out.old out.new length.old length.new result }
+    ensures { IsPut (WritesAsked asked.now (given_of number.entry)) (IsAskedFault asked.now (given_of number.entry))
+        out.old out.new length.old length.new result }
 {
     let Some(texts) = asked.held.texts() else {
-        return write_given(alloc, asked, number, out, length);
+        return write_lent(alloc, asked, number, out, length);
     };
     match digits_given(&asked.options, number) {
         Some(digits) => put_digits(texts, &digits, out, length),
-        None => write_given(alloc, asked, number, out, length),
+        None => write_lent(alloc, asked, number, out, length),
     }
 }
 
@@ -70,8 +95,8 @@ pub(crate) fn answer_number(
     length: &mut usize,
 ) -> i32
     ensures { Answers
-        (IsPut (WritesNumber IsFormatText (format_in (opened content.entry)) words.now (given_of number.entry))
-        (IsNumberWritingFault IsFormatFault (format_in (opened content.entry)) words.now (given_of number.entry))
+        (IsPut (WritesNumber IsText (format_in (opened content.entry)) words.now (given_of number.entry))
+        (IsNumberWritingFault IsTextFault (format_in (opened content.entry)) words.now (given_of number.entry))
         out.old out.new length.old length.new) result }
 {
     match asked(content, words) {
@@ -81,7 +106,7 @@ pub(crate) fn answer_number(
 }
 
 /// Writes a decimal number that is given as text: `-987654.321` in English as `-987,654.321`, as `-988K`, as
-/// `-987,654.321%`, or with euros as `-€987,654.32`.
+/// `-987,654.321%`, with euros as `-€987,654.32`, or as the word of its plural category, `other`.
 ///
 /// Returns 0; 2, the handle is closed; 4, an option is unknown; 7, the text is no decimal number; 8, one with a digit
 /// beyond the magnitudes -32768 to 32767; 9, what compact text shows reaches ten to the power 32768; 1, out of memory,
@@ -98,8 +123,8 @@ pub extern "C" fn legumeyet_formatter_format(
 ) -> i32
     ensures same { format_content formatter.new ≡ format_content formatter.old }
     ensures told { Answers
-        (IsPut (WritesNumber IsFormatText (format_open formatter.old) options.now (spelled number.now))
-        (IsNumberWritingFault IsFormatFault (format_open formatter.old) options.now (spelled number.now))
+        (IsPut (WritesNumber IsText (format_open formatter.old) options.now (spelled number.now))
+        (IsNumberWritingFault IsTextFault (format_open formatter.old) options.now (spelled number.now))
         out.old out.new length.old length.new) result }
 {
     let number = GivenNumber::Text(number);
@@ -123,8 +148,8 @@ pub extern "C" fn legumeyet_formatter_format_i64(
 ) -> i32
     ensures same { format_content formatter.new ≡ format_content formatter.old }
     ensures told { Answers
-        (IsPut (WritesNumber IsFormatText (format_open formatter.old) options.now (scaled mantissa exponent))
-        (IsNumberWritingFault IsFormatFault (format_open formatter.old) options.now (scaled mantissa exponent))
+        (IsPut (WritesNumber IsText (format_open formatter.old) options.now (scaled mantissa exponent))
+        (IsNumberWritingFault IsTextFault (format_open formatter.old) options.now (scaled mantissa exponent))
         out.old out.new length.old length.new) result }
 {
     let number = GivenNumber::Scaled(mantissa, exponent);
@@ -148,8 +173,8 @@ pub extern "C" fn legumeyet_formatter_format_u64(
 ) -> i32
     ensures same { format_content formatter.new ≡ format_content formatter.old }
     ensures told { Answers
-        (IsPut (WritesNumber IsFormatText (format_open formatter.old) options.now (scaled (pos mantissa) exponent))
-        (IsNumberWritingFault IsFormatFault (format_open formatter.old) options.now (scaled (pos mantissa) exponent))
+        (IsPut (WritesNumber IsText (format_open formatter.old) options.now (scaled (pos mantissa) exponent))
+        (IsNumberWritingFault IsTextFault (format_open formatter.old) options.now (scaled (pos mantissa) exponent))
         out.old out.new length.old length.new) result }
 {
     let number = GivenNumber::ScaledUnsigned(mantissa, exponent);
@@ -171,8 +196,8 @@ pub extern "C" fn legumeyet_formatter_format_double(
 ) -> i32
     ensures same { format_content formatter.new ≡ format_content formatter.old }
     ensures told { Answers
-        (IsPut (WritesNumber IsFormatText (format_open formatter.old) options.now (double number))
-        (IsNumberWritingFault IsFormatFault (format_open formatter.old) options.now (double number)) out.old out.new
+        (IsPut (WritesNumber IsText (format_open formatter.old) options.now (double number))
+        (IsNumberWritingFault IsTextFault (format_open formatter.old) options.now (double number)) out.old out.new
         length.old length.new) result }
 {
     let number = GivenNumber::Double(number);

@@ -2,6 +2,7 @@
 use Rattle.std.proofs.Common.{◌≡◌, ℕ, List, [], ◌∷◌, Some, None, Ok, Err, refl}
 use Rattle.std.specs.Prelude.{ℤ, codes, pos, negsuc}
 use Rattle.std.specs.List.{concat}
+use Rattle.fixed_decimal.specs.declared.RoundingIncrement.{RoundingIncrement}
 use Rattle.fixed_decimal.specs.declared.RoundingIncrement.TheVariants.{MultiplesOf1, MultiplesOf2, MultiplesOf5, MultiplesOf25}
 use Rattle.fixed_decimal.specs.declared.SignDisplay.TheVariants as display
 use Rattle.fixed_decimal.specs.declared.SignedRoundingMode.TheVariants.{Unsigned, Ceil, Floor, HalfCeil, HalfFloor}
@@ -11,6 +12,7 @@ use Rattle.icu_dimension_fractions.specs.declared.CurrencyStyle.{CurrencyStyle}
 use Rattle.icu_dimension_fractions.specs.declared.CurrencyStyle.TheVariants as style
 use Rattle.icu_dimension_fractions.specs.declared.CurrencyWidth.{CurrencyWidth}
 use Rattle.icu_dimension_fractions.specs.declared.CurrencyWidth.TheVariants as currency_width
+use Rattle.icu_plurals.specs.declared.PluralRuleType.TheVariants.{Cardinal, Ordinal}
 use Rattle.locale_numbers_faults.specs.declared.BookError.TheVariants as book
 use Rattle.locale_numbers_formats.specs.declared.CompactWidth.TheVariants.{Short, Long}
 use Rattle.locale_numbers_formats.specs.declared.LeadingZeros.TheVariants.{TrimRoundedZero}
@@ -31,6 +33,7 @@ use Rattle.legumeyet_c_values.specs.Numbers.{spelled}
 use Rattle.legumeyet_c_values.specs.Parts.{kind_of}
 use Rattle.legumeyet_c_values.specs.Words.{number_options_of, options_of, shape_of, usual}
 use Rattle.legumeyet_c_values.specs.declared.call_error.CallError.TheVariants as call
+use Rattle.legumeyet_c_values.specs.declared.shape_words.AskedShape.{AskedShape}
 
 -- ---- what a call returns
 
@@ -200,6 +203,88 @@ increment_unknown = refl
 increment_alone : number_options_of (pos 0 ∷ pos 0 ∷ pos 0 ∷ pos 3 ∷ []) ≡ None
 increment_alone = refl
 
+-- increments with zeros behind: to multiples at a higher position, with the digits down to the one that is given
+abbrev half_even_to : ℤ → RoundingIncrement → ℕ → NumberOptions
+half_even_to position increment fraction = record (asks (At position (Unsigned HalfEven) increment)) { fraction_digits = pos fraction }
+
+increment_ten : number_options_of (pos 0 ∷ pos 9 ∷ pos 0 ∷ pos 10 ∷ []) ≡ Some (half_even_to (pos 1) MultiplesOf1 0)
+increment_ten = refl
+
+increment_twenty : number_options_of (pos 0 ∷ pos 9 ∷ negsuc 0 ∷ pos 20 ∷ []) ≡ Some (half_even_to (pos 0) MultiplesOf2 1)
+increment_twenty = refl
+
+increment_fifty : number_options_of (pos 0 ∷ pos 9 ∷ negsuc 1 ∷ pos 50 ∷ []) ≡ Some (half_even_to (negsuc 0) MultiplesOf5 2)
+increment_fifty = refl
+
+increment_hundred : number_options_of (pos 0 ∷ pos 9 ∷ pos 0 ∷ pos 100 ∷ []) ≡ Some (half_even_to (pos 2) MultiplesOf1 0)
+increment_hundred = refl
+
+increment_two_hundred : number_options_of (pos 0 ∷ pos 9 ∷ pos 0 ∷ pos 200 ∷ []) ≡ Some (half_even_to (pos 2) MultiplesOf2 0)
+increment_two_hundred = refl
+
+increment_wider_quarter : number_options_of (pos 0 ∷ pos 9 ∷ negsuc 2 ∷ pos 250 ∷ []) ≡ Some (half_even_to (negsuc 1) MultiplesOf25 3)
+increment_wider_quarter = refl
+
+increment_five_hundred : number_options_of (pos 0 ∷ pos 9 ∷ negsuc 0 ∷ pos 500 ∷ []) ≡ Some (half_even_to (pos 1) MultiplesOf5 1)
+increment_five_hundred = refl
+
+increment_thousand : number_options_of (pos 0 ∷ pos 9 ∷ pos 0 ∷ pos 1000 ∷ []) ≡ Some (half_even_to (pos 3) MultiplesOf1 0)
+increment_thousand = refl
+
+increment_two_thousand : number_options_of (pos 0 ∷ pos 9 ∷ pos 2 ∷ pos 2000 ∷ []) ≡ Some (half_even_to (pos 5) MultiplesOf2 0)
+increment_two_thousand = refl
+
+increment_widest_quarter : number_options_of (pos 0 ∷ pos 9 ∷ negsuc 1 ∷ pos 2500 ∷ []) ≡ Some (half_even_to (pos 0) MultiplesOf25 2)
+increment_widest_quarter = refl
+
+increment_five_thousand : number_options_of (pos 0 ∷ pos 9 ∷ negsuc 1 ∷ pos 5000 ∷ []) ≡ Some (half_even_to (pos 1) MultiplesOf5 2)
+increment_five_thousand = refl
+
+increment_too_large : number_options_of (pos 0 ∷ pos 9 ∷ pos 0 ∷ pos 10000 ∷ []) ≡ None
+increment_too_large = refl
+
+increment_below : number_options_of (pos 0 ∷ pos 9 ∷ pos 0 ∷ negsuc 9 ∷ []) ≡ None
+increment_below = refl
+
+-- the multiples are at a position up to 32767, and there are up to 32767 digits of a fraction
+tens_at_most : number_options_of (pos 0 ∷ pos 9 ∷ pos 32766 ∷ pos 10 ∷ []) ≡ Some (half_even_to (pos 32767) MultiplesOf1 0)
+tens_at_most = refl
+
+tens_too_high : number_options_of (pos 0 ∷ pos 9 ∷ pos 32767 ∷ pos 10 ∷ []) ≡ None
+tens_too_high = refl
+
+tens_at_least : number_options_of (pos 0 ∷ pos 9 ∷ negsuc 32766 ∷ pos 10 ∷ []) ≡ Some (half_even_to (negsuc 32765) MultiplesOf1 32767)
+tens_at_least = refl
+
+tens_too_low : number_options_of (pos 0 ∷ pos 9 ∷ negsuc 32767 ∷ pos 10 ∷ []) ≡ None
+tens_too_low = refl
+
+tens_too_high_alone : number_options_of (pos 0 ∷ pos 0 ∷ pos 32767 ∷ pos 10 ∷ []) ≡ None
+tens_too_high_alone = refl
+
+-- where zeros at the end are trimmed those of the least count stay; where nothing is rounded at the position no digits go down to it
+trimmed_fifty : number_options_of (pos 0 ∷ pos 9 ∷ negsuc 1 ∷ pos 50 ∷ pos 1 ∷ []) ≡ Some (record (half_even_to (negsuc 0) MultiplesOf5 0) { zeros = Trim })
+trimmed_fifty = refl
+
+whole_fifty : number_options_of (pos 0 ∷ pos 9 ∷ negsuc 1 ∷ pos 50 ∷ pos 2 ∷ []) ≡ Some (record (half_even_to (negsuc 0) MultiplesOf5 2) { zeros = TrimWhole })
+whole_fifty = refl
+
+padded_fifty : number_options_of (pos 0 ∷ pos 9 ∷ negsuc 1 ∷ pos 50 ∷ pos 3 ∷ pos 0 ∷ pos 1 ∷ []) ≡ Some (record (half_even_to (negsuc 0) MultiplesOf5 1) { zeros = TrimAll })
+padded_fifty = refl
+
+wider_fifty : number_options_of (pos 0 ∷ pos 9 ∷ negsuc 1 ∷ pos 50 ∷ pos 0 ∷ pos 0 ∷ pos 3 ∷ []) ≡ Some (half_even_to (negsuc 0) MultiplesOf5 3)
+wider_fifty = refl
+
+usual_fifty : number_options_of (pos 0 ∷ pos 0 ∷ negsuc 1 ∷ pos 50 ∷ []) ≡ Some usual
+usual_fifty = refl
+
+given_fifty : number_options_of (pos 0 ∷ pos 11 ∷ negsuc 1 ∷ pos 50 ∷ []) ≡ Some (asks AsGiven)
+given_fifty = refl
+
+-- significant digits take the increment 1 alone
+significant_tens : number_options_of (pos 0 ∷ pos 9 ∷ pos 0 ∷ pos 10 ∷ pos 0 ∷ pos 0 ∷ pos 0 ∷ pos 1 ∷ pos 3 ∷ []) ≡ None
+significant_tens = refl
+
 -- zeros and least counts of digits
 zeros_trimmed : number_options_of (pos 0 ∷ pos 0 ∷ pos 0 ∷ pos 0 ∷ pos 1 ∷ []) ≡ Some (record usual { zeros = Trim })
 zeros_trimmed = refl
@@ -311,29 +396,33 @@ own_unknown = refl
 abbrev plain : NumberShape
 plain = record { notation = Standard; unit = beside.None; grouping = grouping.Auto }
 
+-- numbers are written, and no words of plural categories
+abbrev numbers : NumberShape → AskedShape
+numbers shape = record { shape = shape; plurals = None }
+
 abbrev euros : CurrencyStyle → CurrencyWidth → NumberShape
 euros style width = record plain { unit = beside.Currency (record { code = codes "EUR"; style = style; width = width }) }
 
-no_format_words : shape_of [] [] ≡ Ok plain
+no_format_words : shape_of [] [] ≡ Ok (numbers plain)
 no_format_words = refl
 
-zeroed_format : shape_of (pos 0 ∷ pos 0 ∷ pos 0 ∷ pos 0 ∷ pos 0 ∷ pos 0 ∷ []) [] ≡ Ok plain
+zeroed_format : shape_of (pos 0 ∷ pos 0 ∷ pos 0 ∷ pos 0 ∷ pos 0 ∷ pos 0 ∷ []) [] ≡ Ok (numbers plain)
 zeroed_format = refl
 
-known_past_format : shape_of (pos 0 ∷ pos 0 ∷ pos 0 ∷ pos 0 ∷ pos 0 ∷ pos 0 ∷ pos 0 ∷ []) [] ≡ Ok plain
+known_past_format : shape_of (pos 0 ∷ pos 0 ∷ pos 0 ∷ pos 0 ∷ pos 0 ∷ pos 0 ∷ pos 0 ∷ pos 0 ∷ []) [] ≡ Ok (numbers plain)
 known_past_format = refl
 
-unknown_past_format : shape_of (pos 0 ∷ pos 0 ∷ pos 0 ∷ pos 0 ∷ pos 0 ∷ pos 0 ∷ pos 1 ∷ []) [] ≡ Err call.UnknownOption
+unknown_past_format : shape_of (pos 0 ∷ pos 0 ∷ pos 0 ∷ pos 0 ∷ pos 0 ∷ pos 0 ∷ pos 0 ∷ pos 1 ∷ []) [] ≡ Err call.UnknownOption
 unknown_past_format = refl
 
-compact_short : shape_of (pos 1 ∷ []) [] ≡ Ok (record plain { notation = Compact Short })
+compact_short : shape_of (pos 1 ∷ []) [] ≡ Ok (numbers (record plain { notation = Compact Short }))
 compact_short = refl
 
-compact_long_never_grouped : shape_of (pos 1 ∷ pos 1 ∷ pos 0 ∷ pos 0 ∷ pos 0 ∷ pos 1 ∷ []) [] ≡ Ok (record plain { notation = Compact Long; grouping = grouping.Never })
+compact_long_never_grouped : shape_of (pos 1 ∷ pos 1 ∷ pos 0 ∷ pos 0 ∷ pos 0 ∷ pos 1 ∷ []) [] ≡ Ok (numbers (record plain { notation = Compact Long; grouping = grouping.Never }))
 compact_long_never_grouped = refl
 
 -- a width counts for nothing beside the standard notation, and is looked at
-long_counts_for_nothing : shape_of (pos 0 ∷ pos 1 ∷ []) [] ≡ Ok plain
+long_counts_for_nothing : shape_of (pos 0 ∷ pos 1 ∷ []) [] ≡ Ok (numbers plain)
 long_counts_for_nothing = refl
 
 width_unknown : shape_of (pos 0 ∷ pos 7 ∷ []) [] ≡ Err call.UnknownOption
@@ -345,13 +434,13 @@ notation_unknown = refl
 notation_below : shape_of (negsuc 0 ∷ []) [] ≡ Err call.UnknownOption
 notation_below = refl
 
-percents : shape_of (pos 0 ∷ pos 0 ∷ pos 1 ∷ []) [] ≡ Ok (record plain { unit = beside.Percent })
+percents : shape_of (pos 0 ∷ pos 0 ∷ pos 1 ∷ []) [] ≡ Ok (numbers (record plain { unit = beside.Percent }))
 percents = refl
 
-in_euros : shape_of (pos 0 ∷ pos 0 ∷ pos 2 ∷ []) (codes "EUR") ≡ Ok (euros style.Standard currency_width.Short)
+in_euros : shape_of (pos 0 ∷ pos 0 ∷ pos 2 ∷ []) (codes "EUR") ≡ Ok (numbers (euros style.Standard currency_width.Short))
 in_euros = refl
 
-in_accounting_by_code : shape_of (pos 0 ∷ pos 0 ∷ pos 2 ∷ pos 1 ∷ pos 1 ∷ []) (codes "EUR") ≡ Ok (euros style.Accounting currency_width.IsoCode)
+in_accounting_by_code : shape_of (pos 0 ∷ pos 0 ∷ pos 2 ∷ pos 1 ∷ pos 1 ∷ []) (codes "EUR") ≡ Ok (numbers (euros style.Accounting currency_width.IsoCode))
 in_accounting_by_code = refl
 
 small_code : shape_of (pos 0 ∷ pos 0 ∷ pos 2 ∷ []) (codes "eur") ≡ Err call.Code
@@ -379,14 +468,35 @@ currency_width_unknown = refl
 word_before_code : shape_of (pos 0 ∷ pos 0 ∷ pos 2 ∷ pos 0 ∷ pos 0 ∷ pos 5 ∷ []) (codes "euro") ≡ Err call.UnknownOption
 word_before_code = refl
 
-grouped_always : shape_of (pos 0 ∷ pos 0 ∷ pos 0 ∷ pos 0 ∷ pos 0 ∷ pos 2 ∷ []) [] ≡ Ok (record plain { grouping = grouping.Always })
+grouped_always : shape_of (pos 0 ∷ pos 0 ∷ pos 0 ∷ pos 0 ∷ pos 0 ∷ pos 2 ∷ []) [] ≡ Ok (numbers (record plain { grouping = grouping.Always }))
 grouped_always = refl
 
-grouped_by_two : shape_of (pos 0 ∷ pos 0 ∷ pos 0 ∷ pos 0 ∷ pos 0 ∷ pos 3 ∷ []) [] ≡ Ok (record plain { grouping = grouping.Min2 })
+grouped_by_two : shape_of (pos 0 ∷ pos 0 ∷ pos 0 ∷ pos 0 ∷ pos 0 ∷ pos 3 ∷ []) [] ≡ Ok (numbers (record plain { grouping = grouping.Min2 }))
 grouped_by_two = refl
 
-grouped_aligned : shape_of (pos 0 ∷ pos 0 ∷ pos 0 ∷ pos 0 ∷ pos 0 ∷ pos 4 ∷ []) [] ≡ Ok (record plain { grouping = grouping.OnAligned })
+grouped_aligned : shape_of (pos 0 ∷ pos 0 ∷ pos 0 ∷ pos 0 ∷ pos 0 ∷ pos 4 ∷ []) [] ≡ Ok (numbers (record plain { grouping = grouping.OnAligned }))
 grouped_aligned = refl
+
+-- the words of plural categories
+cardinal_words : shape_of (pos 0 ∷ pos 0 ∷ pos 0 ∷ pos 0 ∷ pos 0 ∷ pos 0 ∷ pos 1 ∷ []) [] ≡ Ok (record { shape = plain; plurals = Some Cardinal })
+cardinal_words = refl
+
+ordinal_words : shape_of (pos 0 ∷ pos 0 ∷ pos 0 ∷ pos 0 ∷ pos 0 ∷ pos 0 ∷ pos 2 ∷ []) [] ≡ Ok (record { shape = plain; plurals = Some Ordinal })
+ordinal_words = refl
+
+words_of_amounts : shape_of (pos 0 ∷ pos 0 ∷ pos 2 ∷ pos 0 ∷ pos 0 ∷ pos 0 ∷ pos 1 ∷ []) (codes "EUR")
+    ≡ Ok (record { shape = euros style.Standard currency_width.Short; plurals = Some Cardinal })
+words_of_amounts = refl
+
+plurals_unknown : shape_of (pos 0 ∷ pos 0 ∷ pos 0 ∷ pos 0 ∷ pos 0 ∷ pos 0 ∷ pos 3 ∷ []) [] ≡ Err call.UnknownOption
+plurals_unknown = refl
+
+plurals_below : shape_of (pos 0 ∷ pos 0 ∷ pos 0 ∷ pos 0 ∷ pos 0 ∷ pos 0 ∷ negsuc 0 ∷ []) [] ≡ Err call.UnknownOption
+plurals_below = refl
+
+-- an unknown word comes before a text that is no code here too
+plurals_before_code : shape_of (pos 0 ∷ pos 0 ∷ pos 2 ∷ pos 0 ∷ pos 0 ∷ pos 0 ∷ pos 3 ∷ []) (codes "euro") ≡ Err call.UnknownOption
+plurals_before_code = refl
 
 -- ---- columns
 

@@ -1,5 +1,7 @@
 pub mod ColumnLemmas
 pub mod DoublesLemmas
+pub mod FactLemmas
+mod KnownFacts
 mod KnownValues
 pub mod LineBuffersLemmas
 pub mod ListingLemmas

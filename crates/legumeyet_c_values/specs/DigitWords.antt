@@ -1,7 +1,7 @@
 -- What is asked for by significant digits beside a rounding at a position: by a least and a most count, of which 0 is not said, and a priority.
 -- Defined in include/legumeyet.h, `legumeyet_options`.
 -- Cited by the exports that write numbers, through Words.antt.
-use Rattle.std.specs.Prelude.{ℕ, ◌==◌, ◌&&◌, nat_lt, Option, Some, None, if◌then◌else◌}
+use Rattle.std.specs.Prelude.{ℕ, ◌==◌, ◌&&◌, nat_lt, Bool, true, false, Option, Some, None, if◌then◌else◌}
 use Rattle.fixed_decimal.specs.declared.RoundingIncrement.{RoundingIncrement}
 use Rattle.fixed_decimal.specs.declared.RoundingIncrement.TheVariants.{MultiplesOf1}
 use Rattle.fixed_decimal.specs.declared.SignedRoundingMode.TheVariants.{Unsigned}
@@ -10,6 +10,8 @@ use Rattle.locale_numbers_formats.specs.declared.Rounding.{Rounding}
 use Rattle.locale_numbers_formats.specs.declared.Rounding.TheVariants.{Usual, At, Significant, Either}
 use Rattle.locale_numbers_formats.specs.declared.RoundingPriority.{RoundingPriority}
 use Rattle.locale_numbers_formats.specs.declared.SignificantDigits.{SignificantDigits}
+use Rattle.locale_numbers_requests.specs.Increments.{has_no_zeros}
+use Rattle.locale_numbers_requests.specs.declared.Increment.{Increment}
 
 -- ---- how many
 
@@ -42,12 +44,19 @@ abbrev pub digits_rounding : SignificantDigits → Option RoundingPriority → R
 digits_rounding digits None asked = digits_alone digits asked
 digits_rounding digits (Some priority) asked = digits_beside digits priority asked
 
--- digits go with no other multiples
-abbrev pub single_rounding : SignificantDigits → Option RoundingPriority → RoundingIncrement → Rounding → Option Rounding
-single_rounding digits priority MultiplesOf1 asked = digits_rounding digits priority asked
-single_rounding digits priority _ asked = None
+-- an increment is 1
+abbrev pub is_single : RoundingIncrement → Bool
+is_single MultiplesOf1 = true
+is_single _ = false
 
-abbrev pub said_rounding : Option SignificantDigits → Option RoundingPriority → RoundingIncrement → Rounding → Option Rounding
+abbrev pub is_one : Increment → Bool
+is_one increment = has_no_zeros increment && is_single increment.digits
+
+-- digits go with no other increment
+abbrev pub single_rounding : SignificantDigits → Option RoundingPriority → Increment → Rounding → Option Rounding
+single_rounding digits priority increment asked = if is_one increment then digits_rounding digits priority asked else None
+
+abbrev pub said_rounding : Option SignificantDigits → Option RoundingPriority → Increment → Rounding → Option Rounding
 said_rounding None priority increment asked = None
 said_rounding (Some digits) priority increment asked = single_rounding digits priority increment asked
 
@@ -56,7 +65,7 @@ abbrev pub unsaid_rounding : Option RoundingPriority → Rounding → Option Rou
 unsaid_rounding None asked = Some asked
 unsaid_rounding (Some priority) asked = None
 
-abbrev pub rounding_by : ℕ → ℕ → Option RoundingPriority → RoundingIncrement → Rounding → Option Rounding
+abbrev pub rounding_by : ℕ → ℕ → Option RoundingPriority → Increment → Rounding → Option Rounding
 rounding_by least most priority increment asked =
     if (least == 0) && (most == 0) then unsaid_rounding priority asked
     else said_rounding (digits_by least most) priority increment asked

@@ -1,6 +1,7 @@
 pub mod CallErrors
 pub mod Columns
 pub mod DigitWords
+pub mod Facts
 pub mod Information
 pub mod LineBuffers
 pub mod Numbers

@@ -2,7 +2,7 @@
 -- Defined in include/legumeyet.h, docs/units.md, "Digits of a currency", and docs/requests.md, "Rounding and sign".
 -- Cited by the exports that open formatters, and those that write numbers.
 -- The imports are many: each enum that a word stands for, and its cases.
-use Rattle.std.specs.Prelude.{ℕ, ℤ, pos, negsuc, ◌==◌, nat_lt, Bool, false, List, [], ◌∷◌, ◌++◌, map, drop, Option, Some, None, unwrap_or, Result, Ok, Err, slice_get, slice_index_or, if◌then◌else◌}
+use Rattle.std.specs.Prelude.{ℕ, ℤ, pos, negsuc, ◌==◌, ◌&&◌, nat_lt, int_lt, Bool, true, false, List, [], ◌∷◌, ◌++◌, map, drop, Option, Some, None, unwrap_or, Result, Ok, Err, slice_get, slice_index_or, if◌then◌else◌}
 use Rattle.std.specs.List.{list_all}
 use Rattle.fixed_decimal.specs.declared.RoundingIncrement.{RoundingIncrement}
 use Rattle.fixed_decimal.specs.declared.RoundingIncrement.TheVariants.{MultiplesOf1, MultiplesOf2, MultiplesOf5, MultiplesOf25}
@@ -17,9 +17,12 @@ use Rattle.icu_dimension_fractions.specs.declared.CurrencyStyle.{CurrencyStyle}
 use Rattle.icu_dimension_fractions.specs.declared.CurrencyStyle.TheVariants as style
 use Rattle.icu_dimension_fractions.specs.declared.CurrencyWidth.{CurrencyWidth}
 use Rattle.icu_dimension_fractions.specs.declared.CurrencyWidth.TheVariants as currency_width
+use Rattle.icu_plurals.specs.declared.PluralRuleType.{PluralRuleType}
+use Rattle.icu_plurals.specs.declared.PluralRuleType.TheVariants.{Cardinal, Ordinal}
 use Rattle.legumeyet_c_values.specs.DigitWords.{rounding_by}
 use Rattle.legumeyet_c_values.specs.declared.call_error.CallError.{CallError}
 use Rattle.legumeyet_c_values.specs.declared.call_error.CallError.TheVariants.{Code, UnknownOption}
+use Rattle.legumeyet_c_values.specs.declared.shape_words.AskedShape.{AskedShape}
 use Rattle.locale_numbers_formats.specs.declared.CompactWidth.{CompactWidth}
 use Rattle.locale_numbers_formats.specs.declared.CompactWidth.TheVariants.{Short, Long}
 use Rattle.locale_numbers_formats.specs.declared.LeadingZeros.TheVariants.{TrimRoundedZero}
@@ -37,6 +40,9 @@ use Rattle.locale_numbers_formats.specs.declared.SignAsked.{SignAsked}
 use Rattle.locale_numbers_formats.specs.declared.SignAsked.TheVariants.{Keep as KeepSign, Show}
 use Rattle.locale_numbers_formats.specs.declared.TrailingZeros.{TrailingZeros}
 use Rattle.locale_numbers_formats.specs.declared.TrailingZeros.TheVariants.{Keep, Trim, TrimWhole, TrimAll}
+use Rattle.locale_numbers_requests.specs.Increments.{multiples_at, with_zeros}
+use Rattle.locale_numbers_requests.specs.declared.Increment.{Increment}
+use Rattle.locale_numbers_requests.specs.declared.Multiples.{Multiples}
 
 -- ---- words
 
@@ -73,13 +79,24 @@ abbrev pub trimmings : List TrailingZeros
 trimmings = Keep ∷ Trim ∷ TrimWhole ∷ TrimAll ∷ []
 
 -- an increment is its number, and 0 is that of 1
-abbrev pub increment_of : ℤ → Option RoundingIncrement
+abbrev pub increment_of : ℤ → Option Increment
 increment_of (pos number) =
-    if number == 0 then Some MultiplesOf1
-    else if number == 1 then Some MultiplesOf1
-    else if number == 2 then Some MultiplesOf2
-    else if number == 5 then Some MultiplesOf5
-    else if number == 25 then Some MultiplesOf25
+    if number == 0 then Some (with_zeros MultiplesOf1 0)
+    else if number == 1 then Some (with_zeros MultiplesOf1 0)
+    else if number == 2 then Some (with_zeros MultiplesOf2 0)
+    else if number == 5 then Some (with_zeros MultiplesOf5 0)
+    else if number == 25 then Some (with_zeros MultiplesOf25 0)
+    else if number == 10 then Some (with_zeros MultiplesOf1 1)
+    else if number == 20 then Some (with_zeros MultiplesOf2 1)
+    else if number == 50 then Some (with_zeros MultiplesOf5 1)
+    else if number == 100 then Some (with_zeros MultiplesOf1 2)
+    else if number == 200 then Some (with_zeros MultiplesOf2 2)
+    else if number == 250 then Some (with_zeros MultiplesOf25 1)
+    else if number == 500 then Some (with_zeros MultiplesOf5 2)
+    else if number == 1000 then Some (with_zeros MultiplesOf1 3)
+    else if number == 2000 then Some (with_zeros MultiplesOf2 3)
+    else if number == 2500 then Some (with_zeros MultiplesOf25 2)
+    else if number == 5000 then Some (with_zeros MultiplesOf5 3)
     else None
 increment_of (negsuc number) = None
 
@@ -93,14 +110,50 @@ abbrev pub count_of : ℤ → Option ℤ
 count_of (pos number) = if nat_lt number 32768 then Some (pos number) else None
 count_of (negsuc number) = None
 
-abbrev pub position_rounding_with : Option ℤ → Option RoundingIncrement → ℤ → Option Rounding
-position_rounding_with None increment word = None
-position_rounding_with (Some position) None word = None
-position_rounding_with (Some position) (Some increment) word = named (roundings position increment) word
+-- the multiples of the increment at the position
+abbrev pub multiples_with : Option ℤ → Option Increment → Option Multiples
+multiples_with None increment = None
+multiples_with (Some position) None = None
+multiples_with (Some position) (Some increment) = multiples_at position increment
+
+abbrev pub multiples_of : List ℤ → Option Multiples
+multiples_of words = multiples_with (position_of (word_at words 2)) (increment_of (word_at words 3))
+
+abbrev pub position_rounding_with : Option Multiples → ℤ → Option Rounding
+position_rounding_with None word = None
+position_rounding_with (Some multiples) word = named (roundings multiples.position multiples.increment) word
 
 -- without significant digits
 abbrev pub position_rounding_of : List ℤ → Option Rounding
-position_rounding_of words = position_rounding_with (position_of (word_at words 2)) (increment_of (word_at words 3)) (word_at words 1)
+position_rounding_of words = position_rounding_with (multiples_of words) (word_at words 1)
+
+-- it is rounded at a position
+abbrev pub is_at : Rounding → Bool
+is_at (At position mode increment) = true
+is_at _ = false
+
+-- the zeros that a rounding leaves at the end stay, as long as another digit is among them
+abbrev pub shows_end : TrailingZeros → Bool
+shows_end Keep = true
+shows_end Trim = false
+shows_end TrimWhole = true
+shows_end TrimAll = false
+
+-- digits of a fraction at least, and those down to the position, where these are shown
+abbrev pub digits_least : Rounding → TrailingZeros → Multiples → ℤ → ℤ
+digits_least asked zeros multiples least =
+    if int_lt least multiples.fraction_digits && (is_at asked && shows_end zeros) then multiples.fraction_digits else least
+
+abbrev pub fraction_with : Option Rounding → Option TrailingZeros → Option Multiples → Option ℤ → Option ℤ
+fraction_with None zeros multiples least = None
+fraction_with (Some asked) None multiples least = None
+fraction_with (Some asked) (Some zeros) None least = None
+fraction_with (Some asked) (Some zeros) (Some multiples) None = None
+fraction_with (Some asked) (Some zeros) (Some multiples) (Some least) = Some (digits_least asked zeros multiples least)
+
+-- so many digits of a fraction are shown at least
+abbrev pub fraction_of : List ℤ → Option ℤ
+fraction_of words = fraction_with (position_rounding_of words) (named trimmings (word_at words 4)) (multiples_of words) (count_of (word_at words 6))
 
 -- how many significant digits; 0 is not said
 abbrev pub significant_of : ℤ → Option ℕ
@@ -111,7 +164,7 @@ significant_of (negsuc number) = None
 abbrev pub priorities : List (Option RoundingPriority)
 priorities = None ∷ Some MorePrecision ∷ Some LessPrecision ∷ []
 
-abbrev pub rounding_with : Option Rounding → Option RoundingIncrement → Option ℕ → Option ℕ → Option (Option RoundingPriority) → Option Rounding
+abbrev pub rounding_with : Option Rounding → Option Increment → Option ℕ → Option ℕ → Option (Option RoundingPriority) → Option Rounding
 rounding_with None increment least most priority = None
 rounding_with (Some asked) None least most priority = None
 rounding_with (Some asked) (Some increment) None most priority = None
@@ -138,7 +191,7 @@ options_with (Some sign) (Some rounding) (Some zeros) (Some whole) (Some fractio
 abbrev pub number_options_of : List ℤ → Option NumberOptions
 number_options_of words =
     if is_known 10 words
-    then options_with (named signs (word_at words 0)) (rounding_of words) (named trimmings (word_at words 4)) (count_of (word_at words 5)) (count_of (word_at words 6))
+    then options_with (named signs (word_at words 0)) (rounding_of words) (named trimmings (word_at words 4)) (count_of (word_at words 5)) (fraction_of words)
     else None
 
 -- those of no words: an amount has the digits of its currency, and another number stays as it is
@@ -202,6 +255,19 @@ shape_with (Some notation) None unit = Err UnknownOption
 shape_with (Some notation) (Some grouping) (Err error) = Err error
 shape_with (Some notation) (Some grouping) (Ok unit) = Ok (record { notation = notation; unit = unit; grouping = grouping })
 
--- six words: the notation and its width, the unit, the style and the width of a currency, and where separators are
-abbrev pub shape_of : List ℤ → List ℕ → Result NumberShape CallError
-shape_of words text = if is_known 6 words then shape_with (notation_of words) (named groupings (word_at words 5)) (unit_of words text) else Err UnknownOption
+-- of the first six: the notation and its width, the unit, the style and the width of a currency, and where separators are
+abbrev pub numbers_of : List ℤ → List ℕ → Result NumberShape CallError
+numbers_of words text = shape_with (notation_of words) (named groupings (word_at words 5)) (unit_of words text)
+
+-- the first is none: numbers are written, and not the words of their plural categories
+abbrev pub plurals : List (Option PluralRuleType)
+plurals = None ∷ Some Cardinal ∷ Some Ordinal ∷ []
+
+abbrev pub asked_shape_with : Option (Option PluralRuleType) → Result NumberShape CallError → Result AskedShape CallError
+asked_shape_with None numbers = Err UnknownOption
+asked_shape_with (Some rules) (Err error) = Err error
+asked_shape_with (Some rules) (Ok shape) = Ok (record { shape = shape; plurals = rules })
+
+-- seven words: those of numbers, and whether their plural categories are written
+abbrev pub shape_of : List ℤ → List ℕ → Result AskedShape CallError
+shape_of words text = if is_known 7 words then asked_shape_with (named plurals (word_at words 6)) (numbers_of words text) else Err UnknownOption

@@ -103,7 +103,7 @@ impl<'a> Column<'a> {
 /// What writes a number to bytes: a formatter with options.
 pub trait NumberWriter {
     ghost use Rattle.std.specs.Prelude.{List, ℕ};
-    ghost use Rattle.legumeyet_c_values.specs.Numbers.{Given, IsGivenFault};
+    ghost use Rattle.legumeyet_c_values.specs.Numbers.{Given, IsGivenFault, spelled};
     ghost use Rattle.legumeyet_c_values.specs.declared.call_error.CallError.{CallError};
 
     // what is written of what is given
@@ -126,10 +126,42 @@ pub trait NumberWriter {
     ) -> Result<(), CallError>
         ensures put { (given : Given) → IsGiven given number.old
             → IsPut (says self.now given) (fails self.now given) out.old out.new length.old length.new result };
+
+    /// Writes the number that a text spells, as `write` does; `number` is room for it. `TooSmall`: what is written is longer
+    /// than the bytes.
+    fn write_text(
+        &self,
+        alloc: Global,
+        text: &[u8],
+        number: &mut Decimal,
+        out: &mut [u8],
+        length: &mut usize,
+    ) -> Result<(), CallError>
+        ensures text { IsPut (says self.now (spelled text.now)) (fails self.now (spelled text.now)) out.old out.new
+            length.old length.new result };
+}
+
+// Writes the number that the first line spells, and leaves the lines after it.
+fn write_line<'a, W: NumberWriter>(
+    alloc: Global,
+    writer: &W,
+    lines: &'a [u8],
+    number: &mut Decimal,
+    out: &mut [u8],
+    length: &mut usize,
+) -> (Result<(), CallError>, Column<'a>)
+    requires { spelled_lines lines.now ≢ [] }
+    ensures put { OfFirst (λ given. IsPut (W.says writer.now given) (W.fails writer.now given) out.old out.new length.old
+        length.new result.0) (spelled_lines lines.now) }
+    ensures rest { given_in result.1 ≡ drop 1 (spelled_lines lines.now) }
+{
+    let (line, rest) = first_line(lines);
+    let outcome = writer.write_text(alloc, line, number, out, length);
+    (outcome, Column::Texts(rest))
 }
 
 // Writes the first number that is left of a column, in place of another one.
-fn write_first<W: NumberWriter>(
+fn write_number<W: NumberWriter>(
     alloc: Global,
     writer: &W,
     left: &mut Column<'_>,
@@ -148,6 +180,33 @@ fn write_first<W: NumberWriter>(
     match outcome {
         Ok(()) => writer.write(number, out, length),
         Err(error) => Err(error),
+    }
+}
+
+// Writes the first number that is left of a column, in place of another one; a text as a writer writes texts.
+fn write_first<W: NumberWriter>(
+    alloc: Global,
+    writer: &W,
+    left: &mut Column<'_>,
+    number: &mut Decimal,
+    out: &mut [u8],
+    length: &mut usize,
+) -> Result<(), CallError>
+    requires { given_in left.old ≢ [] }
+    ensures put { OfFirst
+        (λ given. IsPut (W.says writer.now given) (W.fails writer.now given) out.old out.new length.old length.new result)
+        (given_in left.old) }
+    ensures rest { given_in left.new ≡ drop 1 (given_in left.old) }
+{
+    match *left {
+        Column::Texts(lines) => {
+            let (outcome, rest) = write_line(alloc, writer, lines, number, out, length);
+            *left = rest;
+            outcome
+        }
+        Column::Doubles(_) | Column::Integers(_, _) => {
+            write_number(alloc, writer, left, number, out, length)
+        }
     }
 }
 

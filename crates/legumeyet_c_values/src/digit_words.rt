@@ -1,10 +1,11 @@
 //! What a number is rounded to where significant digits are asked for by words: `legumeyet_options`.
 
 ghost use Rattle.std.specs.Prelude.{◌≡◌};
-ghost use Rattle.legumeyet_c_values.specs.DigitWords.{digits_alone, digits_beside, digits_by, digits_rounding, digits_within, rounding_by, said_or, single_rounding, unsaid_rounding};
+ghost use Rattle.legumeyet_c_values.specs.DigitWords.{digits_alone, digits_beside, digits_by, digits_rounding, digits_within, is_one, is_single, rounding_by, said_or, single_rounding, unsaid_rounding};
 
 use fixed_decimal::{RoundingIncrement, SignedRoundingMode, UnsignedRoundingMode};
 use locale_numbers_formats::{Rounding, RoundingPriority, SignificantDigits};
+use locale_numbers_requests::Increment;
 
 // A count, or another one where it is not said.
 fn said_or(other: u16, count: u16) -> u16
@@ -82,20 +83,26 @@ fn digits_rounding(
     }
 }
 
-// The same, where no other multiples than those of 1 are asked for.
+// Whether an increment is 1.
+fn is_one(increment: Increment) -> bool
+    ensures { result ≡ is_one increment }
+{
+    increment.has_no_zeros() && matches!(increment.digits, RoundingIncrement::MultiplesOf1)
+}
+
+// The same, where no other increment than 1 is asked for.
 fn single_rounding(
     digits: SignificantDigits,
     priority: Option<RoundingPriority>,
-    increment: RoundingIncrement,
+    increment: Increment,
     asked: Rounding,
 ) -> Option<Rounding>
     ensures { result ≡ single_rounding digits priority increment asked }
 {
-    match increment {
-        RoundingIncrement::MultiplesOf1 => digits_rounding(digits, priority, asked),
-        RoundingIncrement::MultiplesOf2
-        | RoundingIncrement::MultiplesOf5
-        | RoundingIncrement::MultiplesOf25 => None,
+    if is_one(increment) {
+        digits_rounding(digits, priority, asked)
+    } else {
+        None
     }
 }
 
@@ -115,7 +122,7 @@ pub(crate) fn rounding_by(
     least: u16,
     most: u16,
     priority: Option<RoundingPriority>,
-    increment: RoundingIncrement,
+    increment: Increment,
     asked: Rounding,
 ) -> Option<Rounding>
     ensures { result ≡ rounding_by least most priority increment asked }

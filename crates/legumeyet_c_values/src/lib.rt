@@ -15,6 +15,9 @@
 mod call_error;
 mod columns;
 mod digit_words;
+mod fact_texts;
+mod fact_words;
+mod facts;
 mod intervals;
 pub mod laws;
 mod line_buffers;
@@ -28,11 +31,13 @@ mod words;
 
 pub use call_error::{CallError, answer, error_of};
 pub use columns::{Column, NumberWriter, write_column};
+pub use fact_words::{Fact, fact_by};
+pub use facts::{Facts, put_fact};
 pub use intervals::Interval;
 pub use line_buffers::{AnswerLine, answer_lines};
 pub use numbers::{GivenNumber, change, compact_of_text};
 pub use option_words::{number_options_by, options_asked, usual_options};
 pub use parts::put_parts;
 pub use putting::{put, put_bytes};
-pub use shape_words::shape_by;
+pub use shape_words::{AskedShape, shape_by};
 pub use usual_words::is_usual;

@@ -1,7 +1,7 @@
 //! What is made of a number before it is written, by words: `legumeyet_options`.
 
 ghost use Rattle.std.specs.Prelude.{◌≡◌, [], Some};
-ghost use Rattle.legumeyet_c_values.specs.Words.{count_of, increment_of, named, number_options_of, options_of, position_of, position_rounding_of, priorities, rounding_of, roundings, significant_of, signs, trimmings, usual};
+ghost use Rattle.legumeyet_c_values.specs.Words.{count_of, digits_least, fraction_of, increment_of, is_at, multiples_of, named, number_options_of, options_of, position_of, position_rounding_of, priorities, rounding_of, roundings, shows_end, significant_of, signs, trimmings, usual};
 
 use crate::digit_words::rounding_by;
 use crate::words::{are_zeros, is_known, word_at};
@@ -9,6 +9,7 @@ use fixed_decimal::{RoundingIncrement, SignDisplay, SignedRoundingMode, Unsigned
 use locale_numbers_formats::{
     LeadingZeros, NumberOptions, Rounding, RoundingPriority, SignAsked, TrailingZeros,
 };
+use locale_numbers_requests::{Increment, Multiples, multiples_at};
 
 // The sign of a word.
 fn sign_by(word: i32) -> Option<SignAsked>
@@ -48,16 +49,28 @@ fn rounding_named(word: i32, position: i16, increment: RoundingIncrement) -> Opt
 }
 
 // The increment of a word.
-fn increment_by(word: i32) -> Option<RoundingIncrement>
+fn increment_by(word: i32) -> Option<Increment>
     ensures { result ≡ increment_of word }
 {
-    match word {
-        0 | 1 => Some(RoundingIncrement::MultiplesOf1),
-        2 => Some(RoundingIncrement::MultiplesOf2),
-        5 => Some(RoundingIncrement::MultiplesOf5),
-        25 => Some(RoundingIncrement::MultiplesOf25),
-        _ => None,
-    }
+    let (digits, zeros) = match word {
+        0 | 1 => (RoundingIncrement::MultiplesOf1, 0),
+        2 => (RoundingIncrement::MultiplesOf2, 0),
+        5 => (RoundingIncrement::MultiplesOf5, 0),
+        25 => (RoundingIncrement::MultiplesOf25, 0),
+        10 => (RoundingIncrement::MultiplesOf1, 1),
+        20 => (RoundingIncrement::MultiplesOf2, 1),
+        50 => (RoundingIncrement::MultiplesOf5, 1),
+        100 => (RoundingIncrement::MultiplesOf1, 2),
+        200 => (RoundingIncrement::MultiplesOf2, 2),
+        250 => (RoundingIncrement::MultiplesOf25, 1),
+        500 => (RoundingIncrement::MultiplesOf5, 2),
+        1000 => (RoundingIncrement::MultiplesOf1, 3),
+        2000 => (RoundingIncrement::MultiplesOf2, 3),
+        2500 => (RoundingIncrement::MultiplesOf25, 2),
+        5000 => (RoundingIncrement::MultiplesOf5, 3),
+        _ => return None,
+    };
+    Some(Increment { digits, zeros })
 }
 
 // What becomes of the zeros at the end of the fraction, by a word.
@@ -118,13 +131,46 @@ fn priority_by(word: i32) -> Option<Option<RoundingPriority>>
     }
 }
 
+// The multiples of an increment at a position that words ask for.
+fn multiples_by(words: &[i32]) -> Option<Multiples>
+    ensures { result ≡ multiples_of words.now }
+{
+    let position = position_by(word_at(words, 2))?;
+    let increment = increment_by(word_at(words, 3))?;
+    multiples_at(position, increment)
+}
+
 // The rounding at a position that words ask for.
 fn position_rounding_by(words: &[i32]) -> Option<Rounding>
     ensures { result ≡ position_rounding_of words.now }
 {
-    let position = position_by(word_at(words, 2))?;
-    let increment = increment_by(word_at(words, 3))?;
-    rounding_named(word_at(words, 1), position, increment)
+    let multiples = multiples_by(words)?;
+    rounding_named(word_at(words, 1), multiples.position, multiples.increment)
+}
+
+// Digits of a fraction at least, and those down to the position, where these are shown.
+fn digits_least(asked: Rounding, zeros: TrailingZeros, multiples: Multiples, least: i16) -> i16
+    ensures { result ≡ digits_least asked zeros multiples least }
+{
+    if least < multiples.fraction_digits
+        && matches!(asked, Rounding::At(_, _, _))
+        && matches!(zeros, TrailingZeros::Keep | TrailingZeros::TrimWhole)
+    {
+        multiples.fraction_digits
+    } else {
+        least
+    }
+}
+
+// How many digits of a fraction words ask for at least.
+fn fraction_by(words: &[i32]) -> Option<i16>
+    ensures { result ≡ fraction_of words.now }
+{
+    let asked = position_rounding_by(words)?;
+    let zeros = zeros_by(word_at(words, 4))?;
+    let multiples = multiples_by(words)?;
+    let least = count_by(word_at(words, 6))?;
+    Some(digits_least(asked, zeros, multiples, least))
 }
 
 // The rounding that words ask for.
@@ -169,7 +215,7 @@ pub fn number_options_by(words: &[i32]) -> Option<NumberOptions>
     let rounding = rounding_of(words)?;
     let zeros = zeros_by(word_at(words, 4))?;
     let integer_digits = count_by(word_at(words, 5))?;
-    let fraction_digits = count_by(word_at(words, 6))?;
+    let fraction_digits = fraction_by(words)?;
     Some(NumberOptions {
         rounding,
         leading_zeros: LeadingZeros::TrimRoundedZero,

@@ -1,12 +1,13 @@
 //! How numbers are written, by words: `legumeyet_format`.
 
 ghost use Rattle.std.specs.Prelude.{◌≡◌};
-ghost use Rattle.legumeyet_c_values.specs.Words.{currency_by, currency_widths, groupings, named, notation_of, shape_of, styles, unit_alone, unit_of, widths};
+ghost use Rattle.legumeyet_c_values.specs.Words.{currency_by, currency_widths, groupings, named, notation_of, numbers_of, plurals, shape_of, styles, unit_alone, unit_of, widths};
 
 use crate::call_error::CallError;
 use crate::words::{is_known, word_at};
 use icu_decimal_symbols::options::GroupingStrategy;
 use icu_dimension_fractions::{CurrencyCode, CurrencyStyle, CurrencyWidth};
+use icu_plurals::PluralRuleType;
 use locale_numbers_formats::{CompactWidth, CurrencyUnit, Notation, NumberShape, NumberUnit};
 
 // The patterns of a word.
@@ -52,6 +53,18 @@ fn currency_width_by(word: i32) -> Option<CurrencyWidth>
     match word {
         0 => Some(CurrencyWidth::Short),
         1 => Some(CurrencyWidth::IsoCode),
+        _ => None,
+    }
+}
+
+// The rules by whose categories words are written in place of numbers, by a word; of 0 none.
+fn plurals_by(word: i32) -> Option<Option<PluralRuleType>>
+    ensures { result ≡ named plurals word }
+{
+    match word {
+        0 => Some(None),
+        1 => Some(Some(PluralRuleType::Cardinal)),
+        2 => Some(Some(PluralRuleType::Ordinal)),
         _ => None,
     }
 }
@@ -111,17 +124,20 @@ fn unit_by(words: &[i32], text: &[u8]) -> Result<NumberUnit, CallError>
     }
 }
 
-/// What the tables are found by that the words of `legumeyet_format` ask for: of `0, 0, 2` and `EUR` amounts in euros. A
-/// word that is not given counts as 0, and one past the six that are known must be 0.
-///
-/// `UnknownOption`: a word is unknown. `Code`: the text is not the code of the currency, or it is one where there is no
-/// currency.
-pub fn shape_by(words: &[i32], unit: &[u8]) -> Result<NumberShape, CallError>
-    ensures { result ≡ shape_of words.now unit.now }
+/// What words ask for: what the tables of numbers are found by, and the rules by whose categories words are written in
+/// their place, where there are any. That of `0, 0, 0, 0, 0, 0, 1` is `one` of 1 and `other` of 2 in English.
+#[derive(Clone, Copy, Drop)]
+pub struct AskedShape {
+    /// What the tables are found by.
+    pub shape: NumberShape,
+    /// The rules; none where numbers are written.
+    pub plurals: Option<PluralRuleType>,
+}
+
+// What the tables of numbers are found by. `UnknownOption`: a word is unknown. `Code`: the text is none of the unit.
+fn numbers_by(words: &[i32], unit: &[u8]) -> Result<NumberShape, CallError>
+    ensures { result ≡ numbers_of words.now unit.now }
 {
-    if !is_known(6, words) {
-        return Err(CallError::UnknownOption);
-    }
     let Some(notation) = notation_by(words) else {
         return Err(CallError::UnknownOption);
     };
@@ -134,6 +150,26 @@ pub fn shape_by(words: &[i32], unit: &[u8]) -> Result<NumberShape, CallError>
             unit,
             grouping,
         }),
+        Err(error) => Err(error),
+    }
+}
+
+/// What the words of `legumeyet_format` ask for: of `0, 0, 2` and `EUR` amounts in euros. A word that is not given counts
+/// as 0, and one past the seven that are known must be 0.
+///
+/// `UnknownOption`: a word is unknown. `Code`: the text is not the code of the currency, or it is one where there is no
+/// currency.
+pub fn shape_by(words: &[i32], unit: &[u8]) -> Result<AskedShape, CallError>
+    ensures { result ≡ shape_of words.now unit.now }
+{
+    if !is_known(7, words) {
+        return Err(CallError::UnknownOption);
+    }
+    let Some(plurals) = plurals_by(word_at(words, 6)) else {
+        return Err(CallError::UnknownOption);
+    };
+    match numbers_by(words, unit) {
+        Ok(shape) => Ok(AskedShape { shape, plurals }),
         Err(error) => Err(error),
     }
 }

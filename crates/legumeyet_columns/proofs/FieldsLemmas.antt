@@ -6,9 +6,10 @@ use Rattle.legumeyet_columns.specs.declared.asked.TableAsked.{TableAsked}
 use Rattle.legumeyet_columns.specs.declared.dialect.Dialect.{Dialect}
 use Rattle.legumeyet_columns.specs.declared.dialect.Place.{Place}
 use Rattle.legumeyet_columns.specs.declared.dialect.Place.TheVariants.{Front}
-use Rattle.legumeyet_columns.specs.FieldsWritten.{any_refused, is_refused}
+use Rattle.legumeyet_columns.specs.FieldsWritten.{any_refused, field_written, is_refused}
 use Rattle.legumeyet_columns.specs.Places.{after, ends_field, field_length, fields_from, fields_of}
 use Rattle.legumeyet_columns.specs.Records.{joined, written_from}
+use Rattle.legumeyet_columns.proofs.GrammarLemmas.{fields_whole}
 
 module _ (dialect : Dialect) where
   -- where no delimiter ends it, all is one field
@@ -155,3 +156,31 @@ module _ (asked : TableAsked) (is_chosen : ℕ → Bool) (said : ℕ → List �
       || any_refused asked is_chosen said (index + 1) (fields_of asked.dialect r))) left
       ∙ ap (λ fields. before || any_refused asked is_chosen said index fields) (sym (cut_more asked.dialect Front bytes more))
       ∙ all
+
+-- where none of the fields that are left is chosen, they are written as they are, and none is refused
+module _ (asked : TableAsked) (is_chosen : ℕ → Bool) (said : ℕ → List ℕ → Option (List ℕ)) where
+  as_they_are : (index : ℕ) → ((later : ℕ) → index ≤ later → is_chosen later ≡ false) → (fields : List (List ℕ))
+      → written_from (field_written asked is_chosen said) index fields ≡ fields
+  as_they_are index none [] = refl
+  as_they_are index none (field ∷ fields) =
+      let here = none index (omega arith) in
+      let others = as_they_are (index + 1) (λ later above. none later (omega arith)) fields in
+      simp (here, others)
+
+  none_refused : (index : ℕ) → ((later : ℕ) → index ≤ later → is_chosen later ≡ false) → (fields : List (List ℕ))
+      → any_refused asked is_chosen said index fields ≡ false
+  none_refused index none [] = refl
+  none_refused index none (field ∷ fields) =
+      let here = none index (omega arith) in
+      let others = none_refused (index + 1) (λ later above. none later (omega arith)) fields in
+      simp (here, others)
+
+  pub rest_written : (index : ℕ) → ((later : ℕ) → index ≤ later → is_chosen later ≡ false) → (bytes : List ℕ)
+      → joined asked.dialect.delimiter (written_from (field_written asked is_chosen said) index (fields_of asked.dialect bytes)) ≡ bytes
+  rest_written index none bytes =
+      ap (joined asked.dialect.delimiter) (as_they_are index none (fields_of asked.dialect bytes)) ∙ fields_whole asked.dialect bytes
+
+  pub rest_refused : (index : ℕ) → ((later : ℕ) → index ≤ later → is_chosen later ≡ false) → (bytes : List ℕ) (before : Bool)
+      → (before || any_refused asked is_chosen said index (fields_of asked.dialect bytes)) ≡ before
+  rest_refused index none bytes before =
+      ap (λ t. before || t) (none_refused index none (fields_of asked.dialect bytes)) ∙ or_false before

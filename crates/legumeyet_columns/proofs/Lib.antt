@@ -4,5 +4,6 @@ mod KnownValues
 mod LinesLemmas
 mod MarksLemmas
 mod PlacesLemmas
+mod ReadyLemmas
 mod TableLemmas
 mod TrimmingLemmas

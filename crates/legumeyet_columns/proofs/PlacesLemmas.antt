@@ -1,6 +1,8 @@
 -- Bytes without quotes: none of them is in quotes, and a field ends at the first delimiter.
-use Rattle.std.proofs.Common.{◌≡◌, ℕ, suc, List, [], ◌∷◌, Bool, true, false, refl, ap}
-use Rattle.std.specs.Prelude.{◌==◌, ◌||◌}
+use Rattle.std.proofs.Common.{◌≡◌, ℕ, zero, suc, ◌<◌, List, [], ◌∷◌, Bool, true, false, length, get_or, Option, None, Some, refl, sym, ap, arith}
+use Rattle.std.specs.Prelude.{◌==◌, ◌||◌, is_some}
+use Rattle.std.proofs.lemmas.Bool.{false_from_ne_true}
+use Rattle.memchr.specs.Find.{IsFirstByte, is_byte}
 use Rattle.legumeyet_columns.specs.FieldTexts.{is_in_quotes}
 use Rattle.legumeyet_columns.specs.Places.{after, after_all, after_plain, field_length, has_quote, is_quoted, left_after, plain_length, rest_of}
 use Rattle.legumeyet_columns.specs.declared.dialect.Dialect.{Dialect}
@@ -81,3 +83,23 @@ length_of_plain dialect (b ∷ bs) plain = at (b == dialect.delimiter) refl (len
         → field_length dialect Front (b ∷ bs) ≡ plain_length dialect (b ∷ bs)
     at true t others = simp t
     at false t others = simp (t, plain) (ap suc others)
+
+-- what a search for a quote tells
+no_quote_found : (bytes : List ℕ) → ((k : ℕ) → k < length bytes → ¬ ((get_or bytes k 0 == 34) ≡ true)) → has_quote bytes ≡ false
+no_quote_found [] none = refl
+no_quote_found (b ∷ bs) none =
+    let other = false_from_ne_true (b == 34) (none 0 (omega arith)) in
+    simp other (no_quote_found bs (λ k below. none (suc k) (omega arith)))
+
+quote_found : (bytes : List ℕ) (at : ℕ) → at < length bytes → (get_or bytes at 0 == 34) ≡ true → has_quote bytes ≡ true
+quote_found [] at below here = absurd (omega arith)
+quote_found (b ∷ bs) zero below here = simp here
+quote_found (b ∷ bs) (suc n) below here = at_first (b == 34) refl (quote_found bs n (omega arith) here)
+  where
+    at_first : (t : Bool) → (b == 34) ≡ t → has_quote bs ≡ true → has_quote (b ∷ bs) ≡ true
+    at_first true t others = simp t
+    at_first false t others = simp t others
+
+pub quote_search : (bytes : List ℕ) (found : Option ℕ) → IsFirstByte (is_byte 34) bytes found → is_some found ≡ has_quote bytes
+quote_search bytes None none = sym (no_quote_found bytes (λ k below. none k (omega arith) below))
+quote_search bytes (Some at) found = sym (quote_found bytes at found.0.high found.1)

@@ -2,8 +2,8 @@
 use Rattle.std.proofs.Common.{◌≡◌, ℕ, ◌<◌, List, [], ◌∷◌, ◌++◌, Bool, true, false, length, Option, refl, sym, ap, ◌∙◌, arith, append-nil}
 use Rattle.std.specs.Prelude.{if◌then◌else◌}
 use Rattle.std.specs.List.{onto_first}
-use Rattle.std.specs.Io.KnownBytes.{Appends, Keeps}
-use Rattle.std.proofs.KnownBytes.{Appends-trans, Appends-kept}
+use Rattle.std.specs.Io.KnownBytes.{Appends}
+use Rattle.std.proofs.KnownBytes.{Appends-trans}
 use Rattle.legumeyet_columns.specs.declared.asked.TableAsked.{TableAsked}
 use Rattle.legumeyet_columns.specs.declared.dialect.Dialect.{Dialect}
 use Rattle.legumeyet_columns.specs.declared.dialect.Place.{Place}
@@ -53,14 +53,13 @@ module _ (asked : TableAsked) (is_chosen : ℕ → Bool) (said : ℕ → List �
   -- a record and those after it are written
   pub row_and_more : is_last asked.on_refusal refused ≡ false → row ≡ first_record asked.dialect Front rest → 0 < length row
       → refused ≡ row_refused asked is_chosen said misses row
-      → (before mid after end : Option (List ℕ)) → Appends before mid (row_written asked is_chosen said misses row) → Keeps mid after
-      → Appends after end (table_written asked is_chosen said misses (after_record asked.dialect Front rest))
+      → (before mid end : Option (List ℕ)) → Appends before mid (row_written asked is_chosen said misses row)
+      → Appends mid end (table_written asked is_chosen said misses (after_record asked.dialect Front rest))
       → Appends before end (table_written asked is_chosen said misses rest)
-  row_and_more last read some told before mid after end wrote kept more =
+  row_and_more last read some told before mid end wrote more =
       rw (first_written false last read some told)
-      (Appends-trans before after end (row_written asked is_chosen said misses row)
-      (table_written asked is_chosen said misses (after_record asked.dialect Front rest))
-      (Appends-kept before mid after (row_written asked is_chosen said misses row) wrote kept) more)
+      (Appends-trans before mid end (row_written asked is_chosen said misses row)
+      (table_written asked is_chosen said misses (after_record asked.dialect Front rest)) wrote more)
 
   -- the last record is written
   pub last_row : is_last asked.on_refusal refused ≡ true → row ≡ first_record asked.dialect Front rest → 0 < length row

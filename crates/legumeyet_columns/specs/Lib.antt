@@ -6,5 +6,6 @@ pub mod Marks
 pub mod Padded
 pub mod Places
 pub mod Records
+pub mod RowsFound
 pub mod RowsWritten
 pub mod Trimming

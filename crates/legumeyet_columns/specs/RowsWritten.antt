@@ -1,9 +1,10 @@
 -- What is written for records: each with its fields as they are written, or nothing for one in which a field is refused and that is skipped.
 -- Defined in docs/command.md, "Fields of a table".
--- Cited by `put_row` and `put_rows`.
-use Rattle.std.specs.Prelude.{ℕ, Bool, false, ◌||◌, List, [], ◌∷◌, ◌++◌, length, Option, if◌then◌else◌}
+-- Cited by `put_row` and `put_rows`, and by the steps of them.
+use Rattle.std.specs.Prelude.{◌≡◌, ℕ, ◌<◌, Bool, false, ◌||◌, List, [], ◌∷◌, ◌++◌, length, Option, Some, if◌then◌else◌}
+use Rattle.std.specs.Io.KnownBytes.{Appends}
 use Rattle.legumeyet_columns.specs.FieldsWritten.{any_refused, field_written}
-use Rattle.legumeyet_columns.specs.Places.{after_all, fields_of, is_quoted, records_of}
+use Rattle.legumeyet_columns.specs.Places.{after_all, after_record, fields_of, first_record, is_quoted, records_of}
 use Rattle.legumeyet_columns.specs.Records.{body_of, record_written}
 use Rattle.legumeyet_columns.specs.declared.asked.OnRefusal.{OnRefusal}
 use Rattle.legumeyet_columns.specs.declared.asked.OnRefusal.TheVariants.{Empty, Keep, Skip, Abort}
@@ -44,6 +45,13 @@ module _ (asked : TableAsked) (is_chosen : ℕ → Bool) (said : ℕ → List �
   rows_written [] = []
   rows_written (row ∷ rows) =
       row_written row ++ (if is_last asked.on_refusal (row_refused row) then [] else rows_written rows)
+
+  -- the first record of these bytes is written, after what was written before, and these bytes are left
+  pub record WritesFirst (bytes : List ℕ) (refused : Bool) (before after left : Option (List ℕ)) : Type 0 where
+    pub some : 0 < length (first_record asked.dialect Front bytes)
+    pub refusal : refused ≡ row_refused (first_record asked.dialect Front bytes)
+    pub output : Appends before after (row_written (first_record asked.dialect Front bytes))
+    pub rest : left ≡ Some (after_record asked.dialect Front bytes)
 
   -- for the records of an input
   abbrev pub table_written : List ℕ → List ℕ

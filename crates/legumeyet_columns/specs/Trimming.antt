@@ -1,6 +1,6 @@
 -- The text of a line or a field without the blanks around it.
 -- Defined in docs/command.md, "Refused numbers".
--- Cited by `trimmed`, and by the calls that write fields through FieldsWritten.antt.
+-- Cited by `trimmed`, by the calls that write fields through FieldsWritten.antt, and by what the command writes for lines.
 use Rattle.std.specs.Prelude.{ℕ, ◌==◌, Bool, ◌||◌, List, [], ◌∷◌, reverse, if◌then◌else◌}
 
 -- a space, a tab or a carriage return

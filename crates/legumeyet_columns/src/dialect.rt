@@ -4,6 +4,8 @@ ghost use Rattle.std.specs.Prelude.{◌≡◌, ℕ, List};
 ghost use Rattle.legumeyet_columns.specs.Places.{after, after_all, after_plain, ends_field, has_quote, is_quoted, left_after, rest_of};
 ghost use Rattle.legumeyet_columns.specs.declared.dialect.Place.TheVariants.{Front};
 
+use memchr::memchr;
+
 /// How the fields of a record are told apart: of CSV `delimiter` is a comma, and it `has_quotes`.
 #[derive(Clone, Copy, Debug, PartialEq, Eq)]
 pub struct Dialect {
@@ -42,7 +44,7 @@ impl Place {
 fn has_quote(bytes: &[u8]) -> bool
     ensures value { result ≡ has_quote bytes.now }
 {
-    bytes.iter().any(|byte| *byte == b'"')
+    memchr(b'"', bytes).is_some()
 }
 
 impl Dialect {

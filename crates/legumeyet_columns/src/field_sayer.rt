@@ -1,6 +1,6 @@
 //! What says the texts of fields, as a trait.
 
-ghost use Rattle.std.specs.Prelude.{◌≡◌, ℕ, Bool, List, Option, IfOk};
+ghost use Rattle.std.specs.Prelude.{◌≡◌, ◌≤◌, ℕ, Bool, List, Option, IfOk, false};
 ghost use Rattle.legumeyet_columns.specs.Cells.{PutCell};
 
 use std::alloc::AllocError;
@@ -49,7 +49,13 @@ pub trait FieldSayer {
     /// Tells that a quote in a record does not end.
     fn tell_open(&self, number: u64);
 
-    /// Tells which chosen fields a record of so many fields lacks, and returns whether there are some.
-    fn tell_missing(&self, number: u64, count: usize) -> bool
+    /// Whether a record of so many fields lacks a chosen one; where it does not, no field after them is chosen.
+    fn misses(&self, count: usize) -> bool
         ensures value { result ≡ misses self.now count };
+
+    /// Tells which chosen fields a record of so many fields lacks.
+    fn tell_missing(&self, number: u64, count: usize);
+
+    ghost all_before: { (s : Self) (count later : ℕ) → misses s count ≡ false → count ≤ later
+        → (misses s later ≡ false) × (is_chosen s later ≡ false) };
 }

@@ -6,6 +6,7 @@ ghost use Rattle.legumeyet_columns.specs.FieldsWritten.{cell_for, chosen_cell, f
 ghost use Rattle.legumeyet_columns.specs.Trimming.{trimmed};
 
 use crate::asked::{OnRefusal, TableAsked};
+use crate::buffers::Texts;
 use crate::cells::put_text;
 use crate::field_sayer::{FieldFault, FieldSayer};
 use crate::padding::put_padded;
@@ -13,12 +14,33 @@ use crate::texts::{is_in_quotes, unquoted};
 use crate::trimming::trimmed;
 use std::alloc::{AllocError, Global};
 
-// Puts a text that is said of a field, and returns whether it can be a field.
-fn put_cell(
-    alloc: Global,
+// Puts a text that is said of a field, with spaces around it.
+fn put_padded_cell(
     asked: &TableAsked,
     field: &[u8],
     text: &[u8],
+    padded: &mut Vec<u8>,
+    out: &mut Vec<u8>,
+) -> Result<bool, AllocError>
+    ensures text { IfOk result (λ is_put.
+        PutCell (said_cell asked.now field.now (Some text.now)) out.old.items out.new.items is_put) }
+{
+    padded.clear();
+    put_padded(asked.padding, text, padded)?;
+    put_text(
+        asked.dialect,
+        is_in_quotes(asked.dialect, field),
+        padded,
+        out,
+    )
+}
+
+// Puts a text that is said of a field, and returns whether it can be a field.
+fn put_cell(
+    asked: &TableAsked,
+    field: &[u8],
+    text: &[u8],
+    padded: &mut Vec<u8>,
     out: &mut Vec<u8>,
 ) -> Result<bool, AllocError>
     ensures text { IfOk result (λ is_put.
@@ -27,35 +49,28 @@ fn put_cell(
     if asked.padding.width == 0 {
         return put_text(asked.dialect, is_in_quotes(asked.dialect, field), text, out);
     }
-    let mut cell = Vec::new(alloc);
-    put_padded(asked.padding, text, &mut cell)?;
-    put_text(
-        asked.dialect,
-        is_in_quotes(asked.dialect, field),
-        &cell,
-        out,
-    )
+    put_padded_cell(asked, field, text, padded, out)
 }
 
 // Puts what is said of a text that is a field's and not blank, and returns whether it is not refused.
 fn put_said<S: FieldSayer>(
-    alloc: Global,
     asked: &TableAsked,
     sayer: &S,
     number: u64,
     index: usize,
     field: &[u8],
     text: &[u8],
+    texts: &mut Texts,
     out: &mut Vec<u8>,
 ) -> Result<bool, AllocError>
     ensures text { IfOk result (λ is_put. PutCell (said_cell asked.now field.now (S.said sayer.now index text.now))
         out.old.items out.new.items is_put) }
 {
-    let mut said = Vec::new(alloc);
-    if !sayer.say(number, index, text, &mut said)? {
+    texts.said.clear();
+    if !sayer.say(number, index, text, &mut texts.said)? {
         return Ok(false);
     }
-    let is_put = put_cell(alloc, asked, field, &said, out)?;
+    let is_put = put_cell(asked, field, &texts.said, &mut texts.padded, out)?;
     if !is_put {
         sayer.tell_fault(number, index, FieldFault::Delimiter);
     }
@@ -64,13 +79,13 @@ fn put_said<S: FieldSayer>(
 
 // Puts what is written for a field with this text, and returns whether it is not refused.
 fn put_for<S: FieldSayer>(
-    alloc: Global,
     asked: &TableAsked,
     sayer: &S,
     number: u64,
     index: usize,
     field: &[u8],
     text: &[u8],
+    texts: &mut Texts,
     out: &mut Vec<u8>,
 ) -> Result<bool, AllocError>
     ensures text { IfOk result (λ is_put. PutCell
@@ -81,7 +96,7 @@ fn put_for<S: FieldSayer>(
         out.extend_from_slice(field)?;
         return Ok(true);
     }
-    put_said(alloc, asked, sayer, number, index, field, text, out)
+    put_said(asked, sayer, number, index, field, text, texts, out)
 }
 
 // Puts what is written for a chosen field, and returns whether it is not refused.
@@ -92,19 +107,20 @@ fn put_chosen<S: FieldSayer>(
     number: u64,
     index: usize,
     field: &[u8],
+    texts: &mut Texts,
     out: &mut Vec<u8>,
 ) -> Result<bool, AllocError>
     ensures text { IfOk result (λ is_put. PutCell
         (chosen_cell asked.now (S.said sayer.now index) field.now) out.old.items out.new.items is_put) }
 {
     if !is_in_quotes(asked.dialect, field) {
-        return put_for(alloc, asked, sayer, number, index, field, field, out);
+        return put_for(asked, sayer, number, index, field, field, texts, out);
     }
     let Some(text) = unquoted(alloc, field)? else {
         sayer.tell_fault(number, index, FieldFault::Quotes);
         return Ok(false);
     };
-    put_for(alloc, asked, sayer, number, index, field, &text, out)
+    put_for(asked, sayer, number, index, field, &text, texts, out)
 }
 
 // Puts what stands for a field that is refused.
@@ -118,13 +134,14 @@ fn put_stand_in(on_refusal: OnRefusal, field: &[u8], out: &mut Vec<u8>) -> Resul
 }
 
 // Puts what is written for a field, and returns whether it is refused.
-pub fn put_field<S: FieldSayer>(
+pub(crate) fn put_field<S: FieldSayer>(
     alloc: Global,
     asked: &TableAsked,
     sayer: &S,
     number: u64,
     index: usize,
     field: &[u8],
+    texts: &mut Texts,
     out: &mut Vec<u8>,
 ) -> Result<bool, AllocError>
     ensures text { OnOk result (out.new.items ≡ out.old.items
@@ -136,7 +153,7 @@ pub fn put_field<S: FieldSayer>(
         out.extend_from_slice(field)?;
         return Ok(false);
     }
-    if put_chosen(alloc, asked, sayer, number, index, field, out)? {
+    if put_chosen(alloc, asked, sayer, number, index, field, texts, out)? {
         return Ok(false);
     }
     put_stand_in(asked.on_refusal, field, out)?;

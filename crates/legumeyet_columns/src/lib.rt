@@ -13,6 +13,7 @@
 #![tactic(auto)]
 
 mod asked;
+mod buffers;
 mod cells;
 mod dialect;
 mod fault;
@@ -23,18 +24,21 @@ pub mod laws;
 mod padding;
 mod reading;
 mod row_writing;
+mod rows;
 mod table;
 mod texts;
 mod trimming;
 
 pub use asked::{OnRefusal, TableAsked};
+pub use buffers::Buffers;
 pub use dialect::{Dialect, Place};
 pub use fault::TableFault;
 pub use field_sayer::{FieldFault, FieldSayer};
 pub use fields::{body_of, split_field, without_mark};
 pub use padding::Padding;
-pub use reading::{Found, LONGEST, read_first_record, read_record};
+pub use reading::LONGEST;
 pub use row_writing::{is_last, put_row};
+pub use rows::{read_first_row, read_row};
 pub use table::put_rows;
 pub use texts::{is_in_quotes, unquoted};
 pub use trimming::trimmed;

@@ -1,18 +1,20 @@
 //! Records read one by one.
 
-ghost use Rattle.std.specs.Prelude.{◌≡◌, ◌≢◌, ◌+◌, ◌<◌, ◌≤◌, ℕ, List, Some, ◌++◌, true, false, IfOk, OnOk, length, if◌then◌else◌};
+ghost use Rattle.std.specs.Prelude.{◌≡◌, ◌≢◌, ◌+◌, ◌<◌, ◌≤◌, ℕ, List, Some, ◌++◌, true, false, IfOk, IfSome, OnOk, drop, length, if◌then◌else◌};
 ghost use Rattle.std.specs.Io.BufRead.{drop_through, take_through};
 ghost use Rattle.std.specs.Io.KnownBytes.{IsAtEnd};
 ghost use Rattle.std.specs.Io.Buffered.{reader_remaining};
 ghost use Rattle.legumeyet_columns.specs.Marks.{mark_of, without_mark};
 ghost use Rattle.legumeyet_columns.specs.Places.{after_all, after_record, first_record, is_quoted, left_after, rest_of};
+ghost use Rattle.legumeyet_columns.specs.RowsWritten.{is_open};
 ghost use Rattle.legumeyet_columns.specs.declared.dialect.Place.TheVariants.{Front};
 
 use crate::dialect::{Dialect, Place};
 use crate::fields::{tail, without_mark};
+use memchr::memchr;
 use std::io::{self, BufRead, BufReader, Read};
 
-/// What was read.
+// What was read.
 #[derive(Clone, Copy, Debug, PartialEq, Eq)]
 pub enum Found {
     /// Nothing: the input has ended.
@@ -72,6 +74,23 @@ fn read_rest<R: Read>(
         place = dialect.after_all(place, tail(row, start));
     }
     Ok(Found::Record)
+}
+
+// The first record of bytes, where it ends in them.
+pub(crate) fn ready_record(dialect: Dialect, bytes: &[u8]) -> Option<&[u8]>
+    ensures record { IfSome result (λ row. (more : List ℕ) → row.now ≡ first_record dialect Front (bytes.now ++ more)) }
+    ensures left { IfSome result (λ row. (more : List ℕ)
+        → after_record dialect Front (bytes.now ++ more) ≡ drop (length row.now) (bytes.now ++ more)) }
+    ensures some { IfSome result (λ row. 0 < length row.now) }
+    ensures bound { IfSome result (λ row. length row.now ≤ length bytes.now) }
+    ensures closed { IfSome result (λ row. is_open dialect row.now ≡ false) }
+{
+    let at = memchr(b'\n', bytes)?;
+    let row = &bytes[..at + 1];
+    if dialect.place_after(row).is_quoted() {
+        return None;
+    }
+    Some(row)
 }
 
 /// Reads a record into `row`, with the end of its line: `1,2` and a line feed.

@@ -8,6 +8,7 @@ ghost use Rattle.legumeyet_columns.specs.Records.{joined, record_written, writte
 ghost use Rattle.legumeyet_columns.specs.RowsWritten.{is_last, is_left_out, is_open, row_refused, row_written};
 
 use crate::asked::{OnRefusal, TableAsked};
+use crate::buffers::{Buffers, Texts};
 use crate::dialect::Dialect;
 use crate::fault::TableFault;
 use crate::field_sayer::FieldSayer;
@@ -30,7 +31,7 @@ fn is_open(dialect: Dialect, row: &[u8]) -> bool
     dialect.place_after(row).is_quoted()
 }
 
-// How many fields a record has, and whether one is refused.
+// How many fields a record has, or so many first ones that no other is chosen; and whether one is refused.
 #[derive(Clone, Copy)]
 struct Fields {
     count: usize,
@@ -44,6 +45,7 @@ fn put_fields<S: FieldSayer>(
     sayer: &S,
     number: u64,
     body: &[u8],
+    texts: &mut Texts,
     out: &mut Vec<u8>,
 ) -> Result<Fields, AllocError>
     ensures text { OnOk result (out.new.items ≡ out.old.items ++ joined asked.now.dialect.delimiter
@@ -51,14 +53,22 @@ fn put_fields<S: FieldSayer>(
         (fields_of asked.now.dialect body.now))) }
     ensures refused { IfOk result (λ fields. fields.is_refused
         ≡ any_refused asked.now (S.is_chosen sayer.now) (S.said sayer.now) 0 (fields_of asked.now.dialect body.now)) }
-    ensures count { IfOk result (λ fields. fields.count ≡ length (fields_of asked.now.dialect body.now)) }
+    ensures misses { IfOk result (λ fields. S.misses sayer.now fields.count
+        ≡ S.misses sayer.now (length (fields_of asked.now.dialect body.now))) }
 {
     let mut left = body;
     let mut index = 0usize;
     let mut is_refused = false;
     'field: loop {
+        if !sayer.misses(index) {
+            out.extend_from_slice(left)?;
+            return Ok(Fields {
+                count: index,
+                is_refused,
+            });
+        }
         let (field, rest) = split_field(asked.dialect, left);
-        let is_this_refused = put_field(alloc, asked, sayer, number, index, field, out)?;
+        let is_this_refused = put_field(alloc, asked, sayer, number, index, field, texts, out)?;
         is_refused = either(is_refused, is_this_refused);
         let Some(rest) = rest else {
             return Ok(Fields {
@@ -72,29 +82,41 @@ fn put_fields<S: FieldSayer>(
     }
 }
 
-// Puts a record, and returns whether something of it is refused.
+// Tells what is refused of a record with these fields, and returns whether something is.
+fn tell_refused<S: FieldSayer>(sayer: &S, number: u64, fields: Fields, unended: bool) -> bool
+    ensures value { result ≡ ((unended || fields.is_refused) || S.misses sayer.now fields.count) }
+{
+    let is_missing = sayer.misses(fields.count);
+    if is_missing {
+        sayer.tell_missing(number, fields.count);
+    }
+    if unended {
+        sayer.tell_open(number);
+    }
+    unended || fields.is_refused || is_missing
+}
+
+// Puts a record, in which a quote does not end or all do, and returns whether something of it is refused.
 fn put_record<S: FieldSayer>(
     alloc: Global,
     asked: &TableAsked,
     sayer: &S,
     number: u64,
     row: &[u8],
+    unended: bool,
+    texts: &mut Texts,
     out: &mut Vec<u8>,
 ) -> Result<bool, AllocError>
+    requires { unended ≡ is_open asked.now.dialect row.now }
     ensures text { OnOk result (out.new.items ≡ out.old.items ++ record_written asked.now.dialect
         (field_written asked.now (S.is_chosen sayer.now) (S.said sayer.now)) row.now) }
     ensures refused { IfOk result (λ refused. refused
         ≡ row_refused asked.now (S.is_chosen sayer.now) (S.said sayer.now) (S.misses sayer.now) row.now) }
 {
     let body = body_of(row);
-    let fields = put_fields(alloc, asked, sayer, number, body, out)?;
+    let fields = put_fields(alloc, asked, sayer, number, body, texts, out)?;
     out.extend_from_slice(tail(row, body.len()))?;
-    let is_missing = sayer.tell_missing(number, fields.count);
-    let is_open = is_open(asked.dialect, row);
-    if is_open {
-        sayer.tell_open(number);
-    }
-    Ok(is_open || fields.is_refused || is_missing)
+    Ok(tell_refused(sayer, number, fields, unended))
 }
 
 // Whether a record in which something is refused is left out.
@@ -117,26 +139,36 @@ pub fn is_last(on_refusal: OnRefusal, is_refused: bool) -> bool
     }
 }
 
-/// Writes what is written for a record, and returns whether something of it is refused: a quote in it does not end, a chosen
-/// field is refused or is not there. `line` has what it had no more.
-///
-/// Allocates. `TableFault`: the writer failed, or out of memory.
-pub fn put_row<S: FieldSayer, W: Write>(
+// Writes what is written for a record, of which it is known whether a quote in it does not end, and returns whether
+// something of it is refused.
+pub(crate) fn put_known_row<S: FieldSayer, W: Write>(
     alloc: Global,
     asked: &TableAsked,
     sayer: &S,
     number: u64,
     row: &[u8],
-    line: &mut Vec<u8>,
+    unended: bool,
+    buffers: &mut Buffers,
     out: &mut W,
 ) -> Result<bool, TableFault>
+    requires { unended ≡ is_open asked.now.dialect row.now }
     ensures output { OnOk result (Appends (W.contents out.old) (W.contents out.new)
         (row_written asked.now (S.is_chosen sayer.now) (S.said sayer.now) (S.misses sayer.now) row.now)) }
     ensures refused { IfOk result (λ refused. refused
         ≡ row_refused asked.now (S.is_chosen sayer.now) (S.said sayer.now) (S.misses sayer.now) row.now) }
 {
+    let line = &mut buffers.line;
     line.clear();
-    let Ok(is_refused) = put_record(alloc, asked, sayer, number, row, line) else {
+    let Ok(is_refused) = put_record(
+        alloc,
+        asked,
+        sayer,
+        number,
+        row,
+        unended,
+        &mut buffers.texts,
+        line,
+    ) else {
         return Err(TableFault::Memory);
     };
     if is_left_out(asked.on_refusal, is_refused) {
@@ -146,4 +178,26 @@ pub fn put_row<S: FieldSayer, W: Write>(
         Ok(()) => Ok(is_refused),
         Err(error) => Err(TableFault::Write(error)),
     }
+}
+
+/// Writes what is written for a record, and returns whether something of it is refused: a quote in it does not end, a chosen
+/// field is refused or is not there.
+///
+/// Allocates, where the buffers lack room. `TableFault`: the writer failed, or out of memory.
+pub fn put_row<S: FieldSayer, W: Write>(
+    alloc: Global,
+    asked: &TableAsked,
+    sayer: &S,
+    number: u64,
+    row: &[u8],
+    buffers: &mut Buffers,
+    out: &mut W,
+) -> Result<bool, TableFault>
+    ensures output { OnOk result (Appends (W.contents out.old) (W.contents out.new)
+        (row_written asked.now (S.is_chosen sayer.now) (S.said sayer.now) (S.misses sayer.now) row.now)) }
+    ensures refused { IfOk result (λ refused. refused
+        ≡ row_refused asked.now (S.is_chosen sayer.now) (S.said sayer.now) (S.misses sayer.now) row.now) }
+{
+    let unended = is_open(asked.dialect, row);
+    put_known_row(alloc, asked, sayer, number, row, unended, buffers, out)
 }

@@ -8,6 +8,7 @@ use Rattle.fixed_decimal.specs.declared.UnsignedRoundingMode.TheVariants.{HalfEv
 use Rattle.icu_decimal_symbols.specs.declared.options.GroupingStrategy.TheVariants as strategy
 use Rattle.icu_dimension_fractions.specs.declared.CurrencyStyle.TheVariants as style
 use Rattle.icu_dimension_fractions.specs.declared.CurrencyWidth.TheVariants as width
+use Rattle.icu_plurals.specs.declared.PluralRuleType.TheVariants.{Cardinal, Ordinal}
 use Rattle.locale_numbers_formats.specs.declared.Notation.TheVariants.{Standard}
 use Rattle.locale_numbers_formats.specs.declared.NumberUnit.{NumberUnit}
 use Rattle.locale_numbers_formats.specs.declared.NumberUnit.TheVariants as unit
@@ -18,7 +19,7 @@ use Rattle.locale_numbers_formats.specs.declared.SkeletonError.TheVariants as sk
 use Rattle.locale_numbers_formats.specs.declared.TrailingZeros.{TrailingZeros}
 use Rattle.locale_numbers_formats.specs.declared.TrailingZeros.TheVariants.{Keep, Trim}
 use Rattle.locale_numbers_requests.specs.declared.Task.{Task}
-use Rattle.locale_numbers_requests.specs.declared.Task.TheVariants.{Write}
+use Rattle.locale_numbers_requests.specs.declared.Task.TheVariants.{Write, Category}
 use Rattle.legumeyet_options.specs.Digits.{DigitsSaid, is_coarse, options_by, round_said}
 use Rattle.legumeyet_options.specs.LocaleName.{tag_of}
 use Rattle.legumeyet_options.specs.NumberWords.{NumbersSaid, numbers_asked}
@@ -63,14 +64,24 @@ no_name = refl
 
 -- ---- roundings
 
-position_alone : round_said (codes "-2") ≡ Some (At (negsuc 1) (Unsigned HalfEven) MultiplesOf1)
+position_alone : round_said (codes "-2") ≡ Some (options_by (At (negsuc 1) (Unsigned HalfEven) MultiplesOf1) Keep (pos 0))
 position_alone = refl
 
-position_and_mode : round_said (codes "-2,floor") ≡ Some (At (negsuc 1) Floor MultiplesOf1)
+position_and_mode : round_said (codes "-2,floor") ≡ Some (options_by (At (negsuc 1) Floor MultiplesOf1) Keep (pos 0))
 position_and_mode = refl
 
-all_three : round_said (codes "-2,half-even,5") ≡ Some (At (negsuc 1) (Unsigned HalfEven) MultiplesOf5)
+all_three : round_said (codes "-2,half-even,5") ≡ Some (options_by (At (negsuc 1) (Unsigned HalfEven) MultiplesOf5) Keep (pos 0))
 all_three = refl
+
+-- 50 at the hundredths is 5 at the tenths, with two digits of a fraction
+halves : round_said (codes "-2,half-even,50") ≡ Some (options_by (At (negsuc 0) (Unsigned HalfEven) MultiplesOf5) Keep (pos 2))
+halves = refl
+
+five_thousands : round_said (codes "0,floor,5000") ≡ Some (options_by (At (pos 3) Floor MultiplesOf5) Keep (pos 0))
+five_thousands = refl
+
+tens_too_high : round_said (codes "32767,floor,10") ≡ None
+tens_too_high = refl
 
 four_words : round_said (codes "-2,half-even,5,1") ≡ None
 four_words = refl
@@ -101,6 +112,7 @@ nothing = record {
   grouping = None;
   sign = None;
   chosen = record { is_in_cash = false; round = None; digits = None; max_digits = None; min_digits = None; significant = None; priority = None };
+  rule_type = None;
 }
 
 -- options of digits, and what they ask
@@ -181,3 +193,12 @@ signed_reading = refl
 
 no_skeleton : numbers_asked (record nothing { format = Some (codes "percent foo") }) ≡ Err (fault.Format (skeleton.Unknown 8))
 no_skeleton = refl
+
+-- ---- plural categories
+
+plural_of_two_digits : numbers_asked (record (with (record no_digits { digits = Some (codes "2") })) { rule_type = Some Cardinal })
+    ≡ Ok (record (written unit.None (At (negsuc 1) (Unsigned HalfEven) MultiplesOf1) Keep 0 false) { task = Category Cardinal })
+plural_of_two_digits = refl
+
+ordinal_of_form : numbers_asked (record nothing { form = Some (codes "exact-short"); rule_type = Some Ordinal }) ≡ Err fault.Categories
+ordinal_of_form = refl

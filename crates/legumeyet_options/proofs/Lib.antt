@@ -1,4 +1,5 @@
 pub mod DigitsLemmas
+mod KeptSayerLemmas
 mod KnownValues
 pub mod SayingLawsLemmas
 pub mod SayingLemmas

@@ -12,6 +12,11 @@ use Rattle.fixed_decimal.specs.SignedValue.{SignedValue}
 use Rattle.icu_decimal.specs.CompactTables.{CompactTables}
 use Rattle.icu_decimal.specs.PlainReading.{PlainReading, decimal, not_written, unreadable}
 use Rattle.icu_decimal.specs.declared.error.DataError.{DataError}
+use Rattle.icu_plurals.specs.Categories.{word}
+use Rattle.icu_plurals.specs.Rules.{Rules}
+use Rattle.icu_plurals.specs.declared.PluralCategory.{PluralCategory}
+use Rattle.icu_plurals.specs.declared.PluralRange.{PluralRange}
+use Rattle.icu_plurals.specs.declared.PluralRuleType.TheVariants.{Cardinal}
 use Rattle.locale_numbers_formats.specs.Changed.{changed}
 use Rattle.locale_numbers_formats.specs.declared.NumberOptions.{NumberOptions}
 use Rattle.locale_numbers_formats.specs.declared.Rounding.{Rounding}
@@ -24,14 +29,17 @@ use Rattle.locale_numbers_formatter.specs.FormatTyped.{format_typed_reading}
 use Rattle.locale_numbers_formatter.specs.Laws.{ExactFormatIsText, FormatIsText}
 use Rattle.locale_numbers_answers.specs.AnswerLine.{refused, written}
 use Rattle.locale_numbers_answers.specs.Answers.{answer_by, exact_found, exact_with, read_found, typed_found, where_found, written_found, written_to}
+use Rattle.locale_numbers_answers.specs.CategoryAnswer.{answered_category, category_found, category_to, range_category_to, range_ends_to, range_found, shown_category, shown_range_category}
 use Rattle.locale_numbers_answers.specs.CompactReading.{CompactReading, compact_beyond, compact_nothing, compact_number, compact_reading_of}
 use Rattle.locale_numbers_answers.specs.NumberAnswer.{can_be_shown, exact_answer, exact_written, is_form_in_range, number_answer, signed_form, text_and_value}
 use Rattle.locale_numbers_answers.specs.NumberReading.{Reading, beyond, nothing, number, reading_of}
 use Rattle.locale_numbers_answers.specs.ReadAnswer.{fraction_asked, own_reading, read_answer}
+use Rattle.locale_numbers_requests.specs.RangeEnds.{range_ends}
 use Rattle.locale_numbers_requests.specs.Request.{tab}
 use Rattle.locale_numbers_requests.specs.declared.Refusal.TheVariants as refusal
 use Rattle.locale_numbers_requests.specs.declared.Task.TheVariants as task
-use Rattle.legumeyet_options.specs.SayingLaws.{Agrees, SaysAsLines, alone, no_text, with_value}
+use Rattle.legumeyet_options.specs.Categories.{category_saying, ends_reading_saying, ends_saying, range_reading_saying, reading_category_saying, value_category_saying}
+use Rattle.legumeyet_options.specs.SayingLaws.{Agrees, SaysAsLines, alone, beside_found, no_text, with_value}
 use Rattle.legumeyet_options.specs.Sayings.{events_saying, exact_saying, form_saying, number_saying, read_saying, reading_saying, reads_by, reads_typed_by, sayer_for, saying, says, text_saying, written_saying}
 use Rattle.legumeyet_options.specs.declared.saying.NotSaid.TheVariants.{Refused}
 
@@ -55,10 +63,48 @@ reads_agree : (found : Result FormatTables DataError) (rounding : Rounding) (tex
 reads_agree (Err error) rounding text = no_text refusal.Table
 reads_agree (Ok f) rounding text = read_agrees (own_reading (fraction_asked (fractions_in f) rounding) (format_reading f text))
 
-typed_agrees : (found latin : Result FormatTables DataError) (text : List ℕ)
-    → Agrees (text_saying (reads_typed_by (where_found found) (where_found latin)) text) (typed_found found latin text)
-typed_agrees (Err error) latin text = no_text refusal.Table
-typed_agrees (Ok f) latin text = read_agrees (format_typed_reading f (where_found latin) text)
+typed_agrees : (found : Result FormatTables DataError) (second : FormatTables → Option FormatTables) (text : List ℕ)
+    → Agrees (text_saying (reads_typed_by (where_found found) (beside_found second found)) text) (typed_found found second text)
+typed_agrees (Err error) second text = no_text refusal.Table
+typed_agrees (Ok f) second text = read_agrees (format_typed_reading f (second f) text)
+
+-- ---- plural categories
+
+one_agrees : (category : Option PluralCategory) → Agrees (category_saying category) (answered_category category)
+one_agrees None = no_text refusal.Range
+one_agrees (Some category) = of_text (bytes (word category)) (word category) (text_of_bytes (word category))
+
+category_agrees : (found : Result FormatTables DataError) (rules : Option (Rules × List PluralRange)) (options : NumberOptions) (d : SignedValue Number)
+    → Agrees (value_category_saying (where_found found) rules options false d) (category_found found rules options d)
+category_agrees (Err error) rules options d = no_text refusal.Table
+category_agrees (Ok f) None options d = no_text refusal.Table
+category_agrees (Ok f) (Some rules) options d = one_agrees (shown_category f rules.0 (changed options (fractions_in f) d))
+
+categories_agree : (found : Result FormatTables DataError) (rules : Option (Rules × List PluralRange)) (options : NumberOptions) (reading : Reading)
+    → Agrees (reading_category_saying (where_found found) rules options false reading) (category_to found rules options reading)
+categories_agree found rules options nothing = no_text refusal.Number
+categories_agree found rules options beyond = no_text refusal.Limit
+categories_agree found rules options (number d) = category_agrees found rules options d
+
+range_agrees : (found : Result FormatTables DataError) (rules : Option (Rules × List PluralRange)) (options : NumberOptions) (m n : SignedValue Number)
+    → Agrees (ends_saying (where_found found) rules options false m n) (range_found found rules options m n)
+range_agrees (Err error) rules options m n = no_text refusal.Table
+range_agrees (Ok f) None options m n = no_text refusal.Table
+range_agrees (Ok f) (Some rules) options m n =
+    one_agrees (shown_range_category f rules.0 rules.1 (changed options (fractions_in f) m) (changed options (fractions_in f) n))
+
+ends_agree : (found : Result FormatTables DataError) (rules : Option (Rules × List PluralRange)) (options : NumberOptions) (first second : Reading)
+    → Agrees (ends_reading_saying (where_found found) rules options false first second) (range_ends_to found rules options first second)
+ends_agree found rules options nothing other = no_text refusal.Number
+ends_agree found rules options beyond other = no_text refusal.Limit
+ends_agree found rules options (number m) nothing = no_text refusal.Number
+ends_agree found rules options (number m) beyond = no_text refusal.Limit
+ends_agree found rules options (number m) (number n) = range_agrees found rules options m n
+
+ranges_agree : (found : Result FormatTables DataError) (rules : Option (Rules × List PluralRange)) (options : NumberOptions) (ends : Option (List ℕ × List ℕ))
+    → Agrees (range_reading_saying (where_found found) rules options false ends) (range_category_to found rules options ends)
+ranges_agree found rules options None = no_text refusal.Number
+ranges_agree found rules options (Some ends) = ends_agree found rules options (reading_of ends.0) (reading_of ends.1)
 
 module _ (texts : FormatIsText) (exacts : ExactFormatIsText) where
   -- ---- written
@@ -109,7 +155,9 @@ module _ (texts : FormatIsText) (exacts : ExactFormatIsText) where
   -- ---- the whole
 
   pub as_lines : SaysAsLines
-  as_lines task.Write format found latin text is = rw is (writes_agree found format.options (reading_of text))
-  as_lines task.WriteExact format found latin text is = rw is (exact_agrees found format.options.sign (compact_reading_of text))
-  as_lines task.Read format found latin text is = rw is (reads_agree found format.options.rounding text)
-  as_lines task.ReadLenient format found latin text is = rw is (typed_agrees found latin text)
+  as_lines task.Write format found second rules text is = rw is (writes_agree found format.options (reading_of text))
+  as_lines task.WriteExact format found second rules text is = rw is (exact_agrees found format.options.sign (compact_reading_of text))
+  as_lines task.Read format found second rules text is = rw is (reads_agree found format.options.rounding text)
+  as_lines task.ReadLenient format found second rules text is = rw is (typed_agrees found second text)
+  as_lines (task.Category rule_type) format found second rules text is = rw is (categories_agree found (rules rule_type) format.options (reading_of text))
+  as_lines task.RangeCategory format found second rules text is = rw is (ranges_agree found (rules Cardinal) format.options (range_ends text))

@@ -1,8 +1,7 @@
 -- The digits that the options ask for: a rounding, whose mode and increment may be left out, so many digits of a fraction, or so many significant ones.
 -- Defined in docs/command.md, "Digits".
 -- Cited by `NumberWords::asked`.
-use Rattle.std.specs.Prelude.{ℕ, ℤ, pos, neg_ℤ, int_le, int_lt, Bool, false, ◌||◌, is_some, if◌then◌else◌, List, [], ◌∷◌, Option, Some, None, Result, Ok, Err}
-use Rattle.fixed_decimal.specs.declared.RoundingIncrement.{RoundingIncrement}
+use Rattle.std.specs.Prelude.{ℕ, ℤ, pos, neg_ℤ, int_le, int_lt, Bool, false, ◌||◌, is_some, if◌then◌else◌, List, [], ◌∷◌, Option, Some, None, option_map, Result, Ok, Err}
 use Rattle.fixed_decimal.specs.declared.RoundingIncrement.TheVariants.{MultiplesOf1}
 use Rattle.fixed_decimal.specs.declared.SignedRoundingMode.{SignedRoundingMode}
 use Rattle.fixed_decimal.specs.declared.SignedRoundingMode.TheVariants.{Unsigned}
@@ -18,7 +17,11 @@ use Rattle.locale_numbers_formats.specs.declared.SignificantDigits.{SignificantD
 use Rattle.locale_numbers_formats.specs.declared.TrailingZeros.{TrailingZeros}
 use Rattle.locale_numbers_formats.specs.declared.TrailingZeros.TheVariants.{Keep, Trim}
 use Rattle.fixed_decimal.specs.NumberText.{minus}
-use Rattle.locale_numbers_requests.specs.RoundingField.{comma, count_named, increment_named, keeps_digits, last_named, mode_named, position_named, priority_named, significant_by, significant_in, size_named}
+use Rattle.locale_numbers_requests.specs.Increments.{increment_named, multiples_at, with_zeros}
+use Rattle.locale_numbers_requests.specs.RoundingField.{comma, count_named, keeps_digits, last_named, mode_named, position_named, priority_named, significant_by, significant_in, size_named}
+use Rattle.locale_numbers_requests.specs.declared.Increment.{Increment}
+use Rattle.locale_numbers_requests.specs.declared.Multiples.{Multiples}
+use Rattle.legumeyet_options.specs.declared.digits.DigitWords.{DigitWords}
 use Rattle.legumeyet_options.specs.declared.fault.OptionFault.{OptionFault}
 use Rattle.legumeyet_options.specs.declared.fault.OptionFault.TheVariants as fault
 
@@ -39,18 +42,26 @@ rounded_at position = At position (Unsigned HalfEven) MultiplesOf1
 
 -- ---- a rounding
 
-abbrev pub round_by : Option ℤ → Option SignedRoundingMode → Option RoundingIncrement → Option Rounding
-round_by (Some position) (Some mode) (Some increment) = Some (At position mode increment)
+-- to multiples, with the digits down to the position
+abbrev pub multiples_options : SignedRoundingMode → Option Multiples → Option NumberOptions
+multiples_options mode None = None
+multiples_options mode (Some multiples) = Some (options_by (At multiples.position mode multiples.increment) Keep multiples.fraction_digits)
+
+abbrev pub round_by : Option ℤ → Option SignedRoundingMode → Option Increment → Option NumberOptions
+round_by (Some position) (Some mode) (Some increment) = multiples_options mode (multiples_at position increment)
 round_by _ _ _ = None
 
+abbrev pub one : Increment
+one = with_zeros MultiplesOf1 0
+
 -- without a mode half to even, without an increment one
-abbrev pub round_in : List (List ℕ) → Option Rounding
-round_in (position ∷ []) = round_by (position_named position) (Some (Unsigned HalfEven)) (Some MultiplesOf1)
-round_in (position ∷ mode ∷ []) = round_by (position_named position) (mode_named mode) (Some MultiplesOf1)
+abbrev pub round_in : List (List ℕ) → Option NumberOptions
+round_in (position ∷ []) = round_by (position_named position) (Some (Unsigned HalfEven)) (Some one)
+round_in (position ∷ mode ∷ []) = round_by (position_named position) (mode_named mode) (Some one)
 round_in (position ∷ mode ∷ increment ∷ []) = round_by (position_named position) (mode_named mode) (increment_named increment)
 round_in _ = None
 
-abbrev pub round_said : List ℕ → Option Rounding
+abbrev pub round_said : List ℕ → Option NumberOptions
 round_said word = round_in (cut_at comma word)
 
 -- a position above the ones, alone
@@ -63,9 +74,9 @@ is_coarse word = is_above (position_named word)
 
 -- ---- digits of a fraction
 
-abbrev pub rounded_options : Option Rounding → Result NumberOptions OptionFault
+abbrev pub rounded_options : Option NumberOptions → Result NumberOptions OptionFault
 rounded_options None = Err fault.Round
-rounded_options (Some rounding) = Ok (options_by rounding Keep (pos 0))
+rounded_options (Some options) = Ok options
 
 -- so many
 abbrev pub exactly : Option ℤ → Result NumberOptions OptionFault
@@ -153,6 +164,17 @@ pub record DigitsSaid : Type 0 where
   pub min_digits : Option (List ℕ)
   pub significant : Option (List ℕ)
   pub priority : Option (List ℕ)
+
+abbrev pub words_of : DigitWords → DigitsSaid
+words_of w = record {
+  is_in_cash = w.is_in_cash;
+  round = option_map (λ word. word.now) w.round;
+  digits = option_map (λ word. word.now) w.digits;
+  max_digits = option_map (λ word. word.now) w.max_digits;
+  min_digits = option_map (λ word. word.now) w.min_digits;
+  significant = option_map (λ word. word.now) w.significant;
+  priority = option_map (λ word. word.now) w.priority;
+}
 
 -- the digits of cash, or these
 abbrev pub digits_said : DigitsSaid → Result NumberOptions OptionFault

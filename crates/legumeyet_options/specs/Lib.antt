@@ -1,5 +1,8 @@
+pub mod Categories
 pub mod Digits
+pub mod Fractions
 pub mod Invalids
+pub mod KeptSayers
 pub mod LocaleName
 pub mod NumberForms
 pub mod NumberWords

@@ -2,12 +2,13 @@
 -- Defined in docs/command.md, "Options".
 -- Cited by `NumberWords::asked`.
 -- The words name types with cases, and the cases of each are imported beside it.
-use Rattle.std.specs.Prelude.{ℕ, Bool, true, false, not, if◌then◌else◌, List, Option, Some, None, Result, Ok, Err}
+use Rattle.std.specs.Prelude.{ℕ, Bool, true, false, not, if◌then◌else◌, List, Option, Some, None, option_map, Result, Ok, Err}
 use Rattle.icu_decimal_symbols.specs.declared.options.GroupingStrategy.{GroupingStrategy}
 use Rattle.icu_decimal_symbols.specs.declared.options.GroupingStrategy.TheVariants as strategy
 use Rattle.icu_dimension_fractions.specs.CurrencyCodes.{is_currency_code}
 use Rattle.icu_dimension_fractions.specs.declared.CurrencyStyle.TheVariants as style
 use Rattle.icu_dimension_fractions.specs.declared.CurrencyWidth.TheVariants as width
+use Rattle.icu_plurals.specs.declared.PluralRuleType.{PluralRuleType}
 use Rattle.locale_numbers_formats.specs.SkeletonFormats.{format_of}
 use Rattle.locale_numbers_formats.specs.Skeletons.{skeleton_of}
 use Rattle.locale_numbers_formats.specs.declared.Notation.{Notation}
@@ -23,9 +24,10 @@ use Rattle.locale_numbers_formats.specs.declared.SkeletonError.{SkeletonError}
 use Rattle.locale_numbers_requests.specs.FormField.{format_read}
 use Rattle.locale_numbers_requests.specs.Request.{grouping_named, keeps_sign, sign_named}
 use Rattle.locale_numbers_requests.specs.declared.Task.{Task}
-use Rattle.locale_numbers_requests.specs.declared.Task.TheVariants.{Write, WriteExact, Read, ReadLenient}
-use Rattle.legumeyet_options.specs.Digits.{DigitsSaid, chooses_digits, digits_said, is_coarse}
+use Rattle.locale_numbers_requests.specs.declared.Task.TheVariants.{Write, WriteExact, Read, ReadLenient, Category, RangeCategory}
+use Rattle.legumeyet_options.specs.Digits.{DigitsSaid, chooses_digits, digits_said, is_coarse, words_of}
 use Rattle.legumeyet_options.specs.NumberForms.{form_said}
+use Rattle.legumeyet_options.specs.declared.number_words.NumberWords.{NumberWords}
 use Rattle.legumeyet_options.specs.declared.number_words.NumbersAsked.{NumbersAsked}
 use Rattle.legumeyet_options.specs.declared.fault.OptionFault.{OptionFault}
 use Rattle.legumeyet_options.specs.declared.fault.OptionFault.TheVariants as fault
@@ -41,6 +43,21 @@ pub record NumbersSaid : Type 0 where
   pub grouping : Option (List ℕ)
   pub sign : Option (List ℕ)
   pub chosen : DigitsSaid
+  pub rule_type : Option PluralRuleType
+
+abbrev pub numbers_said : NumberWords → NumbersSaid
+numbers_said w = record {
+  form = option_map (λ word. word.now) w.form;
+  format = option_map (λ word. word.now) w.format;
+  currency = option_map (λ word. word.now) w.currency;
+  is_accounting = w.is_accounting;
+  is_by_code = w.is_by_code;
+  is_percent = w.is_percent;
+  grouping = option_map (λ word. word.now) w.grouping;
+  sign = option_map (λ word. word.now) w.sign;
+  chosen = words_of w.chosen;
+  rule_type = w.rule_type;
+}
 
 -- ---- single options
 
@@ -77,6 +94,8 @@ unit_asked (Some code) accounting by_code percent =
 -- an exact form shows the digits that it has, and what is read has the sign and the digits of its text
 abbrev pub task_fault : Task → SignAsked → Bool → Option OptionFault
 task_fault Write sign digits = None
+task_fault (Category rule_type) sign digits = None
+task_fault RangeCategory sign digits = None
 task_fault WriteExact sign digits = if digits then Some fault.DigitsOfExact else None
 task_fault Read sign digits = if not (keeps_sign sign) then Some fault.SignOfRead else if digits then Some fault.DigitsOfRead else None
 task_fault ReadLenient sign digits = if not (keeps_sign sign) then Some fault.SignOfRead else if digits then Some fault.DigitsOfRead else None
@@ -115,8 +134,24 @@ abbrev pub asked_as : Option (List ℕ) → NumbersSaid → Result NumbersAsked 
 asked_as None s = words_asked s
 asked_as (Some skeleton) s = skeleton_asked (skeleton_of skeleton)
 
+-- the plural categories of numbers that are written
+abbrev pub categories_of : PluralRuleType → Task → NumbersAsked → Result NumbersAsked OptionFault
+categories_of rule_type Write asked = Ok (record asked { task = Category rule_type })
+categories_of rule_type WriteExact asked = Err fault.Categories
+categories_of rule_type Read asked = Err fault.Categories
+categories_of rule_type ReadLenient asked = Err fault.Categories
+categories_of rule_type (Category other) asked = Err fault.Categories
+categories_of rule_type RangeCategory asked = Err fault.Categories
+
+abbrev pub categories_asked : PluralRuleType → NumbersAsked → Result NumbersAsked OptionFault
+categories_asked rule_type asked = categories_of rule_type asked.task asked
+
+abbrev pub asked_for : Option PluralRuleType → NumbersAsked → Result NumbersAsked OptionFault
+asked_for None asked = Ok asked
+asked_for (Some rule_type) asked = categories_asked rule_type asked
+
 abbrev pub numbers_asked : NumbersSaid → Result NumbersAsked OptionFault
-numbers_asked s = asked_as s.format s
+numbers_asked s = after (asked_as s.format s) (asked_for s.rule_type)
 
 -- what is asked of texts that are read beside them
 abbrev pub reading_asked : Task → NumbersAsked → NumbersAsked

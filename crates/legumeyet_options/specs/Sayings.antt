@@ -2,7 +2,7 @@
 -- Defined in docs/command.md, "Output" and "Refused numbers".
 -- Cited by `say`, and by what the command writes for numbers and texts.
 -- It joins readings of texts, options, formats and readers, which are defined in files of their own.
-use Rattle.std.specs.Prelude.{◌≡◌, ℕ, ◌&&◌, nat_lt, Bool, true, false, if◌then◌else◌, List, Option, Some, None, Result, Ok, Err}
+use Rattle.std.specs.Prelude.{◌≡◌, ℕ, ◌&&◌, Bool, true, false, if◌then◌else◌, List, Option, Some, None, Result, Ok, Err}
 use Rattle.std.specs.Str.{is_utf8}
 use Rattle.writeable.specs.AnnotatedText.{Event, bytes}
 use Rattle.writeable.specs.HeldParts.{Held, held_after}
@@ -12,6 +12,8 @@ use Rattle.fixed_decimal.specs.SignedText.{signed_text_of}
 use Rattle.fixed_decimal.specs.SignedValue.{SignedValue}
 use Rattle.icu_decimal.specs.PlainReading.{PlainReading, decimal, not_written, unreadable}
 use Rattle.icu_dimension_fractions.specs.declared.Fraction.{Fraction}
+use Rattle.icu_plurals.specs.Rules.{Rules}
+use Rattle.icu_plurals.specs.declared.PluralRange.{PluralRange}
 use Rattle.locale_numbers_formats.specs.Changed.{changed}
 use Rattle.locale_numbers_formats.specs.declared.NumberFormat.{NumberFormat}
 use Rattle.locale_numbers_formats.specs.declared.NumberOptions.{NumberOptions}
@@ -25,9 +27,12 @@ use Rattle.locale_numbers_answers.specs.CompactReading.{CompactReading, compact_
 use Rattle.locale_numbers_answers.specs.NumberAnswer.{can_be_shown, is_form_in_range, signed_form}
 use Rattle.locale_numbers_answers.specs.NumberReading.{Reading, beyond, nothing, number, reading_of}
 use Rattle.locale_numbers_answers.specs.ReadAnswer.{fraction_asked, own_reading}
+use Rattle.locale_numbers_requests.specs.RangeEnds.{range_ends}
 use Rattle.locale_numbers_requests.specs.declared.Refusal.TheVariants as refusal
 use Rattle.locale_numbers_requests.specs.declared.Task.{Task}
 use Rattle.locale_numbers_requests.specs.declared.Task.TheVariants as task
+use Rattle.legumeyet_options.specs.Categories.{range_reading_saying, reading_category_saying}
+use Rattle.legumeyet_options.specs.Fractions.{has_fraction}
 use Rattle.legumeyet_options.specs.declared.saying.NotSaid.{NotSaid}
 use Rattle.legumeyet_options.specs.declared.saying.NotSaid.TheVariants.{Refused, Coarse}
 use Rattle.legumeyet_options.specs.declared.saying.Sayer.{Sayer}
@@ -41,10 +46,6 @@ abbrev pub says : List Event → Saying
 says events = Ok (held_after events)
 
 -- ---- written
-
--- a digit is shown below the ones
-abbrev pub has_fraction : Number → Bool
-has_fraction value = nat_lt value.low 32768
 
 -- only what compact text shows may be no decimal
 abbrev pub can_be_written : FormatTables → SignedValue Number → Bool
@@ -106,10 +107,17 @@ text_saying (by.WritesExact found sign) text = exact_saying found sign (compact_
 text_saying by.NoTable text = Err (Refused refusal.Table)
 text_saying (by.Reads reader fraction) text = read_saying (own_reading fraction (reading_by_reader reader text))
 text_saying (by.ReadsTyped reader) text = read_saying (reading_by_typed reader text)
+text_saying (by.Categories found rules options coarse) text = reading_category_saying found rules options coarse (reading_of text)
+text_saying (by.RangeCategories found rules options coarse) text = range_reading_saying found rules options coarse (range_ends text)
 
 -- a text that is not UTF-8 is none
 abbrev pub saying : Sayer → List ℕ → Saying
 saying sayer text = if is_utf8 text then text_saying sayer text else Err (Refused refusal.Shape)
+
+-- the text that is said, without its parts
+abbrev pub text_said : Saying → Option (List ℕ)
+text_said (Ok held) = Some held.text
+text_said (Err why) = None
 
 -- ---- what texts are said by
 
@@ -119,12 +127,14 @@ reads_by None rounding = by.NoTable
 reads_by (Some f) rounding = by.Reads (reader_of f) (fraction_asked (fractions_in f) rounding)
 
 abbrev pub reads_typed_by : Option FormatTables → Option FormatTables → Sayer
-reads_typed_by None latin = by.NoTable
-reads_typed_by (Some f) latin = by.ReadsTyped (typed_of f latin)
+reads_typed_by None second = by.NoTable
+reads_typed_by (Some f) second = by.ReadsTyped (typed_of f second)
 
--- by what is found for the format, and for reading what people type by what is found with Latin digits
-abbrev pub sayer_for : Task → NumberFormat → Bool → Option FormatTables → Option FormatTables → Sayer
-sayer_for task.Write format coarse found latin = by.Writes found format.options coarse
-sayer_for task.WriteExact format coarse found latin = by.WritesExact found format.options.sign
-sayer_for task.Read format coarse found latin = reads_by found format.options.rounding
-sayer_for task.ReadLenient format coarse found latin = reads_typed_by found latin
+-- by what is found for the format, for reading what people type by what stands beside it, and for categories by rules
+abbrev pub sayer_for : Task → NumberFormat → Bool → Option FormatTables → Option FormatTables → Option (Rules × List PluralRange) → Sayer
+sayer_for task.Write format coarse found second rules = by.Writes found format.options coarse
+sayer_for task.WriteExact format coarse found second rules = by.WritesExact found format.options.sign
+sayer_for task.Read format coarse found second rules = reads_by found format.options.rounding
+sayer_for task.ReadLenient format coarse found second rules = reads_typed_by found second
+sayer_for (task.Category rule_type) format coarse found second rules = by.Categories found rules format.options coarse
+sayer_for task.RangeCategory format coarse found second rules = by.RangeCategories found rules format.options coarse

@@ -3,14 +3,15 @@
 ghost use Rattle.std.specs.Prelude.{◌≡◌, ◌∷◌, option_map};
 ghost use Rattle.locale_numbers_formats.specs.Cutting.{cut_at};
 ghost use Rattle.locale_numbers_requests.specs.RoundingField.{comma, position_named};
-ghost use Rattle.legumeyet_options.specs.Digits.{at_least, between, chooses_digits, counts_said, digits_by, digits_said, exactly, fraction_said, is_coarse, options_by, round_by, round_in, round_said, rounded_at, rounded_options};
+ghost use Rattle.legumeyet_options.specs.Digits.{at_least, between, chooses_digits, counts_said, digits_by, digits_said, exactly, fraction_said, is_coarse, options_by, round_by, round_in, round_said, rounded_at, rounded_options, words_of};
 
 use crate::fault::OptionFault;
 use crate::significant::with_significant;
 use fixed_decimal::{RoundingIncrement, SignedRoundingMode, UnsignedRoundingMode};
 use locale_numbers_formats::{LeadingZeros, NumberOptions, Rounding, SignAsked, TrailingZeros};
 use locale_numbers_requests::{
-    count_named, cut_field, increment_named, last_named, mode_named, position_named,
+    Increment, count_named, cut_field, increment_named, last_named, mode_named, multiples_at,
+    position_named,
 };
 
 // A rounding, the zeros at the end and the digits of the fraction at least; a zero that a rounding above the ones leaves is
@@ -39,30 +40,34 @@ fn rounded_at(position: i16) -> Rounding
     )
 }
 
-// A rounding by three words: of a position, a mode and an increment.
+// An increment of one.
+const ONE: Increment = Increment {
+    digits: RoundingIncrement::MultiplesOf1,
+    zeros: 0,
+};
+
+// A rounding by three words: of a position, a mode and an increment, with the digits down to the position.
 fn round_by(
     position: &[u8],
     mode: Option<SignedRoundingMode>,
-    increment: Option<RoundingIncrement>,
-) -> Option<Rounding>
+    increment: Option<Increment>,
+) -> Option<NumberOptions>
     ensures { result ≡ round_by (position_named position.now) mode increment }
 {
     let position = position_named(position)?;
     let mode = mode?;
     let increment = increment?;
-    Some(Rounding::At(position, mode, increment))
+    let multiples = multiples_at(position, increment)?;
+    let rounding = Rounding::At(multiples.position, mode, multiples.increment);
+    Some(options_by(rounding, TrailingZeros::Keep, multiples.fraction_digits))
 }
 
 // A rounding by a position, and what follows it.
-fn round_behind(position: &[u8], rest: &[u8]) -> Option<Rounding>
+fn round_behind(position: &[u8], rest: &[u8]) -> Option<NumberOptions>
     ensures { result ≡ round_in (position.now ∷ cut_at comma rest.now) }
 {
     match cut_field(rest, b',') {
-        (mode, None) => round_by(
-            position,
-            mode_named(mode),
-            Some(RoundingIncrement::MultiplesOf1),
-        ),
+        (mode, None) => round_by(position, mode_named(mode), Some(ONE)),
         (mode, Some(rest)) => match cut_field(rest, b',') {
             (increment, None) => round_by(position, mode_named(mode), increment_named(increment)),
             (_, Some(_)) => None,
@@ -71,14 +76,14 @@ fn round_behind(position: &[u8], rest: &[u8]) -> Option<Rounding>
 }
 
 // The rounding that a word of `--round` says: without a mode half to even, without an increment to multiples of one.
-fn round_said(word: &[u8]) -> Option<Rounding>
+fn round_said(word: &[u8]) -> Option<NumberOptions>
     ensures { result ≡ round_said word.now }
 {
     match cut_field(word, b',') {
         (position, None) => round_by(
             position,
             Some(SignedRoundingMode::Unsigned(UnsignedRoundingMode::HalfEven)),
-            Some(RoundingIncrement::MultiplesOf1),
+            Some(ONE),
         ),
         (position, Some(rest)) => round_behind(position, rest),
     }
@@ -95,12 +100,12 @@ pub fn is_coarse(word: &[u8]) -> bool
 }
 
 // The options of a rounding.
-fn rounded_options(rounding: Option<Rounding>) -> Result<NumberOptions, OptionFault>
-    ensures { result ≡ rounded_options rounding }
+fn rounded_options(options: Option<NumberOptions>) -> Result<NumberOptions, OptionFault>
+    ensures { result ≡ rounded_options options }
 {
-    match rounding {
+    match options {
         None => Err(OptionFault::Round),
-        Some(rounding) => Ok(options_by(rounding, TrailingZeros::Keep, 0)),
+        Some(options) => Ok(options),
     }
 }
 
@@ -206,15 +211,7 @@ pub struct DigitWords<'a> {
 impl DigitWords<'_> {
     // What all options of digits say, where those of cash come first.
     pub(crate) fn said(&self) -> Result<NumberOptions, OptionFault>
-        ensures { result ≡ digits_said (record {
-          is_in_cash = self.now.is_in_cash;
-          round = option_map (λ word. word.now) self.now.round;
-          digits = option_map (λ word. word.now) self.now.digits;
-          max_digits = option_map (λ word. word.now) self.now.max_digits;
-          min_digits = option_map (λ word. word.now) self.now.min_digits;
-          significant = option_map (λ word. word.now) self.now.significant;
-          priority = option_map (λ word. word.now) self.now.priority;
-        }) }
+        ensures { result ≡ digits_said (words_of self.now) }
     {
         if self.is_in_cash {
             return Ok(options_by(Rounding::Cash, TrailingZeros::Keep, 0));
@@ -226,15 +223,7 @@ impl DigitWords<'_> {
 
     // Whether digits are chosen.
     pub(crate) fn are_chosen(&self) -> bool
-        ensures { result ≡ chooses_digits (record {
-          is_in_cash = self.now.is_in_cash;
-          round = option_map (λ word. word.now) self.now.round;
-          digits = option_map (λ word. word.now) self.now.digits;
-          max_digits = option_map (λ word. word.now) self.now.max_digits;
-          min_digits = option_map (λ word. word.now) self.now.min_digits;
-          significant = option_map (λ word. word.now) self.now.significant;
-          priority = option_map (λ word. word.now) self.now.priority;
-        }) }
+        ensures { result ≡ chooses_digits (words_of self.now) }
     {
         self.is_in_cash
             || self.round.is_some()

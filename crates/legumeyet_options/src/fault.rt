@@ -39,4 +39,6 @@ pub enum OptionFault {
     SignOfRead,
     /// It has the digits of its text.
     DigitsOfRead,
+    /// `--plural` or `--ordinal` beside an exact form or a number that is read.
+    Categories,
 }

@@ -34,7 +34,8 @@ Fields:
   ends it. A field that can't stand without quotes is put into them. With --delimiter tab nothing is in
   quotes. A blank field stays blank. A refused field stays as it is, or --invalid says something else:
   empty, an empty field; skip, the record goes; abort, it goes and all after it. A field of digits is a
-  number; any other is a name, in the first record.
+  number; any other is a name, in the first record. --field 3=plural and --field 3=ordinal write plural
+  categories, --field 3=plural::.00 those of numbers in the format of a skeleton.
 
 Reading:
   --read takes what people type: with all separators between groups or with none, with spaces around
@@ -58,10 +59,16 @@ Digits:
   to even.
   --round -2 rounds to hundredths and shows both digits, 0 rounds to whole numbers, 3 to thousands. A
   mode may follow, and then an increment: -2,floor and -2,half-even,5. The modes are expand, trunc,
-  ceil, floor, half-expand, half-trunc, half-ceil, half-floor and half-even, the increments 1, 2, 5 and
-  25; without them it is half-even and 1. Under a position above 0 without a mode a number with a
-  fraction is refused: --round 2 rounds to hundreds, and --digits 2 may be meant. Exact forms and texts
-  that are read are not rounded.
+  ceil, floor, half-expand, half-trunc, half-ceil, half-floor and half-even, the increments 1, 2, 5, 10,
+  20, 25, 50, 100, 200, 250, 500, 1000, 2000, 2500 and 5000; without them it is half-even and 1. Under a
+  position above 0 without a mode a number with a fraction is refused: --round 2 rounds to hundreds, and
+  --digits 2 may be meant. Exact forms and texts that are read are not rounded.
+
+Plural categories:
+  --plural prints, in place of each number, its plural category in the language of the tag: zero, one,
+  two, few, many or other. It is that of the number as it would be written: after --digits and the
+  like, and of a compact number by what is shown. --ordinal prints that of an ordinal number, as of 2nd.
+  Neither goes with exact forms and with texts that are read.
 
 Skeletons:
   --format takes a number skeleton, as ICU's message formatters have it behind ::, 'currency/EUR .00'
@@ -71,11 +78,13 @@ Skeletons:
 Lines:
   A line of --lines has six fields with tabs between: tag, form, grouping, sign, rounding and number.
   The first five have the words of the options. Further forms are percent and, of amounts in euros,
-  currency-EUR, accounting-EUR and code-EUR, each with read- or read-lenient- before it where a text is
-  read, and ::SKELETON. The rounding is -, cash, or all three words of --round, in which f0-2 is two
-  digits at most, or s1-3,half-even for three significant ones at most; with - only amounts are rounded,
-  to the digits of their currency. The answer to a line is ok, a tab and the text, for short and long also a tab and the value that is shown; or err, a
-  tab and the first of these words that applies:
+  currency-EUR, accounting-EUR and code-EUR, each with read- or read-lenient- before it where a text
+  is read, and ::SKELETON. plural and ordinal tell plural categories, range-plural that of a range as
+  1..5, each with ::SKELETON behind it or without. The rounding is -, cash, or all three words of
+  --round, in which f0-2 is two digits at most, or s1-3,half-even for three significant ones at most;
+  with - only amounts are rounded, to the digits of their currency. The answer to a line is ok, a tab
+  and the text, for short and long also a tab and the value that is shown; or err, a tab and the
+  first of these words that applies:
 
     shape        the line does not have six fields of known words
     tag          the tag is no locale tag
@@ -105,6 +114,10 @@ Examples:
 
   $ legumeyet --tag de --currency EUR 1234.5
   1.234,50 €
+
+  $ legumeyet --tag pl --plural 5 1.5
+  many
+  other
 
   $ legumeyet --tag de --max-digits 2 1234.5 0.125
   1.234,5

@@ -3,10 +3,12 @@
 
 #![tactic(auto)]
 
+mod categories;
 mod digits;
 mod fault;
 mod help;
 mod invalid;
+mod kept_sayer;
 pub mod laws;
 mod locale_name;
 mod number_words;
@@ -14,9 +16,11 @@ mod options;
 mod saying;
 mod significant;
 
+pub use categories::SayerRules;
 pub use digits::DigitWords;
 pub use fault::OptionFault;
 pub use invalid::Invalid;
+pub use kept_sayer::KeptSayer;
 pub use locale_name::tag_of_name;
 pub use number_words::{NumberWords, NumbersAsked};
 pub use options::command;

@@ -3,12 +3,13 @@
 ghost use Rattle.std.specs.Prelude.{◌≡◌, option_map};
 ghost use Rattle.locale_numbers_formats.specs.Skeletons.{skeleton_of};
 ghost use Rattle.legumeyet_options.specs.NumberForms.{form_said};
-ghost use Rattle.legumeyet_options.specs.NumberWords.{asked_by, form_asked, grouping_asked, is_coarse_round, numbers_asked, reading_asked, sign_asked, skeleton_asked, task_fault, unit_asked, words_asked};
+ghost use Rattle.legumeyet_options.specs.NumberWords.{after, asked_by, asked_for, categories_asked, form_asked, grouping_asked, is_coarse_round, numbers_asked, numbers_said, reading_asked, sign_asked, skeleton_asked, task_fault, unit_asked, words_asked};
 
 use crate::digits::{DigitWords, is_coarse};
 use crate::fault::OptionFault;
 use icu_decimal_symbols::options::GroupingStrategy;
 use icu_dimension_fractions::{CurrencyCode, CurrencyStyle, CurrencyWidth};
+use icu_plurals::PluralRuleType;
 use locale_numbers_formats::{
     CompactWidth, CurrencyUnit, Notation, NumberFormat, NumberOptions, NumberShape, NumberUnit,
     SignAsked, Skeleton, value_beside,
@@ -36,6 +37,9 @@ pub struct NumberWords<'a> {
     pub sign: Option<&'a str>,
     /// Those of the options of digits.
     pub chosen: DigitWords<'a>,
+    /// By which rules the plural category of each number is asked in its place: `Cardinal` with `--plural`, `Ordinal` with
+    /// `--ordinal`.
+    pub rule_type: Option<PluralRuleType>,
 }
 
 /// What is asked of numbers.
@@ -67,6 +71,25 @@ impl NumbersAsked {
                 options: format.options,
             },
             is_coarse: false,
+        }
+    }
+
+    /// The same, of which in place of each number its plural category by rules of this type is asked. It does not allocate.
+    ///
+    /// `Categories`: no number is written that is shown as it is rounded, as by an exact form.
+    pub fn categories(&self, rule_type: PluralRuleType) -> Result<NumbersAsked, OptionFault>
+        ensures value { result ≡ categories_asked rule_type self.now }
+    {
+        match self.task {
+            Task::Write => Ok(NumbersAsked {
+                task: Task::Category(rule_type),
+                ..*self
+            }),
+            Task::WriteExact
+            | Task::Read
+            | Task::ReadLenient
+            | Task::Category(_)
+            | Task::RangeCategory => Err(OptionFault::Categories),
         }
     }
 }
@@ -179,7 +202,7 @@ fn task_fault(task: Task, sign: SignAsked, digits: bool) -> Option<OptionFault>
     ensures { result ≡ task_fault task sign digits }
 {
     match task {
-        Task::Write => None,
+        Task::Write | Task::Category(_) | Task::RangeCategory => None,
         Task::WriteExact if digits => Some(OptionFault::DigitsOfExact),
         Task::WriteExact => None,
         Task::Read | Task::ReadLenient => {
@@ -242,28 +265,36 @@ fn skeleton_asked(skeleton: &str) -> Result<NumbersAsked, OptionFault>
     }
 }
 
+// What is asked, or the plural category in place of each number where that is asked.
+fn asked_for(
+    rule_type: Option<PluralRuleType>,
+    asked: NumbersAsked,
+) -> Result<NumbersAsked, OptionFault>
+    ensures { result ≡ asked_for rule_type asked }
+{
+    match rule_type {
+        None => Ok(asked),
+        Some(rule_type) => asked.categories(rule_type),
+    }
+}
+
+// The same, where nothing is wrong with the other words.
+fn asked_after(
+    rule_type: Option<PluralRuleType>,
+    asked: Result<NumbersAsked, OptionFault>,
+) -> Result<NumbersAsked, OptionFault>
+    ensures { result ≡ after asked (asked_for rule_type) }
+{
+    match asked {
+        Ok(asked) => asked_for(rule_type, asked),
+        Err(fault) => Err(fault),
+    }
+}
+
 impl NumberWords<'_> {
     // What the words ask, where they are no skeleton.
     fn words_asked(&self) -> Result<NumbersAsked, OptionFault>
-        ensures { result ≡ words_asked (record {
-          form = option_map (λ word. word.now) self.now.form;
-          format = option_map (λ word. word.now) self.now.format;
-          currency = option_map (λ word. word.now) self.now.currency;
-          is_accounting = self.now.is_accounting;
-          is_by_code = self.now.is_by_code;
-          is_percent = self.now.is_percent;
-          grouping = option_map (λ word. word.now) self.now.grouping;
-          sign = option_map (λ word. word.now) self.now.sign;
-          chosen = record {
-            is_in_cash = self.now.chosen.is_in_cash;
-            round = option_map (λ word. word.now) self.now.chosen.round;
-            digits = option_map (λ word. word.now) self.now.chosen.digits;
-            max_digits = option_map (λ word. word.now) self.now.chosen.max_digits;
-            min_digits = option_map (λ word. word.now) self.now.chosen.min_digits;
-            significant = option_map (λ word. word.now) self.now.chosen.significant;
-            priority = option_map (λ word. word.now) self.now.chosen.priority;
-          };
-        }) }
+        ensures { result ≡ words_asked (numbers_said self.now) }
     {
         let (task, notation) = form_asked(self.form)?;
         let unit = unit_asked(
@@ -295,31 +326,15 @@ impl NumberWords<'_> {
     /// thousandths. It does not allocate.
     ///
     /// `OptionFault`: an option is wrong, or does not go with the form. Where several are, it is the first of the form, the
-    /// currency, the grouping, the sign and the digits, and else that which does not go with the form.
+    /// currency, the grouping, the sign and the digits, and else that which does not go with the form, of which that of
+    /// categories is the last.
     pub fn asked(&self) -> Result<NumbersAsked, OptionFault>
-        ensures value { result ≡ numbers_asked (record {
-          form = option_map (λ word. word.now) self.now.form;
-          format = option_map (λ word. word.now) self.now.format;
-          currency = option_map (λ word. word.now) self.now.currency;
-          is_accounting = self.now.is_accounting;
-          is_by_code = self.now.is_by_code;
-          is_percent = self.now.is_percent;
-          grouping = option_map (λ word. word.now) self.now.grouping;
-          sign = option_map (λ word. word.now) self.now.sign;
-          chosen = record {
-            is_in_cash = self.now.chosen.is_in_cash;
-            round = option_map (λ word. word.now) self.now.chosen.round;
-            digits = option_map (λ word. word.now) self.now.chosen.digits;
-            max_digits = option_map (λ word. word.now) self.now.chosen.max_digits;
-            min_digits = option_map (λ word. word.now) self.now.chosen.min_digits;
-            significant = option_map (λ word. word.now) self.now.chosen.significant;
-            priority = option_map (λ word. word.now) self.now.chosen.priority;
-          };
-        }) }
+        ensures value { result ≡ numbers_asked (numbers_said self.now) }
     {
-        match self.format {
+        let asked = match self.format {
             None => self.words_asked(),
             Some(skeleton) => skeleton_asked(skeleton),
-        }
+        };
+        asked_after(self.rule_type, asked)
     }
 }

@@ -23,6 +23,15 @@ static PRIORITIES: [&str; 2] = ["more", "less"];
 
 static INVALIDS: [&str; 4] = ["empty", "keep", "skip", "abort"];
 
+// An option that goes with none of these.
+fn without<'a>(option: Arg<'a>, others: &[&'static str]) -> Result<Arg<'a>, AllocError> {
+    let mut option = option;
+    for other in others {
+        option = option.conflicts_with(other)?;
+    }
+    Ok(option)
+}
+
 fn tag<'a>(alloc: Global) -> Arg<'a> {
     Arg::new(alloc, "tag")
         .short('t')
@@ -86,80 +95,68 @@ fn round<'a>(alloc: Global) -> Result<Arg<'a>, AllocError> {
 }
 
 fn digits<'a>(alloc: Global) -> Result<Arg<'a>, AllocError> {
-    Arg::new(alloc, "digits")
+    let option = Arg::new(alloc, "digits")
         .short('d')
         .long("digits")
         .value_name("N")
-        .help("Writes so many digits after the point, rounded half to even")
-        .conflicts_with("format")?
-        .conflicts_with("round")
+        .help("Writes so many digits after the point, rounded half to even");
+    without(option, &["format", "round"])
 }
 
 fn max_digits<'a>(alloc: Global) -> Result<Arg<'a>, AllocError> {
-    Arg::new(alloc, "max-digits")
+    let option = Arg::new(alloc, "max-digits")
         .long("max-digits")
         .value_name("N")
-        .help("Writes so many digits after the point at most, and no zeros at the end")
-        .conflicts_with("format")?
-        .conflicts_with("round")?
-        .conflicts_with("digits")
+        .help("Writes so many digits after the point at most, and no zeros at the end");
+    without(option, &["format", "round", "digits"])
 }
 
 fn min_digits<'a>(alloc: Global) -> Result<Arg<'a>, AllocError> {
-    Arg::new(alloc, "min-digits")
+    let option = Arg::new(alloc, "min-digits")
         .long("min-digits")
         .value_name("N")
         .help(
             "Writes so many digits after the point at least; without --max-digits nothing is rounded",
-        )
-        .conflicts_with("format")?
-        .conflicts_with("round")?
-        .conflicts_with("digits")
+        );
+    without(option, &["format", "round", "digits"])
 }
 
 fn significant<'a>(alloc: Global) -> Result<Arg<'a>, AllocError> {
-    Arg::new(alloc, "significant")
+    let option = Arg::new(alloc, "significant")
         .long("significant")
         .value_name("N")
         .help(
             "Writes so many digits from the first one that is not zero on: 3, or 1-3 at most three",
-        )
-        .conflicts_with("format")?
-        .conflicts_with("round")
+        );
+    without(option, &["format", "round"])
 }
 
 fn priority<'a>(alloc: Global) -> Result<Arg<'a>, AllocError> {
-    Arg::new(alloc, "priority")
+    let option = Arg::new(alloc, "priority")
         .long("priority")
         .value_name("PRIORITY")
         .value_parser(PRIORITIES.as_slice())
         .help(
             "Writes by --significant or by --digits and --max-digits, whichever shows more, or less",
         )
-        .requires_arg("significant")?
-        .conflicts_with("format")?
-        .conflicts_with("round")?
-        .conflicts_with("cash")
+        .requires_arg("significant")?;
+    without(option, &["format", "round", "cash"])
 }
 
 fn currency<'a>(alloc: Global) -> Result<Arg<'a>, AllocError> {
-    Arg::new(alloc, "currency")
+    let option = Arg::new(alloc, "currency")
         .short('c')
         .long("currency")
         .value_name("CODE")
-        .help("Writes amounts of this currency, as EUR, rounded to its digits")
-        .conflicts_with("form")?
-        .conflicts_with("format")
+        .help("Writes amounts of this currency, as EUR, rounded to its digits");
+    without(option, &["form", "format"])
 }
 
 // An option of amounts of a currency. What it requires may be missing where that goes with nothing that is given, so each form
 // without a currency is named.
 fn of_amounts<'a>(option: Arg<'a>) -> Result<Arg<'a>, AllocError> {
-    option
-        .requires_arg("currency")?
-        .conflicts_with("form")?
-        .conflicts_with("format")?
-        .conflicts_with("percent")
+    let option = option.requires_arg("currency")?;
+    without(option, &["form", "format", "percent"])
 }
 
 fn accounting<'a>(alloc: Global) -> Result<Arg<'a>, AllocError> {
@@ -183,24 +180,40 @@ fn cash<'a>(alloc: Global) -> Result<Arg<'a>, AllocError> {
     let option = Arg::new(alloc, "cash")
         .long("cash")
         .action(ArgAction::SetTrue)
-        .help("Rounds amounts to what is paid in cash: 2.34 Swiss francs are 2.35")
-        .conflicts_with("round")?
-        .conflicts_with("digits")?
-        .conflicts_with("max-digits")?
-        .conflicts_with("min-digits")?
-        .conflicts_with("significant")?;
+        .help("Rounds amounts to what is paid in cash: 2.34 Swiss francs are 2.35");
+    let option = without(
+        option,
+        &["round", "digits", "max-digits", "min-digits", "significant"],
+    )?;
     of_amounts(option)
 }
 
 fn percent<'a>(alloc: Global) -> Result<Arg<'a>, AllocError> {
-    Arg::new(alloc, "percent")
+    let option = Arg::new(alloc, "percent")
         .short('p')
         .long("percent")
         .action(ArgAction::SetTrue)
-        .help("Writes percents: 12.5 is 12.5% in English")
-        .conflicts_with("form")?
-        .conflicts_with("format")?
-        .conflicts_with("currency")
+        .help("Writes percents: 12.5 is 12.5% in English");
+    without(option, &["form", "format", "currency"])
+}
+
+fn plural<'a>(alloc: Global) -> Result<Arg<'a>, AllocError> {
+    let option = Arg::new(alloc, "plural")
+        .long("plural")
+        .action(ArgAction::SetTrue)
+        .help("Prints the plural category of each number as it would be written: one, few, other");
+    without(option, &["read", "read-exact", "read-fields", "parts"])
+}
+
+fn ordinal<'a>(alloc: Global) -> Result<Arg<'a>, AllocError> {
+    let option = Arg::new(alloc, "ordinal")
+        .long("ordinal")
+        .action(ArgAction::SetTrue)
+        .help("Prints the category of each as an ordinal number: in English two of 2, as in 2nd");
+    without(
+        option,
+        &["read", "read-exact", "read-fields", "parts", "plural"],
+    )
 }
 
 fn read<'a>(alloc: Global) -> Arg<'a> {
@@ -224,41 +237,45 @@ fn read_exact<'a>(alloc: Global) -> Arg<'a> {
 }
 
 fn field<'a>(alloc: Global) -> Result<Arg<'a>, AllocError> {
-    Arg::new(alloc, "field")
+    let option = Arg::new(alloc, "field")
         .long("field")
         .value_name("FIELD[=SKELETON]")
         .action(ArgAction::Append)
         .help(
             "Writes the numbers in this field of the records of standard input, a number from 1 on or a name in the header; may be given again",
-        )
-        .conflicts_with("numbers")?
-        .conflicts_with("read")?
-        .conflicts_with("read-exact")?
-        .conflicts_with("parts")
+        );
+    without(option, &["numbers", "read", "read-exact", "parts"])
+}
+
+// An option of the fields of a table. What it requires may be missing where that goes with nothing that is given, so each
+// way without a field is named.
+fn of_fields<'a>(option: Arg<'a>) -> Result<Arg<'a>, AllocError> {
+    let option = option.requires_arg("field")?;
+    without(option, &["numbers", "read", "read-exact", "parts"])
 }
 
 fn read_fields<'a>(alloc: Global) -> Result<Arg<'a>, AllocError> {
-    Arg::new(alloc, "read-fields")
+    let option = Arg::new(alloc, "read-fields")
         .long("read-fields")
         .action(ArgAction::SetTrue)
         .help("Reads the fields as people type them, and writes the number that each is")
-        .requires_arg("field")?
-        .conflicts_with("form")
+        .conflicts_with("form")?;
+    of_fields(option)
 }
 
 fn delimiter<'a>(alloc: Global) -> Result<Arg<'a>, AllocError> {
-    Arg::new(alloc, "delimiter")
+    let option = Arg::new(alloc, "delimiter")
         .long("delimiter")
         .value_name("CHARACTER")
         .allow_hyphen_values(true)
         .help(
             "What is between two fields, an ASCII character; tab is a tab, and then there are no quotes [default: ,]",
-        )
-        .requires_arg("field")
+        );
+    of_fields(option)
 }
 
 fn header<'a>(alloc: Global) -> Result<Arg<'a>, AllocError> {
-    Arg::new(alloc, "header")
+    let option = Arg::new(alloc, "header")
         .long("header")
         .value_name("N")
         .num_args(0..=1)
@@ -267,26 +284,25 @@ fn header<'a>(alloc: Global) -> Result<Arg<'a>, AllocError> {
         .value_parser(ValueParser::unsigned(0, 65_535))
         .help(
             "So many first records are a header, and stay [default: 1 where a field has a name, else 0]",
-        )
-        .requires_arg("field")
+        );
+    of_fields(option)
 }
 
 fn padding<'a>(alloc: Global) -> Result<Arg<'a>, AllocError> {
-    Arg::new(alloc, "padding")
+    let option = Arg::new(alloc, "padding")
         .long("padding")
         .value_name("N")
         .allow_hyphen_values(true)
-        .help("Puts spaces before the text of a field up to so many characters, with -N behind it")
-        .requires_arg("field")
+        .help("Puts spaces before the text of a field up to so many characters, with -N behind it");
+    of_fields(option)
 }
 
 fn parts<'a>(alloc: Global) -> Result<Arg<'a>, AllocError> {
-    Arg::new(alloc, "parts")
+    let option = Arg::new(alloc, "parts")
         .long("parts")
         .action(ArgAction::SetTrue)
-        .help("Prints each text and then its parts, a line each; not for exact and reading forms")
-        .conflicts_with("read")?
-        .conflicts_with("read-exact")
+        .help("Prints each text and then its parts, a line each; not for exact and reading forms");
+    without(option, &["read", "read-exact"])
 }
 
 fn invalid<'a>(alloc: Global) -> Arg<'a> {
@@ -307,32 +323,37 @@ fn book<'a>(alloc: Global) -> Arg<'a> {
         .help("A book of tables in place of that of all locales")
 }
 
-// An option that does not go with those that say which numbers and texts are written or read, and how.
-fn beside_no_number<'a>(option: Arg<'a>) -> Result<Arg<'a>, AllocError> {
-    option
-        .conflicts_with("numbers")?
-        .conflicts_with("tag")?
-        .conflicts_with("form")?
-        .conflicts_with("format")?
-        .conflicts_with("grouping")?
-        .conflicts_with("sign")?
-        .conflicts_with("round")?
-        .conflicts_with("digits")?
-        .conflicts_with("max-digits")?
-        .conflicts_with("min-digits")?
-        .conflicts_with("significant")?
-        .conflicts_with("priority")?
-        .conflicts_with("currency")?
-        .conflicts_with("accounting")?
-        .conflicts_with("code")?
-        .conflicts_with("cash")?
-        .conflicts_with("percent")?
-        .conflicts_with("read")?
-        .conflicts_with("read-exact")?
-        .conflicts_with("field")?
-        .conflicts_with("parts")?
-        .conflicts_with("invalid")
-}
+// The options that say which numbers and texts are written or read, and how.
+static OF_NUMBERS: [&str; 28] = [
+    "numbers",
+    "tag",
+    "form",
+    "format",
+    "grouping",
+    "sign",
+    "round",
+    "digits",
+    "max-digits",
+    "min-digits",
+    "significant",
+    "priority",
+    "currency",
+    "accounting",
+    "code",
+    "cash",
+    "percent",
+    "plural",
+    "ordinal",
+    "read",
+    "read-exact",
+    "field",
+    "read-fields",
+    "delimiter",
+    "header",
+    "padding",
+    "parts",
+    "invalid",
+];
 
 fn locales<'a>(alloc: Global) -> Result<Arg<'a>, AllocError> {
     let option = Arg::new(alloc, "locales")
@@ -341,7 +362,7 @@ fn locales<'a>(alloc: Global) -> Result<Arg<'a>, AllocError> {
         .help(
             "Lists the locales of the book of all locales, or those that the book of --book has symbols for",
         );
-    beside_no_number(option)
+    without(option, OF_NUMBERS.as_slice())
 }
 
 // A line names all that is asked for.
@@ -350,21 +371,20 @@ fn lines<'a>(alloc: Global) -> Result<Arg<'a>, AllocError> {
         .long("lines")
         .action(ArgAction::SetTrue)
         .help("Answers the request lines of standard input");
-    beside_no_number(option)?.conflicts_with("locales")
+    without(option, OF_NUMBERS.as_slice())?.conflicts_with("locales")
 }
 
 fn capacity<'a>(alloc: Global) -> Result<Arg<'a>, AllocError> {
-    Arg::new(alloc, "capacity")
+    let option = Arg::new(alloc, "capacity")
         .long("capacity")
         .value_name("N")
         .value_parser(ValueParser::unsigned(1, 65_535))
         .default_value("512")
-        .help("How many formatters are kept for --lines, from 1 to 65535")
-        .conflicts_with("numbers")?
-        .conflicts_with("read")?
-        .conflicts_with("read-exact")?
-        .conflicts_with("field")?
-        .conflicts_with("locales")
+        .help("How many formatters are kept for --lines, from 1 to 65535");
+    without(
+        option,
+        &["numbers", "read", "read-exact", "field", "locales"],
+    )
 }
 
 fn numbers<'a>(alloc: Global) -> Result<Arg<'a>, AllocError> {
@@ -389,42 +409,59 @@ fn put<'a>(args: &mut Vec<Arg<'a>>, made: Result<Arg<'a>, AllocError>) -> Result
     }
 }
 
-// Puts those that say what is written, in the order in which help lists them.
-fn put_written<'a>(alloc: Global, args: &mut Vec<Arg<'a>>) -> Result<(), AllocError> {
+// Puts those of the tag and the format, in the order in which help lists them; the others follow in theirs.
+fn put_forms<'a>(alloc: Global, args: &mut Vec<Arg<'a>>) -> Result<(), AllocError> {
     put(args, numbers(alloc))?;
     put(args, Ok(tag(alloc)))?;
     put(args, Ok(form(alloc)))?;
-    put(args, format(alloc))?;
+    put(args, format(alloc))
+}
+
+// Puts those of amounts and percents.
+fn put_units<'a>(alloc: Global, args: &mut Vec<Arg<'a>>) -> Result<(), AllocError> {
     put(args, currency(alloc))?;
     put(args, accounting(alloc))?;
     put(args, code(alloc))?;
     put(args, cash(alloc))?;
-    put(args, percent(alloc))?;
+    put(args, percent(alloc))
+}
+
+// Puts those of groups, signs and digits of a fraction.
+fn put_digits<'a>(alloc: Global, args: &mut Vec<Arg<'a>>) -> Result<(), AllocError> {
     put(args, grouping(alloc))?;
     put(args, sign(alloc))?;
     put(args, digits(alloc))?;
     put(args, max_digits(alloc))?;
-    put(args, min_digits(alloc))?;
+    put(args, min_digits(alloc))
+}
+
+// Puts those of significant digits and of roundings, and those of plural categories.
+fn put_roundings<'a>(alloc: Global, args: &mut Vec<Arg<'a>>) -> Result<(), AllocError> {
     put(args, significant(alloc))?;
     put(args, priority(alloc))?;
-    put(args, round(alloc))
+    put(args, round(alloc))?;
+    put(args, plural(alloc))?;
+    put(args, ordinal(alloc))
 }
 
-// Puts those of the fields of tables.
+// Puts those of texts that are read, and of fields of tables.
 fn put_fields<'a>(alloc: Global, args: &mut Vec<Arg<'a>>) -> Result<(), AllocError> {
-    put(args, field(alloc))?;
-    put(args, read_fields(alloc))?;
-    put(args, delimiter(alloc))?;
-    put(args, header(alloc))?;
-    put(args, padding(alloc))
-}
-
-// Puts the others after them.
-fn put_others<'a>(alloc: Global, args: &mut Vec<Arg<'a>>) -> Result<(), AllocError> {
     put(args, Ok(read(alloc)))?;
     put(args, Ok(read_exact(alloc)))?;
-    put_fields(alloc, args)?;
-    put(args, parts(alloc))?;
+    put(args, field(alloc))?;
+    put(args, read_fields(alloc))
+}
+
+// Puts those beside a field.
+fn put_tables<'a>(alloc: Global, args: &mut Vec<Arg<'a>>) -> Result<(), AllocError> {
+    put(args, delimiter(alloc))?;
+    put(args, header(alloc))?;
+    put(args, padding(alloc))?;
+    put(args, parts(alloc))
+}
+
+// Puts those that are left.
+fn put_others<'a>(alloc: Global, args: &mut Vec<Arg<'a>>) -> Result<(), AllocError> {
     put(args, Ok(invalid(alloc)))?;
     put(args, Ok(book(alloc)))?;
     put(args, locales(alloc))?;
@@ -432,9 +469,14 @@ fn put_others<'a>(alloc: Global, args: &mut Vec<Arg<'a>>) -> Result<(), AllocErr
     put(args, capacity(alloc))
 }
 
-// Puts all of them, in the order in which help lists them.
+// Puts all of them.
 fn put_all<'a>(alloc: Global, args: &mut Vec<Arg<'a>>) -> Result<(), AllocError> {
-    put_written(alloc, args)?;
+    put_forms(alloc, args)?;
+    put_units(alloc, args)?;
+    put_digits(alloc, args)?;
+    put_roundings(alloc, args)?;
+    put_fields(alloc, args)?;
+    put_tables(alloc, args)?;
     put_others(alloc, args)
 }
 
@@ -453,7 +495,7 @@ fn all_args<'a>(alloc: Global) -> Result<Vec<Arg<'a>>, AllocError> {
 // The command before its options.
 fn empty<'a>(alloc: Global) -> Result<Command<'a>, AllocError> {
     Command::new(alloc, "legumeyet")
-        .version("2.0 (CLDR 48)")
+        .version("2.1 (CLDR 48)")
         .about("Writes numbers as the readers of a locale write them, and reads what they type")
         .after_help(AFTER_HELP)
         .after_long_help(AFTER_LONG_HELP)

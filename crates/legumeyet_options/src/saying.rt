@@ -13,8 +13,10 @@ ghost use Rattle.locale_numbers_formatter.specs.FormatReading.{reading_by_reader
 ghost use Rattle.locale_numbers_formatter.specs.FormatText.{CanFormat};
 ghost use Rattle.locale_numbers_formatter.specs.FormatParts.{format_events};
 ghost use Rattle.locale_numbers_formatter.specs.FormatTyped.{reading_by_typed};
-ghost use Rattle.legumeyet_options.specs.Sayings.{can_be_written, exact_saying, form_saying, has_fraction, IsNoReading, number_saying, read_saying, reading_saying, reads_by, reads_typed_by, sayer_for, saying, text_saying, value_saying, written_saying};
+ghost use Rattle.legumeyet_options.specs.Fractions.{has_fraction};
+ghost use Rattle.legumeyet_options.specs.Sayings.{can_be_written, exact_saying, form_saying, IsNoReading, number_saying, read_saying, reading_saying, reads_by, reads_typed_by, sayer_for, saying, text_saying, value_saying, written_saying};
 
+use crate::categories::{SayerRules, say_category, say_range_category};
 use fixed_decimal::{CompactDecimal, Decimal, ParseError};
 use icu_decimal::error::ReadError;
 use icu_dimension_fractions::{Fraction, FractionInfo};
@@ -41,6 +43,11 @@ pub enum Sayer<'a> {
     Reads(NumberReader<'a>, Option<Fraction>),
     /// Texts are read that people typed.
     ReadsTyped(LenientNumberReader<'a>),
+    /// Plural categories of numbers as they are shown, with these options, by a formatter and by rules where the book has
+    /// both. One with a fraction is refused where numbers are written so.
+    Categories(Option<NumberFormatter<'a>>, Option<SayerRules<'a>>, NumberOptions, bool),
+    /// The same of ranges, as `1..5`.
+    RangeCategories(Option<NumberFormatter<'a>>, Option<SayerRules<'a>>, NumberOptions, bool),
 }
 
 /// Why nothing is said of a text.
@@ -55,7 +62,7 @@ pub enum NotSaid {
 }
 
 // What a value is as text, with its parts.
-fn held<T: Writeable>(alloc: Global, value: &T) -> Result<PartsSink, NotSaid>
+pub(crate) fn held<T: Writeable>(alloc: Global, value: &T) -> Result<PartsSink, NotSaid>
     ensures held { IfOk result (λ sink. sink.held ≡ held_after (T.events value.now)) }
     ensures err { IfErr result (λ error. error ≡ NotSaid.Memory) }
 {
@@ -128,7 +135,7 @@ fn say_changed(
 }
 
 // Whether a digit is shown below the ones.
-fn has_fraction(value: &Decimal) -> bool
+pub(crate) fn has_fraction(value: &Decimal) -> bool
     ensures { result ≡ has_fraction value.now.absolute }
 {
     *value.absolute.magnitude_range().start() < 0
@@ -154,7 +161,7 @@ fn say_value(
 }
 
 // The number that a text says.
-fn number_of(alloc: Global, text: &[u8]) -> Result<Decimal, NotSaid>
+pub(crate) fn number_of(alloc: Global, text: &[u8]) -> Result<Decimal, NotSaid>
     ensures value { IfOk result (λ value. reading_of text.now ≡ number value) }
     ensures refused { IfErr result (λ why. why ≢ NotSaid.Memory → IsNoReading why (reading_of text.now)) }
 {
@@ -329,21 +336,21 @@ fn reads_by<'a>(
 fn reads_typed_by<'a>(
     alloc: Global,
     found: Option<&NumberFormatter<'a>>,
-    latin: Option<&NumberFormatter<'a>>,
+    second: Option<&NumberFormatter<'a>>,
 ) -> Result<Sayer<'a>, AllocError>
     ensures { IfOk result (λ sayer. sayer
-        ≡ reads_typed_by (option_map (λ f. f.now) found.entry) (option_map (λ f. f.now) latin.entry)) }
+        ≡ reads_typed_by (option_map (λ f. f.now) found.entry) (option_map (λ f. f.now) second.entry)) }
 {
     let Some(formatter) = found else {
         return Ok(Sayer::NoTable);
     };
-    let reader = formatter.lenient_reader(alloc, latin)?;
+    let reader = formatter.lenient_reader(alloc, second)?;
     Ok(Sayer::ReadsTyped(reader))
 }
 
 impl<'a> Sayer<'a> {
-    /// What says texts by a task and a format, with the formatter that the book has for it, and for reading what people
-    /// type with that of Latin digits.
+    /// What says texts by a task and a format, with the formatter that the book has for it; for reading what people type
+    /// with a second one that stands beside it, and for plural categories with rules.
     ///
     /// Where numbers `is_coarse`, one with a fraction is refused. It allocates only for readers. `AllocError`: out of memory.
     pub fn try_of(
@@ -352,16 +359,21 @@ impl<'a> Sayer<'a> {
         format: NumberFormat,
         is_coarse: bool,
         found: Option<NumberFormatter<'a>>,
-        latin: Option<&NumberFormatter<'a>>,
+        second: Option<&NumberFormatter<'a>>,
+        rules: Option<SayerRules<'a>>,
     ) -> Result<Sayer<'a>, AllocError>
-        ensures value { IfOk result (λ sayer. sayer
-            ≡ sayer_for task format is_coarse found.entry (option_map (λ f. f.now) latin.entry)) }
+        ensures value { IfOk result (λ sayer. sayer ≡ sayer_for task format is_coarse found.entry
+            (option_map (λ f. f.now) second.entry) rules.entry) }
     {
         match task {
             Task::Write => Ok(Sayer::Writes(found, format.options, is_coarse)),
             Task::WriteExact => Ok(Sayer::WritesExact(found, format.options.sign)),
             Task::Read => reads_by(alloc, found.as_ref(), format.options.rounding),
-            Task::ReadLenient => reads_typed_by(alloc, found.as_ref(), latin),
+            Task::ReadLenient => reads_typed_by(alloc, found.as_ref(), second),
+            Task::Category(_) => Ok(Sayer::Categories(found, rules, format.options, is_coarse)),
+            Task::RangeCategory => {
+                Ok(Sayer::RangeCategories(found, rules, format.options, is_coarse))
+            }
         }
     }
 
@@ -379,6 +391,22 @@ impl<'a> Sayer<'a> {
             Sayer::WritesExact(found, sign) => say_exact(alloc, found.as_ref(), *sign, text),
             Sayer::Reads(reader, fraction) => say_read(alloc, reader, *fraction, text),
             Sayer::ReadsTyped(reader) => say_typed(alloc, reader, text),
+            Sayer::Categories(found, rules, options, is_coarse) => say_category(
+                alloc,
+                found.as_ref(),
+                rules.as_ref(),
+                *options,
+                *is_coarse,
+                text.as_bytes(),
+            ),
+            Sayer::RangeCategories(found, rules, options, is_coarse) => say_range_category(
+                alloc,
+                found.as_ref(),
+                rules.as_ref(),
+                *options,
+                *is_coarse,
+                text.as_bytes(),
+            ),
         }
     }
 

@@ -1,5 +1,5 @@
 -- Lines whose tags are alike have one answer: `specs/Laws.antt`.
-use Rattle.std.proofs.Common.{◌≡◌, ◌<◌, ◌==◌, ℕ, Bool, true, false, cond, ◌||◌, List, [], ◌∷◌, ◌++◌, Option, Some, None, refl, sym, ap, ◌∙◌, subst, arith}
+use Rattle.std.proofs.Common.{◌≡◌, ◌<◌, ◌==◌, ℕ, Bool, true, false, cond, ◌||◌, List, [], ◌∷◌, ◌++◌, Option, Some, None, refl, sym, ap, ap₂, ◌∙◌, subst, arith}
 use Rattle.std.specs.Prelude.{flat_map, if◌then◌else◌}
 use Rattle.std.specs.List.{list_all, onto_first}
 use Rattle.std.specs.Char.{is_ascii_alphanumeric}
@@ -9,6 +9,7 @@ use Rattle.std.proofs.lemmas.Bool.Decides.{nat_tests, same_from_decides}
 use Rattle.std.proofs.lemmas.List.Folds.{list_all-append}
 use Rattle.std.proofs.lemmas.Str.{IsUtf8-append, IsUtf8-from_ascii, IsUtf8-past_char, IsUtf8-from_is_utf8, is_utf8-from_IsUtf8, encode_ascii}
 use Rattle.std.proofs.lemmas.Str.Ascii.{IsAscii-nil, IsAscii-cons}
+use Rattle.icu_decimal.specs.Rules.{Rules}
 use Rattle.icu_locale_core.specs.Subtags.{Text, is_plain}
 use Rattle.icu_locale_core.specs.Pieces.{hyphen, pieces, hyphened, joined_text}
 use Rattle.icu_locale_core.specs.Collections.{Each}
@@ -20,8 +21,12 @@ use Rattle.icu_locale_core.proofs.NormalTags.{read_again}
 use Rattle.icu_decimal.specs.declared.options.GroupingStrategy.{GroupingStrategy}
 use Rattle.locale_numbers_book.specs.Book.{BookTables}
 use Rattle.locale_numbers_book.specs.Wanted.{wanted_of}
-use Rattle.locale_numbers_book.proofs.AlikeLemmas.{shape_alike}
+use Rattle.locale_numbers_book.proofs.AlikeLemmas.{plain_alike, shape_alike}
+use Rattle.locale_numbers_book.specs.FoundFormats.{in_latin}
+use Rattle.locale_numbers_book.specs.FoundRules.{rules_and_ranges}
 use Rattle.locale_numbers_book.proofs.WantedLemmas.{asks_of}
+use Rattle.icu_plurals.specs.declared.PluralRange.{PluralRange}
+use Rattle.icu_plurals.specs.declared.PluralRuleType.{PluralRuleType}
 use Rattle.locale_numbers_answers.specs.Answers.{answer_by}
 use Rattle.locale_numbers_formats.specs.declared.NumberFormat.{NumberFormat}
 use Rattle.locale_numbers_formats.specs.declared.NumberShape.{NumberShape}
@@ -31,8 +36,9 @@ use Rattle.locale_numbers_requests.specs.FormField.{form_named}
 use Rattle.locale_numbers_requests.specs.Request.{asked_by, tab, fields, format_asked, grouping_named, sign_named, request_by, request_in, request_of}
 use Rattle.locale_numbers_requests.specs.RoundingField.{rounding_named}
 use Rattle.locale_numbers_requests.specs.declared.Task.{Task}
-use Rattle.locale_numbers.specs.Answer.{answer_tagged, answer_asked, found_for, in_latin}
+use Rattle.locale_numbers.specs.Answer.{answer_tagged, answer_asked, found_for, plural_rules_for, second_for}
 use Rattle.locale_numbers.specs.Laws.{AreAlike, AlikeTagsAreAnsweredAlike, NormalTextIsAnsweredAlike}
+use Rattle.locale_numbers.proofs.SecondLemmas.{second_same}
 
 -- ---- the bytes of a tag
 
@@ -144,13 +150,22 @@ locales_same m n a =
 found_same : (book : BookTables) (m n : TagMeaning) → AreAlike m n → (shape : NumberShape) → found_for shape book (preferences_of m) ≡ found_for shape book (preferences_of n)
 found_same book m n a shape = shape_alike book (preferences_of m) (preferences_of n) (locales_same m n a) a.numbering_system shape
 
-latin_same : (book : BookTables) (m n : TagMeaning) → AreAlike m n → (shape : NumberShape) → found_for shape book (in_latin (preferences_of m)) ≡ found_for shape book (in_latin (preferences_of n))
-latin_same book m n a shape = shape_alike book (in_latin (preferences_of m)) (in_latin (preferences_of n)) (locales_same m n a) refl shape
+beside_same : (book : BookTables) (m n : TagMeaning) → AreAlike m n → (shape : NumberShape) → second_for shape book (preferences_of m) ≡ second_for shape book (preferences_of n)
+beside_same book m n a shape =
+    second_same book book (preferences_of m) (preferences_of n) shape
+    (plain_alike book (preferences_of m) (preferences_of n) (locales_same m n a) a.numbering_system shape.grouping)
+    (shape_alike book (in_latin (preferences_of m)) (in_latin (preferences_of n)) (locales_same m n a) refl shape)
+
+abbrev rules_of : BookTables → TagMeaning → PluralRuleType → Option (Rules × List PluralRange)
+rules_of book m rule_type = plural_rules_for rule_type book (preferences_of m)
+
+rules_same : (book : BookTables) (m n : TagMeaning) → AreAlike m n → rules_of book m ≡ rules_of book n
+rules_same book m n a = ap (λ locale rule_type. rules_and_ranges rule_type book locale) (locales_same m n a)
 
 asks_alike : (book : BookTables) (text other : List ℕ) (m n : TagMeaning) → AreAlike m n → AreAnsweredAlike book text other (Some (preferences_of m)) (Some (preferences_of n))
 asks_alike book text other m n a task format digits =
-    ap (λ found. answer_by task format found (found_for format.shape book (in_latin (preferences_of m))) digits) (found_same book m n a format.shape)
-    ∙ ap (λ latin. answer_by task format (found_for format.shape book (preferences_of n)) latin digits) (latin_same book m n a format.shape)
+    ap₂ (λ found second. answer_by task format found second (rules_of book m) digits) (found_same book m n a format.shape) (beside_same book m n a format.shape)
+    ∙ ap (λ rules. answer_by task format (found_for format.shape book (preferences_of n)) (second_for format.shape book (preferences_of n)) rules digits) (rules_same book m n a)
 
 pub alike_tags : AlikeTagsAreAnsweredAlike
 alike_tags book text other rest m n first second a =

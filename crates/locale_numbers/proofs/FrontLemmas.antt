@@ -228,7 +228,7 @@ Fits front = IfSome front.key (FitsKey front)
 
 fits_by : (asked : Asked) (key : Option FormatterKey) (wanted : Option Preferences) → IfSome (keyed_with asked wanted) (FitsKey (fronted asked key))
 fits_by asked key None = tt
-fits_by asked key (Some p) = record { lenient = refl; plain = refl }
+fits_by asked key (Some p) = record { purpose = refl; plain = refl }
 
 fits : (asked : Option Asked) → IfSome (front_asked asked) Fits
 fits None = tt

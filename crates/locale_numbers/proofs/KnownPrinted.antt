@@ -31,6 +31,7 @@ book = record {
   long = [];
   parents = None;
   units = None;
+  plurals = None;
 }
 
 abbrev asked : Asked

@@ -11,7 +11,7 @@ use Rattle.icu_locale_core.specs.TagPreferences.{DataLocaleMeaning, Preferences,
 use Rattle.locale_numbers_book.specs.TagReading.{tag_of}
 use Rattle.locale_numbers_book.specs.Wanted.{wanted_of}
 use Rattle.locale_numbers.specs.AskedFormats.{options_of, plain_shape}
-use Rattle.locale_numbers.specs.FormatterKeys.{reads_leniently, same_grouping, same_notation, same_unit}
+use Rattle.locale_numbers.specs.FormatterKeys.{purpose_of, same_grouping, same_notation, same_purpose, same_unit}
 use Rattle.locale_numbers.specs.Front.{is_as_it_is}
 use Rattle.locale_numbers.specs.Laws.{joined_fields}
 use Rattle.locale_numbers.specs.Words.{words_said, capacity_named}
@@ -23,13 +23,14 @@ use Rattle.icu_dimension.specs.declared.CurrencyStyle.{CurrencyStyle}
 use Rattle.icu_dimension.specs.declared.CurrencyStyle.TheVariants.{Standard, Accounting}
 use Rattle.icu_dimension.specs.declared.CurrencyWidth.{CurrencyWidth}
 use Rattle.icu_dimension.specs.declared.CurrencyWidth.TheVariants as width
+use Rattle.icu_plurals.specs.declared.PluralRuleType.TheVariants.{Cardinal, Ordinal}
 use Rattle.locale_numbers_formats.specs.declared.CompactWidth.TheVariants.{Short, Long}
 use Rattle.locale_numbers_formats.specs.declared.Notation.TheVariants.{Compact}
 use Rattle.locale_numbers_formats.specs.declared.NumberUnit.{NumberUnit}
 use Rattle.locale_numbers_formats.specs.declared.NumberUnit.TheVariants as unit
 use Rattle.locale_numbers_formats.specs.declared.Rounding.TheVariants.{Usual, At}
 use Rattle.locale_numbers_formats.specs.declared.SignAsked.TheVariants.{Keep}
-use Rattle.locale_numbers_requests.specs.declared.Task.TheVariants.{Write, Read, ReadLenient}
+use Rattle.locale_numbers_requests.specs.declared.Task.TheVariants.{Write, Read, ReadLenient, Category, RangeCategory}
 
 -- ---- what tags ask for
 
@@ -153,12 +154,21 @@ two_codes = refl
 two_units : same_unit unit.Percent unit.None ≡ false
 two_units = refl
 
--- what is read back has the formatter of what is written, and what was typed one of its own
-one_formatter : reads_leniently Read ≡ reads_leniently Write
+-- what is read back has the formatter of what is written, and what was typed one of its own; a range has that of cardinal categories
+one_formatter : purpose_of Read ≡ purpose_of Write
 one_formatter = refl
 
-typed_apart : reads_leniently ReadLenient ≡ true
+typed_apart : same_purpose (purpose_of ReadLenient) (purpose_of Write) ≡ false
 typed_apart = refl
+
+categories_apart : same_purpose (purpose_of (Category Cardinal)) (purpose_of Write) ≡ false
+categories_apart = refl
+
+ordinals_apart : same_purpose (purpose_of (Category Ordinal)) (purpose_of (Category Cardinal)) ≡ false
+ordinals_apart = refl
+
+ranges_beside : purpose_of RangeCategory ≡ purpose_of (Category Cardinal)
+ranges_beside = refl
 
 two_lengths : same_notation (Compact Short) (Compact Long) ≡ false
 two_lengths = refl

@@ -1,13 +1,14 @@
 pub mod AlikeTags
 pub mod AnsweringLemmas
+pub mod CategoryLemmas
 pub mod FieldLines
 pub mod FoundCompactLemmas
 pub mod FoundLemmas
 pub mod FoundSound
 pub mod FoundTexts
-pub mod FoundFormatLemmas
 pub mod FrontLemmas
 pub mod FrontMemory
+pub mod GroupingTwins
 pub mod KeptAnswersLemmas
 pub mod KeptLemmas
 pub mod KnownPrinted
@@ -20,6 +21,7 @@ pub mod OldLinesLemmas
 pub mod PrintedLemmas
 pub mod PrintedSizes
 pub mod ReadingTrips
+pub mod SecondLemmas
 pub mod SameKeyLemmas
 pub mod ServingLemmas
 pub mod SelectionLemmas

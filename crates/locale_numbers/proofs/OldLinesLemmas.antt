@@ -3,10 +3,10 @@ use Rattle.std.proofs.Common.{◌≡◌, ℕ, Bool, true, false, ◌||◌, List,
 use Rattle.icu_locale_core.specs.TagPreferences.{Preferences}
 use Rattle.locale_numbers_book.specs.Book.{BookTables}
 use Rattle.locale_numbers_book.specs.Wanted.{wanted_of}
-use Rattle.locale_numbers_requests.specs.OldRequests.{OldRequestsStay, StaysRequest, same, none, added, is_added, is_added_grouping, old_request_of, trims}
+use Rattle.locale_numbers_requests.specs.OldRequests.{OldRequestsStay, StaysRequest, same, none, added, is_added, is_added_grouping, is_added_task, old_request_of, trims}
 use Rattle.locale_numbers_requests.specs.Request.{Asked, request_of}
 use Rattle.locale_numbers_requests.specs.declared.Task.{Task}
-use Rattle.locale_numbers_requests.specs.declared.Task.TheVariants.{Write, WriteExact, Read, ReadLenient}
+use Rattle.locale_numbers_requests.specs.declared.Task.TheVariants.{Write, WriteExact, Read, ReadLenient, Category, RangeCategory}
 use Rattle.locale_numbers.specs.Answer.{answer_asked, answer_in, answer_tagged}
 use Rattle.locale_numbers.specs.OldLines.{AsksAdded, OldLinesStay, StaysAnswered, old_answer_asked, old_answer_in, old_answer_tagged}
 
@@ -18,16 +18,23 @@ or_true : (b : Bool) → (b || true) ≡ true
 or_true true = refl
 or_true false = refl
 
+-- a task that was added is one
+was_added : (task : Task) (asked : Asked) → is_added_task task asked.format.shape.unit ≡ true → is_added (by_task task asked) ≡ false → ⊥
+was_added task asked new old =
+    let trimmed = trims asked.format.options.leading_zeros asked.format.options.zeros in
+    let or_new : (trimmed || is_added_task task asked.format.shape.unit) ≡ true = ap (λ (b : Bool). trimmed || b) new ∙ or_true trimmed in
+    let adds : is_added (by_task task asked) ≡ true =
+    ap (λ (b : Bool). is_added_grouping asked.format.shape.grouping || b) or_new ∙ or_true (is_added_grouping asked.format.shape.grouping) in
+    true≢false (sym adds ∙ old)
+
 in_task : (task : Task) (book : BookTables) (preferences : Preferences) (asked : Asked) → is_added (by_task task asked) ≡ false
     → answer_in book preferences (by_task task asked) ≡ old_answer_in task book preferences asked
 in_task Write book preferences asked old = refl
 in_task WriteExact book preferences asked old = refl
 in_task Read book preferences asked old = refl
-in_task ReadLenient book preferences asked old =
-    let task = or_true (trims asked.format.options.leading_zeros asked.format.options.zeros) in
-    let adds : is_added (by_task ReadLenient asked) ≡ true =
-    ap (λ (b : Bool). is_added_grouping asked.format.shape.grouping || b) task ∙ or_true (is_added_grouping asked.format.shape.grouping) in
-    absurd (true≢false (sym adds ∙ old))
+in_task ReadLenient book preferences asked old = absurd (was_added ReadLenient asked refl old)
+in_task (Category rule_type) book preferences asked old = absurd (was_added (Category rule_type) asked refl old)
+in_task RangeCategory book preferences asked old = absurd (was_added RangeCategory asked refl old)
 
 tagged : (book : BookTables) (wanted : Option Preferences) (asked : Asked) → is_added asked ≡ false → answer_tagged book wanted asked ≡ old_answer_tagged book wanted asked
 tagged book None asked old = refl

@@ -29,7 +29,7 @@ use Rattle.locale_numbers_formatter.specs.FormatText.{compact_tables, format_tex
 use Rattle.locale_numbers_formatter.specs.Laws.{CompactIsLayered, ExactIsLayered}
 use Rattle.locale_numbers_requests.specs.Request.{Asked, tab}
 use Rattle.locale_numbers_requests.specs.declared.Refusal.TheVariants as refusal
-use Rattle.locale_numbers.specs.Answer.{answer_asked, answer_tagged, found_for, in_latin, refused, written}
+use Rattle.locale_numbers.specs.Answer.{answer_asked, answer_tagged, found_for, plural_rules_for, refused, second_for, written}
 use Rattle.locale_numbers.specs.AskedFormats.{compact_shape, grouping_in}
 use Rattle.locale_numbers.specs.Laws.{HasNoTab}
 use Rattle.locale_numbers.specs.Printed.{FindsCompact, Prints, PrintsSize, exact_request, number_shown, size_of}
@@ -69,9 +69,9 @@ written_or false text = refl
 module _ (book : BookTables) (asked : Asked) (width : CompactWidth) (tables : CompactTables) (read : SignedValue Number) (finds : FindsCompact book asked width tables read) where
   answered : answer_asked book (Some asked) ≡ number_answer (compact_tables tables) (number_shown asked read)
   answered =
-      let latin = found_for asked.format.shape book (in_latin finds.preferences) in
       ap (λ p. answer_tagged book p asked) finds.tag
-      ∙ ap (λ t. answer_by t asked.format (found_for asked.format.shape book finds.preferences) latin asked.text) finds.task
+      ∙ ap (λ t. answer_by t asked.format (found_for asked.format.shape book finds.preferences) (second_for asked.format.shape book finds.preferences)
+      (λ rule_type. plural_rules_for rule_type book finds.preferences) asked.text) finds.task
       ∙ ap (λ s. written_to (found_for s book finds.preferences) asked.format.options (reading_of asked.text)) finds.shape
       ∙ ap (written_to (found_for (compact_shape width (grouping_in asked)) book finds.preferences) asked.format.options) finds.reading
       ∙ ap (λ found. written_found found asked.format.options read) finds.found

@@ -1,5 +1,5 @@
 -- The test of two keys is true exactly where they are one, so any other such test is the same.
-use Rattle.std.proofs.Common.{◌≡◌, Bool, true, false, refl, ap, Decides}
+use Rattle.std.proofs.Common.{◌≡◌, Bool, refl, ap, Decides}
 use Rattle.std.specs.Cmp.Lexicographic.{bytes_decides}
 use Rattle.std.proofs.lemmas.Bool.Decides.{Decides-and, Decides-like, same_from_decides}
 use Rattle.icu_decimal.specs.declared.options.GroupingStrategy.{GroupingStrategy}
@@ -19,9 +19,11 @@ use Rattle.locale_numbers_formats.specs.declared.Notation.TheVariants.{Standard,
 use Rattle.locale_numbers_formats.specs.declared.NumberShape.{NumberShape}
 use Rattle.locale_numbers_formats.specs.declared.NumberUnit.{NumberUnit}
 use Rattle.locale_numbers_formats.specs.declared.NumberUnit.TheVariants as unit
-use Rattle.locale_numbers.specs.FormatterKeys.{same_compact, same_currency, same_grouping, same_keys, same_leniency, same_notation, same_shape, same_style, same_unit, same_width}
+use Rattle.locale_numbers.specs.FormatterKeys.{same_compact, same_currency, same_grouping, same_keys, same_notation, same_purpose, same_shape, same_style, same_unit, same_width}
 use Rattle.locale_numbers.specs.Laws.{TellsKeys}
 use Rattle.locale_numbers.specs.declared.formatter_key.FormatterKey.{FormatterKey}
+use Rattle.locale_numbers.specs.declared.formatter_key.Purpose.{Purpose}
+use Rattle.locale_numbers.specs.declared.formatter_key.Purpose.TheVariants.{Writes, ReadsTyped, Cardinal, Ordinal}
 
 widths_decide : (a b : CompactWidth) → Decides (same_compact a b) (a ≡ b)
 widths_decide Short Short = (λ e. refl, λ e. refl)
@@ -109,18 +111,30 @@ shapes_decide a b = Decides-like (same_shape a b)
     (λ e. (ap (λ s. s.notation) e, (ap (λ s. s.unit) e, ap (λ s. s.grouping) e)))
     (Decides-and _ _ (notations_decide a.notation b.notation) (Decides-and _ _ (units_decide a.unit b.unit) (groupings_decide a.grouping b.grouping)))
 
-leniencies_decide : (a b : Bool) → Decides (same_leniency a b) (a ≡ b)
-leniencies_decide true true = (λ e. refl, λ e. refl)
-leniencies_decide true false = (λ e. cc, λ e. cc)
-leniencies_decide false true = (λ e. cc, λ e. cc)
-leniencies_decide false false = (λ e. refl, λ e. refl)
+purposes_decide : (a b : Purpose) → Decides (same_purpose a b) (a ≡ b)
+purposes_decide Writes Writes = (λ e. refl, λ e. refl)
+purposes_decide Writes ReadsTyped = (λ e. cc, λ e. cc)
+purposes_decide Writes Cardinal = (λ e. cc, λ e. cc)
+purposes_decide Writes Ordinal = (λ e. cc, λ e. cc)
+purposes_decide ReadsTyped Writes = (λ e. cc, λ e. cc)
+purposes_decide ReadsTyped ReadsTyped = (λ e. refl, λ e. refl)
+purposes_decide ReadsTyped Cardinal = (λ e. cc, λ e. cc)
+purposes_decide ReadsTyped Ordinal = (λ e. cc, λ e. cc)
+purposes_decide Cardinal Writes = (λ e. cc, λ e. cc)
+purposes_decide Cardinal ReadsTyped = (λ e. cc, λ e. cc)
+purposes_decide Cardinal Cardinal = (λ e. refl, λ e. refl)
+purposes_decide Cardinal Ordinal = (λ e. cc, λ e. cc)
+purposes_decide Ordinal Writes = (λ e. cc, λ e. cc)
+purposes_decide Ordinal ReadsTyped = (λ e. cc, λ e. cc)
+purposes_decide Ordinal Cardinal = (λ e. cc, λ e. cc)
+purposes_decide Ordinal Ordinal = (λ e. refl, λ e. refl)
 
 pub keys_decide : (one other : FormatterKey) → Decides (same_keys one other) (one ≡ other)
 keys_decide one other = Decides-like (same_keys one other)
-    (λ h i. record { preferences = h.0 i; shape = h.1.0 i; is_lenient = h.1.1 i })
-    (λ e. (ap (λ k. k.preferences) e, (ap (λ k. k.shape) e, ap (λ k. k.is_lenient) e)))
+    (λ h i. record { preferences = h.0 i; shape = h.1.0 i; purpose = h.1.1 i })
+    (λ e. (ap (λ k. k.preferences) e, (ap (λ k. k.shape) e, ap (λ k. k.purpose) e)))
     (Decides-and _ _ (preferences_decide one.preferences other.preferences)
-    (Decides-and _ _ (shapes_decide one.shape other.shape) (leniencies_decide one.is_lenient other.is_lenient)))
+    (Decides-and _ _ (shapes_decide one.shape other.shape) (purposes_decide one.purpose other.purpose)))
 
 pub test_is : (same : FormatterKey → FormatterKey → Bool) → TellsKeys same → same ≡ same_keys
 test_is same tells = λ i one other. same_from_decides (same one other) (same_keys one other) (tells one other) (keys_decide one other) i

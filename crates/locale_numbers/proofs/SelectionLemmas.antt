@@ -20,9 +20,11 @@ use Rattle.icu_dimension.specs.UnitChoice.{unknown_last}
 use Rattle.icu_locale_core.specs.DataLocales.{truncated, unknown_data}
 use Rattle.icu_locale_core.specs.Subtags.{Text}
 use Rattle.icu_locale_core.specs.TagPreferences.{DataLocaleMeaning, Preferences, language_priority}
-use Rattle.locale_numbers.specs.Answer.{answer_of, in_latin}
+use Rattle.locale_numbers.specs.Answer.{answer_of}
 use Rattle.locale_numbers_book.specs.Book.{BookTables, IsBook}
-use Rattle.locale_numbers_book.specs.Tables.{chain_in, digits_under, fractions_under, rules_under, step_in, steps_in, symbols_under}
+use Rattle.locale_numbers_book.specs.FoundFormats.{in_latin}
+use Rattle.locale_numbers_book.specs.FoundRules.{chain_with_unknown}
+use Rattle.locale_numbers_book.specs.Tables.{chain_in, digits_under, fractions_under, ordinals_there, ranges_there, rules_under, step_in, steps_in, symbols_under}
 use Rattle.locale_numbers_book.specs.Wanted.{wanted_of}
 use Rattle.locale_numbers_book.proofs.BookChains.{chains_end}
 use Rattle.locale_numbers_book.specs.Parents.{Entry, IsParents, leads_to, listed_parent, most_steps, parent_step}
@@ -31,8 +33,9 @@ use Rattle.locale_numbers_requests.specs.Request.{Asked, request_of}
 use Rattle.locale_numbers_book.specs.Keys.{same_data_locale, same_key, table_at}
 use Rattle.locale_numbers_tables.proofs.KeyLemmas.{same_data_locales, same_keys}
 use Rattle.locale_numbers_book.specs.Units.{UnitsTables}
+use Rattle.locale_numbers_plurals.specs.Plurals.{PluralTables}
 use Rattle.locale_numbers.specs.Serving.{Agree, Serves, unit_locales_in}
-use Rattle.locale_numbers.specs.Selection.{SelectedParentsAreParents, is_among, is_asked, is_text_among, kept_named, kept_of, named_by, own_step, selected, selected_units, steps_along, systems_of}
+use Rattle.locale_numbers.specs.Selection.{SelectedParentsAreParents, is_among, is_asked, is_text_among, kept_named, kept_of, named_by, own_step, selected, selected_plurals, selected_units, steps_along, systems_of}
 use Rattle.locale_numbers.proofs.ServingLemmas.{agreed, answered_alike}
 
 -- ---- what a selection finds
@@ -345,6 +348,26 @@ fractions_agree : (small whole : BookTables) (locales : List DataLocaleMeaning) 
 fractions_agree small whole locales systems code None w s = rw (w, s) refl
 fractions_agree small whole locales systems code (Some units) w s = rw (w, s) refl
 
+-- ---- plurals
+
+of_kept : {V : Type 0} (locales : List DataLocaleMeaning) (x : DataLocaleMeaning) → is_among locales x ≡ true → (entries : List (DataLocaleMeaning × V))
+    → table_at same_data_locale x (kept_of locales entries) ≡ table_at same_data_locale x entries
+of_kept locales x h entries =
+    kept same_data_locale (is_among locales) (λ key other e t. subst (λ (l : DataLocaleMeaning). is_among locales l ≡ true) ((same_data_locales key other).0 e) t) x h entries
+
+module _ (locales : List DataLocaleMeaning) where
+  ordinals_agree : (plurals : Option PluralTables) (xs : List DataLocaleMeaning) → AllAmong locales xs
+      → Agree (λ id. answered (option_and_then (λ q. ordinals_there q id) (option_map (selected_plurals locales) plurals))) (λ id. answered (option_and_then (λ q. ordinals_there q id) plurals)) (under_each [] xs)
+  ordinals_agree None xs h = agree_same _ (under_each [] xs)
+  ordinals_agree (Some q) [] h = tt
+  ordinals_agree (Some q) (x ∷ xs) h = (ap answered (of_kept locales x h.0 q.ordinals), ordinals_agree (Some q) xs h.1)
+
+  ranges_agree : (plurals : Option PluralTables) (xs : List DataLocaleMeaning) → AllAmong locales xs
+      → Agree (λ id. answered (option_and_then (λ q. ranges_there q id) (option_map (selected_plurals locales) plurals))) (λ id. answered (option_and_then (λ q. ranges_there q id) plurals)) (under_each [] xs)
+  ranges_agree None xs h = agree_same _ (under_each [] xs)
+  ranges_agree (Some q) [] h = tt
+  ranges_agree (Some q) (x ∷ xs) h = (ap answered (of_kept locales x h.0 q.ranges), ranges_agree (Some q) xs h.1)
+
 -- ---- all
 
 serving : (whole : BookTables) (p : Preferences) (system : Option Text) → IfSome system (λ s. is_text_among (systems_of p.numbering_system) s ≡ true)
@@ -353,6 +376,7 @@ serving : (whole : BookTables) (p : Preferences) (system : Option Text) → IfSo
 serving whole p system s f =
     let along : List DataLocaleMeaning = chain_in whole (language_priority p.locale) in
     let last : List DataLocaleMeaning = unit_locales_in whole p in
+    let unknown : List DataLocaleMeaning = chain_with_unknown whole (language_priority p.locale) in
     let systems : List Text = systems_of p.numbering_system in
     let empty : is_text_among systems [] ≡ true = empty_asked p.numbering_system in
     let ids : List Identifier = identifiers_along system along in
@@ -376,6 +400,8 @@ serving whole p system s f =
       accounts = accounts_agree last last (all_own last) systems empty whole.units system s;
       names = λ code. names_agree last last (all_own last) systems empty whole.units code;
       fractions = λ code. fractions_agree (selected whole p) whole last systems code whole.units refl refl;
+      ordinals = ordinals_agree unknown whole.plurals unknown (all_own unknown);
+      ranges = ranges_agree unknown whole.plurals unknown (all_own unknown);
     }
 
 pub selected_alike : (value : Data) (whole : BookTables) → IsBook value whole → (line : List ℕ) (asked : Asked) (p : Preferences)

@@ -1,10 +1,13 @@
 -- A book that serves preferences answers as the larger one: `specs/Serving.antt`.
-use Rattle.std.proofs.Common.{◌≡◌, ℕ, List, [], ◌∷◌, ◌++◌, Some, None, Result, Ok, Err, refl, sym, ap, ap₂, ◌∙◌}
+use Rattle.std.proofs.Common.{◌≡◌, ℕ, List, [], ◌∷◌, ◌++◌, Option, Some, None, Result, Ok, Err, refl, sym, ap, ap₂, ◌∙◌}
+use Rattle.std.specs.Prelude.{option_map, unwrap_or}
+use Rattle.std.specs.Result.{result_ok}
 use Rattle.icu_decimal.specs.Choice.{first_found, found_or, or_next}
 use Rattle.icu_decimal.specs.FoundCompactTables.{patterns_identifiers, rules_identifiers, with_plain}
 use Rattle.icu_decimal.specs.FoundTables.{found_tables, with_digits, with_symbols}
 use Rattle.icu_decimal.specs.Identifiers.{Identifier, digits_identifiers, identifiers_along, symbols_identifiers, under_each}
 use Rattle.icu_decimal.specs.PlainText.{Tables}
+use Rattle.icu_decimal.specs.Rules.{Rules}
 use Rattle.icu_decimal.specs.Symbols.{Symbols}
 use Rattle.icu_decimal.specs.declared.error.DataError.{DataError}
 use Rattle.icu_decimal.specs.declared.options.GroupingStrategy.{GroupingStrategy}
@@ -17,13 +20,18 @@ use Rattle.icu_dimension.specs.declared.CurrencyStyle.TheVariants as way
 use Rattle.icu_dimension.specs.declared.CurrencyWidth.{CurrencyWidth}
 use Rattle.icu_dimension.specs.declared.CurrencyWidth.TheVariants as width
 use Rattle.icu_dimension.specs.declared.FractionInfo.{FractionInfo}
+use Rattle.icu_locale_core.specs.DataLocales.{unknown_data}
 use Rattle.icu_locale_core.specs.Subtags.{Text}
-use Rattle.icu_locale_core.specs.TagPreferences.{Preferences}
+use Rattle.icu_locale_core.specs.TagPreferences.{Preferences, language_priority}
+use Rattle.icu_plurals.specs.declared.PluralRange.{PluralRange}
+use Rattle.icu_plurals.specs.declared.PluralRuleType.{PluralRuleType}
+use Rattle.icu_plurals.specs.declared.PluralRuleType.TheVariants.{Cardinal, Ordinal}
 use Rattle.locale_numbers_answers.specs.Answers.{answer_by}
 use Rattle.locale_numbers_book.specs.Book.{BookTables}
-use Rattle.locale_numbers_book.specs.FoundFormats.{amount_options, compact_found, found_for, mapped, notation_found, standard_found}
+use Rattle.locale_numbers_book.specs.FoundFormats.{amount_options, compact_found, found_for, in_latin, mapped, notation_found, standard_found}
+use Rattle.locale_numbers_book.specs.FoundRules.{chain_with_unknown}
 use Rattle.locale_numbers_book.specs.TagFormatters.{currency_found_in, found_beside, found_plain, patterns_under, percent_found_in}
-use Rattle.locale_numbers_book.specs.Tables.{accounts_under, chain_in, currencies_under, currency_symbols_under, digits_under, fractions_under, long_under, percents_under, rules_under, short_under, symbols_under}
+use Rattle.locale_numbers_book.specs.Tables.{accounts_under, chain_in, currencies_under, currency_symbols_under, digits_under, fractions_under, long_under, ordinals_under, percents_under, ranges_under, rules_under, short_under, symbols_under}
 use Rattle.locale_numbers_book.specs.Wanted.{wanted_of}
 use Rattle.locale_numbers_formats.specs.declared.CompactWidth.{CompactWidth}
 use Rattle.locale_numbers_formats.specs.declared.CompactWidth.TheVariants as patterns
@@ -35,8 +43,9 @@ use Rattle.locale_numbers_formats.specs.declared.NumberUnit.TheVariants as unit
 use Rattle.locale_numbers_formatter.specs.FormatText.{compact_tables, plain_tables, unit_tables}
 use Rattle.locale_numbers_formatter.specs.HeldFormats.{currency_format, percent_format}
 use Rattle.locale_numbers_requests.specs.Request.{Asked, request_of}
-use Rattle.locale_numbers.specs.Answer.{answer_asked, answer_of, answer_tagged, in_latin}
+use Rattle.locale_numbers.specs.Answer.{answer_asked, answer_of, answer_tagged, plural_rules_for, second_for}
 use Rattle.locale_numbers.specs.Serving.{Agree, Serves, unit_locales_in}
+use Rattle.locale_numbers.proofs.SecondLemmas.{second_same}
 
 -- ---- the first that is found
 
@@ -143,6 +152,30 @@ module _ (small whole : BookTables) (p : Preferences) (serves : Serves small who
   shape_same : (shape : NumberShape) → found_for shape small p ≡ found_for shape whole p
   shape_same shape = notation_same shape.notation shape.unit shape.grouping
 
+  -- ---- plurals
+
+  unknown_same : chain_with_unknown small (language_priority p.locale) ≡ chain_with_unknown whole (language_priority p.locale)
+  unknown_same = ap (λ locales. locales ++ unknown_data ∷ []) serves.chains
+
+  ordinals_same : first_found (ordinals_under small) (identifiers_along None (chain_with_unknown small (language_priority p.locale)))
+      ≡ first_found (ordinals_under whole) (identifiers_along None (chain_with_unknown whole (language_priority p.locale)))
+  ordinals_same =
+      ap (λ locales. first_found (ordinals_under small) (identifiers_along None locales)) unknown_same
+      ∙ agreed (ordinals_under small) (ordinals_under whole) (identifiers_along None (chain_with_unknown whole (language_priority p.locale))) serves.ordinals
+
+  ranges_same : first_found (ranges_under small) (identifiers_along None (chain_with_unknown small (language_priority p.locale)))
+      ≡ first_found (ranges_under whole) (identifiers_along None (chain_with_unknown whole (language_priority p.locale)))
+  ranges_same =
+      ap (λ locales. first_found (ranges_under small) (identifiers_along None locales)) unknown_same
+      ∙ agreed (ranges_under small) (ranges_under whole) (identifiers_along None (chain_with_unknown whole (language_priority p.locale))) serves.ranges
+
+  abbrev ruled : Result Rules DataError → Result (List PluralRange) DataError → Option (Rules × List PluralRange)
+  ruled rules ranges = option_map {T = Rules} {U = Rules × List PluralRange} (λ r. (r, unwrap_or (result_ok ranges) [])) (result_ok rules)
+
+  rules_served : (rule_type : PluralRuleType) → plural_rules_for rule_type small p ≡ plural_rules_for rule_type whole p
+  rules_served Cardinal = ap₂ ruled rules_same ranges_same
+  rules_served Ordinal = ap₂ ruled ordinals_same ranges_same
+
 -- ---- answers
 
 pub answered_alike : (small whole : BookTables) (line : List ℕ) (asked : Asked) (p : Preferences)
@@ -151,6 +184,9 @@ pub answered_alike : (small whole : BookTables) (line : List ℕ) (asked : Asked
 answered_alike small whole line asked p is wants serves latin =
     ap (answer_asked small) is
     ∙ ap (λ preferences. answer_tagged small preferences asked) wants
-    ∙ ap₂ (λ found second. answer_by asked.task asked.format found second asked.text) (shape_same small whole p serves asked.format.shape) (shape_same small whole (in_latin p) latin asked.format.shape)
+    ∙ ap₂ (λ found second. answer_by asked.task asked.format found second (λ rule_type. plural_rules_for rule_type small p) asked.text) (shape_same small whole p serves asked.format.shape)
+    (second_same small whole p p asked.format.shape (plain_same small whole p serves asked.format.shape.grouping) (shape_same small whole (in_latin p) latin asked.format.shape))
+    ∙ ap (λ rules. answer_by asked.task asked.format (found_for asked.format.shape whole p) (second_for asked.format.shape whole p) rules asked.text)
+    (λ i rule_type. rules_served small whole p serves rule_type i)
     ∙ sym (ap (λ preferences. answer_tagged whole preferences asked) wants)
     ∙ sym (ap (answer_asked whole) is)

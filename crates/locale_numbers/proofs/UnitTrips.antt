@@ -41,7 +41,7 @@ use Rattle.locale_numbers_requests.specs.Request.{Asked}
 use Rattle.locale_numbers_requests.specs.RoundingField.{is_cash, keeps_digits}
 use Rattle.locale_numbers_requests.specs.declared.Refusal.TheVariants as refusal
 use Rattle.locale_numbers_requests.specs.declared.Task.TheVariants.{Write}
-use Rattle.locale_numbers.specs.Answer.{answer_asked, answer_tagged, in_latin, written}
+use Rattle.locale_numbers.specs.Answer.{answer_asked, answer_tagged, plural_rules_for, second_for, written}
 use Rattle.locale_numbers.specs.AskedFormats.{grouping_in, options_of, shape_with}
 use Rattle.locale_numbers.specs.UnitLaws.{AreFoundTexts, FindsUnit, FoundUnitsAreTexts, known, loaded, ReadUnitIsWrittenAgain, TakesRounding, WrittenPercentReadsBack, WrittenUnitIsUtf8, WrittenUnitReadsBack, unit_reading_request, unit_request}
 use Rattle.locale_numbers.proofs.ReadingTrips.{one_text, plain_options, refused_no}
@@ -125,15 +125,15 @@ module _ (book : BookTables) (asked : Asked) (of : NumberUnit) (found : UnitForm
   answered_is : (value : SignedValue Number) → asked.task ≡ Write → asked.format.shape ≡ shape_with of (grouping_in asked) → reading_of asked.text ≡ number value
       → answer_asked book (Some asked) ≡ written (unit_decimal_text found.settings (changed asked.format.options found.fractions value))
   answered_is value task shape reads =
-      let latin = found_for asked.format.shape book (in_latin finds.preferences) in
       ap (λ p. answer_tagged book p asked) finds.tag
-      ∙ ap (λ t. answer_by t asked.format (found_for asked.format.shape book finds.preferences) latin asked.text) task
+      ∙ ap (λ t. answer_by t asked.format (found_for asked.format.shape book finds.preferences) (second_for asked.format.shape book finds.preferences)
+      (λ rule_type. plural_rules_for rule_type book finds.preferences) asked.text) task
       ∙ ap (λ s. written_to (found_for s book finds.preferences) asked.format.options (reading_of asked.text)) shape
       ∙ ap (written_to (found_for (shape_with of (grouping_in asked)) book finds.preferences) asked.format.options) reads
       ∙ ap (λ f. written_found f asked.format.options value) finds.found
 
   -- what is found is made of texts
-  texts_found : FoundUnitsAreTexts → AreReaderTexts (reader_texts found.settings)
+  pub texts_found : FoundUnitsAreTexts → AreReaderTexts (reader_texts found.settings)
   texts_found all = texts_by all book asked of found finds.preferences finds.found finds.texts
 
   -- the text of what was read

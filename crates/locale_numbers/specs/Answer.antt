@@ -6,7 +6,8 @@ use Rattle.icu_locale_core.specs.TagPreferences.{Preferences}
 use Rattle.locale_numbers_answers.specs.Answers.{answer_by}
 pub use Rattle.locale_numbers_answers.specs.AnswerLine.{refused, written}
 use Rattle.locale_numbers_book.specs.Book.{BookTables}
-pub use Rattle.locale_numbers_book.specs.FoundFormats.{found_for, in_latin}
+pub use Rattle.locale_numbers_book.specs.FoundFormats.{found_for, second_for}
+pub use Rattle.locale_numbers_book.specs.FoundRules.{plural_rules_for}
 use Rattle.locale_numbers_book.specs.Wanted.{wanted_of}
 use Rattle.locale_numbers_requests.specs.Request.{Asked, request_of}
 use Rattle.locale_numbers_requests.specs.declared.Refusal.TheVariants as refusal
@@ -14,7 +15,8 @@ use Rattle.locale_numbers_requests.specs.declared.Refusal.TheVariants as refusal
 -- the answer to what preferences and a request ask for
 abbrev pub answer_in : BookTables → Preferences → Asked → List ℕ
 answer_in book preferences asked =
-    answer_by asked.task asked.format (found_for asked.format.shape book preferences) (found_for asked.format.shape book (in_latin preferences)) asked.text
+    answer_by asked.task asked.format (found_for asked.format.shape book preferences) (second_for asked.format.shape book preferences)
+    (λ rule_type. plural_rules_for rule_type book preferences) asked.text
 
 -- the answer by what the tag prefers, where it is a tag
 abbrev pub answer_tagged : BookTables → Option Preferences → Asked → List ℕ

@@ -27,9 +27,9 @@ use Rattle.locale_numbers_formatter.specs.FormatText.{FormatTables, compact_tabl
 use Rattle.locale_numbers_requests.specs.Request.{Asked, keeps_sign, request_of, with_text}
 use Rattle.locale_numbers_requests.specs.declared.Refusal.TheVariants as refusal
 use Rattle.locale_numbers_requests.specs.declared.Task.{Task}
-use Rattle.locale_numbers_requests.specs.declared.Task.TheVariants.{Write, WriteExact, Read, ReadLenient}
-use Rattle.locale_numbers.specs.Answer.{found_for, in_latin, refused}
-use Rattle.locale_numbers.specs.FormatterKeys.{key_in, key_with, reads_leniently}
+use Rattle.locale_numbers_requests.specs.declared.Task.TheVariants.{Write, WriteExact, Read, ReadLenient, Category, RangeCategory}
+use Rattle.locale_numbers.specs.Answer.{found_for, plural_rules_for, refused, second_for}
+use Rattle.locale_numbers.specs.FormatterKeys.{key_in, key_with, purpose_of}
 use Rattle.locale_numbers.specs.declared.formatter_key.FormatterKey.{FormatterKey}
 use Rattle.locale_numbers.specs.declared.front.Front.{Front}
 
@@ -95,9 +95,9 @@ front_of bytes = front_asked (request_of bytes)
 abbrev pub format_after : Front → FormatterKey → NumberFormat
 format_after front key = record { shape = key.shape; options = front.options }
 
--- the key reads what is typed where the task does, and what is known of the format is so
+-- the key is for what the task does, and what is known of the format is so
 pub record FitsKey (front : Front) (key : FormatterKey) : Type 0 where
-  pub lenient : key.is_lenient ≡ reads_leniently front.task
+  pub purpose : key.purpose ≡ purpose_of front.task
   pub plain : front.is_as_it_is ≡ is_as_it_is (format_after front key)
 
 -- this holds of the front's key, where it has one
@@ -108,7 +108,8 @@ HasKeyThat holds (Some front) = IfSome front.key holds
 -- the answer to a text after a front with this key
 abbrev pub answer_by_key : BookTables → Front → FormatterKey → List ℕ → List ℕ
 answer_by_key book front key text =
-    answer_by front.task (format_after front key) (found_for key.shape book key.preferences) (found_for key.shape book (in_latin key.preferences)) text
+    answer_by front.task (format_after front key) (found_for key.shape book key.preferences) (second_for key.shape book key.preferences)
+    (λ rule_type. plural_rules_for rule_type book key.preferences) text
 
 -- the answer to a text after a front, by its key, where its tag is one
 abbrev pub answer_keyed : BookTables → Front → Option FormatterKey → List ℕ → List ℕ
@@ -151,18 +152,20 @@ FindsUnits (Ok (unit_tables u)) = Unit {0}
 
 -- a text that may want memory, beside its answer and its formatter, by the task: one for which the answer may; and of a unit any that is
 -- read, since what it is read with may be put together for it
-abbrev pub MayTakeIn : Task → Rounding → Result FormatTables DataError → Result FormatTables DataError → List ℕ → SignedValue Number → Type 0
-MayTakeIn Write rounding found latin text value = AnswerAllocates Write rounding found latin text value
-MayTakeIn WriteExact rounding found latin text value = AnswerAllocates WriteExact rounding found latin text value
-MayTakeIn Read rounding found latin text value = (is_utf8 text ≡ true) × (AnswerAllocates Read rounding found latin text value ⊎ FindsUnits found)
-MayTakeIn ReadLenient rounding found latin text value =
-    (is_utf8 text ≡ true) × (AnswerAllocates ReadLenient rounding found latin text value ⊎ FindsUnits found)
+abbrev pub MayTakeIn : Task → Rounding → Result FormatTables DataError → (FormatTables → Option FormatTables) → List ℕ → SignedValue Number → Type 0
+MayTakeIn Write rounding found second text value = AnswerAllocates Write rounding found second text value
+MayTakeIn WriteExact rounding found second text value = AnswerAllocates WriteExact rounding found second text value
+MayTakeIn Read rounding found second text value = (is_utf8 text ≡ true) × (AnswerAllocates Read rounding found second text value ⊎ FindsUnits found)
+MayTakeIn ReadLenient rounding found second text value =
+    (is_utf8 text ≡ true) × (AnswerAllocates ReadLenient rounding found second text value ⊎ FindsUnits found)
+MayTakeIn (Category rule_type) rounding found second text value = AnswerAllocates (Category rule_type) rounding found second text value
+MayTakeIn RangeCategory rounding found second text value = (is_utf8 text ≡ true) × AnswerAllocates RangeCategory rounding found second text value
 
 -- the same after a front, by its key: where its tag is not one, no text wants memory
 abbrev pub MayTakeKeyed : BookTables → Front → Option FormatterKey → List ℕ → SignedValue Number → Type 0
 MayTakeKeyed book front None text value = ⊥
 MayTakeKeyed book front (Some key) text value =
-    MayTakeIn front.task front.options.rounding (found_for key.shape book key.preferences) (found_for key.shape book (in_latin key.preferences)) text value
+    MayTakeIn front.task front.options.rounding (found_for key.shape book key.preferences) (second_for key.shape book key.preferences) text value
 
 -- nor after a front that asks nothing
 abbrev pub MayTakeAfter : BookTables → Option Front → List ℕ → SignedValue Number → Type 0

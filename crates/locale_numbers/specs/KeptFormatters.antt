@@ -1,30 +1,32 @@
--- Which formatter is the one of a key, and what it knows to put texts with and to read with.
+-- Which formatter is the one of a key, and what it knows to put texts with, to read with and to tell categories by.
 -- Defined in docs/requests.md, "What a cache keeps".
 -- Cited by the private steps of `answer` and `run`.
-use Rattle.std.specs.Prelude.{◌≡◌, Bool, true, Option, IfSome, Ok}
-use Rattle.icu_decimal.specs.declared.options.GroupingStrategy.{GroupingStrategy}
+use Rattle.std.specs.Prelude.{◌≡◌, Bool, true, List, Option, None, Some, IfSome, Ok}
+use Rattle.icu_decimal.specs.Rules.{Rules}
 use Rattle.icu_decimal_direct.specs.TextTables.{text_tables}
 use Rattle.icu_decimal_direct.specs.declared.text_tables.TextTables.{TextTables}
 use Rattle.icu_dimension.specs.UnitReading.{ReaderTexts}
+use Rattle.icu_locale_core.specs.TagPreferences.{Preferences}
+use Rattle.icu_plurals.specs.declared.PluralRange.{PluralRange}
+use Rattle.icu_plurals.specs.declared.PluralRuleType.{PluralRuleType}
 use Rattle.locale_numbers_book.specs.Book.{BookTables}
-use Rattle.locale_numbers_book.specs.FoundFormats.{found_for, latin_for}
+use Rattle.locale_numbers_book.specs.FoundFormats.{found_for, second_for}
+use Rattle.locale_numbers_book.specs.FoundRules.{plural_rules_for}
 use Rattle.locale_numbers_formatter.specs.FormatReading.{reader_of}
-use Rattle.locale_numbers_formatter.specs.FormatText.{FormatTables, compact_tables, plain_tables, unit_tables}
+use Rattle.locale_numbers_formatter.specs.FormatText.{FormatTables, plain_tables}
 use Rattle.locale_numbers_formatter.specs.FormatTyped.{TypedTables, typed_of}
+use Rattle.locale_numbers.specs.FormatterKeys.{finds_rules, rules_for}
 use Rattle.locale_numbers.specs.declared.formatter_key.FormatterKey.{FormatterKey}
+use Rattle.locale_numbers.specs.declared.formatter_key.Purpose.TheVariants.{ReadsTyped}
 
--- what numbers are written with, and beside it in the digits of ASCII, where typed texts are read; and whether what reads them is kept
+-- what numbers are written with, beside it second tables, where typed texts are read, and rules with ranges, where categories are told;
+-- and whether what reads texts is kept
 pub record Kept : Type 0 where
   pub formatter : FormatTables
-  pub latin : Option FormatTables
+  pub second : Option FormatTables
+  pub rules : Option (Rules × List PluralRange)
   pub keeps_reader : Bool
   pub keeps_typed : Bool
-
--- plain numbers have this grouping
-abbrev pub HasGrouping : FormatTables → GroupingStrategy → Type 0
-HasGrouping (plain_tables t) grouping = t.strategy ≡ grouping
-HasGrouping (compact_tables t) grouping = Unit {0}
-HasGrouping (unit_tables u) grouping = Unit {0}
 
 -- what texts are put with, where that is known, are the tables of plain numbers
 abbrev pub KnowsTexts : FormatTables → Option TextTables → Type 0
@@ -36,9 +38,22 @@ KnowsReader format reader = IfSome reader (λ known. known ≡ reader_of format)
 
 -- what reads typed texts, where that is known, reads by these in turn
 abbrev pub KnowsTyped : FormatTables → Option FormatTables → Option TypedTables → Type 0
-KnowsTyped format latin reader = IfSome reader (λ known. known ≡ typed_of format latin)
+KnowsTyped format second reader = IfSome reader (λ known. known ≡ typed_of format second)
 
--- the formatter is the one of the key: it has what is found
+-- the rules that a book has, where some are needed
+abbrev pub rules_found : BookTables → Preferences → Option PluralRuleType → Option (Rules × List PluralRange)
+rules_found book preferences None = None
+rules_found book preferences (Some rule_type) = plural_rules_for rule_type book preferences
+
+-- the formatter is the one of the key: it has what is found, and no rules are missing
 pub record IsMadeFor (book : BookTables) (key : FormatterKey) (kept : Kept) : Type 0 where
   pub found : found_for key.shape book key.preferences ≡ Ok kept.formatter
-  pub latin : key.is_lenient ≡ true → kept.latin ≡ latin_for key.shape book key.preferences kept.formatter
+  pub second : key.purpose ≡ ReadsTyped → kept.second ≡ second_for key.shape book key.preferences kept.formatter
+  pub rules : kept.rules ≡ rules_found book key.preferences (rules_for key.purpose)
+  pub there : finds_rules book key.preferences (rules_for key.purpose) ≡ true
+
+-- the same formatter, whatever it keeps to read with
+pub record IsSameFormatter (old new : Kept) : Type 0 where
+  pub formatter : new.formatter ≡ old.formatter
+  pub second : new.second ≡ old.second
+  pub rules : new.rules ≡ old.rules

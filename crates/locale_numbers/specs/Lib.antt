@@ -35,6 +35,7 @@ pub use Rattle.locale_numbers_book.specs.Faults as BookFaults
 pub use Rattle.locale_numbers_book.specs.Fields as BookFields
 pub use Rattle.locale_numbers_book.specs.Form as BookForm
 pub use Rattle.locale_numbers_book.specs.FoundFormats
+pub use Rattle.locale_numbers_book.specs.FoundRules
 pub use Rattle.locale_numbers_book.specs.Json
 pub use Rattle.locale_numbers_book.specs.Keys as BookKeys
 pub use Rattle.locale_numbers_book.specs.Laws as BookLaws
@@ -59,6 +60,10 @@ pub use Rattle.locale_numbers_book.specs.UnitFaults
 pub use Rattle.locale_numbers_book.specs.UnitFields
 pub use Rattle.locale_numbers_book.specs.UnitPatterns
 pub use Rattle.locale_numbers_book.specs.Units
+-- Of the inner crates: plurals of books.
+pub use Rattle.locale_numbers_book.specs.Plurals
+pub use Rattle.locale_numbers_book.specs.PluralsForm
+pub use Rattle.locale_numbers_book.specs.RangesEntries
 -- Of the inner crates: texts of books, and the small book of a tag as a text.
 pub use Rattle.locale_numbers_book.specs.BookText
 pub use Rattle.locale_numbers_book.specs.EntryFields
@@ -71,25 +76,40 @@ pub use Rattle.locale_numbers_cache.specs.Recent
 pub use Rattle.locale_numbers_requests.specs.Cutting
 pub use Rattle.locale_numbers_requests.specs.Digits
 pub use Rattle.locale_numbers_requests.specs.FormField
+pub use Rattle.locale_numbers_requests.specs.Increments
 pub use Rattle.locale_numbers_requests.specs.Laws as RequestLaws
 pub use Rattle.locale_numbers_requests.specs.OldRequests
+pub use Rattle.locale_numbers_requests.specs.RangeEnds
 pub use Rattle.locale_numbers_requests.specs.Refusal
 pub use Rattle.locale_numbers_requests.specs.Request
 pub use Rattle.locale_numbers_requests.specs.RoundingField
 -- Of the inner crates: formats, and what numbers of each are written and read with.
+pub use Rattle.locale_numbers_formats.specs.AmountRounding
 pub use Rattle.locale_numbers_formats.specs.Changed
+pub use Rattle.locale_numbers_formats.specs.Marks
+pub use Rattle.locale_numbers_formats.specs.Rounded
+pub use Rattle.locale_numbers_formats.specs.SkeletonErrors
 pub use Rattle.locale_numbers_formats.specs.SkeletonFormats
 pub use Rattle.locale_numbers_formats.specs.Skeletons
+pub use Rattle.locale_numbers_formats.specs.Stems
+pub use Rattle.locale_numbers_formats.specs.WordTable
+pub use Rattle.locale_numbers_formatter.specs.ExactForms
 pub use Rattle.locale_numbers_formatter.specs.FormatReading
 pub use Rattle.locale_numbers_formatter.specs.FormatText
 pub use Rattle.locale_numbers_formatter.specs.FormatTyped
+pub use Rattle.locale_numbers_formatter.specs.HeldFormats
+pub use Rattle.locale_numbers_formatter.specs.Layers
 pub use Rattle.locale_numbers_formatter.specs.ReadingLaws as FormatReadingLaws
+pub use Rattle.locale_numbers_formatter.specs.ShownOperands
+pub use Rattle.locale_numbers_formatter.specs.TypedPlain
+pub use Rattle.locale_numbers_formatter.specs.TypedUnits
 -- Of the inner crates: what is answered with what is found, and what the answers go by.
 pub use Rattle.locale_numbers_answers.specs.AnswerLine
 pub use Rattle.locale_numbers_answers.specs.AnswerMemory
 pub use Rattle.locale_numbers_answers.specs.AnswerSink
 pub use Rattle.locale_numbers_answers.specs.AnswerSinkLaws
 pub use Rattle.locale_numbers_answers.specs.Answers
+pub use Rattle.locale_numbers_answers.specs.CategoryAnswer
 pub use Rattle.locale_numbers_answers.specs.CompactReading
 pub use Rattle.locale_numbers_answers.specs.Laws as AnswerLaws
 pub use Rattle.locale_numbers_answers.specs.NumberAnswer

@@ -1,5 +1,5 @@
--- What a line was answered before the forms `read-lenient`, `percent`, `currency-EUR` and their like, the grouping `on-aligned` and choices of
--- digits were added, and that a line without these has that answer now.
+-- What a line was answered before the forms `read-lenient`, `percent`, `currency-EUR`, `plural` and their like, the grouping `on-aligned` and
+-- choices of digits were added, and that a line without these has that answer now.
 -- Defined in docs/requests.md, "Request line".
 -- Cited by `laws::old_lines_stay`.
 use Rattle.std.specs.Prelude.{◌≡◌, ℕ, true, List, Option, Some, None}
@@ -13,7 +13,7 @@ use Rattle.locale_numbers_requests.specs.OldRequests.{is_added, old_request_of}
 use Rattle.locale_numbers_requests.specs.Request.{Asked, request_of}
 use Rattle.locale_numbers_requests.specs.declared.Refusal.TheVariants as refusal
 use Rattle.locale_numbers_requests.specs.declared.Task.{Task}
-use Rattle.locale_numbers_requests.specs.declared.Task.TheVariants.{Write, WriteExact, Read, ReadLenient}
+use Rattle.locale_numbers_requests.specs.declared.Task.TheVariants.{Write, WriteExact, Read, ReadLenient, Category, RangeCategory}
 use Rattle.locale_numbers.specs.Answer.{answer_of, found_for, refused}
 
 -- the answers of the three tasks that there were; another one was none
@@ -23,6 +23,8 @@ old_answer_in WriteExact book preferences asked =
     exact_found (found_for asked.format.shape book preferences) asked.format.options.sign (compact_reading_of asked.text)
 old_answer_in Read book preferences asked = read_found (found_for asked.format.shape book preferences) asked.format.options.rounding asked.text
 old_answer_in ReadLenient book preferences asked = refused refusal.Shape
+old_answer_in (Category rule_type) book preferences asked = refused refusal.Shape
+old_answer_in RangeCategory book preferences asked = refused refusal.Shape
 
 abbrev pub old_answer_tagged : BookTables → Option Preferences → Asked → List ℕ
 old_answer_tagged book None asked = refused refusal.Tag

@@ -11,6 +11,7 @@ use Rattle.icu_locale_core.specs.TagPreferences.{Subdivision, LocalePreferencesM
 use Rattle.icu_locale_core.specs.SamePreferences.{same_subdivision, same_locale, same_preferences}
 use Rattle.icu_decimal.specs.declared.options.GroupingStrategy.{GroupingStrategy}
 use Rattle.locale_numbers.specs.declared.formatter_key.FormatterKey.{FormatterKey}
+use Rattle.locale_numbers.specs.declared.formatter_key.Purpose.{Purpose}
 use Rattle.locale_numbers_formats.specs.declared.Notation.{Notation}
 use Rattle.locale_numbers_formats.specs.declared.NumberShape.{NumberShape}
 use Rattle.locale_numbers_formats.specs.declared.NumberUnit.{NumberUnit}
@@ -113,9 +114,9 @@ unit_is (unit.Currency c) unit.None h = cc
 unit_is (unit.Currency c) unit.Percent h = cc
 unit_is (unit.Currency c) (unit.Currency d) h = ap unit.Currency (currency_is c d h)
 
-module _ (notations : Notation → Notation → Bool) (groupings : GroupingStrategy → GroupingStrategy → Bool) (leniencies : Bool → Bool → Bool)
+module _ (notations : Notation → Notation → Bool) (groupings : GroupingStrategy → GroupingStrategy → Bool) (purposes : Purpose → Purpose → Bool)
     (notation_is : (a b : Notation) → notations a b ≡ true → a ≡ b)
-    (grouping_is : (a b : GroupingStrategy) → groupings a b ≡ true → a ≡ b) (leniency_is : (a b : Bool) → leniencies a b ≡ true → a ≡ b) where
+    (grouping_is : (a b : GroupingStrategy) → groupings a b ≡ true → a ≡ b) (purpose_is : (a b : Purpose) → purposes a b ≡ true → a ≡ b) where
   abbrev same_shapes : NumberShape → NumberShape → Bool
   same_shapes a b = notations a.notation b.notation && (units.ghosts.eq a.unit b.unit && groupings a.grouping b.grouping)
 
@@ -128,13 +129,13 @@ module _ (notations : Notation → Notation → Bool) (groupings : GroupingStrat
       let grouping : a.grouping ≡ b.grouping = grouping_is a.grouping b.grouping q.1 in
       λ i. record { notation = notation i; unit = unit i; grouping = grouping i }
 
-  -- keys whose preferences, shapes and leniencies are `==` are one
+  -- keys whose preferences, shapes and purposes are `==` are one
   pub keys_are : (one other : FormatterKey)
-      → same_preferences one.preferences other.preferences && (same_shapes one.shape other.shape && leniencies one.is_lenient other.is_lenient) ≡ true → one ≡ other
+      → same_preferences one.preferences other.preferences && (same_shapes one.shape other.shape && purposes one.purpose other.purpose) ≡ true → one ≡ other
   keys_are one other h =
-      let p = and_parts (same_preferences one.preferences other.preferences) (same_shapes one.shape other.shape && leniencies one.is_lenient other.is_lenient) h in
-      let q = and_parts (same_shapes one.shape other.shape) (leniencies one.is_lenient other.is_lenient) p.1 in
+      let p = and_parts (same_preferences one.preferences other.preferences) (same_shapes one.shape other.shape && purposes one.purpose other.purpose) h in
+      let q = and_parts (same_shapes one.shape other.shape) (purposes one.purpose other.purpose) p.1 in
       let preferences : one.preferences ≡ other.preferences = preferences_are one.preferences other.preferences p.0 in
       let shape : one.shape ≡ other.shape = shape_is one.shape other.shape q.0 in
-      let leniency : one.is_lenient ≡ other.is_lenient = leniency_is one.is_lenient other.is_lenient q.1 in
-      λ i. record { preferences = preferences i; shape = shape i; is_lenient = leniency i }
+      let purpose : one.purpose ≡ other.purpose = purpose_is one.purpose other.purpose q.1 in
+      λ i. record { preferences = preferences i; shape = shape i; purpose = purpose i }

@@ -1,4 +1,5 @@
--- The small book of preferences: the entries of the locales of a chain and of the systems asked for, and the parents along it.
+-- The small book of preferences: the entries of the locales of a chain and of the systems asked for, and the parents along it; of plurals
+-- those of `und` too.
 -- Defined in docs/books.md, "The small book of a tag".
 -- Cited by `laws::selected_books_answer_alike`, `laws::selected_parents_are_parents` and `laws::numbers_need_no_units`.
 -- It picks entries of each table of a book, and imports the types of all.
@@ -10,14 +11,19 @@ use Rattle.icu_decimal.specs.Identifiers.{Identifier}
 use Rattle.icu_decimal.specs.Symbols.{Symbols}
 use Rattle.icu_locale_core.specs.Subtags.{Text}
 use Rattle.icu_locale_core.specs.TagPreferences.{DataLocaleMeaning, Preferences, language_priority}
+use Rattle.icu_plurals.specs.declared.PluralRuleType.TheVariants as rule
 use Rattle.locale_numbers.specs.Answer.{answer_of}
 use Rattle.locale_numbers_book.specs.Book.{BookTables, IsBook}
 use Rattle.locale_numbers_book.specs.Tables.{chain_in}
 use Rattle.locale_numbers_book.specs.Wanted.{wanted_of}
 use Rattle.locale_numbers_book.specs.Parents.{Entry, IsParents, listed_parent}
 use Rattle.locale_numbers_requests.specs.Request.{Asked, request_of}
+use Rattle.locale_numbers_requests.specs.declared.Task.{Task}
+use Rattle.locale_numbers_requests.specs.declared.Task.TheVariants.{Write, WriteExact, Read, ReadLenient, Category, RangeCategory}
 use Rattle.locale_numbers_book.specs.Keys.{same_data_locale}
+use Rattle.locale_numbers_book.specs.FoundRules.{chain_with_unknown}
 use Rattle.locale_numbers_book.specs.Units.{UnitsTables}
+use Rattle.locale_numbers_plurals.specs.Plurals.{PluralTables}
 use Rattle.locale_numbers.specs.Serving.{unit_locales_in}
 use Rattle.locale_numbers.specs.WithoutUnits.{without_units}
 use Rattle.locale_numbers_formats.specs.declared.NumberUnit.{NumberUnit}
@@ -73,6 +79,12 @@ selected_units locales systems units = record {
   digits = units.digits;
 }
 
+abbrev pub selected_plurals : List DataLocaleMeaning → PluralTables → PluralTables
+selected_plurals locales plurals = record {
+  ordinals = kept_of locales plurals.ordinals;
+  ranges = kept_of locales plurals.ranges;
+}
+
 abbrev pub selected : BookTables → Preferences → BookTables
 selected whole p = record {
   symbols = kept_named (chain_in whole (language_priority p.locale)) (systems_of p.numbering_system) whole.symbols;
@@ -82,6 +94,7 @@ selected whole p = record {
   long = kept_named (chain_in whole (language_priority p.locale)) (systems_of p.numbering_system) whole.long;
   parents = option_map (λ entries. steps_along entries (chain_in whole (language_priority p.locale))) whole.parents;
   units = option_map (selected_units (unit_locales_in whole p) (systems_of p.numbering_system)) whole.units;
+  plurals = option_map (selected_plurals (chain_with_unknown whole (language_priority p.locale))) whole.plurals;
 }
 
 abbrev pub SelectedBooksAnswerAlike : Type 0
@@ -100,7 +113,18 @@ asks_units unit.None = false
 asks_units unit.Percent = true
 asks_units (unit.Currency currency) = true
 
+-- whether a task asks for what a book has of plurals beside cardinal rules
+abbrev pub asks_plurals : Task → Bool
+asks_plurals Write = false
+asks_plurals WriteExact = false
+asks_plurals Read = false
+asks_plurals ReadLenient = false
+asks_plurals (Category rule.Cardinal) = false
+asks_plurals (Category rule.Ordinal) = true
+asks_plurals RangeCategory = true
+
 -- lines of others are answered without them
 abbrev pub NumbersNeedNoUnits : Type 0
-NumbersNeedNoUnits = (book : BookTables) (line : List ℕ) (asked : Asked) → request_of line ≡ Some asked → asks_units asked.format.shape.unit ≡ false
+NumbersNeedNoUnits = (book : BookTables) (line : List ℕ) (asked : Asked) → request_of line ≡ Some asked
+    → asks_units asked.format.shape.unit ≡ false → asks_plurals asked.task ≡ false
     → answer_of (without_units book) line ≡ answer_of book line

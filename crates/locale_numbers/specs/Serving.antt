@@ -2,7 +2,7 @@
 -- Defined in docs/books.md, "The small book of a tag".
 -- Cited by `laws::served_books_answer_alike`, and by `laws::selected_books_answer_alike` through Selection.antt.
 -- It names what a book has of each kind, and the identifiers that are asked for, and imports the definition of each.
-use Rattle.std.specs.Prelude.{◌≡◌, ℕ, List, [], ◌∷◌, Some, Result, Ok}
+use Rattle.std.specs.Prelude.{◌≡◌, ℕ, List, [], ◌∷◌, None, Some, Result, Ok}
 use Rattle.icu_decimal.specs.Choice.{first_found}
 use Rattle.icu_decimal.specs.FoundCompactTables.{patterns_identifiers, rules_identifiers}
 use Rattle.icu_decimal.specs.Identifiers.{Identifier, digits_identifiers, identifiers_along, of_system, symbols_identifiers, under_each}
@@ -11,9 +11,11 @@ use Rattle.icu_decimal.specs.declared.error.DataError.{DataError}
 use Rattle.icu_dimension.specs.UnitChoice.{unit_chain, unknown_last}
 use Rattle.icu_locale_core.specs.Subtags.{Text}
 use Rattle.icu_locale_core.specs.TagPreferences.{DataLocaleMeaning, Preferences, language_priority}
-use Rattle.locale_numbers.specs.Answer.{answer_of, in_latin}
+use Rattle.locale_numbers.specs.Answer.{answer_of}
 use Rattle.locale_numbers_book.specs.Book.{BookTables}
-use Rattle.locale_numbers_book.specs.Tables.{accounts_under, chain_in, currencies_under, currency_symbols_under, digits_under, fractions_under, long_under, parent_under, percents_under, rules_under, short_under, steps_in, symbols_under}
+use Rattle.locale_numbers_book.specs.FoundFormats.{in_latin}
+use Rattle.locale_numbers_book.specs.FoundRules.{chain_with_unknown}
+use Rattle.locale_numbers_book.specs.Tables.{accounts_under, chain_in, currencies_under, currency_symbols_under, digits_under, fractions_under, long_under, ordinals_under, parent_under, percents_under, ranges_under, rules_under, short_under, steps_in, symbols_under}
 use Rattle.locale_numbers_book.specs.Wanted.{wanted_of}
 use Rattle.locale_numbers_requests.specs.Request.{Asked, request_of}
 
@@ -41,6 +43,8 @@ pub record Serves (small whole : BookTables) (p : Preferences) : Type 0 where
   pub coded : (code : Text) → Agree (currencies_under small) (currencies_under whole) (under_each code (unit_locales_in whole p))
   pub accounts : Agree (accounts_under small) (accounts_under whole) (identifiers_along p.numbering_system (unit_locales_in whole p))
   pub names : (code : Text) → Agree (currency_symbols_under small) (currency_symbols_under whole) (under_each code (unit_locales_in whole p))
+  pub ordinals : Agree (ordinals_under small) (ordinals_under whole) (identifiers_along None (chain_with_unknown whole (language_priority p.locale)))
+  pub ranges : Agree (ranges_under small) (ranges_under whole) (identifiers_along None (chain_with_unknown whole (language_priority p.locale)))
   pub fractions : (code : Text) → fractions_under small (of_system code) ≡ fractions_under whole (of_system code)
 
 -- for a tag and, as lenient lines ask for it too, with the numbering system `latn`

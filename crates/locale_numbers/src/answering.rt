@@ -9,12 +9,14 @@ ghost use Rattle.locale_numbers.specs.LineMemory.{MayTakeTag, TakesNone, no_numb
 ghost use Rattle.locale_numbers_requests.specs.Request.{Asked, request_of};
 ghost use Rattle.locale_numbers.specs.declared.formatter_key.FormatterKey.{FormatterKey};
 
+use crate::category_line::answer_category;
 use crate::exact_line::answer_exact;
 use crate::formatters::Formatters;
 use crate::front::{Front, cut_text, read_front};
 use crate::lenient_line::answer_lenient;
 use crate::number_line::answer_number;
 use crate::one_formatter::OneFormatter;
+use crate::range_line::answer_range;
 use crate::read_line::answer_read;
 use fixed_decimal::Decimal;
 use locale_numbers_answers::{write_refusal, write_refusal_or_shape};
@@ -71,6 +73,9 @@ pub(crate) fn answer_after_front<'a, F: Formatters<'a>>(
             out,
         );
     }
+    if let Task::Category(_) = front.task {
+        return answer_category(value, formatters, key, front.options, text, out);
+    }
     let Some(text) = as_text(text) else {
         return write_refusal(out, Refusal::Shape);
     };
@@ -78,7 +83,10 @@ pub(crate) fn answer_after_front<'a, F: Formatters<'a>>(
         Task::WriteExact => answer_exact(alloc, formatters, key, front.options.sign, text, out),
         Task::Read => answer_read(alloc, formatters, key, front.options.rounding, text, out),
         Task::ReadLenient => answer_lenient(alloc, formatters, key, text, out),
-        Task::Write => unreachable!(),
+        Task::RangeCategory => {
+            answer_range(alloc, value, formatters, key, front.options, text, out)
+        }
+        Task::Write | Task::Category(_) => unreachable!(),
     }
 }
 
@@ -116,7 +124,6 @@ fn answer_alone(alloc: Global, book: &Book, line: &[u8], out: &mut String) -> Re
     ensures { OnOk result (string_bytes out.new ≡ string_bytes out.old ++ answer_of book.now line.now) }
 {
     let mut formatters = OneFormatter {
-        alloc,
         tables: book,
         made: None,
     };
@@ -134,7 +141,8 @@ fn answer_alone(alloc: Global, book: &Book, line: &[u8], out: &mut String) -> Re
 /// `-1.20M`; with `read` and `-987,654.321` by `ok`, a tab and `-987654.321`; with `read-lenient` and
 /// `.5` by `ok`, a tab and `0.5`. Under the sample book of units `currency-EUR` and `-1234.5` are answered by `ok`, a tab
 /// and `-€1,234.50`, `read-currency-EUR` with this text by `ok`, a tab and `-1234.50`, and `read-lenient-currency-EUR`
-/// with `-1234.5 €` by `ok`, a tab and `-1234.5`. A line that is refused is
+/// with `-1234.5 €` by `ok`, a tab and `-1234.5`. Under the sample book `en` and `plural` with `1` are answered by `ok`, a
+/// tab and `one`, `range-plural` with `1..2` by `ok`, a tab and `other`. A line that is refused is
 /// answered by `err`, a tab and the first word that applies: `shape`, `tag`, `number`, `limit`,
 /// `table`, `range`, `exponent`, `unreadable`, `not-written`; an empty line by `shape`. A line feed in it
 /// is an ordinary byte. Allocates. `AllocError`: out of memory. Tags are the whole locale tags of

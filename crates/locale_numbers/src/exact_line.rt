@@ -1,6 +1,6 @@
 //! The task that writes an exact form: a significand and an exponent, as they are given.
 
-ghost use Rattle.std.specs.Prelude.{◌≡◌, ◌∷◌, ◌++◌, List, Option, Some, IsOk, OnOk, OnErr, string_bytes};
+ghost use Rattle.std.specs.Prelude.{◌≡◌, ◌∷◌, ◌++◌, List, Option, None, Some, IsOk, OnOk, OnErr, string_bytes};
 ghost use Rattle.fixed_decimal.specs.CompactText.{ReadsLongCompact};
 ghost use Rattle.locale_numbers_lines.specs.Growth.{Grows};
 ghost use Rattle.locale_numbers_answers.specs.AnswerSink.{HasRoom};
@@ -8,7 +8,7 @@ ghost use Rattle.locale_numbers_answers.specs.Answers.{exact_found, exact_with};
 ghost use Rattle.locale_numbers_answers.specs.CompactReading.{compact_reading_of};
 ghost use Rattle.locale_numbers_answers.specs.NumberAnswer.{signed_form};
 ghost use Rattle.locale_numbers_book.specs.FoundFormats.{found_for};
-ghost use Rattle.locale_numbers.specs.FormatterKeys.{key_exact};
+ghost use Rattle.locale_numbers.specs.FormatterKeys.{key_exact, rules_for};
 ghost use Rattle.locale_numbers.specs.declared.formatter_key.FormatterKey.{FormatterKey};
 
 use crate::formatter_key::FormatterKey;
@@ -31,6 +31,7 @@ fn write_exact_by_key<'a, F: Formatters<'a>>(
 ) -> Result<(), AllocError>
     requires ready { F.is_ready formatters.old }
     requires right { F.is_right_for formatters.old key.now }
+    requires ruleless { rules_for key.now.purpose ≡ None }
     ensures text { OnOk result (string_bytes out.new ≡ string_bytes out.old
         ++ exact_with (found_for key.now.shape (F.book formatters.old) key.now.preferences)
         (signed_form sign value)) }
@@ -57,6 +58,7 @@ fn write_exact_by_key<'a, F: Formatters<'a>>(
 // Writes the answer to the text of an exact form, with the formatter of a key, after what `out` holds.
 //
 // `AllocError`: out of memory; a part of the answer may then be there.
+#[inline(never)]
 pub(crate) fn answer_exact<'a, F: Formatters<'a>>(
     alloc: Global,
     formatters: &mut F,
@@ -67,6 +69,7 @@ pub(crate) fn answer_exact<'a, F: Formatters<'a>>(
 ) -> Result<(), AllocError>
     requires ready { F.is_ready formatters.old }
     requires right { F.is_right_for formatters.old key.now }
+    requires ruleless { rules_for key.now.purpose ≡ None }
     ensures text { OnOk result (string_bytes out.new ≡ string_bytes out.old
         ++ exact_found (found_for key.now.shape (F.book formatters.old) key.now.preferences) sign
         (compact_reading_of text.now)) }

@@ -1,24 +1,37 @@
 //! What a formatter is kept under.
 
 ghost use Rattle.std.specs.Prelude.{◌≡◌};
-ghost use Rattle.locale_numbers.specs.FormatterKeys.{reads_leniently};
+ghost use Rattle.locale_numbers.specs.FormatterKeys.{purpose_of};
 
 use icu_decimal::DecimalFormatterPreferences;
 use icu_decimal::options::GroupingStrategy;
+use icu_plurals::PluralRuleType;
 use locale_numbers_cache::CacheKey;
 use locale_numbers_formats::{Notation, NumberShape};
 use locale_numbers_requests::Task;
 
-// What a formatter is kept under: what a tag prefers, a shape, and whether it reads what people type. Tags that prefer
-// the same have one key.
+// What a formatter is for.
+#[derive(Clone, Copy, PartialEq, Eq, Hash)]
+pub(crate) enum Purpose {
+    /// It writes numbers, and reads back what it writes.
+    Writes,
+    /// It reads what people type.
+    ReadsTyped,
+    /// It tells how many there are: the categories of cardinal rules.
+    Cardinal,
+    /// It tells which one it is: the categories of ordinal rules.
+    Ordinal,
+}
+
+// What a formatter is kept under: what a tag prefers, a shape, and what it is for. Tags that prefer the same have one key.
 #[derive(Clone, Copy, PartialEq, Eq, Hash)]
 pub(crate) struct FormatterKey {
     /// What the tag prefers, `rg` too.
     pub preferences: DecimalFormatterPreferences,
     /// What the tables are found by.
     pub shape: NumberShape,
-    /// Whether it reads what people type.
-    pub is_lenient: bool,
+    /// What it is for.
+    pub purpose: Purpose,
 }
 
 impl CacheKey for FormatterKey {
@@ -27,16 +40,18 @@ impl CacheKey for FormatterKey {
     ghost use Rattle.locale_numbers.specs.SameKeys.{keys_are};
 
     ghost same = { keys_are
-        ⟦<Notation as PartialEq>⟧.eq ⟦<GroupingStrategy as PartialEq>⟧.eq ⟦<bool as PartialEq>⟧.eq
+        ⟦<Notation as PartialEq>⟧.eq ⟦<GroupingStrategy as PartialEq>⟧.eq ⟦<Purpose as PartialEq>⟧.eq
         (Prim.search (comparing, rules)) (Prim.search (comparing, rules)) (Prim.search (comparing, rules)) };
 }
 
-// Whether a task reads what people type.
-pub(crate) fn reads_leniently(task: Task) -> bool
-    ensures { result ≡ reads_leniently task }
+// What the formatter of a task is for.
+pub(crate) fn purpose_of(task: Task) -> Purpose
+    ensures { result ≡ purpose_of task }
 {
     match task {
-        Task::Write | Task::WriteExact | Task::Read => false,
-        Task::ReadLenient => true,
+        Task::Write | Task::WriteExact | Task::Read => Purpose::Writes,
+        Task::ReadLenient => Purpose::ReadsTyped,
+        Task::Category(PluralRuleType::Cardinal) | Task::RangeCategory => Purpose::Cardinal,
+        Task::Category(PluralRuleType::Ordinal) => Purpose::Ordinal,
     }
 }

@@ -33,9 +33,9 @@ pub(crate) trait Formatters<'a> {
     // the line, this is the key's.
     ghost is_right_for: { Self → FormatterKey → Type 0 };
 
-    /// Finds the formatter of a key; `false` where the book lacks one of its tables. It looks for none where it notes
-    /// that the one that was found last is that of the line. The conditions are that it is ready to find one, and that
-    /// what it notes is right for the key.
+    /// Finds the formatter of a key; `false` where the book lacks one of its tables, or the rules that it needs. It looks
+    /// for none where it notes that the one that was found last is that of the line. The conditions are that it is ready
+    /// to find one, and that what it notes is right for the key.
     fn find(&mut self, key: &Hashed<FormatterKey>) -> Result<bool, AllocError>
         requires ready { is_ready self.old }
         requires right { is_right_for self.old key.now }

@@ -6,7 +6,7 @@ ghost use Rattle.locale_numbers.specs.Front.{adds_none, asked_text, front_of, is
 ghost use Rattle.locale_numbers.specs.LineMemory.{MayTakeTag};
 ghost use Rattle.locale_numbers_requests.specs.Request.{request_of};
 
-use crate::formatter_key::{FormatterKey, reads_leniently};
+use crate::formatter_key::{FormatterKey, purpose_of};
 use icu_decimal::DecimalFormatterPreferences;
 use locale_numbers_book::read_preferences;
 use locale_numbers_cache::{Hashed, KeyReader};
@@ -104,7 +104,7 @@ fn hashed_key(
         Some(preferences) => Some(Hashed::new(FormatterKey {
             preferences,
             shape,
-            is_lenient: reads_leniently(task),
+            purpose: purpose_of(task),
         })),
         None => None,
     }

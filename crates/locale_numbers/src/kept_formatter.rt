@@ -1,20 +1,22 @@
 //! What is kept under a key, and how it is made.
 
-ghost use Rattle.std.specs.Prelude.{◌≡◌, false, IfSome, MatchOption, Ok};
+ghost use Rattle.std.specs.Prelude.{◌≡◌, false, None, Some, IfSome, MatchOption, Ok};
 ghost use Rattle.locale_numbers_book.specs.FoundFormats.{found_for};
-ghost use Rattle.locale_numbers.specs.FormatterKeys.{finds};
-ghost use Rattle.locale_numbers.specs.KeptFormatters.{HasGrouping, IsMadeFor, KnowsReader, KnowsTexts, KnowsTyped};
+ghost use Rattle.locale_numbers.specs.FormatterKeys.{finds, finds_rules, rules_for};
+ghost use Rattle.locale_numbers.specs.KeptFormatters.{IsMadeFor, IsSameFormatter, KnowsReader, KnowsTexts, KnowsTyped};
+ghost use Rattle.locale_numbers.specs.declared.formatter_key.Purpose.{Purpose};
 
-use crate::formatter_key::FormatterKey;
-use icu_decimal::options::GroupingStrategy;
+use crate::formatter_key::{FormatterKey, Purpose};
 use icu_decimal_direct::TextTables;
-use locale_numbers_book::{Tables, find_formatter, find_latin};
+use icu_plurals::{PluralRuleType, PluralRulesWithRanges};
+use locale_numbers_book::{Tables, find_formatter, find_plural_rules, find_second};
 use locale_numbers_cache::{Hashed, Maker};
 use locale_numbers_formatter::{FormatterKind, LenientNumberReader, NumberFormatter, NumberReader};
 use std::alloc::Global;
 use std::marker::Model;
 
-// A formatter that is kept, and what its texts are put and read with. It borrows its tables.
+// A formatter that is kept, what its texts are put and read with, and the rules that tell categories of its numbers. It
+// borrows its tables.
 #[derive(Drop)]
 pub(crate) struct KeptFormatter<'a> {
     /// What writes numbers.
@@ -23,40 +25,43 @@ pub(crate) struct KeptFormatter<'a> {
     pub texts: Option<TextTables<'a>>,
     /// What reads what it writes; `None` where it is put together for each text.
     pub reader: Option<NumberReader<'a>>,
-    /// What writes numbers in the digits of ASCII, where those of the first are others and people's texts are read.
-    pub latin: Option<NumberFormatter<'a>>,
+    /// What people's texts are read by too, where they are read and there is such a thing.
+    pub second: Option<NumberFormatter<'a>>,
     /// What reads what people type; `None` where it is put together for each text.
     pub lenient: Option<LenientNumberReader<'a>>,
+    /// The rules, where categories are told.
+    pub rules: Option<PluralRulesWithRanges<'a>>,
 }
 
 impl<'a> Model for KeptFormatter<'a> {
-    ghost use Rattle.std.specs.Prelude.{is_some};
+    ghost use Rattle.std.specs.Prelude.{is_some, option_map};
+    ghost use Rattle.locale_numbers_book.specs.FoundRules.{rules_held};
     ghost use Rattle.locale_numbers.specs.KeptFormatters.{Kept, KnowsReader, KnowsTexts, KnowsTyped};
 
     ghost Value = { Kept };
 
     ghost view = { λ k. record {
       formatter = k.formatter;
-      latin = k.latin;
+      second = k.second;
+      rules = option_map rules_held k.rules;
       keeps_reader = is_some k.reader;
       keeps_typed = is_some k.lenient;
     } };
 
     ghost invariant = { λ k. KnowsTexts k.formatter k.texts
         × KnowsReader k.formatter k.reader
-        × KnowsTyped k.formatter k.latin k.lenient };
+        × KnowsTyped k.formatter k.second k.lenient };
 }
 
-// What texts are put with directly by a formatter of plain numbers with this grouping.
-fn kept_texts<'a>(
-    formatter: &NumberFormatter<'a>,
-    grouping: GroupingStrategy,
-) -> Option<TextTables<'a>>
-    requires { HasGrouping formatter.now grouping }
+// What texts are put with directly by a formatter of plain numbers.
+fn kept_texts<'a>(formatter: &NumberFormatter<'a>) -> Option<TextTables<'a>>
     ensures { KnowsTexts formatter.now result }
 {
     match formatter.kind() {
-        FormatterKind::Plain(plain) => { TextTables::of(plain.symbols(), plain.digits(), grouping) }
+        FormatterKind::Plain(plain) => {
+            let tables = plain.tables();
+            TextTables::of(tables.symbols(), tables.digits(), tables.strategy())
+        }
         FormatterKind::Compact(_) | FormatterKind::Percent(_) | FormatterKind::Currency(_) => None,
     }
 }
@@ -75,107 +80,165 @@ fn kept_reader<'a>(alloc: Global, formatter: &NumberFormatter<'a>) -> Option<Num
 fn kept_lenient_reader<'a>(
     alloc: Global,
     formatter: &NumberFormatter<'a>,
-    latin: &Option<NumberFormatter<'a>>,
+    second: &Option<NumberFormatter<'a>>,
 ) -> Option<LenientNumberReader<'a>>
-    ensures { KnowsTyped formatter.now latin.now result }
+    ensures { KnowsTyped formatter.now second.now result }
 {
-    match formatter.lenient_reader(alloc, latin.as_ref()) {
+    match formatter.lenient_reader(alloc, second.as_ref()) {
         Ok(reader) => Some(reader),
         Err(_) => None,
     }
 }
 
-// The formatter of a key that reads what people type. It is apart, so that it and that of a key that reads back take room
-// on the stack in turn.
+// A formatter that reads what people type. It is apart, as those for other purposes are, so that they take room on the
+// stack in turn; each returns an `Option`, so that none is moved into one afterwards.
 #[inline(never)]
 fn typed_formatter<'a, T: Tables>(
-    alloc: Global,
     tables: &'a T,
     key: &FormatterKey,
     formatter: NumberFormatter<'a>,
-    keeps: bool,
-) -> KeptFormatter<'a>
-    requires { found_for key.now.shape (T.book tables.now) key.now.preferences ≡ Ok formatter }
-    ensures { IsMadeFor (T.book tables.now) key.now result }
+) -> Option<KeptFormatter<'a>>
+    requires found { found_for key.now.shape (T.book tables.now) key.now.preferences ≡ Ok formatter }
+    requires typed { key.now.purpose ≡ Purpose.ReadsTyped }
+    ensures { MatchOption result ⊥ (λ kept. IsMadeFor (T.book tables.now) key.now kept) }
 {
-    let latin = find_latin(tables, key.preferences, &key.shape, &formatter);
-    let lenient = if keeps {
-        kept_lenient_reader(alloc, &formatter, &latin)
-    } else {
-        None
-    };
-    KeptFormatter {
+    let second = find_second(tables, key.preferences, &key.shape, &formatter);
+    Some(KeptFormatter {
         formatter,
         texts: None,
         reader: None,
-        latin,
-        lenient,
-    }
-}
-
-// A formatter that writes numbers and reads them back. It is apart, as that of typed texts is.
-#[inline(never)]
-fn written_formatter<'a>(
-    alloc: Global,
-    grouping: GroupingStrategy,
-    formatter: NumberFormatter<'a>,
-    keeps: bool,
-) -> KeptFormatter<'a>
-    requires { HasGrouping formatter grouping }
-    ensures { result.formatter ≡ formatter.entry }
-{
-    let (texts, reader) = if keeps {
-        (
-            kept_texts(&formatter, grouping),
-            kept_reader(alloc, &formatter),
-        )
-    } else {
-        (None, None)
-    };
-    KeptFormatter {
-        formatter,
-        texts,
-        reader,
-        latin: None,
+        second,
         lenient: None,
-    }
+        rules: None,
+    })
 }
 
-// The formatter of a key that was found, with what it reads with where it is to be kept.
-fn with_readers<'a, T: Tables>(
-    alloc: Global,
+// A formatter that writes numbers and reads them back.
+#[inline(never)]
+fn written_formatter<'a>(formatter: NumberFormatter<'a>) -> Option<KeptFormatter<'a>>
+    ensures { MatchOption result ⊥ (λ kept. (kept.formatter ≡ formatter.entry) × (kept.rules ≡ None)) }
+{
+    Some(KeptFormatter {
+        formatter,
+        texts: None,
+        reader: None,
+        second: None,
+        lenient: None,
+        rules: None,
+    })
+}
+
+// The formatter of a key that tells categories, by the rules of a type; `None` where the book lacks them.
+#[inline(never)]
+fn ruled_formatter<'a, T: Tables>(
     tables: &'a T,
     key: &FormatterKey,
     formatter: NumberFormatter<'a>,
-    keeps: bool,
-) -> KeptFormatter<'a>
-    requires { found_for key.now.shape (T.book tables.now) key.now.preferences ≡ Ok formatter }
-    ensures { IsMadeFor (T.book tables.now) key.now result }
+    rule_type: PluralRuleType,
+) -> Option<KeptFormatter<'a>>
+    requires found { found_for key.now.shape (T.book tables.now) key.now.preferences ≡ Ok formatter }
+    requires rules { rules_for key.now.purpose ≡ Some rule_type }
+    ensures { MatchOption result
+        (finds_rules (T.book tables.now) key.now.preferences (rules_for key.now.purpose) ≡ false)
+        (λ kept. IsMadeFor (T.book tables.now) key.now kept) }
 {
-    if key.is_lenient {
-        typed_formatter(alloc, tables, key, formatter, keeps)
-    } else {
-        written_formatter(alloc, key.shape.grouping, formatter, keeps)
+    match find_plural_rules(tables, key.preferences, rule_type) {
+        Some(rules) => Some(KeptFormatter {
+            formatter,
+            texts: None,
+            reader: None,
+            second: None,
+            lenient: None,
+            rules: Some(rules),
+        }),
+        None => None,
     }
 }
 
-// The formatter of a key; `None` where the book lacks one of its tables.
-//
-// One that is to be kept is asked whether texts are put with it directly, and puts together and folds now what it reads
-// with, which allocates. Another one has only what its task needs.
-pub(crate) fn made_formatter<'a, T: Tables>(
-    alloc: Global,
+// The formatter of a key that was found, with what it needs for its purpose; `None` where the book lacks rules that it
+// needs.
+fn for_purpose<'a, T: Tables>(
     tables: &'a T,
     key: &FormatterKey,
-    keeps: bool,
+    formatter: NumberFormatter<'a>,
+) -> Option<KeptFormatter<'a>>
+    requires { found_for key.now.shape (T.book tables.now) key.now.preferences ≡ Ok formatter }
+    ensures { MatchOption result
+        (finds_rules (T.book tables.now) key.now.preferences (rules_for key.now.purpose) ≡ false)
+        (λ kept. IsMadeFor (T.book tables.now) key.now kept) }
+{
+    match key.purpose {
+        Purpose::Writes => written_formatter(formatter),
+        Purpose::ReadsTyped => typed_formatter(tables, key, formatter),
+        Purpose::Cardinal => ruled_formatter(tables, key, formatter, PluralRuleType::Cardinal),
+        Purpose::Ordinal => ruled_formatter(tables, key, formatter, PluralRuleType::Ordinal),
+    }
+}
+
+// The formatter of a key; `None` where the book lacks one of its tables, or the rules that it needs.
+//
+// It has only what its task needs: what reads texts is put together for each, and it is not known whether texts are put
+// with it directly. It does not allocate. It is apart, so that what it takes on the stack is free again where readers are
+// put together.
+#[inline(never)]
+pub(crate) fn made_formatter<'a, T: Tables>(
+    tables: &'a T,
+    key: &FormatterKey,
 ) -> Option<KeptFormatter<'a>>
     ensures { MatchOption result (finds (T.book tables.now) key.now ≡ false)
         (λ kept. IsMadeFor (T.book tables.now) key.now kept) }
 {
     match find_formatter(tables, key.preferences, &key.shape) {
-        Ok(formatter) => Some(with_readers(alloc, tables, key, formatter, keeps)),
+        Ok(formatter) => for_purpose(tables, key, formatter),
         Err(_) => None,
     }
+}
+
+// Keeps what texts are put with directly, and what reads what the formatter writes.
+#[inline(never)]
+fn keep_reader(alloc: Global, kept: &mut KeptFormatter<'_>)
+    ensures { IsSameFormatter kept.old kept.new }
+{
+    kept.texts = kept_texts(&kept.formatter);
+    kept.reader = kept_reader(alloc, &kept.formatter);
+}
+
+// Keeps what reads what people type.
+#[inline(never)]
+fn keep_lenient_reader(alloc: Global, kept: &mut KeptFormatter<'_>)
+    ensures { IsSameFormatter kept.old kept.new }
+{
+    kept.lenient = kept_lenient_reader(alloc, &kept.formatter, &kept.second);
+}
+
+// Keeps what a formatter for a purpose reads with: it is asked whether texts are put with it directly, and what it reads
+// with is put together and folded now, which allocates. That is put in its place at once, so that no second formatter is
+// on the stack.
+fn keep_readers(alloc: Global, purpose: Purpose, kept: &mut KeptFormatter<'_>)
+    ensures { IsSameFormatter kept.old kept.new }
+{
+    match purpose {
+        Purpose::Writes => keep_reader(alloc, kept),
+        Purpose::ReadsTyped => keep_lenient_reader(alloc, kept),
+        Purpose::Cardinal | Purpose::Ordinal => {}
+    }
+}
+
+// The formatter of a key, which keeps what it reads with; `None` as `made_formatter`.
+#[tactic(auto, using(crate::proofs::KeptLemmas::still_made))]
+fn kept_formatter<'a, T: Tables>(
+    alloc: Global,
+    tables: &'a T,
+    key: &FormatterKey,
+) -> Option<KeptFormatter<'a>>
+    ensures { MatchOption result (finds (T.book tables.now) key.now ≡ false)
+        (λ kept. IsMadeFor (T.book tables.now) key.now kept) }
+{
+    let mut made = made_formatter(tables, key);
+    if let Some(kept) = &mut made {
+        keep_readers(alloc, key.purpose, kept);
+    }
+    made
 }
 
 // One that makes the formatters of keys, with these tables.
@@ -197,6 +260,6 @@ impl<'a, T: Tables> Maker<Hashed<FormatterKey>, KeptFormatter<'a>> for Formatter
     ghost is_made = { λ s key kept. IsMadeFor (T.book s.tables.now) key kept };
 
     fn make(&self, key: Hashed<FormatterKey>) -> Option<KeptFormatter<'a>> {
-        made_formatter(self.alloc, self.tables, &key.value(), true)
+        kept_formatter(self.alloc, self.tables, &key.value())
     }
 }

@@ -10,7 +10,7 @@ ghost use Rattle.locale_numbers.specs.OldLines.{OldLinesStay};
 ghost use Rattle.locale_numbers.specs.PrintedLaws.{FoundTablesAreSound, IsSoundWhereFound, PrintedIsAnswered, PrintedIsNear, PrintedIsWrittenAgain, PrintedKeepsOrder, PrintedPrintsItself, ZeroIsPrintedForZero};
 ghost use Rattle.locale_numbers.specs.Selection.{NumbersNeedNoUnits, SelectedBooksAnswerAlike, SelectedParentsAreParents};
 ghost use Rattle.locale_numbers.specs.Serving.{ServedBooksAnswerAlike};
-ghost use Rattle.locale_numbers.specs.LenientUnitLaws.{ReadUnitIsReadLeniently};
+ghost use Rattle.locale_numbers.specs.LenientUnitLaws.{EachUnitGroupingIsReadLeniently, ReadUnitIsReadLeniently};
 ghost use Rattle.locale_numbers.specs.UnitLaws.{FoundUnitsAreTexts, ReadUnitIsWrittenAgain, WrittenPercentReadsBack, WrittenUnitIsUtf8, WrittenUnitReadsBack};
 
 use icu_decimal::laws::compact::{
@@ -22,7 +22,7 @@ use icu_decimal::laws::reading::{
 use icu_decimal::laws::shown::{exact_forms_of_shown_values, tables_show_values};
 use icu_decimal::options::GroupingStrategy;
 use icu_decimal::{DecimalFormatterPreferences, is_readable};
-pub use icu_dimension::laws::lenient::functions_answer_readings;
+pub use icu_dimension::laws::lenient::{each_unit_grouping_is_lenient, functions_answer_readings};
 use icu_dimension::laws::units::texts_have_one_decimal as unit_texts_have_one_decimal;
 pub use locale_numbers_answers::laws::{
     amounts_have_one_end, compact_texts_have_one_reading, requests_are_at_magnitude,
@@ -37,7 +37,9 @@ use locale_numbers_book::{Tables, find_formatter};
 pub use locale_numbers_cache::laws::{last_used_are_kept, unused_keys_miss};
 use locale_numbers_formats::{CompactWidth, Notation, NumberShape, NumberUnit};
 use locale_numbers_formatter::FormatterKind;
-use locale_numbers_formatter::laws::{compact_is_layered, plain_reads_by_pairs};
+use locale_numbers_formatter::laws::{
+    compact_is_layered, own_unit_texts_are_of_the_first, plain_reads_by_pairs,
+};
 pub use locale_numbers_lines::laws::{
     each_input_splits, lines_are_the_pieces, outputs_join, whole_lines_are_the_pieces,
 };
@@ -52,8 +54,8 @@ pub fn lines_ask_their_fields()
 
 /// A line of the forms `plain`, `short`, `long`, `exact-short`, `exact-long` and `read` is answered as it was before other
 /// forms, the grouping `on-aligned` and choices of digits were added, and a line of one of these was refused for its shape:
-/// that of `en`, `plain` and `1000` is answered by `ok`, a tab and `1,000`, and that of `percent` was answered by `err`, a
-/// tab and `shape`.
+/// that of `en`, `plain` and `1000` is answered by `ok`, a tab and `1,000`, and those of `percent` and `plural` were answered
+/// by `err`, a tab and `shape`.
 pub fn old_lines_stay()
     ensures { OldLinesStay }
 {
@@ -81,7 +83,7 @@ pub fn served_books_answer_alike()
 {}
 
 /// The small book of a tag answers each line of the tag as the whole book does: it has the entries of the locales of the
-/// chain, of `und` too for units, under no system, `latn` and that of the tag, the digits of these systems and of those that its
+/// chain, of `und` too for units and plurals, under no system, `latn` and that of the tag, the digits of these systems and of those that its
 /// symbols name, and the parents along the chain. That of `de-AT` has the symbols of `de-AT` and of `de`.
 pub fn selected_books_answer_alike()
     ensures { SelectedBooksAnswerAlike }
@@ -93,8 +95,8 @@ pub fn selected_parents_are_parents()
     ensures { SelectedParentsAreParents }
 {}
 
-/// A line of a form without a unit has the same answer by a book with units and by the same book without them: with `en`,
-/// `plain` and `1000` both answer `1,000`.
+/// A line of a form without a unit, and of neither an ordinal category nor a range, has the same answer by a book with units
+/// and more of plurals and by the same book without both: with `en`, `plain` and `1000` both answer `1,000`.
 pub fn numbers_need_no_units()
     ensures { NumbersNeedNoUnits }
 {}
@@ -206,6 +208,18 @@ pub fn read_unit_is_read_leniently()
     ensures { ReadUnitIsReadLeniently }
 {}
 
+/// Where texts with the unit can be read leniently, what is written with it under any grouping is read leniently as the
+/// number that was written: with `en` and `read-lenient-currency-EUR` both `€1234.50` and `€1,234.50` are 1234.50. No
+/// white space is at the ends of the folded affixes, and no way of lenient reading reads another number.
+pub fn each_unit_grouping_is_read_leniently()
+    ensures { EachUnitGroupingIsReadLeniently }
+{
+    found_units_are_texts();
+    functions_answer_readings();
+    each_unit_grouping_is_lenient();
+    own_unit_texts_are_of_the_first();
+}
+
 /// The text of each decimal with its unit is UTF-8, as a field of a line is: the one of -1234.5 with `€` in English is
 /// `-€1,234.5`.
 pub fn written_unit_is_utf8()
@@ -248,8 +262,8 @@ pub fn written_percent_reads_back()
     unit_texts_have_one_decimal();
 }
 
-/// What formatters are kept under is told apart exactly where preferences, kinds of tables or groupings differ: `en`
-/// and `en-x-foo` have one key under `plain` and `auto`, and another under `min2`.
+/// What formatters are kept under is told apart exactly where preferences, kinds of tables, groupings or what the formatter
+/// is for differ: `en` and `en-x-foo` have one key under `plain` and `auto`, another under `min2`, and another for `plural`.
 pub fn keys_are_told_apart()
     ensures { TellsKeys same_keys }
 {}

@@ -6,13 +6,14 @@ ghost use Rattle.locale_numbers_answers.specs.AnswerSink.{HasRoom};
 ghost use Rattle.locale_numbers_answers.specs.AnswerMemory.{TypedFoundAllocates};
 ghost use Rattle.locale_numbers_answers.specs.Answers.{typed_found};
 ghost use Rattle.locale_numbers_answers.specs.ReadAnswer.{read_answer};
-ghost use Rattle.locale_numbers_book.specs.FoundFormats.{found_for, in_latin};
+ghost use Rattle.locale_numbers_book.specs.FoundFormats.{found_for, second_for};
 ghost use Rattle.locale_numbers_formatter.specs.FormatText.{HasNoUnit};
 ghost use Rattle.locale_numbers_formatter.specs.FormatTyped.{TypedAllocates, format_typed_reading, typed_of};
 ghost use Rattle.locale_numbers.specs.Front.{FindsUnits};
 ghost use Rattle.locale_numbers.specs.declared.formatter_key.FormatterKey.{FormatterKey};
+ghost use Rattle.locale_numbers.specs.declared.formatter_key.Purpose.{Purpose};
 
-use crate::formatter_key::FormatterKey;
+use crate::formatter_key::{FormatterKey, Purpose};
 use crate::formatters::Formatters;
 use crate::kept_formatter::KeptFormatter;
 use locale_numbers_answers::{write_lenient_answer, write_refusal};
@@ -29,20 +30,20 @@ fn read_typed_by_formatter(
     out: &mut String,
 ) -> Result<(), AllocError>
     ensures text { OnOk result (string_bytes out.new ≡ string_bytes out.old
-        ++ read_answer (format_typed_reading kept.now.formatter kept.now.latin text.now)) }
+        ++ read_answer (format_typed_reading kept.now.formatter kept.now.second text.now)) }
     ensures err { OnErr result (Grows (string_bytes out.old) (string_bytes out.new)) }
 
     // Where there is room for the answer, only a text that is folded, or one of more than sixteen digits, may be out of
     // memory, and what is put together of a unit.
     ensures room { HasRoom out.old
-        (read_answer (format_typed_reading kept.now.formatter kept.now.latin text.now))
+        (read_answer (format_typed_reading kept.now.formatter kept.now.second text.now))
         → HasNoUnit kept.now.formatter ⊎ (kept.now.keeps_typed ≡ true)
-        → ¬ (TypedAllocates (typed_of kept.now.formatter kept.now.latin) text.now) → IsOk result }
+        → ¬ (TypedAllocates (typed_of kept.now.formatter kept.now.second) text.now) → IsOk result }
 {
     if let Some(reader) = &kept.lenient {
         return write_lenient_answer(alloc, reader, text, out);
     }
-    match kept.formatter.lenient_reader(alloc, kept.latin.as_ref()) {
+    match kept.formatter.lenient_reader(alloc, kept.second.as_ref()) {
         Ok(reader) => {
             let written = write_lenient_answer(alloc, &reader, text, out);
             drop(reader);
@@ -55,6 +56,7 @@ fn read_typed_by_formatter(
 // Writes the answer to a text that the formatter of a key reads leniently after what `out` holds.
 //
 // `AllocError`: out of memory; a part of the answer may then be there.
+#[inline(never)]
 pub(crate) fn answer_lenient<'a, F: Formatters<'a>>(
     alloc: Global,
     formatters: &mut F,
@@ -64,20 +66,20 @@ pub(crate) fn answer_lenient<'a, F: Formatters<'a>>(
 ) -> Result<(), AllocError>
     requires ready { F.is_ready formatters.old }
     requires right { F.is_right_for formatters.old key.now }
-    requires lenient { key.now.is_lenient ≡ true }
+    requires typed { key.now.purpose ≡ Purpose.ReadsTyped }
     ensures text { OnOk result (string_bytes out.new ≡ string_bytes out.old
         ++ typed_found (found_for key.now.shape (F.book formatters.old) key.now.preferences)
-        (found_for key.now.shape (F.book formatters.old) (in_latin key.now.preferences)) text.now) }
+        (second_for key.now.shape (F.book formatters.old) key.now.preferences) text.now) }
     ensures err { OnErr result (Grows (string_bytes out.old) (string_bytes out.new)) }
 
     // Where there is room for the answer, and handing out the formatter of the key takes none, only a text that is
     // folded, or one of more than sixteen digits, may be out of memory, and what is put together of a unit.
     ensures room { HasRoom out.old
         (typed_found (found_for key.now.shape (F.book formatters.old) key.now.preferences)
-        (found_for key.now.shape (F.book formatters.old) (in_latin key.now.preferences)) text.now)
+        (second_for key.now.shape (F.book formatters.old) key.now.preferences) text.now)
         → ¬ (F.may_take_memory formatters.old key.now)
         → ¬ (TypedFoundAllocates (found_for key.now.shape (F.book formatters.old) key.now.preferences)
-        (found_for key.now.shape (F.book formatters.old) (in_latin key.now.preferences)) text.now)
+        (second_for key.now.shape (F.book formatters.old) key.now.preferences) text.now)
         → ¬ (FindsUnits (found_for key.now.shape (F.book formatters.old) key.now.preferences))
         → IsOk result }
     ensures counted { OnOk result ((more : List (Option FormatterKey)) →

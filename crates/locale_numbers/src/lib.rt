@@ -16,6 +16,7 @@
 mod answering;
 mod answers;
 mod cached_formatters;
+mod category_line;
 mod exact_line;
 mod fault;
 mod formatter_key;
@@ -29,6 +30,7 @@ mod number_line;
 mod one_formatter;
 pub mod prelude;
 mod program_run;
+mod range_line;
 mod read_line;
 mod running;
 mod starting;
@@ -40,8 +42,8 @@ pub use answering::answer;
 pub use answers::Answers;
 pub use fault::ProgramFault;
 pub use locale_numbers_book::{
-    Book, BookError, BookTexts, FormatterError, NumberTexts, SAMPLE_BOOK, SAMPLE_UNITS_BOOK,
-    Tables, UnitTexts, book_text_for, put_book,
+    Book, BookError, BookTexts, FormatterError, NumberTexts, PluralTexts, SAMPLE_BOOK,
+    SAMPLE_UNITS_BOOK, Tables, UnitTexts, book_text_for, put_book,
 };
 pub use locale_numbers_formats::{
     CompactWidth, CurrencyUnit, Notation, NumberFormat, NumberOptions, NumberShape, NumberUnit,

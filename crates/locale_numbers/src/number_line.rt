@@ -1,6 +1,6 @@
 //! The task that writes a number.
 
-ghost use Rattle.std.specs.Prelude.{◌≡◌, true, ◌∷◌, ◌++◌, List, Option, Some, IfSome, IsOk, IsSome, OnOk, OnErr, string_bytes};
+ghost use Rattle.std.specs.Prelude.{◌≡◌, true, ◌∷◌, ◌++◌, List, Option, None, Some, IfSome, IsOk, IsSome, OnOk, OnErr, string_bytes};
 ghost use Rattle.icu_decimal_direct.specs.TextDigits.{number_spelled};
 ghost use Rattle.locale_numbers_lines.specs.Growth.{Grows};
 ghost use Rattle.locale_numbers_answers.specs.AnswerSink.{HasRoom};
@@ -11,7 +11,7 @@ ghost use Rattle.locale_numbers_answers.specs.NumberReading.{number, reading_of}
 ghost use Rattle.locale_numbers_book.specs.FoundFormats.{found_for};
 ghost use Rattle.locale_numbers_formats.specs.Changed.{MayGrowBy, changed};
 ghost use Rattle.locale_numbers_formatter.specs.FormatText.{fractions_in};
-ghost use Rattle.locale_numbers.specs.FormatterKeys.{key_text};
+ghost use Rattle.locale_numbers.specs.FormatterKeys.{key_text, rules_for};
 ghost use Rattle.locale_numbers.specs.Front.{if_text, is_as_it_is, key_if_text};
 ghost use Rattle.locale_numbers.specs.declared.formatter_key.FormatterKey.{FormatterKey};
 
@@ -59,6 +59,7 @@ fn write_by_key<'a, F: Formatters<'a>>(
 ) -> Result<(), AllocError>
     requires ready { F.is_ready formatters.old }
     requires right { F.is_right_for formatters.old key.now }
+    requires ruleless { rules_for key.now.purpose ≡ None }
     ensures text { OnOk result (string_bytes out.new ≡ string_bytes out.old
         ++ written_found (found_for key.now.shape (F.book formatters.old) key.now.preferences) options value.old) }
     ensures err { OnErr result (Grows (string_bytes out.old) (string_bytes out.new)) }
@@ -120,6 +121,7 @@ fn answer_digits<'a, F: Formatters<'a>>(
 ) -> Result<(), AllocError>
     requires ready { F.is_ready formatters.old }
     requires right { F.is_right_for formatters.old key.now }
+    requires ruleless { rules_for key.now.purpose ≡ None }
     requires plain { is_as_it_is (record { shape = key.now.shape; options = _options }) ≡ true }
     requires reads { reading_of text.now ≡ number (number_spelled digits.now) }
     ensures text { OnOk result (string_bytes out.new ≡ string_bytes out.old
@@ -166,6 +168,7 @@ pub(crate) fn answer_number<'a, F: Formatters<'a>>(
 ) -> Result<(), AllocError>
     requires ready { F.is_ready formatters.old }
     requires right { F.is_right_for formatters.old key.now }
+    requires ruleless { rules_for key.now.purpose ≡ None }
     requires plain { is_plain ≡ is_as_it_is (record { shape = key.now.shape; options = options }) }
     ensures text { OnOk result (string_bytes out.new ≡ string_bytes out.old ++ if_text text.now
         (written_to (found_for key.now.shape (F.book formatters.old) key.now.preferences) options

@@ -5,13 +5,11 @@ use crate::formatters::Formatters;
 use crate::kept_formatter::{KeptFormatter, made_formatter};
 use locale_numbers_book::Tables;
 use locale_numbers_cache::Hashed;
-use std::alloc::{AllocError, Global};
+use std::alloc::AllocError;
 
 // One for one line: it keeps the formatter that was found, once there is one.
 #[derive(Drop)]
 pub(crate) struct OneFormatter<'a, T: Tables> {
-    /// Where it may allocate.
-    pub alloc: Global,
     /// The tables.
     pub tables: &'a T,
     /// That formatter, where there is one.
@@ -35,11 +33,13 @@ impl<'a, T: Tables> Formatters<'a> for OneFormatter<'a, T> {
 
     ghost is_right_for = { λ s key. IfSome s.made (λ made. IsMadeFor (T.book s.tables.now) key made) };
 
+    // It is apart, so that what it takes on the stack is free again where the formatter is used.
+    #[inline(never)]
     fn find(&mut self, key: &Hashed<FormatterKey>) -> Result<bool, AllocError> {
         if self.made.is_some() {
             return Ok(true);
         }
-        let made = made_formatter(self.alloc, self.tables, &key.value(), false);
+        let made = made_formatter(self.tables, &key.value());
         let is_found = made.is_some();
         drop(std::mem::replace(&mut self.made, made));
         Ok(is_found)

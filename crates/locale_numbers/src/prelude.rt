@@ -17,6 +17,9 @@ pub use icu_dimension::{
     CurrencyWidth, PercentFormatter, PercentFormatterOptions,
 };
 pub use icu_locale_core::Locale;
+pub use icu_plurals::{
+    PluralCategory, PluralOperands, PluralRuleType, PluralRules, PluralRulesWithRanges,
+};
 pub use locale_numbers_book::{Book, BookError, FormatterError, SAMPLE_BOOK, SAMPLE_UNITS_BOOK};
 pub use locale_numbers_formats::CompactWidth;
 pub use locale_numbers_world::{WORLD_LOCALES, world_tags};

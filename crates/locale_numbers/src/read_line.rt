@@ -1,6 +1,6 @@
 //! The task that reads back: the number that a text was written from, as an answer.
 
-ghost use Rattle.std.specs.Prelude.{◌≡◌, ◌⊎◌, true, ◌∷◌, ◌++◌, List, Ok, Option, Some, IsOk, OnOk, OnErr, string_bytes};
+ghost use Rattle.std.specs.Prelude.{◌≡◌, ◌⊎◌, true, ◌∷◌, ◌++◌, List, Ok, Option, None, Some, IsOk, OnOk, OnErr, string_bytes};
 ghost use Rattle.locale_numbers_lines.specs.Growth.{Grows};
 ghost use Rattle.locale_numbers_answers.specs.AnswerSink.{HasRoom};
 ghost use Rattle.locale_numbers_answers.specs.AnswerMemory.{ReadAllocates};
@@ -8,6 +8,7 @@ ghost use Rattle.locale_numbers_answers.specs.Answers.{read_found};
 ghost use Rattle.locale_numbers_book.specs.FoundFormats.{found_for};
 ghost use Rattle.locale_numbers_formatter.specs.FormatReading.{ReaderAllocates, reader_of};
 ghost use Rattle.locale_numbers_formatter.specs.FormatText.{HasNoUnit};
+ghost use Rattle.locale_numbers.specs.FormatterKeys.{rules_for};
 ghost use Rattle.locale_numbers.specs.Front.{FindsUnits};
 ghost use Rattle.locale_numbers.specs.declared.formatter_key.FormatterKey.{FormatterKey};
 
@@ -52,6 +53,7 @@ fn read_by_formatter(
 // Writes the answer to a text that the formatter of a key reads back after what `out` holds.
 //
 // `AllocError`: out of memory; a part of the answer may then be there.
+#[inline(never)]
 pub(crate) fn answer_read<'a, F: Formatters<'a>>(
     alloc: Global,
     formatters: &mut F,
@@ -62,6 +64,7 @@ pub(crate) fn answer_read<'a, F: Formatters<'a>>(
 ) -> Result<(), AllocError>
     requires ready { F.is_ready formatters.old }
     requires right { F.is_right_for formatters.old key.now }
+    requires ruleless { rules_for key.now.purpose ≡ None }
     ensures text { OnOk result (string_bytes out.new ≡ string_bytes out.old
         ++ read_found (found_for key.now.shape (F.book formatters.old) key.now.preferences) rounding text.now) }
     ensures err { OnErr result (Grows (string_bytes out.old) (string_bytes out.new)) }

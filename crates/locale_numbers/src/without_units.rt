@@ -1,4 +1,4 @@
-//! Tables of numbers alone, as those of a book that has no units.
+//! Tables of numbers alone, as those of a book that has no units, and of plurals no more than cardinal rules.
 
 use icu_decimal::plurals::PluralRules;
 use icu_decimal::provider::{
@@ -13,6 +13,7 @@ use icu_dimension::provider::{
 };
 use icu_locale_core::DataLocale;
 use locale_numbers_book::{Book, Tables};
+use locale_numbers_plurals::{PluralRanges, PluralsOrdinalV1, PluralsRangesV1};
 
 /// Tables of the five kinds that numbers without a unit are written with, and parents of locales: those of [`Tables`]
 /// without units. [`WithoutUnits`] makes `Tables` of them.
@@ -76,8 +77,8 @@ impl NumberTables for Book {
     ghost limits = { λ s. refl };
 }
 
-/// Tables of numbers that have no units: of the sample book with units `1,234.5` for `plain` with `en`, and for
-/// `currency-EUR` the refusal `table`.
+/// Tables of numbers that have no units, and no ordinal rules and ranges: of the sample book with units `1,234.5` for
+/// `plain` with `en`, and for `currency-EUR` and `ordinal` the refusal `table`.
 #[derive(Drop)]
 pub struct WithoutUnits<'t, T: NumberTables> {
     /// The tables of numbers.
@@ -179,6 +180,28 @@ impl<'t, T: NumberTables> DataProvider<CurrencyFractionsV1> for WithoutUnits<'t,
     }
 }
 
+impl<'t, T: NumberTables> DataProvider<PluralsOrdinalV1> for WithoutUnits<'t, T> {
+    ghost use Rattle.std.specs.Prelude.{Err};
+    ghost use Rattle.icu_decimal.specs.declared.error.DataError.TheVariants.{IdentifierNotFound};
+
+    ghost table = { λ s id. Err IdentifierNotFound };
+
+    fn load(&self, _id: &DataIdentifier) -> Result<&PluralRules, DataError> {
+        Err(DataError::IdentifierNotFound)
+    }
+}
+
+impl<'t, T: NumberTables> DataProvider<PluralsRangesV1> for WithoutUnits<'t, T> {
+    ghost use Rattle.std.specs.Prelude.{Err};
+    ghost use Rattle.icu_decimal.specs.declared.error.DataError.TheVariants.{IdentifierNotFound};
+
+    ghost table = { λ s id. Err IdentifierNotFound };
+
+    fn load(&self, _id: &DataIdentifier) -> Result<&PluralRanges, DataError> {
+        Err(DataError::IdentifierNotFound)
+    }
+}
+
 impl<'t, T: NumberTables> ParentProvider for WithoutUnits<'t, T> {
     ghost next = { λ s locale. T.ParentProvider.next s.tables.now locale };
 
@@ -193,7 +216,7 @@ impl<'t, T: NumberTables> ParentProvider for WithoutUnits<'t, T> {
     }
 }
 
-/// They are those of the book without its units.
+/// They are those of the book without its units, and without its ordinal rules and ranges.
 impl<'t, T: NumberTables> Tables for WithoutUnits<'t, T> {
     ghost use Rattle.std.specs.Prelude.{refl};
     ghost use Rattle.locale_numbers.specs.WithoutUnits.{without_units};
@@ -219,6 +242,10 @@ impl<'t, T: NumberTables> Tables for WithoutUnits<'t, T> {
     ghost currency_symbols = { λ s id. refl };
 
     ghost fractions = { λ s id. refl };
+
+    ghost ordinals = { λ s id. refl };
+
+    ghost ranges = { λ s id. refl };
 
     ghost parents = { λ s l. T.parents s.tables.now l };
 

@@ -1,11 +1,14 @@
 -- Known values of the definitions: roundings, texts of numbers, texts read back, answers that ask no format.
-use Rattle.std.proofs.Common.{◌≡◌, [], ◌∷◌, ◌++◌, codes, ◌*◌, ◌^◌, false, true, Some, None, Result, Ok, Err, refl}
+use Rattle.std.proofs.Common.{◌≡◌, List, [], ◌∷◌, ◌++◌, codes, ◌*◌, ◌^◌, false, true, Option, Some, None, Result, Ok, Err, refl}
 use Rattle.icu_decimal.specs.declared.error.DataError.{DataError}
 use Rattle.icu_decimal.specs.PlainReading.{decimal, not_written, unreadable}
 use Rattle.fixed_decimal.specs.declared.Sign.TheVariants.{None as NoSign, Negative}
 use Rattle.fixed_decimal.specs.declared.UnsignedRoundingMode.TheVariants.{HalfEven}
 use Rattle.icu_dimension_fractions.specs.declared.FractionIncrement.TheVariants.{MultiplesOf1, MultiplesOf5}
 use Rattle.icu_dimension_fractions.specs.declared.FractionInfo.{FractionInfo}
+use Rattle.icu_plurals.specs.Rules.{Rules}
+use Rattle.icu_plurals.specs.declared.PluralRange.{PluralRange}
+use Rattle.icu_plurals.specs.declared.PluralRuleType.{PluralRuleType}
 use Rattle.locale_numbers_formats.specs.declared.NumberFormat.{NumberFormat}
 use Rattle.locale_numbers_formats.specs.declared.Rounding.TheVariants.{Cash, AsGiven}
 use Rattle.locale_numbers_formatter.specs.FormatText.{FormatTables, compact_tables}
@@ -75,26 +78,27 @@ no_number_read = refl
 not_readable : read_answer unreadable ≡ codes "err" ++ tab ∷ codes "unreadable"
 not_readable = refl
 
-no_table_read : (format : NumberFormat) (latin : Result FormatTables DataError) → answer_by task.Read format (Err DataError.IdentifierNotFound) latin (codes "5") ≡ codes "err" ++ tab ∷ codes "table"
-no_table_read format latin = refl
+module _ (format : NumberFormat) (second : FormatTables → Option FormatTables) (rules : PluralRuleType → Option (Rules × List PluralRange)) where
+  no_table_read : answer_by task.Read format (Err DataError.IdentifierNotFound) second rules (codes "5") ≡ codes "err" ++ tab ∷ codes "table"
+  no_table_read = refl
 
--- compact text tells no number
-compact_read : (format : NumberFormat) (latin : Result FormatTables DataError) → answer_by task.Read format (Ok (compact_tables english)) latin (codes "5") ≡ codes "err" ++ tab ∷ codes "unreadable"
-compact_read format latin = refl
+  -- compact text tells no number
+  compact_read : answer_by task.Read format (Ok (compact_tables english)) second rules (codes "5") ≡ codes "err" ++ tab ∷ codes "unreadable"
+  compact_read = refl
 
-compact_typed : (format : NumberFormat) (latin : Result FormatTables DataError) → answer_by task.ReadLenient format (Ok (compact_tables english)) latin (codes "5") ≡ codes "err" ++ tab ∷ codes "unreadable"
-compact_typed format latin = refl
+  compact_typed : answer_by task.ReadLenient format (Ok (compact_tables english)) second rules (codes "5") ≡ codes "err" ++ tab ∷ codes "unreadable"
+  compact_typed = refl
 
--- ---- refused before a format is asked
+  -- ---- refused before a format is asked
 
-no_number : (format : NumberFormat) (found latin : Result FormatTables DataError) → answer_by task.Write format found latin (codes "1e") ≡ codes "err" ++ tab ∷ codes "number"
-no_number format found latin = refl
+  no_number : (found : Result FormatTables DataError) → answer_by task.Write format found second rules (codes "1e") ≡ codes "err" ++ tab ∷ codes "number"
+  no_number found = refl
 
-no_form : (format : NumberFormat) (found latin : Result FormatTables DataError) → answer_by task.WriteExact format found latin (codes "1c0") ≡ codes "err" ++ tab ∷ codes "number"
-no_form format found latin = refl
+  no_form : (found : Result FormatTables DataError) → answer_by task.WriteExact format found second rules (codes "1c0") ≡ codes "err" ++ tab ∷ codes "number"
+  no_form found = refl
 
-no_table : (format : NumberFormat) (latin : Result FormatTables DataError) → answer_by task.Write format (Err DataError.IdentifierNotFound) latin (codes "5") ≡ codes "err" ++ tab ∷ codes "table"
-no_table format latin = refl
+  no_table : answer_by task.Write format (Err DataError.IdentifierNotFound) second rules (codes "5") ≡ codes "err" ++ tab ∷ codes "table"
+  no_table = refl
 
 -- ---- amounts read back
 

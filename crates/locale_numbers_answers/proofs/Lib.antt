@@ -3,6 +3,7 @@ pub mod AnswerLineLemmas
 pub mod CompactAnswerLemmas
 pub mod CompactReadingLemmas
 pub mod ExponentLemmas
+mod KnownCategories
 pub mod KnownCompactAnswers
 mod KnownValues
 pub mod LawsLemmas

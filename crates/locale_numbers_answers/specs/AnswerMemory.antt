@@ -1,7 +1,7 @@
 -- Which texts may want memory, beside their answer and what it is written and read with, by what is done with them.
 -- Defined in docs/requests.md, "What a cache keeps".
 -- Cited by `answer` and `run`, through Front.antt of `locale_numbers`, and by `read_number`.
-use Rattle.std.specs.Prelude.{◌⊎◌, ℕ, List, Option, Result, Ok, Err}
+use Rattle.std.specs.Prelude.{◌⊎◌, ℕ, List, Option, Some, None, Result, Ok, Err}
 use Rattle.fixed_decimal.specs.CompactText.{ReadsLongCompact}
 use Rattle.fixed_decimal.specs.Number.{Number}
 use Rattle.fixed_decimal.specs.SignedText.{ReadsLongSigned, ReadsLongerSigned}
@@ -13,8 +13,8 @@ use Rattle.locale_numbers_formats.specs.declared.Rounding.{Rounding}
 use Rattle.locale_numbers_formatter.specs.FormatReading.{ReaderAllocates, reader_of}
 use Rattle.locale_numbers_formatter.specs.FormatText.{FormatTables, fractions_in}
 use Rattle.locale_numbers_formatter.specs.FormatTyped.{TypedAllocates, typed_of}
-use Rattle.locale_numbers_answers.specs.Answers.{where_found}
 use Rattle.locale_numbers_answers.specs.NumberReading.{Reading, beyond, nothing, number, reading_of}
+use Rattle.locale_numbers_requests.specs.RangeEnds.{range_ends}
 use Rattle.locale_numbers_requests.specs.declared.Task.{Task}
 use Rattle.locale_numbers_requests.specs.declared.Task.TheVariants as task
 
@@ -36,13 +36,25 @@ abbrev pub ReadAllocates : Result FormatTables DataError → List ℕ → Type 0
 ReadAllocates (Err error) text = ⊥
 ReadAllocates (Ok f) text = ReaderAllocates (reader_of f) text
 
-abbrev pub TypedFoundAllocates : Result FormatTables DataError → Result FormatTables DataError → List ℕ → Type 0
-TypedFoundAllocates (Err error) latin text = ⊥
-TypedFoundAllocates (Ok f) latin text = TypedAllocates (typed_of f (where_found latin)) text
+abbrev pub TypedFoundAllocates : Result FormatTables DataError → (FormatTables → Option FormatTables) → List ℕ → Type 0
+TypedFoundAllocates (Err error) second text = ⊥
+TypedFoundAllocates (Ok f) second text = TypedAllocates (typed_of f (second f)) text
+
+-- a number that is read beside the one before, and changed
+abbrev pub NumberAllocates : Result FormatTables DataError → Rounding → List ℕ → SignedValue Number → Type 0
+NumberAllocates found rounding text value = ReadsMore text value ⊎ MayGrowFound found rounding (reading_of text)
+
+-- so the first end of a range; the second one is read whatever number was there
+abbrev pub RangeAllocates : Result FormatTables DataError → Rounding → Option (List ℕ × List ℕ) → SignedValue Number → Type 0
+RangeAllocates found rounding None value = ⊥
+RangeAllocates found rounding (Some ends) value =
+    NumberAllocates found rounding ends.0 value ⊎ (ReadsLongSigned ends.1 ⊎ MayGrowFound found rounding (reading_of ends.1))
 
 -- by what is done with it, beside the number of the text before
-abbrev pub AnswerAllocates : Task → Rounding → Result FormatTables DataError → Result FormatTables DataError → List ℕ → SignedValue Number → Type 0
-AnswerAllocates task.Write rounding found latin text value = ReadsMore text value ⊎ MayGrowFound found rounding (reading_of text)
-AnswerAllocates task.WriteExact rounding found latin text value = ReadsLongCompact text
-AnswerAllocates task.Read rounding found latin text value = ReadAllocates found text
-AnswerAllocates task.ReadLenient rounding found latin text value = TypedFoundAllocates found latin text
+abbrev pub AnswerAllocates : Task → Rounding → Result FormatTables DataError → (FormatTables → Option FormatTables) → List ℕ → SignedValue Number → Type 0
+AnswerAllocates task.Write rounding found second text value = NumberAllocates found rounding text value
+AnswerAllocates task.WriteExact rounding found second text value = ReadsLongCompact text
+AnswerAllocates task.Read rounding found second text value = ReadAllocates found text
+AnswerAllocates task.ReadLenient rounding found second text value = TypedFoundAllocates found second text
+AnswerAllocates (task.Category rule_type) rounding found second text value = NumberAllocates found rounding text value
+AnswerAllocates task.RangeCategory rounding found second text value = RangeAllocates found rounding (range_ends text) value

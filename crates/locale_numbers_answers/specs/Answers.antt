@@ -7,6 +7,10 @@ use Rattle.fixed_decimal.specs.CompactText.{CompactValue}
 use Rattle.fixed_decimal.specs.Number.{Number}
 use Rattle.fixed_decimal.specs.SignedValue.{SignedValue}
 use Rattle.icu_decimal.specs.declared.error.DataError.{DataError}
+use Rattle.icu_plurals.specs.Rules.{Rules}
+use Rattle.icu_plurals.specs.declared.PluralRange.{PluralRange}
+use Rattle.icu_plurals.specs.declared.PluralRuleType.{PluralRuleType}
+use Rattle.icu_plurals.specs.declared.PluralRuleType.TheVariants.{Cardinal}
 use Rattle.locale_numbers_formats.specs.Changed.{changed}
 use Rattle.locale_numbers_formats.specs.declared.NumberFormat.{NumberFormat}
 use Rattle.locale_numbers_formats.specs.declared.NumberOptions.{NumberOptions}
@@ -16,10 +20,12 @@ use Rattle.locale_numbers_formatter.specs.FormatReading.{format_reading}
 use Rattle.locale_numbers_formatter.specs.FormatText.{FormatTables, fractions_in}
 use Rattle.locale_numbers_formatter.specs.FormatTyped.{format_typed_reading}
 use Rattle.locale_numbers_answers.specs.AnswerLine.{refused}
+use Rattle.locale_numbers_answers.specs.CategoryAnswer.{category_to, range_category_to}
 use Rattle.locale_numbers_answers.specs.CompactReading.{CompactReading, compact_beyond, compact_nothing, compact_number, compact_reading_of}
 use Rattle.locale_numbers_answers.specs.NumberAnswer.{exact_answer, number_answer, signed_form}
 use Rattle.locale_numbers_answers.specs.NumberReading.{Reading, beyond, nothing, number, reading_of}
 use Rattle.locale_numbers_answers.specs.ReadAnswer.{fraction_asked, own_reading, read_answer}
+use Rattle.locale_numbers_requests.specs.RangeEnds.{range_ends}
 use Rattle.locale_numbers_requests.specs.declared.Refusal.TheVariants as refusal
 use Rattle.locale_numbers_requests.specs.declared.Task.{Task}
 use Rattle.locale_numbers_requests.specs.declared.Task.TheVariants as task
@@ -59,15 +65,18 @@ abbrev pub read_found : Result FormatTables DataError → Rounding → List ℕ 
 read_found (Err error) rounding text = refused refusal.Table
 read_found (Ok f) rounding text = read_answer (own_reading (fraction_asked (fractions_in f) rounding) (format_reading f text))
 
--- leniently, and beside it by what is found for the numbering system `latn`
-abbrev pub typed_found : Result FormatTables DataError → Result FormatTables DataError → List ℕ → List ℕ
-typed_found (Err error) latin text = refused refusal.Table
-typed_found (Ok f) latin text = read_answer (format_typed_reading f (where_found latin) text)
+-- leniently, and by what is found beside it
+abbrev pub typed_found : Result FormatTables DataError → (FormatTables → Option FormatTables) → List ℕ → List ℕ
+typed_found (Err error) second text = refused refusal.Table
+typed_found (Ok f) second text = read_answer (format_typed_reading f (second f) text)
 
 -- ---- the answer
 
-abbrev pub answer_by : Task → NumberFormat → Result FormatTables DataError → Result FormatTables DataError → List ℕ → List ℕ
-answer_by task.Write format found latin text = written_to found format.options (reading_of text)
-answer_by task.WriteExact format found latin text = exact_found found format.options.sign (compact_reading_of text)
-answer_by task.Read format found latin text = read_found found format.options.rounding text
-answer_by task.ReadLenient format found latin text = typed_found found latin text
+-- by what is found for the format, for what people type beside it, and for plural rules of each type
+abbrev pub answer_by : Task → NumberFormat → Result FormatTables DataError → (FormatTables → Option FormatTables) → (PluralRuleType → Option (Rules × List PluralRange)) → List ℕ → List ℕ
+answer_by task.Write format found second rules text = written_to found format.options (reading_of text)
+answer_by task.WriteExact format found second rules text = exact_found found format.options.sign (compact_reading_of text)
+answer_by task.Read format found second rules text = read_found found format.options.rounding text
+answer_by task.ReadLenient format found second rules text = typed_found found second text
+answer_by (task.Category rule_type) format found second rules text = category_to found (rules rule_type) format.options (reading_of text)
+answer_by task.RangeCategory format found second rules text = range_category_to found (rules Cardinal) format.options (range_ends text)

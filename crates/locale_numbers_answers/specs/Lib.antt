@@ -2,6 +2,7 @@
 pub mod AnswerLine
 pub mod NumberAnswer
 pub mod ReadAnswer
+pub mod CategoryAnswer
 pub mod Answers
 pub mod AnswerMemory
 -- What the answers go by, which a law makes needless to believe.

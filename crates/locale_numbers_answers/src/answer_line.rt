@@ -46,6 +46,16 @@ pub fn write_refusal_or_shape(
     }
 }
 
+// Writes `ok`, a tab and a word after what `out` holds.
+pub(crate) fn write_word(word: &str, out: &mut String) -> Result<(), AllocError>
+    ensures text { OnOk result (string_bytes out.new ≡ string_bytes out.old ++ written word.now) }
+    ensures err { OnErr result (Grows (string_bytes out.old) (string_bytes out.new)) }
+    ensures room { HasRoom out.old (written word.now) → IsOk result }
+{
+    out.push_str("ok\t")?;
+    out.push_str(word)
+}
+
 // Writes `ok`, a tab and the text of a value after what `out` holds.
 pub(crate) fn write_ok<T: Writeable>(out: &mut String, value: &T) -> Result<(), AllocError>
     ensures text { OnOk result (string_bytes out.new ≡ string_bytes out.old ++ written (text_of (T.events value.now))) }

@@ -11,7 +11,7 @@ use Rattle.locale_numbers_parents.proofs.ParentsLemmas.{cuts_none, no_parents, o
 use Rattle.locale_numbers_tables.specs.declared.BookError.TheVariants.{Shape, Tag, Duplicate, Cycle}
 use Rattle.locale_numbers_tables.specs.Entries.{all_of, field_at}
 use Rattle.locale_numbers_tables.specs.Faults.{compact_faults, digits_faults, first_broken, rules_faults, symbols_faults}
-use Rattle.locale_numbers_book.specs.Form.{book_half, has_form, items_at}
+use Rattle.locale_numbers_book.specs.Form.{book_part, has_form, items_at}
 use Rattle.locale_numbers_book.specs.Laws.{BookChainsEnd}
 use Rattle.locale_numbers_book.specs.ParentEntries.{closes_cycle, has_parent_shape, is_listed, parent_entry, parent_fault, parents_faults}
 use Rattle.locale_numbers_book.specs.Tables.{step_in, steps_in}
@@ -57,7 +57,7 @@ ends_with (Some entries) sound locale = cuts_none entries (sound entries refl) l
 
 pub chains_end : BookChainsEnd
 chains_end value book is =
-    let alone = book_half value in
+    let alone = book_part value in
     let none = no_fault_of (has_form alone) (symbols_faults (items_at 0 alone)) (digits_faults (items_at 1 alone)) (rules_faults (items_at 2 alone)) (compact_faults (items_at 3 alone)) (compact_faults (items_at 4 alone))
     (parents_faults [] (items_at 5 alone)) (sound_book value is.sound) in
     ends_with book.parents (λ entries there. entries_sound (field_at as_array 5 alone) entries none.sixth (is.arrays.parents ∙ there))

@@ -1,5 +1,5 @@
--- A value is one book at most, and what its arrays say of it: `specs/Book.antt` and `specs/BookAllocation.antt`.
-use Rattle.std.proofs.Common.{◌≡◌, Bool, true, false, ◌||◌, Option, Some, None, [], option_and_then, option_map, unwrap_or, refl, sym, ap, ◌∙◌, subst, if◌then◌else◌}
+-- A value is one book at most, and what its arrays say of it: `specs/Book.antt`, `specs/Arrays.antt` and `specs/BookAllocation.antt`.
+use Rattle.std.proofs.Common.{◌≡◌, Bool, true, false, ◌||◌, ◌&&◌, Option, Some, None, [], option_and_then, option_map, unwrap_or, refl, sym, ap, ap₂, ◌∙◌, subst, if◌then◌else◌}
 use Rattle.std.specs.Prelude.{Result, Ok, Err, IfErr, IsErrAnd}
 use Rattle.std.specs.Option.{option_or}
 use Rattle.std.specs.Str.{bytes_eq}
@@ -10,20 +10,22 @@ use Rattle.serde_json.specs.Find.{as_array}
 use Rattle.serde_json.specs.View.{items_view}
 use Rattle.locale_numbers_tables.specs.declared.BookError.{BookError}
 use Rattle.locale_numbers_tables.specs.declared.BookError.TheVariants.{Shape}
+use Rattle.locale_numbers_plurals.specs.Plurals.{ArePlurals, PluralTables, plurals_fault, plurals_may_grow}
+use Rattle.locale_numbers_plurals.specs.declared.PluralArrays.{PluralArrays}
 use Rattle.locale_numbers_units.specs.declared.UnitArrays.{UnitArrays}
 use Rattle.locale_numbers_units.specs.Units.{AreUnits, UnitsTables}
-use Rattle.locale_numbers_book.specs.declared.json.pair.BookArrays.{BookArrays}
-use Rattle.locale_numbers_book.specs.Arrays.{fault_of_both, may_grow_of_both, of_arrays, of_halves, sixth_of, units_fault_in, units_may_grow_in, value_of_both, value_of_units}
-use Rattle.locale_numbers_book.specs.Book.{BookTables, HasTables, HasUnits, IsBook}
+use Rattle.locale_numbers_book.specs.declared.json.parts.BookArrays.{BookArrays}
+use Rattle.locale_numbers_book.specs.Arrays.{AreParts, ArePluralsIn, AreTaken, HasParts, fault_beside, fault_of_parts, may_grow_beside, may_grow_of_parts, of_arrays, plurals_fault_in, plurals_may_grow_in, sixth_of, units_fault_in, units_may_grow_in, value_of_units}
+use Rattle.locale_numbers_book.specs.Book.{BookTables, HasPlurals, HasTables, HasUnits, IsBook}
 use Rattle.locale_numbers_tables.specs.CompactEntries.{compact_entry}
 use Rattle.locale_numbers_tables.specs.Entries.{all_of, digits_entry, field_at, symbols_entry}
 use Rattle.locale_numbers_tables.specs.Faults.{compact_faults, digits_faults, rules_faults, symbols_faults}
-use Rattle.locale_numbers_book.specs.Form.{alone_fault, arrays_fault, book_fault, book_half, five_fault, halves_fault, has_units_form, items_at, units_half}
-use Rattle.locale_numbers_book.specs.Laws.{OldBooksStay}
+use Rattle.locale_numbers_book.specs.Form.{alone_fault, are_plurals, are_units, arrays_fault, book_fault, book_part, fault_of, five_fault, has_form, has_parts, has_units_form, items_at, more_fault, parts_fault, plurals_part, units_part}
+use Rattle.locale_numbers_book.specs.Laws.{AloneStays, PairsStay, pair_fault, pair_may_grow, pair_of}
 use Rattle.locale_numbers_tables.specs.Keys.{same_data_locale, same_key, table_in}
 use Rattle.locale_numbers_book.specs.ParentEntries.{parent_entry, parents_faults}
 use Rattle.locale_numbers_tables.specs.Telling.{IsTold}
-use Rattle.locale_numbers_book.specs.BookAllocation.{alone_may_grow, arrays_may_grow, book_may_grow}
+use Rattle.locale_numbers_book.specs.BookAllocation.{alone_may_grow, arrays_may_grow, book_may_grow, five_may_grow, grows_if_there, more_may_grow, parts_may_grow}
 use Rattle.locale_numbers_tables.specs.RulesEntries.{rules_entry}
 use Rattle.locale_numbers_tables.proofs.FaultLemmas.{told_at, told_first}
 
@@ -47,6 +49,20 @@ same_units (Some value) (Some one) None m n = absurd n
 same_units (Some value) (Some one) (Some other) m n =
     ap Some (same_five (items_at 0 value) (items_at 1 value) (items_at 2 value) (items_at 3 value) (items_at 4 value) one other m n)
 
+same_arrays : (ordinals ranges : Items) (one other : PluralTables) → ArePlurals ordinals ranges one → ArePlurals ordinals ranges other → one ≡ other
+same_arrays ordinals ranges one other m n =
+    let rules = same_Some one.ordinals other.ordinals (sym m.ordinals_are ∙ n.ordinals_are) in
+    let lists = same_Some one.ranges other.ranges (sym m.ranges_are ∙ n.ranges_are) in
+    λ i. record { ordinals = rules i; ranges = lists i }
+
+same_plurals : (value : Option Data) (one other : Option PluralTables) → HasPlurals value one → HasPlurals value other → one ≡ other
+same_plurals None None None m n = refl
+same_plurals None None (Some other) m n = absurd n
+same_plurals None (Some one) other m n = absurd m
+same_plurals (Some value) None other m n = absurd m
+same_plurals (Some value) (Some one) None m n = absurd n
+same_plurals (Some value) (Some one) (Some other) m n = ap Some (same_arrays (items_at 0 value) (items_at 1 value) one other m n)
+
 pub one_book : (value : Data) (book other : BookTables) → IsBook value book → IsBook value other → book ≡ other
 one_book value book other m n =
     let symbols = same_Some book.symbols other.symbols (sym m.arrays.symbols ∙ n.arrays.symbols) in
@@ -55,8 +71,9 @@ one_book value book other m n =
     let short = same_Some book.short other.short (sym m.arrays.short ∙ n.arrays.short) in
     let long = same_Some book.long other.long (sym m.arrays.long ∙ n.arrays.long) in
     let parents : book.parents ≡ other.parents = sym m.arrays.parents ∙ n.arrays.parents in
-    let units : book.units ≡ other.units = same_units (units_half value) book.units other.units m.units n.units in
-    λ i. record { symbols = symbols i; digits = digits i; rules = rules i; short = short i; long = long i; parents = parents i; units = units i }
+    let units : book.units ≡ other.units = same_units (units_part value) book.units other.units m.units n.units in
+    let plurals : book.plurals ≡ other.plurals = same_plurals (plurals_part value) book.plurals other.plurals m.plurals n.plurals in
+    λ i. record { symbols = symbols i; digits = digits i; rules = rules i; short = short i; long = long i; parents = parents i; units = units i; plurals = plurals i }
 
 -- ---- the arrays
 
@@ -77,9 +94,9 @@ module _ (a b c d e f : Bool) where
   pub or_sixth : f ≡ true → (a || b || c || d || e || f) ≡ true
   or_sixth h = or_right _ f h
 
--- or the units do
-pub or_units : (a b : Bool) → b ≡ true → (a || b) ≡ true
-or_units a b h = or_right a b h
+-- or what is beside them does
+pub or_beside : (a b : Bool) → b ≡ true → (a || b) ≡ true
+or_beside a b h = or_right a b h
 
 -- the fault of the short patterns, that of the long ones, and that of the parents
 module _ (s d r h l p : Items) (e : BookError) (symbols : symbols_faults s ≡ None) (digits : digits_faults d ≡ None) (rules : rules_faults r ≡ None) where
@@ -130,44 +147,9 @@ module _ (s d r h l : Items) where
       → arrays_fault s d r h l p ≡ None
   none_of_six p symbols digits rules short long parents = rw (symbols, digits, rules, short, long) parents
 
-  -- its halves are those that it is made of
-  book_of_halves : (p : Option Items) (u : Option Data) → book_half (of_halves (of_arrays s d r h l p) u) ≡ of_arrays s d r h l p
-  book_of_halves None None = refl
-  book_of_halves (Some p) None = refl
-  book_of_halves p (Some u) = refl
-
-  units_of_halves : (p : Option Items) (u : Option Data) → units_half (of_halves (of_arrays s d r h l p) u) ≡ u
-  units_of_halves None None = refl
-  units_of_halves (Some p) None = refl
-  units_of_halves p (Some u) = refl
-
-  fault_of_halves : (p : Option Items) (u : Option UnitArrays)
-      → book_fault (of_halves (of_arrays s d r h l p) (option_map value_of_units u)) ≡ option_or (arrays_fault s d r h l (unwrap_or p no_items)) (units_fault_in u)
-  fault_of_halves None None = sym (or_none (arrays_fault s d r h l no_items))
-  fault_of_halves (Some p) None = sym (or_none (arrays_fault s d r h l p))
-  fault_of_halves None (Some u) = refl
-  fault_of_halves (Some p) (Some u) = refl
-
-  room_of_halves : (p : Option Items) (u : Option UnitArrays)
-      → book_may_grow (of_halves (of_arrays s d r h l p) (option_map value_of_units u)) ≡ (arrays_may_grow s d r h l (unwrap_or p no_items) || units_may_grow_in u)
-  room_of_halves None None = sym (or_not (arrays_may_grow s d r h l no_items))
-  room_of_halves (Some p) None = sym (or_not (arrays_may_grow s d r h l p))
-  room_of_halves None (Some u) = refl
-  room_of_halves (Some p) (Some u) = refl
-
-  -- a book is made of arrays without a fault and of units without one
-  pub made_whole : (p : Option Items) (u : Option UnitArrays) (book : BookTables) → arrays_fault s d r h l (unwrap_or p no_items) ≡ None → units_fault_in u ≡ None
-      → HasTables (of_arrays s d r h l p) book → HasUnits (option_map value_of_units u) book.units
-      → IsBook (of_halves (of_arrays s d r h l p) (option_map value_of_units u)) book
-  made_whole p u book sound units arrays has = record {
-    sound = fault_of_halves p u ∙ rw sound units;
-    arrays = subst (λ value. HasTables value book) (sym (book_of_halves p (option_map value_of_units u))) arrays;
-    units = subst (λ value. HasUnits value book.units) (sym (units_of_halves p (option_map value_of_units u))) has;
-  }
-
--- the tables are those of a book with other units
-pub with_units : (value : Data) (book whole : BookTables) → whole ≡ record book { units = whole.units } → HasTables value book → HasTables value whole
-with_units value book whole same has = subst (HasTables value) (sym same) (record {
+-- the tables are those of a book with other units and other plurals
+pub with_beside : (value : Data) (book whole : BookTables) → whole ≡ record book { units = whole.units; plurals = whole.plurals } → HasTables value book → HasTables value whole
+with_beside value book whole same has = subst (HasTables value) (sym same) (record {
   symbols = has.symbols;
   digits = has.digits;
   rules = has.rules;
@@ -176,46 +158,142 @@ with_units value book whole same has = subst (HasTables value) (sym same) (recor
   parents = has.parents;
 })
 
--- what both tell of the value that they were taken from
-module _ (arrays : BookArrays) (value : Data) (is : value ≡ value_of_both arrays) where
-  fault_is : book_fault value ≡ fault_of_both arrays
+-- units and then plurals
+pub both_given : (old first last : BookTables) → first ≡ record old { units = first.units } → last ≡ record first { plurals = last.plurals }
+    → last ≡ record old { units = last.units; plurals = last.plurals }
+both_given old first last one other =
+    other ∙ ap (λ (b : BookTables). record b { plurals = last.plurals }) one
+    ∙ ap (λ (u : Option UnitsTables). record old { units = u; plurals = last.plurals }) (sym (ap (λ (b : BookTables). b.units) other))
+
+-- ---- the parts of a value
+
+module _ (s d r h l : Items) where
+  -- arrays as a value have their fault
+  fault_of_arrays : (p : Option Items) → alone_fault (of_arrays s d r h l p) ≡ arrays_fault s d r h l (unwrap_or p no_items)
+  fault_of_arrays None = refl
+  fault_of_arrays (Some p) = refl
+
+units_formed : (u : Option UnitArrays) → are_units (option_map value_of_units u) ≡ true
+units_formed None = refl
+units_formed (Some u) = refl
+
+units_faulty : (u : Option UnitArrays) → fault_of five_fault (option_map value_of_units u) ≡ units_fault_in u
+units_faulty None = refl
+units_faulty (Some u) = refl
+
+plurals_formed : (more : Option Data) (m : Option PluralArrays) → AreTaken more m → are_plurals more ≡ true
+plurals_formed None None is = refl
+plurals_formed None (Some m) is = absurd is
+plurals_formed (Some more) None is = absurd is
+plurals_formed (Some more) (Some m) is = is.form
+
+plurals_faulty : (more : Option Data) (m : Option PluralArrays) → AreTaken more m → fault_of more_fault more ≡ plurals_fault_in m
+plurals_faulty None None is = refl
+plurals_faulty None (Some m) is = absurd is
+plurals_faulty (Some more) None is = absurd is
+plurals_faulty (Some more) (Some m) is = sym (ap₂ plurals_fault is.ordinals is.ranges)
+
+plurals_grow : (more : Option Data) (m : Option PluralArrays) → AreTaken more m → grows_if_there more_may_grow more ≡ plurals_may_grow_in m
+plurals_grow None None is = refl
+plurals_grow None (Some m) is = absurd is
+plurals_grow (Some more) None is = absurd is
+plurals_grow (Some more) (Some m) is = sym (ap₂ plurals_may_grow is.ordinals is.ranges)
+
+or_three : (a b c : Bool) → (a || b || c) ≡ (a || (b || c))
+or_three true b c = refl
+or_three false b c = refl
+
+-- and with their units and plurals they ask for memory as they do
+module _ (s d r h l : Items) (more : Option Data) (m : Option PluralArrays) (taken : AreTaken more m) where
+  room_of_parts : (p : Option Items) (u : Option UnitArrays)
+      → parts_may_grow (of_arrays s d r h l p) (option_map value_of_units u) more ≡ (arrays_may_grow s d r h l (unwrap_or p no_items) || may_grow_beside u m)
+  room_of_parts None None = rw (plurals_formed more m taken, plurals_grow more m taken) (or_three (arrays_may_grow s d r h l no_items) false (plurals_may_grow_in m))
+  room_of_parts (Some p) None = rw (plurals_formed more m taken, plurals_grow more m taken) (or_three (arrays_may_grow s d r h l p) false (plurals_may_grow_in m))
+  room_of_parts None (Some u) = rw (plurals_formed more m taken, plurals_grow more m taken) (or_three (arrays_may_grow s d r h l no_items) (units_may_grow_in (Some u)) (plurals_may_grow_in m))
+  room_of_parts (Some p) (Some u) = rw (plurals_formed more m taken, plurals_grow more m taken) (or_three (arrays_may_grow s d r h l p) (units_may_grow_in (Some u)) (plurals_may_grow_in m))
+
+plurals_there : (more : Option Data) (m : Option PluralArrays) (tables : Option PluralTables) → AreTaken more m → ArePluralsIn m tables → HasPlurals more tables
+plurals_there None None None is has = tt
+plurals_there None None (Some tables) is has = absurd has
+plurals_there None (Some m) tables is has = absurd is
+plurals_there (Some more) None tables is has = absurd is
+plurals_there (Some more) (Some m) None is has = absurd has
+plurals_there (Some more) (Some m) (Some tables) is has = subst (λ (o : Items). ArePlurals o (items_at 1 more) tables) is.ordinals (subst (λ (r : Items). ArePlurals (items_view m.ordinals.items) r tables) is.ranges has)
+
+-- what parts tell of the value that they were taken from
+module _ (arrays : BookArrays) (value : Data) (is : AreParts value arrays) where
+  fault_is : book_fault value ≡ fault_of_parts arrays
   fault_is =
       let a = arrays.book in
-      ap book_fault is ∙ fault_of_halves (items_view a.first.items) (items_view a.second.items) (items_view a.third.items) (items_view a.fourth.items) (items_view a.fifth.items) (sixth_of a) arrays.units
+      rw (
+        is.book,
+        is.units,
+        units_formed arrays.units,
+        plurals_formed (plurals_part value) arrays.plurals is.plurals,
+        units_faulty arrays.units,
+        plurals_faulty (plurals_part value) arrays.plurals is.plurals,
+      )
+      (ap (λ (o : Option BookError). option_or o (fault_beside arrays.units arrays.plurals)) (fault_of_arrays (items_view a.first.items) (items_view a.second.items) (items_view a.third.items) (items_view a.fourth.items) (items_view a.fifth.items) (sixth_of a)))
 
-  pub told_value : (e : BookError) → IsTold (fault_of_both arrays) e → IsTold (book_fault value) e
+  pub told_value : (e : BookError) → IsTold (fault_of_parts arrays) e → IsTold (book_fault value) e
   told_value e told = told_at _ _ e (sym fault_is) told
 
-  pub room_value : may_grow_of_both arrays ≡ true → book_may_grow value ≡ true
+  pub room_value : may_grow_of_parts arrays ≡ true → book_may_grow value ≡ true
   room_value grows =
       let a = arrays.book in
-      ap book_may_grow is ∙ room_of_halves (items_view a.first.items) (items_view a.second.items) (items_view a.third.items) (items_view a.fourth.items) (items_view a.fifth.items) (sixth_of a) arrays.units ∙ grows
+      rw (is.book, is.units)
+      (room_of_parts (items_view a.first.items) (items_view a.second.items) (items_view a.third.items) (items_view a.fourth.items) (items_view a.fifth.items) (plurals_part value) arrays.plurals is.plurals (sixth_of a) arrays.units ∙ grows)
 
--- ---- a value that is no pair
+  -- and it is the book of their tables
+  pub made_whole : (tables : BookTables) → HasParts arrays tables → IsBook value tables
+  made_whole tables has = record {
+    sound = fault_is ∙ has.sound;
+    arrays = subst (λ v. HasTables v tables) (sym is.book) has.arrays;
+    units = subst (λ u. HasUnits u tables.units) (sym is.units) has.units;
+    plurals = plurals_there (plurals_part value) arrays.plurals tables.plurals is.plurals has.plurals;
+  }
 
--- what is without a fault has no fault in its book
-pub alone_sound : (book : Data) (units : Option Data) → halves_fault book units ≡ None → alone_fault book ≡ None
-alone_sound book None none = none
-alone_sound book (Some units) none = by (has_units_form units) (alone_fault book) none
+-- ---- a value without a fault
+
+-- has none in its book
+pub alone_sound : (book : Data) (units more : Option Data) → parts_fault book units more ≡ None → alone_fault book ≡ None
+alone_sound book units more none = by (are_units units && are_plurals more) (alone_fault book) none
   where
-    by : (form : Bool) (found : Option BookError) → (if form then option_or found (five_fault units) else Some Shape) ≡ None → found ≡ None
+    by : (form : Bool) (found : Option BookError) → (if form then option_or found (option_or (fault_of five_fault units) (fault_of more_fault more)) else Some Shape) ≡ None → found ≡ None
     by true None h = refl
     by true (Some e) h = absurd (cc)
     by false found h = absurd (cc)
 
-pub sound_book : (value : Data) → book_fault value ≡ None → alone_fault (book_half value) ≡ None
-sound_book value none = alone_sound (book_half value) (units_half value) none
+pub sound_book : (value : Data) → book_fault value ≡ None → alone_fault (book_part value) ≡ None
+sound_book value none = alone_sound (book_part value) (units_part value) (plurals_part value) none
+
+-- ---- books as they were
 
 no_units : (units : Option UnitsTables) → HasUnits None units → units ≡ None
 no_units None has = refl
 no_units (Some units) has = absurd has
 
-pub old_books_stay : OldBooksStay
-old_books_stay value other =
-    let book : book_half value ≡ value = rw other refl in
-    let units : units_half value ≡ None = rw other refl in
-    let fault : book_fault value ≡ alone_fault value = rw (book, units) refl in
-    let room : book_may_grow value ≡ alone_may_grow value = rw (book, units) refl in (
+no_plurals : (plurals : Option PluralTables) → HasPlurals None plurals → plurals ≡ None
+no_plurals None has = refl
+no_plurals (Some plurals) has = absurd has
+
+-- a book alone may ask for memory where its arrays do
+alone_grows : (book : Data) → parts_may_grow book None None ≡ alone_may_grow book
+alone_grows book = by (has_form book) (arrays_may_grow (items_at 0 book) (items_at 1 book) (items_at 2 book) (items_at 3 book) (items_at 4 book) (items_at 5 book))
+  where
+    by : (form grows : Bool) → (form && true && true && (form && grows || false || false)) ≡ (form && grows)
+    by true true = refl
+    by true false = refl
+    by false grows = refl
+
+pub alone_stays : AloneStays
+alone_stays value two three =
+    let parts : has_parts value ≡ false = rw (two, three) refl in
+    let book : book_part value ≡ value = rw parts refl in
+    let units : units_part value ≡ None = rw parts refl in
+    let plurals : plurals_part value ≡ None = rw parts refl in
+    let fault : book_fault value ≡ alone_fault value = rw (book, units, plurals) (or_none (alone_fault value)) in
+    let room : book_may_grow value ≡ alone_may_grow value = rw (book, units, plurals) (alone_grows value) in (
       fault,
       room,
       λ tables. (
@@ -223,11 +301,50 @@ old_books_stay value other =
           sound = sym fault ∙ is.sound;
           arrays = subst (λ v. HasTables v tables) book is.arrays;
           units = no_units tables.units (subst (λ u. HasUnits u tables.units) units is.units);
+          plurals = no_plurals tables.plurals (subst (λ m. HasPlurals m tables.plurals) plurals is.plurals);
         },
         λ is. record {
           sound = fault ∙ is.sound;
           arrays = subst (λ v. HasTables v tables) (sym book) is.arrays;
           units = subst (λ u. HasUnits u tables.units) (sym units) (subst (HasUnits None) (sym is.units) tt);
+          plurals = subst (λ m. HasPlurals m tables.plurals) (sym plurals) (subst (HasPlurals None) (sym is.plurals) tt);
         },
       ),
     )
+
+pair_faulty : (first second : Data) → book_fault (pair_of first second) ≡ pair_fault first second
+pair_faulty first second = by (has_units_form second) (alone_fault first) (five_fault second)
+  where
+    by : (form : Bool) (a u : Option BookError) → (if form && true then option_or a (option_or u None) else Some Shape) ≡ (if form then option_or a u else Some Shape)
+    by true a u = rw (or_none u) refl
+    by false a u = refl
+
+pair_grows : (first second : Data) → book_may_grow (pair_of first second) ≡ pair_may_grow first second
+pair_grows first second = by (has_form first) (has_units_form second) (alone_may_grow first) (five_may_grow second)
+  where
+    by : (f g a u : Bool) → (f && g && true && (a || u || false)) ≡ (f && g && (a || u))
+    by true true true u = refl
+    by true true false true = refl
+    by true true false false = refl
+    by true false a u = refl
+    by false g a u = refl
+
+pub pairs_stay : PairsStay
+pairs_stay first second = (
+  pair_faulty first second,
+  pair_grows first second,
+  λ tables. (
+    λ is. record {
+      sound = sym (pair_faulty first second) ∙ is.sound;
+      arrays = is.arrays;
+      units = is.units;
+      plurals = no_plurals tables.plurals is.plurals;
+    },
+    λ is. record {
+      sound = pair_faulty first second ∙ is.sound;
+      arrays = is.arrays;
+      units = is.units;
+      plurals = subst (HasPlurals None) (sym is.plurals) tt;
+    },
+  ),
+)

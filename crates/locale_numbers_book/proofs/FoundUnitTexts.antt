@@ -41,7 +41,7 @@ use Rattle.locale_numbers_units.specs.UnitTexts.{AreAffixTexts, AreAmountTexts, 
 use Rattle.locale_numbers_units.specs.Units.{UnitsTables}
 use Rattle.locale_numbers_units.proofs.UnitTextLemmas.{units_texts}
 use Rattle.locale_numbers_book.specs.Book.{BookTables, HasUnits}
-use Rattle.locale_numbers_book.specs.Form.{units_half}
+use Rattle.locale_numbers_book.specs.Form.{units_part}
 use Rattle.locale_numbers_book.specs.Laws.{FoundAmountsAreTexts, FoundPercentsAreTexts}
 use Rattle.locale_numbers_book.specs.Tables.{accounts_under, currencies_under, currency_symbols_under, fractions_under, percents_under}
 use Rattle.locale_numbers_book.specs.TagFormatters.{decimals_in, found_plain}
@@ -238,7 +238,7 @@ percent_by (Err error) p settings tables texts is = absurd (cc)
 
 pub percents_texts : FoundPercentsAreTexts
 percents_texts value book is preferences grouping settings found =
-    let units = units_are (units_half value) book.units is.units in
+    let units = units_are (units_part value) book.units is.units in
     let locales = unit_locales (decimals_in book) preferences in
     percent_by (found_plain book preferences grouping) (percent_found (percents_under book) locales preferences.numbering_system) settings
     (λ t there. plain_texts value book is preferences grouping t there)
@@ -258,7 +258,7 @@ amount_by (Err error) a n f found tables texts utf8 is = absurd (cc)
 
 pub amounts_texts : FoundAmountsAreTexts
 amounts_texts value book is preferences code options found coded same =
-    let units = units_are (units_half value) book.units is.units in
+    let units = units_are (units_part value) book.units is.units in
     let locales = unit_locales (decimals_in book) preferences in
     amount_by (found_plain book preferences options.grouping_strategy)
     (amounts_found options.style (currencies_under book) (accounts_under book) locales preferences.numbering_system code)

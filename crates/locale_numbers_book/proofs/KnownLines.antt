@@ -15,11 +15,14 @@ no_entry = refl
 two_arrays : arrays_text ((codes "1" ∷ codes "2" ∷ []) ∷ (codes "3" ∷ []) ∷ []) ≡ codes "[[\n1,\n2\n],[\n3\n]]"
 two_arrays = refl
 
-without_units : book_text ((codes "1" ∷ []) ∷ []) None ≡ codes "[[\n1\n]]\n"
+without_units : book_text ((codes "1" ∷ []) ∷ []) None None ≡ codes "[[\n1\n]]\n"
 without_units = refl
 
-with_units : book_text ((codes "1" ∷ []) ∷ []) (Some ((codes "2" ∷ []) ∷ [])) ≡ codes "[[[\n1\n]],[[\n2\n]]]\n"
+with_units : book_text ((codes "1" ∷ []) ∷ []) (Some ((codes "2" ∷ []) ∷ [])) None ≡ codes "[[[\n1\n]],[[\n2\n]]]\n"
 with_units = refl
+
+with_plurals : book_text ((codes "1" ∷ []) ∷ []) (Some ((codes "2" ∷ []) ∷ [])) (Some ((codes "3" ∷ []) ∷ [] ∷ [])) ≡ codes "[[[\n1\n]],[[\n2\n]],[[\n3\n],[\n\n]]]\n"
+with_plurals = refl
 
 -- ---- fields
 

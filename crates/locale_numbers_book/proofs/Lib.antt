@@ -1,5 +1,5 @@
 pub mod FormLemmas
-pub mod PairLemmas
+pub mod PartLemmas
 pub mod LocaleLemmas
 pub mod ParentLemmas
 pub mod ReadTables
@@ -8,12 +8,15 @@ pub mod BookLemmas
 pub mod BookChains
 pub mod KnownFaults
 pub mod KnownBooks
-pub mod KnownPairs
+pub mod KnownParts
 pub mod WantedLemmas
 pub mod UnitLemmas
+pub mod RulesFound
 pub mod ProviderLemmas
 pub mod AlikeLemmas
 pub mod KnownFormats
+pub mod KnownSeconds
+pub mod KnownRules
 pub mod SampleLemmas
 pub mod SampleUnitsLemmas
 pub mod TextTables

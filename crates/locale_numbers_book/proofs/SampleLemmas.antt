@@ -73,6 +73,7 @@ sample_is_book = record {
     parents = refl;
   };
   units = tt;
+  plurals = tt;
 }
 
 pub sample_is_known : SampleBookIsKnown

@@ -113,6 +113,7 @@ sample_is_book = record {
     symbols_are = refl;
     digits_are = refl;
   };
+  plurals = tt;
 }
 
 pub sample_units_is_known : SampleUnitsBookIsKnown

@@ -19,7 +19,7 @@ use Rattle.locale_numbers_tables.specs.declared.BookError.TheVariants.{Shape, Ta
 use Rattle.locale_numbers_tables.specs.CompactEntries.{Row, compact_entry, compact_of, has_plain_patterns, rise_from, row_in, row_with, rows_in, rows_of, table_made, zero_of}
 use Rattle.locale_numbers_tables.specs.Entries.{all_of, entry_key, field_at, has_count}
 use Rattle.locale_numbers_tables.specs.Faults.{compact_fault, compact_faults, digits_faults, first_broken, first_fault_after, has_compact_shape, has_locale, rules_faults, symbols_faults}
-use Rattle.locale_numbers_book.specs.Form.{book_half, has_form, items_at}
+use Rattle.locale_numbers_book.specs.Form.{book_part, has_form, items_at}
 use Rattle.locale_numbers_tables.specs.Fields.{size_in, system_or_none_in}
 use Rattle.locale_numbers_tables.specs.Keys.{same_key}
 use Rattle.locale_numbers_book.specs.Laws.{AreSoundTables, BookTablesAreSound, IsSoundTable}
@@ -172,7 +172,7 @@ no_fault_of false a b c d e p none = absurd (cc)
 
 pub tables_sound : BookTablesAreSound
 tables_sound value book is =
-    let alone = book_half value in
+    let alone = book_part value in
     let none = no_fault_of (has_form alone) (symbols_faults (items_at 0 alone)) (digits_faults (items_at 1 alone)) (rules_faults (items_at 2 alone)) (compact_faults (items_at 3 alone)) (compact_faults (items_at 4 alone))
     (parents_faults [] (items_at 5 alone)) (sound_book value is.sound) in (
       sound_items (items_at 3 alone) [] book.short (read_whole same_key (all_of compact_entry (items_at 3 alone)) book.short is.arrays.short) none.fourth,

@@ -17,7 +17,7 @@ use Rattle.icu_decimal.specs.declared.provider.GroupingSizes.{GroupingSizes}
 use Rattle.locale_numbers_tables.specs.Entries.{digits_entry, digits_key, entry_key, field_at, grouping_sizes_of, has_count, has_texts, symbol_texts, symbols_entry, symbols_of, symbols_with}
 use Rattle.locale_numbers_tables.specs.Fields.{digits_in, plain_text_in, system_in, ten_characters}
 use Rattle.locale_numbers_tables.specs.Keys.{same_data_locale, same_key, table_at}
-use Rattle.locale_numbers_book.specs.Form.{book_half, items_at}
+use Rattle.locale_numbers_book.specs.Form.{book_part, items_at}
 use Rattle.locale_numbers_book.specs.Laws.{BookTablesAreTexts}
 use Rattle.locale_numbers_book.specs.Tables.{digits_there}
 use Rattle.locale_numbers_units.specs.UnitTexts.{AreSymbolTexts}
@@ -84,10 +84,10 @@ there_by false o digits is = absurd (cc)
 pub tables_texts : BookTablesAreTexts
 tables_texts value book is symbols digits strategy id other first second =
     let texts : HasTexts symbols = under_holds HasTexts same_key id book.symbols symbols
-    (table_holds HasTexts same_key symbols_entry read_texts (items_at 0 (book_half value)) book.symbols is.arrays.symbols)
+    (table_holds HasTexts same_key symbols_entry read_texts (items_at 0 (book_part value)) book.symbols is.arrays.symbols)
     (is_there (table_at same_key id book.symbols) symbols first) in
     let characters : AreCharacters digits = under_holds AreCharacters bytes_eq other.attributes book.digits digits
-    (table_holds AreCharacters bytes_eq digits_entry digits_characters (items_at 1 (book_half value)) book.digits is.arrays.digits)
+    (table_holds AreCharacters bytes_eq digits_entry digits_characters (items_at 1 (book_part value)) book.digits is.arrays.digits)
     (there_by (same_data_locale other.locale unknown_data) (table_at bytes_eq other.attributes book.digits) digits (is_there (digits_there book other) digits second)) in
     record {
       ten = characters.ten;

@@ -1,5 +1,5 @@
--- When a JSON value is a book, and which tables and units are in it.
--- Defined in docs/books.md, "The form" and "Units".
+-- When a JSON value is a book, and which tables, units and plurals are in it.
+-- Defined in docs/books.md, "The form", "Units" and "More".
 -- Cited by `Book::from_json`.
 -- A book has six arrays, and the entry and the table of each are imported.
 use Rattle.std.specs.Prelude.{◌≡◌, ℕ, List, Option, Some, None, option_and_then}
@@ -18,10 +18,11 @@ use Rattle.locale_numbers_tables.specs.RulesEntries.{rules_entry}
 use Rattle.locale_numbers_tables.specs.CompactEntries.{compact_entry}
 use Rattle.locale_numbers_book.specs.ParentEntries.{parent_entry}
 use Rattle.locale_numbers_tables.specs.Keys.{same_data_locale, same_key, table_in}
+use Rattle.locale_numbers_plurals.specs.Plurals.{ArePlurals, PluralTables}
 use Rattle.locale_numbers_units.specs.Units.{AreUnits, UnitsTables}
-use Rattle.locale_numbers_book.specs.Form.{book_fault, book_half, items_at, units_half}
+use Rattle.locale_numbers_book.specs.Form.{book_fault, book_part, items_at, plurals_part, units_part}
 
--- the tables of a book, and its units where it has some
+-- the tables of a book, and its units and its plurals where it has some
 pub record BookTables : Type 0 where
   pub symbols : List (Identifier × Symbols)
   pub digits : List (Text × List ℕ)
@@ -30,6 +31,7 @@ pub record BookTables : Type 0 where
   pub long : List (Identifier × CompactTable)
   pub parents : Option (List Entry)
   pub units : Option UnitsTables
+  pub plurals : Option PluralTables
 
 -- the tables are those of five arrays or six; without a sixth there are no parents
 pub record HasTables (value : Data) (tables : BookTables) : Type 0 where
@@ -46,8 +48,15 @@ HasUnits None None = Unit {0}
 HasUnits (Some value) (Some units) = AreUnits (items_at 0 value) (items_at 1 value) (items_at 2 value) (items_at 3 value) (items_at 4 value) units
 HasUnits value units = ⊥
 
--- a value is a book: it has no fault, and these are the tables of its arrays, and its units
+-- and so are plurals, of two arrays
+abbrev pub HasPlurals : Option Data → Option PluralTables → Type 0
+HasPlurals None None = Unit {0}
+HasPlurals (Some value) (Some plurals) = ArePlurals (items_at 0 value) (items_at 1 value) plurals
+HasPlurals value plurals = ⊥
+
+-- a value is a book: it has no fault, and these are the tables of its arrays, its units, and its plurals
 pub record IsBook (value : Data) (tables : BookTables) : Type 0 where
   pub sound : book_fault value ≡ None
-  pub arrays : HasTables (book_half value) tables
-  pub units : HasUnits (units_half value) tables.units
+  pub arrays : HasTables (book_part value) tables
+  pub units : HasUnits (units_part value) tables.units
+  pub plurals : HasPlurals (plurals_part value) tables.plurals

@@ -1,12 +1,13 @@
 -- Where the reading of a whole book may run out of memory: never at a fault that is found before memory is asked for.
--- Defined in docs/books.md, "Faults"; entries of tables in `Allocation.antt` of `locale_numbers_tables`, those of units in `locale_numbers_units`.
+-- Defined in docs/books.md, "Faults"; entries of tables in `Allocation.antt` of `locale_numbers_tables`, those of units in `locale_numbers_units`, of plurals in `locale_numbers_plurals`.
 -- Cited by the steps of `Book::from_json`.
-use Rattle.std.specs.Prelude.{Bool, not, ◌&&◌, ◌||◌, List, [], Option, None, Some, is_some}
+use Rattle.std.specs.Prelude.{Bool, false, not, ◌&&◌, ◌||◌, List, [], Option, None, Some, is_some}
 use Rattle.serde_json.specs.Data.{Data, Items}
 use Rattle.locale_numbers_parents.specs.Parents.{Entry}
 use Rattle.locale_numbers_tables.specs.Allocation.{begins_with, compact_may_grow, digits_may_grow, locale_may_grow, rules_may_grow, symbols_may_grow}
+use Rattle.locale_numbers_plurals.specs.Plurals.{plurals_may_grow}
 use Rattle.locale_numbers_units.specs.Units.{units_may_grow}
-use Rattle.locale_numbers_book.specs.Form.{book_half, has_form, has_units_form, items_at, units_half}
+use Rattle.locale_numbers_book.specs.Form.{are_plurals, are_units, book_part, has_form, items_at, plurals_part, units_part}
 use Rattle.locale_numbers_book.specs.ParentEntries.{has_parent_shape, parent_fault}
 
 -- parents, after these: an entry of two texts, of which a locale may take memory, or one that has no fault
@@ -28,10 +29,20 @@ alone_may_grow value =
 abbrev pub five_may_grow : Data → Bool
 five_may_grow units = units_may_grow (items_at 0 units) (items_at 1 units) (items_at 2 units) (items_at 3 units) (items_at 4 units)
 
--- with units: where both have their form, and one of them is so
-abbrev pub halves_may_grow : Data → Option Data → Bool
-halves_may_grow book None = alone_may_grow book
-halves_may_grow book (Some units) = has_form book && has_units_form units && (alone_may_grow book || five_may_grow units)
+-- arrays of plurals that are so
+abbrev pub more_may_grow : Data → Bool
+more_may_grow more = plurals_may_grow (items_at 0 more) (items_at 1 more)
+
+-- what is not there asks for none
+abbrev pub grows_if_there : (Data → Bool) → Option Data → Bool
+grows_if_there grows None = false
+grows_if_there grows (Some value) = grows value
+
+-- where each part has its form, and one of them is so
+abbrev pub parts_may_grow : Data → Option Data → Option Data → Bool
+parts_may_grow book units more =
+    has_form book && are_units units && are_plurals more
+    && (alone_may_grow book || grows_if_there five_may_grow units || grows_if_there more_may_grow more)
 
 abbrev pub book_may_grow : Data → Bool
-book_may_grow value = halves_may_grow (book_half value) (units_half value)
+book_may_grow value = parts_may_grow (book_part value) (units_part value) (plurals_part value)

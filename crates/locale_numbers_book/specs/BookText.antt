@@ -6,6 +6,7 @@ use Rattle.std.specs.List.{join_by}
 use Rattle.std.specs.Str.Lines.{lines}
 use Rattle.locale_numbers_book.specs.declared.texts.BookTexts.{BookTexts}
 use Rattle.locale_numbers_book.specs.declared.texts.NumberTexts.{NumberTexts}
+use Rattle.locale_numbers_book.specs.declared.texts.PluralTexts.{PluralTexts}
 use Rattle.locale_numbers_book.specs.declared.texts.UnitTexts.{UnitTexts}
 
 -- an entry as a text
@@ -24,10 +25,15 @@ array_text entries = codes "[\n" ++ joined_lines entries ++ codes "\n]"
 abbrev pub arrays_text : List (List Line) → List ℕ
 arrays_text arrays = codes "[" ++ join_by array_text (codes ",") arrays ++ codes "]"
 
--- a book, or a pair of a book and its units
-abbrev pub book_text : List (List Line) → Option (List (List Line)) → List ℕ
-book_text numbers None = arrays_text numbers ++ codes "\n"
-book_text numbers (Some units) = codes "[" ++ arrays_text numbers ++ codes "," ++ arrays_text units ++ codes "]\n"
+-- after a comma the arrays of plurals, where there are some
+abbrev pub more_text : Option (List (List Line)) → List ℕ
+more_text None = []
+more_text (Some plurals) = codes "," ++ arrays_text plurals
+
+-- a book, or a book and its units, and after these its plurals
+abbrev pub book_text : List (List Line) → Option (List (List Line)) → Option (List (List Line)) → List ℕ
+book_text numbers None plurals = arrays_text numbers ++ codes "\n"
+book_text numbers (Some units) plurals = codes "[" ++ arrays_text numbers ++ codes "," ++ arrays_text units ++ more_text plurals ++ codes "]\n"
 
 -- ---- of texts
 
@@ -55,6 +61,13 @@ abbrev pub option_unit_lines : Option UnitTexts → Option (List (List Line))
 option_unit_lines None = None
 option_unit_lines (Some texts) = Some (unit_lines texts)
 
+abbrev pub plural_lines : PluralTexts → List (List Line)
+plural_lines texts = lines texts.ordinals.now ∷ lines texts.ranges.now ∷ []
+
+abbrev pub option_plural_lines : Option PluralTexts → Option (List (List Line))
+option_plural_lines None = None
+option_plural_lines (Some texts) = Some (plural_lines texts)
+
 -- the book of all of them
 abbrev pub whole_text : BookTexts → List ℕ
-whole_text texts = book_text (number_lines texts.numbers) (option_unit_lines texts.units)
+whole_text texts = book_text (number_lines texts.numbers) (option_unit_lines texts.units) (option_plural_lines texts.plurals)

@@ -1,13 +1,19 @@
 -- What a book has for the shape of a format: what numbers of the format are written with, for preferences and for a tag, and beside it
--- what they are written with in the digits of ASCII.
+-- a second one that typed texts are read with.
 -- Defined in docs/books.md, "Formatters of a tag", and docs/formatters.md, "One formatter".
--- Cited by `find_formatter`, `find_latin`, `Book::number_formatter`, `Book::number_formatter_with_latin`, and by the answer to a line.
+-- Cited by `find_formatter`, `find_second`, `Book::number_formatter`, `Book::number_formatter_with_second`, and by the answer to a line.
 -- A shape has types with cases, and what is found for each case is named by types of its own.
-use Rattle.std.specs.Prelude.{Option, Some, Result, Ok, Err, codes}
+use Rattle.std.specs.Prelude.{Option, None, Some, Result, Ok, Err, codes, if◌then◌else◌}
+use Rattle.std.specs.Option.{option_and_then}
 use Rattle.std.specs.Result.{result_ok}
+use Rattle.std.specs.Str.{bytes_eq}
+use Rattle.icu_decimal.specs.Folding.{plain_digits}
+use Rattle.icu_decimal.specs.PlainText.{Tables}
+use Rattle.icu_decimal.specs.SameSymbols.{same_symbols}
 use Rattle.icu_decimal.specs.declared.error.DataError.{DataError}
 use Rattle.icu_decimal.specs.declared.options.GroupingStrategy.{GroupingStrategy}
 use Rattle.icu_dimension.specs.declared.CurrencyFormatterOptions.{CurrencyFormatterOptions}
+use Rattle.icu_dimension.specs.declared.FractionInfo.{FractionInfo}
 use Rattle.icu_locale_core.specs.Subtags.{Text}
 use Rattle.icu_locale_core.specs.TagPreferences.{Preferences}
 use Rattle.locale_numbers_book.specs.Book.{BookTables}
@@ -21,8 +27,7 @@ use Rattle.locale_numbers_formats.specs.declared.Notation.TheVariants.{Standard,
 use Rattle.locale_numbers_formats.specs.declared.NumberShape.{NumberShape}
 use Rattle.locale_numbers_formats.specs.declared.NumberUnit.{NumberUnit}
 use Rattle.locale_numbers_formats.specs.declared.NumberUnit.TheVariants as unit
-use Rattle.locale_numbers_formatter.specs.FormatText.{FormatTables, compact_tables, digit_tables, plain_tables, unit_tables}
-use Rattle.locale_numbers_formatter.specs.FormatTyped.{where_native}
+use Rattle.locale_numbers_formatter.specs.FormatText.{FormatTables, UnitFormat, compact_tables, digit_tables, plain_tables, unit_tables}
 use Rattle.locale_numbers_formatter.specs.HeldFormats.{currency_format, percent_format}
 
 -- ---- for preferences
@@ -67,16 +72,44 @@ found_for shape book preferences = notation_found shape.notation shape.unit book
 abbrev pub in_latin : Preferences → Preferences
 in_latin preferences = record { locale = preferences.locale; numbering_system = Some (codes "latn") }
 
--- what numbers of a shape are written with in it, where the digits of what is found are others than those of ASCII
-abbrev pub latin_for : NumberShape → BookTables → Preferences → FormatTables → Option FormatTables
-latin_for shape book preferences f = where_native (digit_tables f).digits (result_ok (found_for shape book (in_latin preferences)))
+-- what numbers of a shape are written with in it
+abbrev pub in_ascii : NumberShape → BookTables → Preferences → Option FormatTables
+in_ascii shape book preferences = result_ok (found_for shape book (in_latin preferences))
+
+-- ---- by the symbols of plain numbers
+
+-- amounts by the symbols of these tables, where their own are others; the unit, the pattern and the digits stay
+abbrev pub with_symbols_of : Tables → UnitFormat → Option FractionInfo → Option FormatTables
+with_symbols_of plain u None = None
+with_symbols_of plain u (Some fractions) =
+    if same_symbols plain.symbols u.settings.tables.symbols
+    then None
+    else Some (unit_tables (record u { settings = record u.settings { tables = plain } }))
+
+abbrev pub amounts_by : Tables → FormatTables → Option FormatTables
+amounts_by plain (plain_tables t) = None
+amounts_by plain (compact_tables t) = None
+amounts_by plain (unit_tables u) = with_symbols_of plain u u.fractions
+
+-- those that plain numbers of the same preferences are written with
+abbrev pub plainly_written : NumberShape → BookTables → Preferences → FormatTables → Option FormatTables
+plainly_written shape book preferences f = option_and_then (λ plain. amounts_by plain f) (result_ok (found_plain book preferences (Some shape.grouping)))
+
+-- ---- beside what is found
+
+-- the second that typed texts are read with: in the digits of ASCII, where those of the first are others, and else by the symbols of plain numbers
+abbrev pub second_for : NumberShape → BookTables → Preferences → FormatTables → Option FormatTables
+second_for shape book preferences f =
+    if bytes_eq (digit_tables f).digits plain_digits
+    then plainly_written shape book preferences f
+    else in_ascii shape book preferences
 
 -- both
-abbrev pub beside_latin : NumberShape → BookTables → Preferences → FormatTables → FormatTables × Option FormatTables
-beside_latin shape book preferences f = (f, latin_for shape book preferences f)
+abbrev pub beside_second : NumberShape → BookTables → Preferences → FormatTables → FormatTables × Option FormatTables
+beside_second shape book preferences f = (f, second_for shape book preferences f)
 
 abbrev pub both_found : NumberShape → BookTables → Preferences → Result (FormatTables × Option FormatTables) DataError
-both_found shape book preferences = mapped (beside_latin shape book preferences) (found_for shape book preferences)
+both_found shape book preferences = mapped (beside_second shape book preferences) (found_for shape book preferences)
 
 -- ---- for a tag
 
@@ -84,6 +117,6 @@ both_found shape book preferences = mapped (beside_latin shape book preferences)
 abbrev pub format_for : BookTables → Text → NumberShape → Result FormatTables FormatterError
 format_for book tag shape = found_by (found_for shape book) (wanted_of tag)
 
--- and in the digits of ASCII
+-- and the second beside it
 abbrev pub formats_for : BookTables → Text → NumberShape → Result (FormatTables × Option FormatTables) FormatterError
 formats_for book tag shape = found_by (both_found shape book) (wanted_of tag)

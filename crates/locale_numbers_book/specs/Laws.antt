@@ -1,12 +1,13 @@
 -- Laws of the definitions: which tags and data locales are read, when two keys are one, which tables of patterns are made, when a value
--- is a book, with units or without, that its symbols, digits and units are texts, that its chains of parents end, and which tables the sample books have.
+-- is a book, with units and plurals or without, that its symbols, digits and units are texts, that its chains of parents end, and which tables the sample books have.
 -- Defined in docs/books.md, "Tags", "The form", "Units", "Parents", "Faults" and "The sample books".
 -- Cited by the functions of `laws.rt`.
 -- Each law is about definitions of other files, so the imports are many.
-use Rattle.std.specs.Prelude.{◌≡◌, ◌↔◌, ℕ, true, false, List, Option, None, Some, Ok}
+use Rattle.std.specs.Prelude.{◌≡◌, ◌↔◌, ℕ, Bool, true, false, ◌&&◌, ◌||◌, List, Option, None, Some, Ok, if◌then◌else◌}
 use Rattle.std.specs.List.{AllByRecursion}
 use Rattle.std.specs.Bool.{Decides}
-use Rattle.serde_json.specs.Data.{Data}
+use Rattle.std.specs.Option.{option_or}
+use Rattle.serde_json.specs.Data.{Data, array, item, no_items}
 use Rattle.icu_locale_core.specs.Subtags.{Text}
 use Rattle.icu_locale_core.specs.Meaning.{TagMeaning, MeansTag}
 use Rattle.icu_locale_core.specs.TagPreferences.{DataLocaleMeaning, Preferences}
@@ -24,13 +25,15 @@ use Rattle.icu_dimension.specs.FoundUnits.{CurrencySettings}
 use Rattle.icu_dimension.specs.UnitReading.{AreReaderTexts, reader_texts}
 use Rattle.icu_dimension.specs.UnitText.{UnitSettings}
 use Rattle.icu_dimension.specs.declared.CurrencyFormatterOptions.{CurrencyFormatterOptions}
-use Rattle.locale_numbers_book.specs.Book.{BookTables, HasTables, IsBook}
-use Rattle.locale_numbers_book.specs.BookAllocation.{alone_may_grow, book_may_grow}
-use Rattle.locale_numbers_book.specs.Form.{alone_fault, book_fault}
+use Rattle.locale_numbers_book.specs.Book.{BookTables, HasTables, HasUnits, IsBook}
+use Rattle.locale_numbers_book.specs.BookAllocation.{alone_may_grow, book_may_grow, five_may_grow}
+use Rattle.locale_numbers_book.specs.Form.{alone_fault, book_fault, five_fault, has_form, has_units_form}
 use Rattle.locale_numbers_book.specs.Json.{Reads}
 use Rattle.locale_numbers_book.specs.SampleBook.{sample_tables}
 use Rattle.locale_numbers_book.specs.SampleUnitsBook.{sample_units_tables}
 use Rattle.locale_numbers_book.specs.declared.sample_book.TheConstants.{SAMPLE_BOOK, SAMPLE_UNITS_BOOK}
+use Rattle.locale_numbers_tables.specs.declared.BookError.{BookError}
+use Rattle.locale_numbers_tables.specs.declared.BookError.TheVariants.{Shape}
 use Rattle.locale_numbers_tables.specs.CompactEntries.{table_made}
 use Rattle.locale_numbers_tables.specs.Entries.{has_count}
 use Rattle.locale_numbers_tables.specs.Keys.{same_key}
@@ -58,16 +61,41 @@ TablesAreMade = (zero : Option Patterns) (given : List TypePatterns) (table : Co
 abbrev pub IsOneBook : Type 0
 IsOneBook = (value : Data) (book other : BookTables) → IsBook value book → IsBook value other → book ≡ other
 
--- five arrays or six without a fault, these tables, and no units
+-- five arrays or six without a fault, these tables, and no units and no plurals
 pub record IsBookAlone (value : Data) (book : BookTables) : Type 0 where
   pub sound : alone_fault value ≡ None
   pub arrays : HasTables value book
   pub units : book.units ≡ None
+  pub plurals : book.plurals ≡ None
 
--- a value that is no array of two items has the fault of five arrays or six, and is the book of these, without units
-abbrev pub OldBooksStay : Type 0
-OldBooksStay = (value : Data) → has_count 2 value ≡ false
+-- a value that is no array of two items or of three has the fault of five arrays or six, and is the book of these, without units
+abbrev pub AloneStays : Type 0
+AloneStays = (value : Data) → has_count 2 value ≡ false → has_count 3 value ≡ false
     → (book_fault value ≡ alone_fault value) × (book_may_grow value ≡ alone_may_grow value) × ((book : BookTables) → IsBook value book ↔ IsBookAlone value book)
+
+-- two values as an array
+abbrev pub pair_of : Data → Data → Data
+pair_of first second = array (item first (item second no_items))
+
+-- the form of both decides first, then the book, and then the units
+abbrev pub pair_fault : Data → Data → Option BookError
+pair_fault first second = if has_units_form second then option_or (alone_fault first) (five_fault second) else Some Shape
+
+abbrev pub pair_may_grow : Data → Data → Bool
+pair_may_grow first second = has_form first && has_units_form second && (alone_may_grow first || five_may_grow second)
+
+-- a book and units without a fault, the tables of both, and no plurals
+pub record IsBookPair (first second : Data) (book : BookTables) : Type 0 where
+  pub sound : pair_fault first second ≡ None
+  pub arrays : HasTables first book
+  pub units : HasUnits (Some second) book.units
+  pub plurals : book.plurals ≡ None
+
+-- an array of two items has the fault of the first as a book and of the second as units, and is the book of these, without plurals
+abbrev pub PairsStay : Type 0
+PairsStay = (first second : Data)
+    → (book_fault (pair_of first second) ≡ pair_fault first second) × (book_may_grow (pair_of first second) ≡ pair_may_grow first second)
+    × ((book : BookTables) → IsBook (pair_of first second) book ↔ IsBookPair first second book)
 
 -- the types of a table rise, and its numbers fit into bytes
 pub record IsSoundTable (table : CompactTable) : Type 0 where

@@ -6,11 +6,12 @@ pub mod Book
 pub mod SampleBook
 pub mod SampleUnitsBook
 pub mod Refusal
--- What a reader must believe: what is in a book under an identifier, and the formatters that it has for a tag.
+-- What a reader must believe: what is in a book under an identifier, and the formatters and plural rules that it has for a tag.
 pub mod Tables
 pub mod Wanted
 pub mod TagFormatters
 pub mod FoundFormats
+pub mod FoundRules
 -- What a reader must believe: the text of a book that is put together of lines, and which lines the small book of a tag has.
 pub mod BookText
 pub mod EntryFields
@@ -22,6 +23,10 @@ pub mod BookAllocation
 pub mod Laws
 -- Of the inner crate of parents: the step from a locale to the next, and the entries that close no cycle.
 pub use Rattle.locale_numbers_parents.specs.Parents
+-- Of the inner crate of plurals: the form of their arrays, entries and tables.
+pub use Rattle.locale_numbers_plurals.specs.Form as PluralsForm
+pub use Rattle.locale_numbers_plurals.specs.Plurals
+pub use Rattle.locale_numbers_plurals.specs.RangesEntries
 -- Of the inner crate of tables: entries, fields and keys.
 pub use Rattle.locale_numbers_tables.specs.Allocation
 pub use Rattle.locale_numbers_tables.specs.BookError

@@ -81,4 +81,5 @@ sample_tables = record {
   long = (of_locale english, english_long) ∷ [];
   parents = None;
   units = None;
+  plurals = None;
 }

@@ -176,4 +176,5 @@ sample_units_tables = record {
   long = [];
   parents = Some [];
   units = Some sample_units;
+  plurals = None;
 }

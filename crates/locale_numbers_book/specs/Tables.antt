@@ -1,7 +1,7 @@
 -- What is in a book under an identifier, of each of its tables, and the locales of a book.
--- Defined in docs/books.md, "Choosing tables", "Choosing units" and "The locales of a book".
+-- Defined in docs/books.md, "Choosing tables", "Choosing units", "More" and "The locales of a book".
 -- Cited by the impls of `DataProvider` for `Book`, by `Book::locale`, and by the answer to a line.
--- A book has five tables and five of units, and the type and the key of each are imported.
+-- A book has five tables, five of units and two of plurals, and the type and the key of each are imported.
 use Rattle.std.specs.Prelude.{ℕ, ◌==◌, length, filter, map, List, Option, None, Some, option_and_then, Result, if◌then◌else◌}
 use Rattle.std.specs.Str.{bytes_eq}
 use Rattle.icu_locale_core.specs.DataLocales.{unknown_data}
@@ -15,7 +15,9 @@ use Rattle.icu_decimal.specs.Rules.{Rules}
 use Rattle.icu_decimal.specs.Symbols.{Symbols}
 use Rattle.icu_dimension.specs.ProvidedUnits.{AmountTexts, PercentTexts, SymbolText}
 use Rattle.icu_dimension.specs.declared.FractionInfo.{FractionInfo}
+use Rattle.icu_plurals.specs.declared.PluralRange.{PluralRange}
 use Rattle.locale_numbers_parents.specs.Parents.{Entry, most_steps, parent_step}
+use Rattle.locale_numbers_plurals.specs.Plurals.{PluralTables}
 use Rattle.locale_numbers_book.specs.Book.{BookTables}
 use Rattle.locale_numbers_tables.specs.Keys.{same_data_locale, same_key, table_at}
 use Rattle.locale_numbers_units.specs.Units.{UnitsTables}
@@ -70,6 +72,23 @@ fractions_there units id = if same_data_locale id.locale unknown_data then table
 
 abbrev pub fractions_under : BookTables → Identifier → Result FractionInfo DataError
 fractions_under book id = answered (option_and_then (λ units. fractions_there units id) book.units)
+
+-- ---- plurals
+
+-- they depend on no system
+abbrev pub ordinals_there : PluralTables → Identifier → Option Rules
+ordinals_there plurals id = if length id.attributes == 0 then table_at same_data_locale id.locale plurals.ordinals else None
+
+abbrev pub ranges_there : PluralTables → Identifier → Option (List PluralRange)
+ranges_there plurals id = if length id.attributes == 0 then table_at same_data_locale id.locale plurals.ranges else None
+
+-- the ordinal rules of the entry with this locale; without plurals nothing is there
+abbrev pub ordinals_under : BookTables → Identifier → Result Rules DataError
+ordinals_under book id = answered (option_and_then (λ plurals. ordinals_there plurals id) book.plurals)
+
+-- the categories of its ranges
+abbrev pub ranges_under : BookTables → Identifier → Result (List PluralRange) DataError
+ranges_under book id = answered (option_and_then (λ plurals. ranges_there plurals id) book.plurals)
 
 -- ---- parents
 

@@ -3,7 +3,7 @@
 ghost use Rattle.std.specs.Prelude.{◌≡◌, true, IfOk, IsErrOf, IfErr, None, OnOk, option_map};
 ghost use Rattle.serde_json.specs.Data.{Data};
 ghost use Rattle.serde_json.specs.View.{view};
-ghost use Rattle.locale_numbers_book.specs.Arrays.{fault_in, fault_of_both, may_grow_in, may_grow_of_both, units_fault_in, units_may_grow_in, value_of_arrays, value_of_both, value_of_units};
+ghost use Rattle.locale_numbers_book.specs.Arrays.{ArePluralsIn, HasParts, fault_beside, fault_in, fault_of_parts, may_grow_beside, may_grow_in, may_grow_of_parts, plurals_fault_in, plurals_may_grow_in, units_fault_in, units_may_grow_in, value_of_arrays, value_of_units};
 ghost use Rattle.locale_numbers_book.specs.Book.{HasTables, HasUnits, IsBook};
 ghost use Rattle.locale_numbers_book.specs.Form.{book_fault};
 ghost use Rattle.locale_numbers_book.specs.Json.{Reads};
@@ -11,11 +11,12 @@ ghost use Rattle.locale_numbers_book.specs.Refusal.{IsRefused};
 ghost use Rattle.locale_numbers_book.specs.BookAllocation.{book_may_grow};
 ghost use Rattle.locale_numbers_tables.specs.Telling.{IsTold};
 
-use crate::json::{Arrays, BookArrays, book_arrays_of, parents_in, units_in, value_of};
+use crate::json::{Arrays, BookArrays, book_arrays_of, parents_in, plurals_in, units_in, value_of};
 use icu_decimal::plurals::PluralRules;
 use icu_decimal::provider::{CompactPatterns, DataIdentifier, DecimalSymbols};
 use icu_locale_core::DataLocale;
 use locale_numbers_parents::Parents;
+use locale_numbers_plurals::{PluralArrays, Plurals};
 use locale_numbers_tables::{BookError, Seed, Table, table_of};
 use locale_numbers_units::{UnitArrays, Units};
 use serde_json::Value;
@@ -23,9 +24,10 @@ use std::alloc::Global;
 use std::marker::Model;
 use tinystr::TinyAsciiStr;
 
-/// Tables of symbols, of digits, of plural rules and of short and long patterns, the parents of locales, and the units
-/// that percents and amounts of money are written with, as a JSON text names them. `SAMPLE_BOOK` names the symbols of
-/// `en`, whose separators are `.` and `,`, and no parents and no units.
+/// Tables of symbols, of digits, of plural rules and of short and long patterns, the parents of locales, the units that
+/// percents and amounts of money are written with, and what it has of plurals beside its rules, as a JSON text names
+/// them. `SAMPLE_BOOK` names the symbols of `en`, whose separators are `.` and `,`, and no parents, no units and no more
+/// of plurals.
 pub struct Book {
     pub(crate) symbols: Table<DataIdentifier, DecimalSymbols>,
     pub(crate) digits: Table<TinyAsciiStr<8>, [char; 10]>,
@@ -34,6 +36,7 @@ pub struct Book {
     pub(crate) long: Table<DataIdentifier, CompactPatterns>,
     pub(crate) parents: Option<Parents>,
     pub(crate) units: Option<Units>,
+    pub(crate) plurals: Option<Plurals>,
 }
 
 impl Model for Book {
@@ -49,6 +52,7 @@ impl Model for Book {
       long = b.long.map.entries;
       parents = b.parents;
       units = b.units;
+      plurals = b.plurals;
     } };
 }
 
@@ -64,16 +68,16 @@ impl Drop for Book {
             long: _long,
             parents: _parents,
             units: _units,
+            plurals: _plurals,
         } = self;
     }
 }
 
-// The book of these arrays, its tables hashed by this seed, and without units.
+// The book of these arrays, its tables hashed by this seed, without units and plurals.
 #[tactic(auto, using(crate::proofs::BookLemmas::or_second, crate::proofs::BookLemmas::or_third, crate::proofs::BookLemmas::or_fourth, crate::proofs::BookLemmas::or_fifth, crate::proofs::BookLemmas::or_sixth))]
 fn tables_of(alloc: Global, seed: Seed, arrays: Arrays) -> Result<Book, BookError>
     ensures value { IfOk result (HasTables (value_of_arrays arrays)) }
     ensures sound { OnOk result (fault_in arrays ≡ None) }
-    ensures alone { IfOk result (λ book. book.units ≡ None) }
     ensures fault { IfErr result (λ fault. IsTold (fault_in arrays) fault) }
     ensures room { IsErrOf result BookError.Memory → may_grow_in arrays ≡ true }
 {
@@ -99,6 +103,7 @@ fn tables_of(alloc: Global, seed: Seed, arrays: Arrays) -> Result<Book, BookErro
             long,
             parents,
             units: None,
+            plurals: None,
         }),
         Err(fault) => Err(fault),
     }
@@ -126,16 +131,68 @@ fn add_units(
     }
 }
 
-// The book of these arrays and these units: the faults of the book are told before those of the units.
-#[tactic(auto, using(crate::proofs::BookLemmas::or_units))]
-fn both_of(alloc: Global, seed: Seed, arrays: BookArrays) -> Result<Book, BookError>
-    ensures value { IfOk result (IsBook (value_of_both arrays)) }
-    ensures fault { IfErr result (λ fault. IsTold (fault_of_both arrays) fault) }
-    ensures room { IsErrOf result BookError.Memory → may_grow_of_both arrays ≡ true }
+// Gives a book the plurals of arrays that may be missing.
+fn add_plurals(
+    alloc: Global,
+    seed: Seed,
+    book: &mut Book,
+    arrays: Option<PluralArrays>,
+) -> Result<(), BookError>
+    ensures plurals { OnOk result (ArePluralsIn arrays book.new.plurals) }
+    ensures same { OnOk result (book.new ≡ record book.old { plurals = book.new.plurals }) }
+    ensures sound { OnOk result (plurals_fault_in arrays ≡ None) }
+    ensures fault { IfErr result (λ fault. IsTold (plurals_fault_in arrays) fault) }
+    ensures room { IsErrOf result BookError.Memory → plurals_may_grow_in arrays ≡ true }
 {
-    let BookArrays { book, units } = arrays;
+    match plurals_in(alloc, seed, arrays) {
+        Ok(plurals) => {
+            book.plurals = plurals;
+            Ok(())
+        }
+        Err(fault) => Err(fault),
+    }
+}
+
+// Gives a book both: the faults of the units are told before those of the plurals.
+#[tactic(auto, using(crate::proofs::BookLemmas::or_beside))]
+fn add_beside(
+    alloc: Global,
+    seed: Seed,
+    book: &mut Book,
+    units: Option<UnitArrays>,
+    plurals: Option<PluralArrays>,
+) -> Result<(), BookError>
+    ensures units { OnOk result (HasUnits (option_map value_of_units units) book.new.units) }
+    ensures plurals { OnOk result (ArePluralsIn plurals book.new.plurals) }
+    ensures same { OnOk result
+        (book.new ≡ record book.old { units = book.new.units; plurals = book.new.plurals }) }
+    ensures sound { OnOk result (fault_beside units plurals ≡ None) }
+    ensures fault { IfErr result (λ fault. IsTold (fault_beside units plurals) fault) }
+    ensures room { IsErrOf result BookError.Memory → may_grow_beside units plurals ≡ true }
+{
+    match add_units(alloc, seed, book, units) {
+        Ok(()) => match add_plurals(alloc, seed, book, plurals) {
+            Ok(()) => Ok(()),
+            Err(fault) => Err(fault),
+        },
+        Err(fault) => Err(fault),
+    }
+}
+
+// The book of these arrays, these units and these plurals: the faults of the book are told before those of the others.
+#[tactic(auto, using(crate::proofs::BookLemmas::or_beside))]
+fn parts_of(alloc: Global, seed: Seed, arrays: BookArrays) -> Result<Book, BookError>
+    ensures value { IfOk result (HasParts arrays) }
+    ensures fault { IfErr result (λ fault. IsTold (fault_of_parts arrays) fault) }
+    ensures room { IsErrOf result BookError.Memory → may_grow_of_parts arrays ≡ true }
+{
+    let BookArrays {
+        book,
+        units,
+        plurals,
+    } = arrays;
     match tables_of(alloc, seed, book) {
-        Ok(mut book) => match add_units(alloc, seed, &mut book, units) {
+        Ok(mut book) => match add_beside(alloc, seed, &mut book, units, plurals) {
             Ok(()) => Ok(book),
             Err(fault) => Err(fault),
         },
@@ -144,7 +201,7 @@ fn both_of(alloc: Global, seed: Seed, arrays: BookArrays) -> Result<Book, BookEr
 }
 
 // The book that a JSON value is.
-#[tactic(auto, using(crate::proofs::BookLemmas::told_value, crate::proofs::BookLemmas::room_value))]
+#[tactic(auto, using(crate::proofs::BookLemmas::made_whole, crate::proofs::BookLemmas::told_value, crate::proofs::BookLemmas::room_value))]
 fn book_of(alloc: Global, seed: Seed, value: Value) -> Result<Book, BookError>
     ensures value { IfOk result (IsBook (view value)) }
     ensures fault { IfErr result (λ fault. IsTold (book_fault (view value)) fault) }
@@ -153,7 +210,7 @@ fn book_of(alloc: Global, seed: Seed, value: Value) -> Result<Book, BookError>
     ensures room { IsErrOf result BookError.Memory → book_may_grow (view value) ≡ true }
 {
     match book_arrays_of(alloc, value) {
-        Some(arrays) => match both_of(alloc, seed, arrays) {
+        Some(arrays) => match parts_of(alloc, seed, arrays) {
             Ok(book) => Ok(book),
             Err(fault) => Err(fault),
         },
@@ -167,14 +224,15 @@ impl Book {
     /// An array of five arrays: of symbols, each under a data locale and a system or none, of digits, of plural rules,
     /// and of short and long patterns; and of a sixth or none, of locales and their parents. `SAMPLE_BOOK` is one,
     /// `[[],[],[],[],[]]` the shortest. A book with units is a pair of such an array and of the five arrays of its
-    /// units, as `SAMPLE_UNITS_BOOK`; the shortest is `[[[],[],[],[],[]],[[],[],[],[],[]]]`. It allocates. The form and
-    /// the faults are defined in docs/books.md.
+    /// units, as `SAMPLE_UNITS_BOOK`; the shortest is `[[[],[],[],[],[]],[[],[],[],[],[]]]`. A third item beside both is
+    /// an array of two arrays, of ordinal rules and of the categories of ranges, and of up to six empty ones. It
+    /// allocates. The form and the faults are defined in docs/books.md.
     ///
     /// - Json: the bytes have no reading as JSON, as `[1`.
-    /// - Shape: the value is neither an array of five arrays or six nor such a pair, as `[]`.
-    /// - Shape to Cycle, Unit, Code: else the first faulty entry decides, those of the book before those of the units,
-    ///   and in an entry the least number: Cycle of `[[],[],[],[],[],[["en","en"]]]`, Code of
-    ///   `[[[],[],[],[],[]],[[],[],[],[],[["CH",2,1,2,5]]]]`.
+    /// - Shape: the value is neither an array of five arrays or six, nor has two or three such items, as `[]`.
+    /// - Shape to Cycle, Unit, Code: else the first faulty entry decides, those of the book before those of the units and
+    ///   these before those of plurals, and in an entry the least number: Cycle of `[[],[],[],[],[],[["en","en"]]]`, Code
+    ///   of `[[[],[],[],[],[]],[[],[],[],[],[["CH",2,1,2,5]]]]`.
     /// - Memory: out of memory.
     pub fn from_json(alloc: Global, bytes: &[u8]) -> Result<Book, BookError>
         ensures value { IfOk result (λ book. (value : Data) × Reads bytes.now value × IsBook value book) }

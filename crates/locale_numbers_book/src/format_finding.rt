@@ -1,12 +1,15 @@
 //! The formatters that tables have for the shape of a format.
 
 ghost use Rattle.std.specs.Prelude.{◌≡◌, Some, IfOk, codes};
-ghost use Rattle.std.specs.Result.{result_map_both};
+ghost use Rattle.std.specs.Option.{option_and_then};
+ghost use Rattle.std.specs.Result.{result_map_both, result_ok};
 ghost use Rattle.icu_decimal.specs.HeldCompact.{compact_tables_of};
 ghost use Rattle.icu_decimal.specs.HeldTables.{tables_of};
 ghost use Rattle.icu_dimension.specs.HeldFormatters.{code_of, currency_settings_of, settings_of_percent};
-ghost use Rattle.locale_numbers_book.specs.FoundFormats.{amount_options, both_found, compact_found, found_for, in_latin, latin_for, standard_found};
+ghost use Rattle.locale_numbers_book.specs.FoundFormats.{amount_options, amounts_by, both_found, compact_found, found_for, in_ascii, in_latin, second_for, standard_found};
 ghost use Rattle.locale_numbers_book.specs.TagFormatters.{currency_found_in, found_beside, found_plain, patterns_under, percent_found_in};
+ghost use Rattle.locale_numbers_formatter.specs.FormatText.{unit_tables};
+ghost use Rattle.locale_numbers_formatter.specs.HeldFormats.{currency_format};
 
 use crate::tables::Tables;
 use icu_decimal::options::{
@@ -20,7 +23,7 @@ use icu_dimension::{
 use icu_locale_core::preferences::extensions::unicode::keywords::NumberingSystem;
 use icu_locale_core::subtags::Subtag;
 use locale_numbers_formats::{CompactWidth, CurrencyUnit, Notation, NumberShape, NumberUnit};
-use locale_numbers_formatter::NumberFormatter;
+use locale_numbers_formatter::{FormatterKind, NumberFormatter};
 
 // The formatter of plain numbers.
 fn find_plain<'a, T: Tables>(
@@ -195,29 +198,95 @@ fn in_latin(preferences: DecimalFormatterPreferences) -> DecimalFormatterPrefere
     }
 }
 
-/// Beside the formatter of a shape for preferences, that for the same preferences with the numbering system `latn`: beside
-/// that of `ar-EG`, whose digits are `٠` to `٩`, that of `ar-EG-u-nu-latn`.
-///
-/// `None`: the digits of the first are those of ASCII, or one of the tables is not there. What people type of numbers is read
-/// by both. It borrows its tables, and does not allocate.
-pub fn find_latin<'a, T: Tables>(
+// That for the same preferences with that system.
+fn find_latin<'a, T: Tables>(
     tables: &'a T,
     preferences: DecimalFormatterPreferences,
     shape: &NumberShape,
-    formatter: &NumberFormatter<'_>,
 ) -> Option<NumberFormatter<'a>>
-    ensures { result ≡ latin_for shape.now (T.book tables.now) preferences formatter.now }
+    ensures { result ≡ in_ascii shape.now (T.book tables.now) preferences }
 {
-    if formatter.has_ascii_digits() {
-        return None;
-    }
     match find_formatter(tables, in_latin(preferences), shape) {
         Ok(formatter) => Some(formatter),
         Err(_) => None,
     }
 }
 
-// The formatter of a shape, and that of the system `latn` beside it.
+// A formatter of amounts by the symbols of a plain one, where its own are others.
+fn with_symbols_of<'a>(
+    plain: &DecimalFormatter<'a>,
+    amounts: &CurrencyFormatter<'a>,
+) -> Option<NumberFormatter<'a>>
+    ensures { result ≡ amounts_by (tables_of plain.now)
+        (unit_tables (currency_format (code_of amounts.now) (currency_settings_of amounts.now))) }
+{
+    if plain.symbols() == amounts.decimals().symbols() {
+        return None;
+    }
+    let plainly = CurrencyFormatter::from_parts(
+        *plain.tables(),
+        amounts.pattern(),
+        amounts.symbol(),
+        amounts.code(),
+        amounts.fractions(),
+    );
+    Some(NumberFormatter::of_amounts(&plainly))
+}
+
+// A formatter by the symbols of a plain one, where it writes amounts and its own are others.
+fn amounts_by<'a>(
+    plain: &DecimalFormatter<'a>,
+    formatter: &NumberFormatter<'a>,
+) -> Option<NumberFormatter<'a>>
+    ensures { result ≡ amounts_by (tables_of plain.now) formatter.now }
+{
+    match formatter.kind() {
+        FormatterKind::Plain(_) | FormatterKind::Compact(_) | FormatterKind::Percent(_) => None,
+        FormatterKind::Currency(amounts) => with_symbols_of(plain, amounts),
+    }
+}
+
+// A formatter by the symbols that plain numbers of the same preferences are written with, where it writes amounts and its
+// own are others.
+fn plainly_written<'a, T: Tables>(
+    tables: &'a T,
+    preferences: DecimalFormatterPreferences,
+    grouping: GroupingStrategy,
+    formatter: &NumberFormatter<'a>,
+) -> Option<NumberFormatter<'a>>
+    ensures { result ≡ option_and_then (λ plain. amounts_by plain formatter.now)
+        (result_ok (found_plain (T.book tables.now) preferences (Some grouping))) }
+{
+    match find_plain(tables, preferences, grouping) {
+        Ok(plain) => amounts_by(&plain, formatter),
+        Err(_) => None,
+    }
+}
+
+/// Beside the formatter of a shape for preferences, a second one that what people type is read by too:
+///
+/// - where the digits of the first are others than those of ASCII, that for the same preferences with the numbering
+///   system `latn`: beside that of `ar-EG`, whose digits are `٠` to `٩`, that of `ar-EG-u-nu-latn`;
+/// - else beside amounts whose symbols are others than those of plain numbers, that of the same amounts with these: in
+///   `de-AT` the first writes 1234.5 in `EUR` as `€ 1.234,5`, and the second as `€ 1 234,5`, as numbers are written there.
+///
+/// `None`: neither is so, or one of the tables is not there. It borrows its tables, and does not allocate.
+pub fn find_second<'a, T: Tables>(
+    tables: &'a T,
+    preferences: DecimalFormatterPreferences,
+    shape: &NumberShape,
+    formatter: &NumberFormatter<'a>,
+) -> Option<NumberFormatter<'a>>
+    ensures { result ≡ second_for shape.now (T.book tables.now) preferences formatter.now }
+{
+    if formatter.has_ascii_digits() {
+        plainly_written(tables, preferences, shape.grouping, formatter)
+    } else {
+        find_latin(tables, preferences, shape)
+    }
+}
+
+// The formatter of a shape, and the second beside it.
 pub(crate) fn find_both<'a, T: Tables>(
     tables: &'a T,
     preferences: DecimalFormatterPreferences,
@@ -227,8 +296,8 @@ pub(crate) fn find_both<'a, T: Tables>(
 {
     match find_formatter(tables, preferences, shape) {
         Ok(formatter) => {
-            let latin = find_latin(tables, preferences, shape, &formatter);
-            Ok((formatter, latin))
+            let second = find_second(tables, preferences, shape, &formatter);
+            Ok((formatter, second))
         }
         Err(error) => Err(error),
     }

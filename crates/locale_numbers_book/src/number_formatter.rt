@@ -47,12 +47,12 @@ impl Book {
         }
     }
 
-    /// The formatter of a shape for a tag, as [`Book::number_formatter`], and beside it that of the digits of ASCII: for
-    /// `ar-EG` that of `ar-EG-u-nu-latn`.
+    /// The formatter of a shape for a tag, as [`Book::number_formatter`], and the second beside it that what people type is
+    /// read by too: for `ar-EG` that of `ar-EG-u-nu-latn`, and for `de-AT` and amounts of `EUR` that with the separators of
+    /// plain numbers.
     ///
-    /// The second is `None` where the digits of the first are those of ASCII, or the book lacks one of its tables. What
-    /// people type of numbers is read by both. Errors as there.
-    pub fn number_formatter_with_latin(
+    /// It is the one of [`find_second`](crate::find_second), and so `None` for most tags. Errors as there.
+    pub fn number_formatter_with_second(
         &self,
         alloc: Global,
         tag: &str,

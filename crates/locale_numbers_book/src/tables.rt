@@ -9,9 +9,11 @@ use icu_dimension::provider::{
     CurrencyAccountingV1, CurrencyEssentialsV1, CurrencyFractionsV1, CurrencySymbolsV1,
     PercentEssentialsV1,
 };
+use locale_numbers_plurals::{PluralsOrdinalV1, PluralsRangesV1};
 
-/// Tables of all ten kinds and parents of locales, as those of a [`Book`]: of the sample book the symbols of `en`, the
-/// digits of `thai`, and so on. The five kinds of units have nothing where the book has no units.
+/// Tables of all twelve kinds and parents of locales, as those of a [`Book`]: of the sample book the symbols of `en`, the
+/// digits of `thai`, and so on. The five kinds of units have nothing where the book has no units, and those of ordinal
+/// rules and of ranges where it has no more of plurals.
 ///
 /// Under each identifier a type of your own returns what is there in one book, at each call the same, and where
 /// nothing does it returns `IdentifierNotFound`: one that forwards to a book and counts what is loaded, say. Its
@@ -26,13 +28,15 @@ pub trait Tables: DataProvider<DecimalSymbolsV1>
     + DataProvider<CurrencyAccountingV1>
     + DataProvider<CurrencySymbolsV1>
     + DataProvider<CurrencyFractionsV1>
+    + DataProvider<PluralsOrdinalV1>
+    + DataProvider<PluralsRangesV1>
     + ParentProvider {
     ghost use Rattle.std.specs.Prelude.{◌≡◌};
     ghost use Rattle.icu_decimal.specs.Identifiers.{Identifier};
     ghost use Rattle.icu_decimal_chains.specs.Chains.{chain};
     ghost use Rattle.icu_locale_core.specs.TagPreferences.{DataLocaleMeaning};
     ghost use Rattle.locale_numbers_book.specs.Book.{BookTables};
-    ghost use Rattle.locale_numbers_book.specs.Tables.{symbols_under, digits_under, rules_under, short_under, long_under, percents_under, currencies_under, accounts_under, currency_symbols_under, fractions_under, parent_under, chain_in, steps_in};
+    ghost use Rattle.locale_numbers_book.specs.Tables.{symbols_under, digits_under, rules_under, short_under, long_under, percents_under, currencies_under, accounts_under, currency_symbols_under, fractions_under, ordinals_under, ranges_under, parent_under, chain_in, steps_in};
 
     // the book that the tables are those of
     ghost book: { Self → BookTables };
@@ -59,6 +63,10 @@ pub trait Tables: DataProvider<DecimalSymbolsV1>
         → Self.DataProvider-9.table s id ≡ currency_symbols_under (book s) id };
 
     ghost fractions: { (s : Self) (id : Identifier) → Self.DataProvider-10.table s id ≡ fractions_under (book s) id };
+
+    ghost ordinals: { (s : Self) (id : Identifier) → Self.DataProvider-11.table s id ≡ ordinals_under (book s) id };
+
+    ghost ranges: { (s : Self) (id : Identifier) → Self.DataProvider-12.table s id ≡ ranges_under (book s) id };
 
     // the next locale is that of the book, and so is the chain: the limit cuts none of it
     ghost parents: { (s : Self) (l : DataLocaleMeaning) → Self.next s l ≡ parent_under (book s) l };
@@ -93,6 +101,10 @@ impl Tables for Book {
     ghost currency_symbols = { λ s id. refl };
 
     ghost fractions = { λ s id. refl };
+
+    ghost ordinals = { λ s id. refl };
+
+    ghost ranges = { λ s id. refl };
 
     ghost parents = { λ s l. refl };
 

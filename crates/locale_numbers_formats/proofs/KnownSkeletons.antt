@@ -1,7 +1,7 @@
 -- Spellings of skeletons, and faults, as ICU4C 72 has them but for docs/skeletons.md, "Where ICU differs", so that a wrong definition does not pass.
 use Rattle.std.proofs.Common.{◌≡◌, codes, Ok, Err, refl}
 use Rattle.std.specs.Prelude.{pos, negsuc}
-use Rattle.fixed_decimal.specs.declared.RoundingIncrement.TheVariants.{MultiplesOf1}
+use Rattle.fixed_decimal.specs.declared.RoundingIncrement.TheVariants.{MultiplesOf1, MultiplesOf2, MultiplesOf5, MultiplesOf25}
 use Rattle.fixed_decimal.specs.declared.SignDisplay.TheVariants as display
 use Rattle.fixed_decimal.specs.declared.SignedRoundingMode.TheVariants.{Unsigned}
 use Rattle.fixed_decimal.specs.declared.UnsignedRoundingMode.TheVariants.{Expand, HalfEven}
@@ -10,6 +10,7 @@ use Rattle.icu_dimension_fractions.specs.declared.CurrencyStyle.TheVariants as s
 use Rattle.icu_dimension_fractions.specs.declared.CurrencyStyle.TheVariants.{Accounting}
 use Rattle.icu_dimension_fractions.specs.declared.CurrencyUsage.TheVariants.{Standard, Cash}
 use Rattle.icu_dimension_fractions.specs.declared.CurrencyWidth.TheVariants.{IsoCode}
+use Rattle.locale_numbers_formats.specs.NormalText.{skeleton_text}
 use Rattle.locale_numbers_formats.specs.SkeletonFormats.{format_of}
 use Rattle.locale_numbers_formats.specs.Skeletons.{no_words, settled, skeleton_of}
 use Rattle.locale_numbers_formats.specs.declared.options.LeadingZeros.TheVariants as leading
@@ -24,7 +25,7 @@ use Rattle.locale_numbers_formats.specs.declared.shape.NumberUnit.TheVariants as
 use Rattle.locale_numbers_formats.specs.declared.skeleton.Skeleton.{Skeleton}
 use Rattle.locale_numbers_formats.specs.declared.skeleton_error.SkeletonError.TheVariants.{Unknown, Twice, Code, Pair, System, Later, Unsupported}
 use Rattle.locale_numbers_formats.specs.declared.stems.Precision.TheVariants as precision
-use Rattle.locale_numbers_formats.specs.declared.stems.Precision.TheVariants.{Unlimited, Fraction, AtLeast, Whole, Significant, SignificantAtLeast, Either, WholeCurrency}
+use Rattle.locale_numbers_formats.specs.declared.stems.Precision.TheVariants.{Unlimited, Fraction, AtLeast, Whole, Significant, SignificantAtLeast, Either, Increment, WholeCurrency}
 use Rattle.locale_numbers_formats.specs.declared.stems.SkeletonGrouping.TheVariants as grouping
 use Rattle.locale_numbers_formats.specs.declared.stems.SkeletonUnit.TheVariants.{Percent, Currency}
 use Rattle.locale_numbers_formats.specs.declared.stems.WholeZeros.TheVariants.{Shown, Hidden}
@@ -126,6 +127,27 @@ is_at_least_significant = refl
 is_at_most_significant : skeleton_of (codes ".##/@##/w") ≡ Ok (record plain { precision = Either 0 2 1 2 LessPrecision Hidden })
 is_at_most_significant = refl
 
+is_increment : skeleton_of (codes "precision-increment/0.05") ≡ Ok (record plain { precision = Increment MultiplesOf5 0 2 Shown })
+is_increment = refl
+
+is_whole_increment : skeleton_of (codes "precision-increment/0.50/w") ≡ Ok (record plain { precision = Increment MultiplesOf5 1 2 Hidden })
+is_whole_increment = refl
+
+is_parted_increment : skeleton_of (codes "precision-increment/2.5") ≡ Ok (record plain { precision = Increment MultiplesOf25 0 1 Shown })
+is_parted_increment = refl
+
+is_large_increment : skeleton_of (codes "precision-increment/02000") ≡ Ok (record plain { precision = Increment MultiplesOf2 3 0 Shown })
+is_large_increment = refl
+
+is_pointed_increment : skeleton_of (codes "precision-increment/25.00") ≡ Ok (record plain { precision = Increment MultiplesOf25 2 2 Shown })
+is_pointed_increment = refl
+
+is_bare_increment : skeleton_of (codes "precision-increment/.1") ≡ Ok (record plain { precision = Increment MultiplesOf1 0 1 Shown })
+is_bare_increment = refl
+
+is_usual_point : skeleton_of (codes "decimal-auto percent") ≡ Ok (record plain { unit = Percent })
+is_usual_point = refl
+
 is_up : skeleton_of (codes ".0 rounding-mode-up") ≡ Ok (record plain { precision = Fraction 1 0; mode = Unsigned Expand })
 is_up = refl
 
@@ -187,6 +209,24 @@ is_groupings = refl
 
 is_signs : skeleton_of (codes "sign-never sign-never") ≡ Err (Twice 11)
 is_signs = refl
+
+is_points : skeleton_of (codes "decimal-auto decimal-auto") ≡ Err (Twice 13)
+is_points = refl
+
+is_no_increment : skeleton_of (codes "percent precision-increment/x") ≡ Err (Unknown 8)
+is_no_increment = refl
+
+is_zero_increment : skeleton_of (codes "precision-increment/0.0") ≡ Err (Unknown 0)
+is_zero_increment = refl
+
+is_two_points : skeleton_of (codes "precision-increment/1.0.0") ≡ Err (Unknown 0)
+is_two_points = refl
+
+is_other_increment : skeleton_of (codes "precision-increment/0.3") ≡ Err (Unsupported 0)
+is_other_increment = refl
+
+is_compact_increment : skeleton_of (codes "K precision-increment/50") ≡ Err (Later 2)
+is_compact_increment = refl
 
 is_no_currency : skeleton_of (codes "percent sign-accounting") ≡ Err (Pair 8)
 is_no_currency = refl
@@ -318,6 +358,17 @@ either_rounding = refl
 either_least : (format_of (record plain { precision = Either 1 1 2 0 MorePrecision Shown })).options.fraction_digits ≡ pos 1
 either_least = refl
 
+-- `precision-increment/0.50`: multiples of 5 tenths, and two digits after the point
+increment_rounding : (format_of (record plain { precision = Increment MultiplesOf5 1 2 Shown })).options.rounding ≡ rounding.At (negsuc 0) (Unsigned HalfEven) MultiplesOf5
+increment_rounding = refl
+
+increment_least : (format_of (record plain { precision = Increment MultiplesOf5 1 2 Shown })).options.fraction_digits ≡ pos 2
+increment_least = refl
+
+-- `precision-increment/2000`
+large_rounding : (format_of (record plain { precision = Increment MultiplesOf2 3 0 Shown })).options.rounding ≡ rounding.At (pos 3) (Unsigned HalfEven) MultiplesOf2
+large_rounding = refl
+
 -- `group-on-aligned`
 aligned_grouping : (format_of (record plain { grouping = grouping.OnAligned })).shape.grouping ≡ strategy.OnAligned
 aligned_grouping = refl
@@ -325,3 +376,20 @@ aligned_grouping = refl
 -- a compact pattern rounds by itself
 compact_rounding : (format_of (record plain { notation = Compact Short })).options.rounding ≡ rounding.AsGiven
 compact_rounding = refl
+
+-- ---- normal texts of increments
+
+increment_text : skeleton_text (record plain { precision = Increment MultiplesOf5 1 2 Hidden }) ≡ codes "precision-increment/0.50/w"
+increment_text = refl
+
+parted_text : skeleton_text (record plain { precision = Increment MultiplesOf25 1 2 Shown }) ≡ codes "precision-increment/2.50"
+parted_text = refl
+
+large_text : skeleton_text (record plain { precision = Increment MultiplesOf2 3 0 Shown }) ≡ codes "precision-increment/2000"
+large_text = refl
+
+pointed_text : skeleton_text (record plain { precision = Increment MultiplesOf1 2 1 Shown }) ≡ codes "precision-increment/10.0"
+pointed_text = refl
+
+small_text : skeleton_text (record plain { precision = Increment MultiplesOf25 0 4 Shown }) ≡ codes "precision-increment/0.0025"
+small_text = refl

@@ -4,6 +4,8 @@ pub mod CuttingLemmas
 pub mod DigitOrderLemmas
 pub mod DigitShownLemmas
 pub mod EitherLemmas
+pub mod IncrementLemmas
+pub mod IncrementReads
 mod KnownSkeletons
 mod KnownValues
 pub mod NormalLemmas

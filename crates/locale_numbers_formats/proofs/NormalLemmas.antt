@@ -19,12 +19,16 @@ no_word spaced (Some word) none = absurd (cc)
 pub fixed_is : (word : List ℕ) → word ++ ([] ++ ([] ++ [])) ≡ word
 fixed_is word = append-nil word
 
-at_sign_events_are : (w : NormalWord) → bytes (w.slash.now ++ at_signs w.signs w.others w.behind.now) ≡ at_sign_events w
+at_sign_events_are : (w : NormalWord) → bytes (w.middle.now ++ (marks w.last (48 ∷ []) ++ at_signs w.signs w.others w.behind.now)) ≡ at_sign_events w
 at_sign_events_are w =
-    bytes_joined w.slash.now (signs ++ (others ++ w.behind.now))
-    ∙ ap (λ (es : List Event). bytes w.slash.now ++ es) (bytes_joined signs (others ++ w.behind.now)
-    ∙ ap (λ (es : List Event). bytes signs ++ es) (bytes_joined others w.behind.now))
+    bytes_joined w.middle.now (last ++ (signs ++ (others ++ w.behind.now)))
+    ∙ ap (λ (es : List Event). bytes w.middle.now ++ es) (bytes_joined last (signs ++ (others ++ w.behind.now))
+    ∙ ap (λ (es : List Event). bytes last ++ es) (bytes_joined signs (others ++ w.behind.now)
+    ∙ ap (λ (es : List Event). bytes signs ++ es) (bytes_joined others w.behind.now)))
   where
+    last : List ℕ
+    last = marks w.last (48 ∷ [])
+
     signs : List ℕ
     signs = marks w.signs (64 ∷ [])
 
@@ -46,7 +50,7 @@ word_events_are spaced w =
     hashes = marks w.hashes (35 ∷ [])
 
     rest : List ℕ
-    rest = w.slash.now ++ at_signs w.signs w.others w.behind.now
+    rest = w.middle.now ++ (marks w.last (48 ∷ []) ++ at_signs w.signs w.others w.behind.now)
 
 -- one mark more
 marks_suc : (left : ℕ) (mark : List ℕ) → marks (suc left) mark ≡ mark ++ marks left mark

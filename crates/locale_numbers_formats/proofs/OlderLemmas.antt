@@ -1,12 +1,12 @@
 -- Older options make of a number what they made: `specs/OlderOptions.antt`.
 use Rattle.std.proofs.Common.{◌≡◌, ◌==◌, ◌%◌, ◌^◌, ◌≤◌, ◌&&◌, ℤ, neg_ℤ, Bool, true, false, cond, Option, Some, None, ◌∙◌, refl, ap, arith}
-use Rattle.fixed_decimal.specs.Number.{IsNumber, Number, place}
+use Rattle.fixed_decimal.specs.Number.{Number, place}
 use Rattle.fixed_decimal.specs.SignedValue.{SignedValue}
 use Rattle.icu_dimension_fractions.specs.declared.CurrencyUsage.{CurrencyUsage}
 use Rattle.icu_dimension_fractions.specs.declared.CurrencyUsage.TheVariants as usage
 use Rattle.icu_dimension_fractions.specs.declared.FractionInfo.{FractionInfo}
 use Rattle.locale_numbers_formats.specs.Changed.{amount_by, changed_by, end_trimmed, front_padded, front_trimmed, is_above_ones, padded_down, rounded_by, settled_rounding, shown, signed_as, start_trimmed, whole_shown}
-use Rattle.locale_numbers_formats.specs.OlderOptions.{AreOlderZeros, IsOlderRounding, OlderOptionsStay, older_changed, older_shown, older_trimmed}
+use Rattle.locale_numbers_formats.specs.OlderOptions.{AreOlderZeros, IsOlderRounding, OlderOptionsStay, older_shown, older_trimmed}
 use Rattle.locale_numbers_formats.specs.declared.options.LeadingZeros.{LeadingZeros}
 use Rattle.locale_numbers_formats.specs.declared.options.LeadingZeros.TheVariants as leading
 use Rattle.locale_numbers_formats.specs.declared.options.NumberOptions.{NumberOptions}

@@ -1,16 +1,18 @@
 -- What is read of a skeleton can be asked for by words: the code is one, and there are not too many marks.
-use Rattle.std.proofs.Common.{◌≡◌, ℕ, ◌+◌, ◌-◌, ◌<◌, ◌≤◌, nat_le, nat_lt, Bool, true, false, ◌&&◌, ◌||◌, ◌==◌, List, [], ◌∷◌, length, drop, take, position, Option, Some, None, unwrap_or, Result, Ok, Err, codes, cond, refl, subst, arith}
+use Rattle.std.proofs.Common.{◌≡◌, ℕ, ◌+◌, ◌-◌, ◌<◌, ◌≤◌, nat_le, nat_lt, Bool, true, false, ◌&&◌, ◌||◌, ◌==◌, List, [], ◌∷◌, ◌++◌, length, drop, take, position, Option, Some, None, unwrap_or, Result, Ok, Err, codes, cond, refl, subst, arith}
 use Rattle.std.specs.List.{list_all}
 use Rattle.std.specs.Str.{bytes_eq}
-use Rattle.std.specs.Char.{to_ascii_uppercase}
+use Rattle.std.specs.Char.{is_ascii_digit, to_ascii_uppercase}
 use Rattle.std.specs.Prelude.{slice_index}
 use Rattle.std.proofs.lemmas.Bool.{and_parts, false≢true, le-leb, leb-true, lt-ltb, ltb-false, ltb-true}
+use Rattle.fixed_decimal.specs.declared.RoundingIncrement.{RoundingIncrement}
 use Rattle.fixed_decimal.specs.declared.SignDisplay.{SignDisplay}
 use Rattle.fixed_decimal.specs.declared.SignDisplay.TheVariants as display
 use Rattle.icu_dimension_fractions.specs.CurrencyCodes.{is_currency_code}
 use Rattle.icu_dimension_fractions.specs.declared.CurrencyStyle.{CurrencyStyle}
 use Rattle.icu_dimension_fractions.specs.declared.CurrencyStyle.TheVariants as style
 use Rattle.locale_numbers_formats.specs.Cutting.{cut_at, is_separator}
+use Rattle.locale_numbers_formats.specs.IncrementWords.{from_first, increment_at, increment_setting, number_setting, other_step, point, pointed_at, step_of, step_setting}
 use Rattle.locale_numbers_formats.specs.Marks.{digits_end, digits_setting, either_end, either_setting, exponent_digits, exponent_setting, exponent_sign, exponent_signed, fraction_end, fraction_setting, leading, marked, old_end, old_form, option_setting, padded_setting, zeros_or}
 use Rattle.locale_numbers_formats.specs.SkeletonLaws.{HasCode, HasMarks, IsSkeleton}
 use Rattle.locale_numbers_formats.specs.Skeletons.{at_place, checked, checked_by, no_words, once, pair_fault, read_word, read_words, set, settled, skeleton_of, space, then_read}
@@ -27,7 +29,7 @@ use Rattle.locale_numbers_formats.specs.declared.skeleton_error.WordFault.TheVar
 use Rattle.locale_numbers_formats.specs.declared.stems.Precision.{Precision}
 use Rattle.locale_numbers_formats.specs.declared.stems.Precision.TheVariants as precision
 use Rattle.locale_numbers_formats.specs.declared.stems.Setting.{Setting}
-use Rattle.locale_numbers_formats.specs.declared.stems.Setting.TheVariants.{OfNotation, OfUnit, OfPrecision, OfMode, OfGrouping, OfWhole, OfWidth, OfSign, Refused}
+use Rattle.locale_numbers_formats.specs.declared.stems.Setting.TheVariants.{OfNotation, OfUnit, OfPrecision, OfMode, OfGrouping, OfWhole, OfWidth, OfSign, OfPoint, Refused}
 use Rattle.locale_numbers_formats.specs.declared.stems.SkeletonSign.{SkeletonSign}
 use Rattle.locale_numbers_formats.specs.declared.stems.SkeletonUnit.{SkeletonUnit}
 use Rattle.locale_numbers_formats.specs.declared.stems.SkeletonUnit.TheVariants as unit
@@ -50,6 +52,7 @@ is_precision (precision.Whole least more) = nat_le (least + more) 100
 is_precision (precision.Significant least more zeros) = nat_lt 0 least && nat_le (least + more) 100
 is_precision (precision.SignificantAtLeast least zeros) = nat_lt 0 least && nat_le least 100
 is_precision (precision.Either least more digits others priority zeros) = nat_le (least + more) 100 && (nat_lt 0 digits && nat_le (digits + others) 100)
+is_precision (precision.Increment step zeros digits whole) = nat_le zeros 100 && nat_le digits 100
 is_precision (precision.Currency usage) = true
 is_precision (precision.WholeCurrency usage) = true
 
@@ -70,6 +73,7 @@ is_setting (OfGrouping x) = true
 is_setting (OfWhole x) = nat_le x 100
 is_setting (OfWidth x) = true
 is_setting (OfSign x) = is_sign_by x.style x.display
+is_setting OfPoint = true
 is_setting (Refused x) = true
 
 -- ---- each word asks for such a thing
@@ -229,14 +233,50 @@ option_is least more (c ∷ cs) few = at (c == 64) (bytes_eq (c ∷ cs) (codes "
     at false true = le-leb (least + more) 100 few
     at false false = refl
 
-optioned_is : (front option : List ℕ) → is_setting (optioned front option) ≡ true
-optioned_is front option = at (bytes_eq front (codes "currency")) (bytes_eq front (codes "integer-width")) (bytes_eq front (codes "precision-integer"))
+other_is : (text : List ℕ) → is_setting (other_step text) ≡ true
+other_is [] = refl
+other_is (c ∷ cs) = at (list_all is_ascii_digit (c ∷ cs))
   where
-    at : (b d e : Bool) → is_setting (cond b (coded option) (cond d (padded_setting option) (cond e (option_setting 0 0 option) (or_unknown (value_beside fronts front))))) ≡ true
-    at true d e = coded_is option
-    at false true e = padded_is option
-    at false false true = option_is 0 0 option (omega arith)
-    at false false false = or_unknown_is (value_beside fronts front) (λ v some. beside_is fronts front v refl some)
+    at : (b : Bool) → is_setting (cond b (Refused fault.Unsupported) (Refused fault.Unknown)) ≡ true
+    at true = refl
+    at false = refl
+
+step_is : (o : Option (RoundingIncrement × ℕ)) (whole : WholeZeros) (digits : ℕ) (others : List ℕ) → is_setting (step_setting o whole digits others) ≡ true
+step_is None whole digits others = other_is others
+step_is (Some found) whole digits others = at (nat_lt 100 found.1) refl (nat_lt 100 digits) refl
+  where
+    at : (a : Bool) → nat_lt 100 found.1 ≡ a → (b : Bool) → nat_lt 100 digits ≡ b
+        → is_setting (cond (a || b) (Refused fault.Unsupported) (OfPrecision (precision.Increment found.0 found.1 digits whole))) ≡ true
+    at true _ b _ = refl
+    at false _ true _ = refl
+    at false few false short = both (nat_le found.1 100) (nat_le digits 100) (le-leb found.1 100 (ltb-false 100 found.1 few)) (le-leb digits 100 (ltb-false 100 digits short))
+
+number_is : (whole : WholeZeros) (o : Option ℕ) (number : List ℕ) → is_setting (pointed_at o whole number) ≡ true
+number_is whole None number = step_is (step_of (from_first (number ++ []))) whole 0 (from_first (number ++ []))
+number_is whole (Some end) number =
+    let digits = from_first (take end number ++ drop (end + 1) number) in
+    step_is (step_of digits) whole (length (drop (end + 1) number)) digits
+
+increment_at_is : (o : Option ℕ) (option : List ℕ) → is_setting (increment_at o option) ≡ true
+increment_at_is None option = number_is Shown (position (is_separator point) option) option
+increment_at_is (Some end) option = at (bytes_eq (drop (end + 1) option) (codes "w"))
+  where
+    at : (b : Bool) → is_setting (cond b (number_setting Hidden (take end option)) (Refused fault.Unknown)) ≡ true
+    at true = number_is Hidden (position (is_separator point) (take end option)) (take end option)
+    at false = refl
+
+increment_is : (option : List ℕ) → is_setting (increment_setting option) ≡ true
+increment_is option = increment_at_is (position (is_separator 47) option) option
+
+optioned_is : (front option : List ℕ) → is_setting (optioned front option) ≡ true
+optioned_is front option = at (bytes_eq front (codes "currency")) (bytes_eq front (codes "integer-width")) (bytes_eq front (codes "precision-integer")) (bytes_eq front (codes "precision-increment"))
+  where
+    at : (b d e f : Bool) → is_setting (cond b (coded option) (cond d (padded_setting option) (cond e (option_setting 0 0 option) (cond f (increment_setting option) (or_unknown (value_beside fronts front)))))) ≡ true
+    at true d e f = coded_is option
+    at false true e f = padded_is option
+    at false false true f = option_is 0 0 option (omega arith)
+    at false false false true = increment_is option
+    at false false false false = or_unknown_is (value_beside fronts front) (λ v some. beside_is fronts front v refl some)
 
 slashed_is : (o : Option ℕ) (word : List ℕ) → is_setting (slashed_at o word) ≡ true
 slashed_is None word = refl
@@ -349,6 +389,7 @@ set_is w (OfWidth x) v are is same = subst AreWords (once_is w.width (record w {
 set_is w (OfSign x) v are is same =
     subst AreWords (once_is w.sign (record w { sign = Some x }) v same)
     (record { unit = are.unit; precision = are.precision; digits = are.digits; sign = λ y some. subst (λ (z : SkeletonSign). is_sign_by z.style z.display ≡ true) (some_is x y some) is })
+set_is w OfPoint v are is same = subst AreWords (once_is w.point (record w { point = Some tt }) v same) (record { unit = are.unit; precision = are.precision; digits = are.digits; sign = are.sign })
 set_is w (Refused f) v are is same = absurd (cc)
 
 ok_is : (w v : Words) → ◌≡◌ {A = Result Words SkeletonError} (Ok w) (Ok v) → w ≡ v
@@ -398,6 +439,9 @@ precision_has (Some (precision.SignificantAtLeast least z)) is = some_from least
 precision_has (Some (precision.Either least more digits others p z)) is =
     let q = and_parts (nat_le (least + more) 100) (nat_lt 0 digits && nat_le (digits + others) 100) (is (precision.Either least more digits others p z) refl) in
     (leb-true (least + more) 100 q.0, some_from digits (digits + others) q.1)
+precision_has (Some (precision.Increment step zeros digits whole)) is =
+    let p = and_parts (nat_le zeros 100) (nat_le digits 100) (is (precision.Increment step zeros digits whole) refl) in
+    (leb-true zeros 100 p.0, leb-true digits 100 p.1)
 precision_has (Some (precision.Currency usage)) is = tt
 precision_has (Some (precision.WholeCurrency usage)) is = tt
 

@@ -5,6 +5,7 @@ use Rattle.std.specs.List.{list_all, onto_first}
 use Rattle.std.proofs.lemmas.Bool.{and_parts, false_from_ne_true, false≢true, eqb-true, le-ltb, leb-true, lt-ltb, ne_eqb}
 use Rattle.std.proofs.lemmas.List.{length-append}
 use Rattle.std.proofs.lemmas.List.Splits.{slice_split-cons_no}
+use Rattle.fixed_decimal.specs.declared.RoundingIncrement.{RoundingIncrement}
 use Rattle.fixed_decimal.specs.declared.SignDisplay.{SignDisplay}
 use Rattle.fixed_decimal.specs.declared.SignDisplay.TheVariants as display
 use Rattle.fixed_decimal.specs.declared.SignedRoundingMode.{SignedRoundingMode}
@@ -16,9 +17,10 @@ use Rattle.icu_dimension_fractions.specs.declared.CurrencyStyle.TheVariants as s
 use Rattle.icu_dimension_fractions.specs.declared.CurrencyUsage.TheVariants.{Standard, Cash}
 use Rattle.icu_dimension_fractions.specs.declared.CurrencyWidth.{CurrencyWidth}
 use Rattle.icu_dimension_fractions.specs.declared.CurrencyWidth.TheVariants as width
+use Rattle.locale_numbers_formats.proofs.IncrementReads.{increment_read, length_marks, number_lacks}
 use Rattle.locale_numbers_formats.specs.Cutting.{cut_at, is_separator}
 use Rattle.locale_numbers_formats.specs.Marks.{digits_counted, digits_end, digits_hashes, digits_setting, either_counted, either_end, either_hashes, either_setting, fraction_counted, fraction_end, fraction_hashes, fraction_setting, leading, option_setting, zeros_or}
-use Rattle.locale_numbers_formats.specs.NormalText.{digits_word, grouping_word, joined, marks, mode_word, normal_words, notation_word, pointed, precision_word, priority_mark, sign_word, sign_word_by, at_signs, skeleton_text, unit_word, whole_mark, width_word}
+use Rattle.locale_numbers_formats.specs.NormalText.{digits_word, grouping_word, joined, marks, mode_word, normal_words, notation_word, number_text, pointed, precision_word, priority_mark, sign_word, sign_word_by, at_signs, skeleton_text, unit_word, whole_mark, width_word}
 use Rattle.locale_numbers_formats.specs.SkeletonLaws.{HasCode, HasMarks, IsSkeleton, NormalTextReadsBack}
 use Rattle.locale_numbers_formats.specs.Skeletons.{at_place, checked, checked_by, no_words, pair_fault, read_words, set, settled, skeleton_of, space, then_read, usual_grouping}
 use Rattle.locale_numbers_formats.specs.Stems.{capital_code, coded, setting_named, slashed_at}
@@ -169,6 +171,8 @@ clear_precision (precision.Significant least more z) = clear_at_signs least more
 clear_precision (precision.SignificantAtLeast least z) = clear_at_signs least 0 (codes "*" ++ whole_mark z) (clear_whole z)
 clear_precision (precision.Either least more digits others p z) =
     clear_pointed least more (codes "/" ++ at_signs digits others (priority_mark p ++ whole_mark z)) (clear_at_signs digits others (priority_mark p ++ whole_mark z) (clear_priority p z))
+clear_precision (precision.Increment step zeros digits z) =
+    clear_append (number_text step zeros digits) (whole_mark z) (number_lacks space refl step zeros digits) (clear_whole z)
 clear_precision (precision.Currency Standard) = refl
 clear_precision (precision.Currency Cash) = refl
 clear_precision (precision.WholeCurrency Standard) = refl
@@ -253,10 +257,6 @@ leading_signs (suc count) rest none = omega (arith, leading_signs count rest non
 drop_marks : (count mark : ℕ) (rest : List ℕ) → drop count (marks count (mark ∷ []) ++ rest) ≡ rest
 drop_marks zero mark rest = refl
 drop_marks (suc count) mark rest = drop_marks count mark rest
-
-length_marks : (count mark : ℕ) (rest : List ℕ) → length (marks count (mark ∷ []) ++ rest) ≡ count + length rest
-length_marks zero mark rest = omega arith
-length_marks (suc count) mark rest = omega (arith, length_marks count mark rest)
 
 no_zero : (hashes : ℕ) (behind : List ℕ) → leading 48 behind ≡ 0 → leading 48 (marks hashes (35 ∷ []) ++ behind) ≡ 0
 no_zero zero behind none = none
@@ -365,6 +365,16 @@ digits_named digits few =
     zeros : List ℕ
     zeros = marks (suc digits) (48 ∷ []) ++ []
 
+increment_named : (step : RoundingIncrement) (zeros digits : ℕ) (z : WholeZeros) → zeros ≤ 100 → digits ≤ 100
+    → setting_named (codes "precision-increment/" ++ (number_text step zeros digits ++ whole_mark z)) ≡ OfPrecision (precision.Increment step zeros digits z)
+increment_named step zeros digits z few short =
+    ap (λ (b : Bool). slashed_at (cond b (Some 19) None) (codes "precision-increment/" ++ option))
+    (lt-ltb 19 (length (codes "precision-increment/" ++ option)) (omega (arith, length-append (codes "precision-increment/") option)))
+    ∙ increment_read z step zeros digits few short
+  where
+    option : List ℕ
+    option = number_text step zeros digits ++ whole_mark z
+
 -- ---- words of a point
 
 fraction_named : (least more : ℕ) → 0 < least + more → least + more ≤ 100 → setting_named (pointed least more []) ≡ OfPrecision (precision.Fraction least more)
@@ -430,6 +440,7 @@ asked_precision (precision.Whole least more) = Some (precision.Whole least more)
 asked_precision (precision.Significant least more z) = Some (precision.Significant least more z)
 asked_precision (precision.SignificantAtLeast least z) = Some (precision.SignificantAtLeast least z)
 asked_precision (precision.Either least more digits others p z) = Some (precision.Either least more digits others p z)
+asked_precision (precision.Increment step zeros digits z) = Some (precision.Increment step zeros digits z)
 asked_precision (precision.Currency usage) = Some (precision.Currency usage)
 asked_precision (precision.WholeCurrency usage) = Some (precision.WholeCurrency usage)
 
@@ -475,7 +486,7 @@ asked_sign style.Accounting display.ExceptZero = Some (record { display = displa
 asked_sign style.Accounting display.Negative = Some (record { display = display.Negative; style = style.Accounting })
 
 abbrev asked : Option Notation → Option SkeletonUnit → Option Precision → Option SignedRoundingMode → Option SkeletonGrouping → Option ℕ → Option CurrencyWidth → Option SkeletonSign → Words
-asked n u p m g d w s = record { notation = n; unit = u; precision = p; mode = m; grouping = g; integer_digits = d; width = w; sign = s }
+asked n u p m g d w s = record { notation = n; unit = u; precision = p; mode = m; grouping = g; integer_digits = d; width = w; sign = s; point = None }
 
 -- the place after a word that is there
 abbrev after : ℕ → Option (List ℕ) → ℕ
@@ -538,6 +549,9 @@ step_precision place n u (precision.Either least more zero others p z) rest has 
 step_precision place n u (precision.Either least more (suc signs) others p z) rest has =
     read_known place 46 (marks least (48 ∷ []) ++ (marks more (35 ∷ []) ++ (codes "/" ++ at_signs (suc signs) others (priority_mark p ++ whole_mark z)))) (present rest) (asked n u None None None None None None)
     (OfPrecision (precision.Either least more (suc signs) others p z)) (either_named least more signs others p z has.0 has.1.1)
+step_precision place n u (precision.Increment step zeros digits z) rest has =
+    read_known place 112 (codes "recision-increment/" ++ (number_text step zeros digits ++ whole_mark z)) (present rest) (asked n u None None None None None None)
+    (OfPrecision (precision.Increment step zeros digits z)) (increment_named step zeros digits z has.0 has.1)
 step_precision place n u (precision.Currency Standard) rest has = refl
 step_precision place n u (precision.Currency Cash) rest has = refl
 step_precision place n u (precision.WholeCurrency Standard) rest has = refl
@@ -611,6 +625,7 @@ precision_back (precision.Whole least more) = refl
 precision_back (precision.Significant least more z) = refl
 precision_back (precision.SignificantAtLeast least z) = refl
 precision_back (precision.Either least more digits others p z) = refl
+precision_back (precision.Increment step zeros digits z) = refl
 precision_back (precision.Currency usage) = refl
 precision_back (precision.WholeCurrency usage) = refl
 

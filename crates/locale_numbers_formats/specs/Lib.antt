@@ -3,6 +3,7 @@ pub mod Changed
 pub mod DigitLaws
 pub mod OlderOptions
 -- And what the words of a skeleton ask for.
+pub mod IncrementWords
 pub mod Marks
 pub mod NormalText
 pub mod SkeletonErrors

@@ -2,7 +2,9 @@
 -- ICU's number skeletons; docs/skeletons.md, "Normal text".
 -- Cited by `Writeable` and `Display` of `Skeleton`, and by the law that normal texts are read back.
 -- A skeleton has many types with cases, and the cases of each are imported beside it.
-use Rattle.std.specs.Prelude.{ℕ, zero, suc, ◌==◌, ◌&&◌, ◌||◌, Bool, true, false, if◌then◌else◌, is_some, List, [], ◌∷◌, ◌++◌, Option, Some, None, codes}
+use Rattle.std.specs.Prelude.{ℕ, zero, suc, ◌+◌, ◌-◌, ◌==◌, nat_lt, ◌&&◌, ◌||◌, Bool, true, false, if◌then◌else◌, is_some, length, List, [], ◌∷◌, ◌++◌, Option, Some, None, codes}
+use Rattle.fixed_decimal.specs.declared.RoundingIncrement.{RoundingIncrement}
+use Rattle.fixed_decimal.specs.declared.RoundingIncrement.TheVariants.{MultiplesOf1, MultiplesOf2, MultiplesOf5, MultiplesOf25}
 use Rattle.fixed_decimal.specs.declared.SignDisplay.{SignDisplay}
 use Rattle.fixed_decimal.specs.declared.SignDisplay.TheVariants as display
 use Rattle.fixed_decimal.specs.declared.SignedRoundingMode.{SignedRoundingMode}
@@ -70,6 +72,30 @@ priority_mark LessPrecision = codes "s"
 abbrev pub fraction_word : ℕ → ℕ → List ℕ
 fraction_word least more = if (least == 0) && (more == 0) then codes "precision-integer" else pointed least more []
 
+-- the digits of an increment
+abbrev pub step_digits : RoundingIncrement → List ℕ
+step_digits MultiplesOf1 = codes "1"
+step_digits MultiplesOf2 = codes "2"
+step_digits MultiplesOf5 = codes "5"
+step_digits MultiplesOf25 = codes "25"
+
+-- a point, and zeros after it
+abbrev pub point_zeros : ℕ → List ℕ
+point_zeros zero = []
+point_zeros (suc digits) = codes "." ++ marks (suc digits) (codes "0")
+
+-- the same where some digit that is not zero is after the point: `2.5` has one there and one before it
+abbrev pub small_text : RoundingIncrement → ℕ → ℕ → List ℕ
+small_text step zeros digits =
+    if nat_lt digits (length (step_digits step) + zeros) then codes "2.5" ++ marks zeros (codes "0")
+    else codes "0." ++ (marks (digits - (length (step_digits step) + zeros)) (codes "0") ++ (step_digits step ++ marks zeros (codes "0")))
+
+-- an increment with zeros behind, as a decimal number with so many digits after its point
+abbrev pub number_text : RoundingIncrement → ℕ → ℕ → List ℕ
+number_text step zeros digits =
+    if nat_lt zeros digits then small_text step zeros digits
+    else step_digits step ++ (marks (zeros - digits) (codes "0") ++ point_zeros digits)
+
 abbrev pub precision_word : Precision → Option (List ℕ)
 precision_word precision.Usual = None
 precision_word precision.Unlimited = Some (codes "precision-unlimited")
@@ -79,6 +105,7 @@ precision_word (precision.Whole least more) = Some (pointed least more (codes "/
 precision_word (precision.Significant least more zeros) = Some (at_signs least more (whole_mark zeros))
 precision_word (precision.SignificantAtLeast least zeros) = Some (at_signs least 0 (codes "*" ++ whole_mark zeros))
 precision_word (precision.Either least more digits others priority zeros) = Some (pointed least more (codes "/" ++ at_signs digits others (priority_mark priority ++ whole_mark zeros)))
+precision_word (precision.Increment step zeros digits whole) = Some (codes "precision-increment/" ++ (number_text step zeros digits ++ whole_mark whole))
 precision_word (precision.Currency Standard) = Some (codes "precision-currency-standard")
 precision_word (precision.Currency Cash) = Some (codes "precision-currency-cash")
 precision_word (precision.WholeCurrency Standard) = Some (codes "precision-currency-standard/w")
@@ -156,10 +183,10 @@ skeleton_text s = joined false (normal_words s)
 -- ---- the pieces that the code writes
 
 abbrev pub word_of : NormalWord → List ℕ
-word_of w = w.front.now ++ (marks w.zeros (codes "0") ++ (marks w.hashes (codes "#") ++ (w.slash.now ++ at_signs w.signs w.others w.behind.now)))
+word_of w = w.front.now ++ (marks w.zeros (codes "0") ++ (marks w.hashes (codes "#") ++ (w.middle.now ++ (marks w.last (codes "0") ++ at_signs w.signs w.others w.behind.now))))
 
 abbrev pub at_sign_events : NormalWord → List Event
-at_sign_events w = bytes w.slash.now ++ (bytes (marks w.signs (codes "@")) ++ (bytes (marks w.others (codes "#")) ++ bytes w.behind.now))
+at_sign_events w = bytes w.middle.now ++ (bytes (marks w.last (codes "0")) ++ (bytes (marks w.signs (codes "@")) ++ (bytes (marks w.others (codes "#")) ++ bytes w.behind.now)))
 
 abbrev pub word_events : Bool → NormalWord → List Event
 word_events spaced w = bytes (gap spaced) ++ (bytes w.front.now ++ (bytes (marks w.zeros (codes "0")) ++ (bytes (marks w.hashes (codes "#")) ++ at_sign_events w)))

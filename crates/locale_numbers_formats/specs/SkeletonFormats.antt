@@ -2,7 +2,7 @@
 -- ICU's number skeletons; docs/skeletons.md, "What they mean".
 -- Cited by `Skeleton::format` and `NumberFormat::try_from_str`.
 -- A skeleton and a format have many types with cases, and the cases of each are imported beside it.
-use Rattle.std.specs.Prelude.{ℕ, pos, neg_ℤ, ◌+◌, ◌&&◌, not, Bool, if◌then◌else◌}
+use Rattle.std.specs.Prelude.{ℕ, pos, neg_ℤ, ◌+◌, ◌-ℤ◌, ◌&&◌, not, Bool, if◌then◌else◌}
 use Rattle.fixed_decimal.specs.declared.RoundingIncrement.TheVariants.{MultiplesOf1}
 use Rattle.fixed_decimal.specs.declared.SignedRoundingMode.{SignedRoundingMode}
 use Rattle.icu_decimal_symbols.specs.declared.options.GroupingStrategy.{GroupingStrategy}
@@ -22,7 +22,7 @@ use Rattle.locale_numbers_formats.specs.declared.shape.NumberUnit.{NumberUnit}
 use Rattle.locale_numbers_formats.specs.declared.shape.NumberUnit.TheVariants as beside
 use Rattle.locale_numbers_formats.specs.declared.skeleton.Skeleton.{Skeleton}
 use Rattle.locale_numbers_formats.specs.declared.stems.Precision.{Precision}
-use Rattle.locale_numbers_formats.specs.declared.stems.Precision.TheVariants.{Usual, Unlimited, Fraction, AtLeast, Whole, Significant, SignificantAtLeast, Either, Currency, WholeCurrency}
+use Rattle.locale_numbers_formats.specs.declared.stems.Precision.TheVariants.{Usual, Unlimited, Fraction, AtLeast, Whole, Significant, SignificantAtLeast, Either, Increment, Currency, WholeCurrency}
 use Rattle.locale_numbers_formats.specs.declared.stems.SkeletonGrouping.{SkeletonGrouping}
 use Rattle.locale_numbers_formats.specs.declared.stems.SkeletonGrouping.TheVariants as grouping
 use Rattle.locale_numbers_formats.specs.declared.stems.SkeletonUnit.{SkeletonUnit}
@@ -57,6 +57,7 @@ rounding_by amount mode (Whole least more) = to_digits (least + more) mode
 rounding_by amount mode (Significant least more zeros) = rounding.Significant (digits_from least more) mode
 rounding_by amount mode (SignificantAtLeast least zeros) = rounding.Significant (digits_on least) mode
 rounding_by amount mode (Either least more digits others priority zeros) = rounding.Either priority (neg_ℤ (pos (least + more))) (digits_from digits others) mode
+rounding_by amount mode (Increment step zeros digits whole) = rounding.At (pos zeros -ℤ pos digits) mode step
 rounding_by amount mode (Currency usage) = by_usage usage
 rounding_by amount mode (WholeCurrency usage) = by_usage usage
 
@@ -79,6 +80,7 @@ zeros_by amount (Whole least more) = TrimAll
 zeros_by amount (Significant least more zeros) = whole_zeros zeros
 zeros_by amount (SignificantAtLeast least zeros) = whole_zeros zeros
 zeros_by amount (Either least more digits others priority zeros) = whole_zeros zeros
+zeros_by amount (Increment step zeros digits whole) = whole_zeros whole
 zeros_by amount (Currency usage) = Keep
 zeros_by amount (WholeCurrency usage) = TrimWhole
 
@@ -94,6 +96,7 @@ digits_of (Whole least more) = least
 digits_of (Significant least more zeros) = 0
 digits_of (SignificantAtLeast least zeros) = 0
 digits_of (Either least more digits others priority zeros) = least
+digits_of (Increment step zeros digits whole) = digits
 digits_of (Currency usage) = 0
 digits_of (WholeCurrency usage) = 0
 

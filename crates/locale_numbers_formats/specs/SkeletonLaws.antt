@@ -29,6 +29,7 @@ HasMarks (precision.Whole least more) = least + more ≤ 100
 HasMarks (precision.Significant least more zeros) = (0 < least) × (least + more ≤ 100)
 HasMarks (precision.SignificantAtLeast least zeros) = (0 < least) × (least ≤ 100)
 HasMarks (precision.Either least more digits others priority zeros) = (least + more ≤ 100) × ((0 < digits) × (digits + others ≤ 100))
+HasMarks (precision.Increment step zeros digits whole) = (zeros ≤ 100) × (digits ≤ 100)
 HasMarks (precision.Currency usage) = Unit {0}
 HasMarks (precision.WholeCurrency usage) = Unit {0}
 

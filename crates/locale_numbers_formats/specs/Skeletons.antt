@@ -26,7 +26,7 @@ use Rattle.locale_numbers_formats.specs.declared.skeleton_error.WordFault.TheVar
 use Rattle.locale_numbers_formats.specs.declared.stems.Precision.{Precision}
 use Rattle.locale_numbers_formats.specs.declared.stems.Precision.TheVariants as precision
 use Rattle.locale_numbers_formats.specs.declared.stems.Setting.{Setting}
-use Rattle.locale_numbers_formats.specs.declared.stems.Setting.TheVariants.{OfNotation, OfUnit, OfPrecision, OfMode, OfGrouping, OfWhole, OfWidth, OfSign, Refused}
+use Rattle.locale_numbers_formats.specs.declared.stems.Setting.TheVariants.{OfNotation, OfUnit, OfPrecision, OfMode, OfGrouping, OfWhole, OfWidth, OfSign, OfPoint, Refused}
 use Rattle.locale_numbers_formats.specs.declared.stems.SkeletonGrouping.{SkeletonGrouping}
 use Rattle.locale_numbers_formats.specs.declared.stems.SkeletonGrouping.TheVariants as grouping
 use Rattle.locale_numbers_formats.specs.declared.stems.SkeletonUnit.{SkeletonUnit}
@@ -39,7 +39,7 @@ space = 32
 -- ---- each word sets one thing
 
 abbrev pub no_words : Words
-no_words = record { notation = None; unit = None; precision = None; mode = None; grouping = None; integer_digits = None; width = None; sign = None }
+no_words = record { notation = None; unit = None; precision = None; mode = None; grouping = None; integer_digits = None; width = None; sign = None; point = None }
 
 -- what was not set before
 abbrev pub once : {A : Type 0} → Option A → Words → Result Words WordFault
@@ -55,6 +55,7 @@ set w (OfGrouping x) = once w.grouping (record w { grouping = Some x })
 set w (OfWhole x) = once w.integer_digits (record w { integer_digits = Some x })
 set w (OfWidth x) = once w.width (record w { width = Some x })
 set w (OfSign x) = once w.sign (record w { sign = Some x })
+set w OfPoint = once w.point (record w { point = Some tt })
 set w (Refused fault) = Err fault
 
 abbrev pub at_place : ℕ → Result Words WordFault → Result Words SkeletonError
@@ -117,6 +118,7 @@ has_currency_digits (precision.Whole least more) = false
 has_currency_digits (precision.Significant least more zeros) = false
 has_currency_digits (precision.SignificantAtLeast least zeros) = false
 has_currency_digits (precision.Either least more digits others priority zeros) = false
+has_currency_digits (precision.Increment step zeros digits whole) = false
 has_currency_digits (precision.Currency usage) = true
 has_currency_digits (precision.WholeCurrency usage) = true
 
@@ -129,6 +131,7 @@ says_precision (precision.Whole least more) = true
 says_precision (precision.Significant least more zeros) = true
 says_precision (precision.SignificantAtLeast least zeros) = true
 says_precision (precision.Either least more digits others priority zeros) = true
+says_precision (precision.Increment step zeros digits whole) = true
 says_precision (precision.Currency usage) = true
 says_precision (precision.WholeCurrency usage) = true
 

@@ -14,6 +14,7 @@ use Rattle.icu_dimension_fractions.specs.declared.CurrencyUsage.TheVariants as u
 use Rattle.icu_dimension_fractions.specs.declared.CurrencyWidth.TheVariants as width
 use Rattle.icu_dimension_fractions.specs.declared.CurrencyWidth.TheVariants.{IsoCode}
 use Rattle.locale_numbers_formats.specs.Cutting.{is_separator}
+use Rattle.locale_numbers_formats.specs.IncrementWords.{increment_setting}
 use Rattle.locale_numbers_formats.specs.Marks.{marked, option_setting, padded_setting}
 use Rattle.locale_numbers_formats.specs.WordTable.{value_beside}
 use Rattle.locale_numbers_formats.specs.declared.shape.CompactWidth.TheVariants.{Short, Long}
@@ -23,7 +24,7 @@ use Rattle.locale_numbers_formats.specs.declared.skeleton_error.WordFault.TheVar
 use Rattle.locale_numbers_formats.specs.declared.stems.Precision.TheVariants as precision
 use Rattle.locale_numbers_formats.specs.declared.stems.Precision.TheVariants.{Unlimited, Fraction, WholeCurrency}
 use Rattle.locale_numbers_formats.specs.declared.stems.Setting.{Setting}
-use Rattle.locale_numbers_formats.specs.declared.stems.Setting.TheVariants.{OfNotation, OfUnit, OfPrecision, OfMode, OfGrouping, OfWidth, OfSign, Refused}
+use Rattle.locale_numbers_formats.specs.declared.stems.Setting.TheVariants.{OfNotation, OfUnit, OfPrecision, OfMode, OfGrouping, OfWidth, OfSign, OfPoint, Refused}
 use Rattle.locale_numbers_formats.specs.declared.stems.SkeletonGrouping.TheVariants as grouping
 use Rattle.locale_numbers_formats.specs.declared.stems.SkeletonUnit.TheVariants as beside
 use Rattle.locale_numbers_formats.specs.declared.stems.SkeletonUnit.TheVariants.{Percent, Currency}
@@ -64,6 +65,7 @@ stems =
     ∷ (codes "group-auto", OfGrouping grouping.Auto)
     ∷ (codes "group-on-aligned", OfGrouping grouping.OnAligned)
     ∷ (codes ",!", OfGrouping grouping.OnAligned)
+    ∷ (codes "decimal-auto", OfPoint)
     ∷ (codes "unit-width-iso-code", OfWidth IsoCode)
     ∷ (codes "unit-width-short", OfWidth width.Short)
     ∷ (codes "sign-auto", OfSign (record { display = display.Auto; style = style.Standard }))
@@ -91,7 +93,6 @@ stems =
     ∷ (codes "%x100", Refused fault.Later)
     ∷ (codes "latin", Refused fault.System)
     ∷ (codes "decimal-always", Refused fault.Unsupported)
-    ∷ (codes "decimal-auto", Refused fault.Unsupported)
     ∷ (codes "integer-width-trunc", Refused fault.Unsupported)
     ∷ (codes "unit-width-hidden", Refused fault.Unsupported)
     ∷ (codes "unit-width-formal", Refused fault.Unsupported)
@@ -106,7 +107,6 @@ abbrev pub fronts : List (List ℕ × Setting)
 fronts =
     (codes "numbering-system", Refused fault.System)
     ∷ (codes "scale", Refused fault.Later)
-    ∷ (codes "precision-increment", Refused fault.Later)
     ∷ (codes "unit", Refused fault.Later)
     ∷ (codes "measure-unit", Refused fault.Later)
     ∷ (codes "scientific", Refused fault.Later)
@@ -136,6 +136,7 @@ optioned front option =
     if bytes_eq front (codes "currency") then coded option
     else if bytes_eq front (codes "integer-width") then padded_setting option
     else if bytes_eq front (codes "precision-integer") then option_setting 0 0 option
+    else if bytes_eq front (codes "precision-increment") then increment_setting option
     else or_unknown (value_beside fronts front)
 
 abbrev pub slash : ℕ

@@ -17,6 +17,7 @@
 
 mod changing;
 mod cutting;
+mod increments;
 pub mod laws;
 mod marks;
 mod normal_text;

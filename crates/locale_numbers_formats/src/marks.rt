@@ -9,10 +9,10 @@ use crate::skeleton_error::WordFault;
 use crate::stems::{Precision, Setting, WholeZeros};
 
 // How many digits a word may ask for.
-const MOST: usize = 100;
+pub(crate) const MOST: usize = 100;
 
 // How many marks of a kind a text begins with.
-fn leading(text: &[u8], mark: u8) -> usize
+pub(crate) fn leading(text: &[u8], mark: u8) -> usize
     ensures count { result ≡ leading mark text.now }
     ensures most { result ≤ length text.now }
 {

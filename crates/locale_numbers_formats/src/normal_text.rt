@@ -3,28 +3,41 @@
 ghost use Rattle.std.specs.Prelude.{◌≡◌, ◌++◌, ◌||◌, codes, false, is_err, is_some, length, map, option_map, OnOk, OnErr};
 ghost use Rattle.writeable.specs.AnnotatedText.{bytes};
 ghost use Rattle.writeable.specs.Taking.{HasBegun};
-ghost use Rattle.locale_numbers_formats.specs.NormalText.{digits_word, fraction_word, gap, grouping_word, joined, marks, mode_word, normal_words, notation_word, precision_word, priority_mark, sign_word, at_signs, at_sign_events, unit_word, whole_mark, width_word, word_after, word_events, word_of};
+ghost use Rattle.locale_numbers_formats.specs.NormalText.{digits_word, fraction_word, gap, grouping_word, joined, marks, mode_word, normal_words, notation_word, precision_word, number_text, priority_mark, sign_word, step_digits, at_signs, at_sign_events, unit_word, whole_mark, width_word, word_after, word_events, word_of};
 
 use crate::options::RoundingPriority;
 use crate::shape::{CompactWidth, Notation};
 use crate::skeleton::Skeleton;
 use crate::stems::{Precision, SkeletonGrouping, SkeletonSign, SkeletonUnit, WholeZeros};
-use fixed_decimal::{SignDisplay, SignedRoundingMode, UnsignedRoundingMode};
+use fixed_decimal::{RoundingIncrement, SignDisplay, SignedRoundingMode, UnsignedRoundingMode};
 use icu_dimension_fractions::{CurrencyStyle, CurrencyUsage, CurrencyWidth};
 use std::fmt;
 use writeable::{Error, Sink, Writeable, display};
 
-// A word: a front, zeros and hashes, a slash, at-signs and hashes, and what is behind these.
+// A word: a front, zeros and hashes, a middle, zeros, at-signs and hashes, and what is behind these.
 #[derive(Clone, Copy)]
 struct NormalWord<'a> {
     front: &'a str,
     zeros: u8,
     hashes: u8,
-    slash: &'a str,
+    middle: &'a str,
+    last: u8,
     signs: u8,
     others: u8,
     behind: &'a str,
 }
+
+// Nothing.
+const BLANK: NormalWord<'static> = NormalWord {
+    front: "",
+    zeros: 0,
+    hashes: 0,
+    middle: "",
+    last: 0,
+    signs: 0,
+    others: 0,
+    behind: "",
+};
 
 // A word without digits.
 fn fixed(word: &'static str) -> NormalWord<'static>
@@ -32,12 +45,7 @@ fn fixed(word: &'static str) -> NormalWord<'static>
 {
     NormalWord {
         front: word,
-        zeros: 0,
-        hashes: 0,
-        slash: "",
-        signs: 0,
-        others: 0,
-        behind: "",
+        ..BLANK
     }
 }
 
@@ -49,10 +57,8 @@ fn pointed(zeros: u8, hashes: u8, behind: &'static str) -> NormalWord<'static>
         front: ".",
         zeros,
         hashes,
-        slash: "",
-        signs: 0,
-        others: 0,
         behind,
+        ..BLANK
     }
 }
 
@@ -61,13 +67,10 @@ fn at_signs(signs: u8, others: u8, behind: &'static str) -> NormalWord<'static>
     ensures { word_of result ≡ at_signs signs others behind.now }
 {
     NormalWord {
-        front: "",
-        zeros: 0,
-        hashes: 0,
-        slash: "",
         signs,
         others,
         behind,
+        ..BLANK
     }
 }
 
@@ -91,12 +94,8 @@ fn unit_word(unit: &SkeletonUnit) -> Option<NormalWord<'_>>
         SkeletonUnit::Percent => Some(fixed("percent")),
         SkeletonUnit::Currency(code) => Some(NormalWord {
             front: "currency/",
-            zeros: 0,
-            hashes: 0,
-            slash: "",
-            signs: 0,
-            others: 0,
             behind: code.as_str(),
+            ..BLANK
         }),
     }
 }
@@ -144,6 +143,68 @@ fn priority_mark(priority: RoundingPriority, zeros: WholeZeros) -> &'static str
     }
 }
 
+// The digits of an increment.
+fn step_digits(step: RoundingIncrement) -> &'static str
+    ensures { result.now ≡ step_digits step }
+{
+    match step {
+        RoundingIncrement::MultiplesOf1 => "1",
+        RoundingIncrement::MultiplesOf2 => "2",
+        RoundingIncrement::MultiplesOf5 => "5",
+        RoundingIncrement::MultiplesOf25 => "25",
+    }
+}
+
+// The front of the word of an increment that begins with its digits.
+fn step_front(step: RoundingIncrement) -> &'static str
+    ensures { result.now ≡ codes "precision-increment/" ++ step_digits step }
+{
+    match step {
+        RoundingIncrement::MultiplesOf1 => "precision-increment/1",
+        RoundingIncrement::MultiplesOf2 => "precision-increment/2",
+        RoundingIncrement::MultiplesOf5 => "precision-increment/5",
+        RoundingIncrement::MultiplesOf25 => "precision-increment/25",
+    }
+}
+
+// The word of an increment with so many zeros behind and so many digits after the point, and what is behind these.
+fn increment_word(
+    step: RoundingIncrement,
+    zeros: u8,
+    digits: u8,
+    behind: &'static str,
+) -> NormalWord<'static>
+    ensures { word_of result ≡ codes "precision-increment/" ++ (number_text step zeros digits ++ behind.now) }
+{
+    let shown = step_digits(step);
+    if digits <= zeros {
+        NormalWord {
+            front: step_front(step),
+            zeros: zeros - digits,
+            middle: if digits == 0 { "" } else { "." },
+            last: digits,
+            behind,
+            ..BLANK
+        }
+    } else if (digits as usize) < shown.len() + zeros as usize {
+        NormalWord {
+            front: "precision-increment/2.5",
+            zeros,
+            behind,
+            ..BLANK
+        }
+    } else {
+        NormalWord {
+            front: "precision-increment/0.",
+            zeros: (digits as usize - (shown.len() + zeros as usize)) as u8,
+            middle: shown,
+            last: zeros,
+            behind,
+            ..BLANK
+        }
+    }
+}
+
 // The word of the digits that are shown.
 fn precision_word(precision: Precision) -> Option<NormalWord<'static>>
     ensures { option_map word_of result ≡ precision_word precision }
@@ -168,11 +229,15 @@ fn precision_word(precision: Precision) -> Option<NormalWord<'static>>
             front: ".",
             zeros: least,
             hashes: more,
-            slash: "/",
+            middle: "/",
             signs: digits,
             others,
             behind: priority_mark(priority, zeros),
+            ..BLANK
         }),
+        Precision::Increment(step, zeros, digits, whole) => {
+            Some(increment_word(step, zeros, digits, whole_mark(whole)))
+        }
         Precision::Currency(CurrencyUsage::Standard) => Some(fixed("precision-currency-standard")),
         Precision::Currency(CurrencyUsage::Cash) => Some(fixed("precision-currency-cash")),
         Precision::WholeCurrency(CurrencyUsage::Standard) => {
@@ -233,11 +298,7 @@ fn digits_word(digits: u8) -> Option<NormalWord<'static>>
         Some(NormalWord {
             front: "integer-width/*",
             zeros: digits,
-            hashes: 0,
-            slash: "",
-            signs: 0,
-            others: 0,
-            behind: "",
+            ..BLANK
         })
     }
 }
@@ -307,7 +368,8 @@ fn write_at_signs<S: Sink>(word: NormalWord<'_>, sink: &mut S) -> Result<(), Err
     ensures refused { S.refused sink.new ≡ is_err result }
     ensures begun { OnErr result (HasBegun S.takes S.lacks_room sink.old (at_sign_events word.entry) sink.new) }
 {
-    sink.write_str(word.slash)?;
+    sink.write_str(word.middle)?;
+    write_marks(word.last, "0", sink)?;
     write_marks(word.signs, "@", sink)?;
     write_marks(word.others, "#", sink)?;
     sink.write_str(word.behind)

@@ -63,6 +63,7 @@ struct Words {
     integer_digits: Option<u8>,
     width: Option<CurrencyWidth>,
     sign: Option<SkeletonSign>,
+    point: Option<()>,
 }
 
 // What a word sets that may not go with another one.
@@ -92,6 +93,7 @@ impl Words {
             integer_digits: None,
             width: None,
             sign: None,
+            point: None,
         }
     }
 
@@ -109,6 +111,7 @@ impl Words {
             Setting::OfWhole(x) => with.integer_digits.replace(x).is_some(),
             Setting::OfWidth(x) => with.width.replace(x).is_some(),
             Setting::OfSign(x) => with.sign.replace(x).is_some(),
+            Setting::OfPoint => with.point.replace(()).is_some(),
             Setting::Refused(fault) => return Err(fault),
         };
         if was { Err(WordFault::Twice) } else { Ok(with) }
@@ -237,7 +240,8 @@ fn has_currency_digits(precision: Precision) -> bool
         | Precision::Whole(_, _)
         | Precision::Significant(_, _, _)
         | Precision::SignificantAtLeast(_, _)
-        | Precision::Either(_, _, _, _, _, _) => false,
+        | Precision::Either(_, _, _, _, _, _)
+        | Precision::Increment(_, _, _, _) => false,
     }
 }
 
@@ -254,6 +258,7 @@ fn says_precision(precision: Precision) -> bool
         | Precision::Significant(_, _, _)
         | Precision::SignificantAtLeast(_, _)
         | Precision::Either(_, _, _, _, _, _)
+        | Precision::Increment(_, _, _, _)
         | Precision::Currency(_)
         | Precision::WholeCurrency(_) => true,
     }
@@ -411,6 +416,9 @@ impl Skeleton {
                 let position = -(least as i16 + more as i16);
                 Rounding::Either(priority, position, digits_from(digits, others), self.mode)
             }
+            Precision::Increment(step, zeros, digits, _) => {
+                Rounding::At(zeros as i16 - digits as i16, self.mode, step)
+            }
             Precision::Currency(CurrencyUsage::Standard)
             | Precision::WholeCurrency(CurrencyUsage::Standard) => Rounding::Usual,
             Precision::Currency(CurrencyUsage::Cash)
@@ -433,7 +441,8 @@ impl Skeleton {
             Precision::Whole(_, _) => TrailingZeros::TrimAll,
             Precision::Significant(_, _, zeros)
             | Precision::SignificantAtLeast(_, zeros)
-            | Precision::Either(_, _, _, _, _, zeros) => whole_zeros(zeros),
+            | Precision::Either(_, _, _, _, _, zeros)
+            | Precision::Increment(_, _, _, zeros) => whole_zeros(zeros),
             Precision::WholeCurrency(_) => TrailingZeros::TrimWhole,
             Precision::Currency(_) => TrailingZeros::Keep,
         }
@@ -447,7 +456,8 @@ impl Skeleton {
             Precision::Fraction(least, _)
             | Precision::AtLeast(least)
             | Precision::Whole(least, _)
-            | Precision::Either(least, _, _, _, _, _) => least,
+            | Precision::Either(least, _, _, _, _, _)
+            | Precision::Increment(_, _, least, _) => least,
             Precision::Usual
             | Precision::Unlimited
             | Precision::Significant(_, _, _)

@@ -5,12 +5,13 @@ ghost use Rattle.locale_numbers_formats.specs.Stems.{capital_code, coded, fronts
 ghost use Rattle.locale_numbers_formats.specs.WordTable.{value_beside};
 
 use crate::cutting::first_separator;
+use crate::increments::increment_setting;
 use crate::marks::{marked, option_setting, padded_setting};
 use crate::options::RoundingPriority;
 use crate::shape::{CompactWidth, Notation};
 use crate::skeleton_error::WordFault;
 use crate::word_table::value_beside;
-use fixed_decimal::{SignDisplay, SignedRoundingMode, UnsignedRoundingMode};
+use fixed_decimal::{RoundingIncrement, SignDisplay, SignedRoundingMode, UnsignedRoundingMode};
 use icu_dimension_fractions::{CurrencyCode, CurrencyStyle, CurrencyUsage, CurrencyWidth};
 
 /// What a skeleton writes beside the digits.
@@ -53,6 +54,9 @@ pub enum Precision {
     /// Digits after the point or significant digits, each so many at least and so many more at most, whichever show more, or
     /// less: `.0#/@@r`.
     Either(u8, u8, u8, u8, RoundingPriority, WholeZeros),
+    /// Multiples of an increment with so many zeros behind, as a number with so many digits after its point:
+    /// `precision-increment/0.50`.
+    Increment(RoundingIncrement, u8, u8, WholeZeros),
     /// Those of the currency: `precision-currency-standard`, `precision-currency-cash`.
     Currency(CurrencyUsage),
     /// Those of the currency, and none of a whole number: `precision-currency-standard/w`.
@@ -100,6 +104,8 @@ pub enum Setting {
     OfWidth(CurrencyWidth),
     /// Which sign is written.
     OfSign(SkeletonSign),
+    /// Where the point is shown.
+    OfPoint,
     /// Nothing: its fault is told.
     Refused(WordFault),
 }
@@ -199,6 +205,7 @@ const STEMS: [(&[u8], Setting); 68] = [
         Setting::OfGrouping(SkeletonGrouping::OnAligned),
     ),
     (b",!", Setting::OfGrouping(SkeletonGrouping::OnAligned)),
+    (b"decimal-auto", Setting::OfPoint),
     (
         b"unit-width-iso-code",
         Setting::OfWidth(CurrencyWidth::IsoCode),
@@ -331,7 +338,6 @@ const STEMS: [(&[u8], Setting); 68] = [
     (b"%x100", Setting::Refused(WordFault::Later)),
     (b"latin", Setting::Refused(WordFault::System)),
     (b"decimal-always", Setting::Refused(WordFault::Unsupported)),
-    (b"decimal-auto", Setting::Refused(WordFault::Unsupported)),
     (
         b"integer-width-trunc",
         Setting::Refused(WordFault::Unsupported),
@@ -360,10 +366,9 @@ const STEMS: [(&[u8], Setting); 68] = [
 ];
 
 // What is told of words with a part after a slash, by what is before it.
-const FRONTS: [(&[u8], Setting); 9] = [
+const FRONTS: [(&[u8], Setting); 8] = [
     (b"numbering-system", Setting::Refused(WordFault::System)),
     (b"scale", Setting::Refused(WordFault::Later)),
-    (b"precision-increment", Setting::Refused(WordFault::Later)),
     (b"unit", Setting::Refused(WordFault::Later)),
     (b"measure-unit", Setting::Refused(WordFault::Later)),
     (b"scientific", Setting::Refused(WordFault::Later)),
@@ -419,6 +424,8 @@ fn optioned(front: &[u8], option: &[u8]) -> Setting
         padded_setting(option)
     } else if front == b"precision-integer".as_slice() {
         option_setting(0, 0, option)
+    } else if front == b"precision-increment".as_slice() {
+        increment_setting(option)
     } else {
         front_setting(front)
     }

@@ -1,4 +1,5 @@
 pub mod ExactFormLemmas
+pub mod KnownOperands
 mod KnownValues
 pub mod JoinedUnitLemmas
 pub mod LayerLemmas
@@ -6,5 +7,6 @@ pub mod LenientLemmas
 pub mod LenientUnitLemmas
 pub mod PairLemmas
 pub mod ReadBackLemmas
+pub mod ShownOperandsLemmas
 pub mod TypedLemmas
 pub mod UnitLayerLemmas

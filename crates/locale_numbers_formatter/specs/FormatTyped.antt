@@ -1,9 +1,7 @@
--- What people type of numbers of a format: read leniently, and where the digits are others than those of ASCII also by second tables.
+-- What people type of numbers of a format: read leniently, and where a second format is given also by what that is written with.
 -- Defined in docs/reading.md, "Lenient reading", and docs/units.md, "Lenient reading".
 -- Cited by `LenientNumberReader`, and by the call that makes one.
-use Rattle.std.specs.Prelude.{ℕ, if◌then◌else◌, List, Option, None, Some, option_map}
-use Rattle.std.specs.Str.{bytes_eq}
-use Rattle.icu_decimal.specs.Folding.{plain_digits}
+use Rattle.std.specs.Prelude.{ℕ, List, Option, None, Some, option_map}
 use Rattle.icu_decimal.specs.PlainReading.{PlainReading, unreadable}
 use Rattle.icu_decimal.specs.PlainText.{Tables}
 use Rattle.locale_numbers_formatter.specs.TypedPlain.{MayAllocateInTurn, TablesInTurn, reading_in_turn}
@@ -18,7 +16,7 @@ pub data TypedTables : Type 0 where
   unit_typed : TypedInTurn → TypedTables
   nothing_typed : TypedTables
 
--- a second format of the same kind
+-- a second format, where it is of the same kind
 abbrev pub plain_in : Option FormatTables → Option Tables
 plain_in None = None
 plain_in (Some (plain_tables t)) = Some t
@@ -31,10 +29,6 @@ unit_in (Some (plain_tables t)) = None
 unit_in (Some (compact_tables t)) = None
 unit_in (Some (unit_tables u)) = Some u
 
--- it counts where the digits of the first are others than those of ASCII
-abbrev pub where_native : {T : Type 0} → List ℕ → Option T → Option T
-where_native digits second = if bytes_eq digits plain_digits then None else second
-
 abbrev pub typed_unit : UnitFormat → TypedTexts
 typed_unit u = typed_texts u.settings u.code
 
@@ -42,9 +36,9 @@ abbrev pub units_in_turn : UnitFormat → Option UnitFormat → TypedInTurn
 units_in_turn u second = record { first = typed_unit u; second = option_map typed_unit second }
 
 abbrev pub typed_of : FormatTables → Option FormatTables → TypedTables
-typed_of (plain_tables t) latin = plain_typed (record { first = t; second = where_native t.digits (plain_in latin) })
-typed_of (compact_tables t) latin = nothing_typed
-typed_of (unit_tables u) latin = unit_typed (units_in_turn u (where_native u.settings.tables.digits (unit_in latin)))
+typed_of (plain_tables t) second = plain_typed (record { first = t; second = plain_in second })
+typed_of (compact_tables t) second = nothing_typed
+typed_of (unit_tables u) second = unit_typed (units_in_turn u (unit_in second))
 
 -- ---- the reading
 
@@ -54,7 +48,7 @@ reading_by_typed (unit_typed readers) text = unit_reading_in_turn readers text
 reading_by_typed nothing_typed text = unreadable
 
 abbrev pub format_typed_reading : FormatTables → Option FormatTables → List ℕ → PlainReading
-format_typed_reading f latin text = reading_by_typed (typed_of f latin) text
+format_typed_reading f second text = reading_by_typed (typed_of f second) text
 
 -- memory may be asked for
 abbrev pub TypedAllocates : TypedTables → List ℕ → Type 0

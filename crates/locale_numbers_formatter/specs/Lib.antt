@@ -2,6 +2,7 @@
 pub mod Layers
 pub mod FormatText
 pub mod ExactForms
+pub mod ShownOperands
 pub mod FormatParts
 pub mod FormatReading
 pub mod TypedPlain

@@ -1,4 +1,4 @@
--- What a typed text is by some tables, and, where its digits are other ones than those of ASCII, by second ones beside them.
+-- What a typed text is by some tables, and, where second ones are given, by these beside them.
 -- Defined in docs/reading.md, "Lenient reading".
 -- Cited by `LenientReader`, and through FormatTyped.antt by `LenientNumberReader`.
 use Rattle.std.specs.Prelude.{◌⊎◌, ℕ, List, Option, Some, None}

@@ -1,4 +1,4 @@
--- What a typed text with a unit is by a reader, and, where its digits are other ones than those of ASCII, by a second one beside it.
+-- What a typed text with a unit is by a reader, and, where a second one is given, by that beside it.
 -- Defined in docs/units.md, "Lenient reading".
 -- Cited by `KnownLenientReader` and `UnitReadersInTurn`, and through FormatTyped.antt by `LenientNumberReader`.
 -- A text is read exactly, and else leniently, and each is defined in a file of its own to import.

@@ -1,22 +1,21 @@
 //! Reading what people type of numbers of any format.
 
 ghost use Rattle.std.specs.Prelude.{◌≡◌, codes, IfOk, IsErrOf, option_map};
-ghost use Rattle.icu_decimal.specs.BorrowedTables.{borrowed_tables};
 ghost use Rattle.icu_decimal.specs.HeldTables.{tables_of};
 ghost use Rattle.icu_decimal.specs.PlainReading.{IsAnswered};
 ghost use Rattle.icu_dimension.specs.HeldFormatters.{code_of, currency_settings_of, settings_of_percent};
 ghost use Rattle.locale_numbers_formatter.specs.FormatText.{plain_tables, unit_tables};
-ghost use Rattle.locale_numbers_formatter.specs.FormatTyped.{TypedAllocates, nothing_typed, plain_in, reading_by_typed, typed_of, typed_unit, unit_in, where_native};
+ghost use Rattle.locale_numbers_formatter.specs.FormatTyped.{TypedAllocates, nothing_typed, plain_in, reading_by_typed, typed_of, typed_unit, unit_in};
 ghost use Rattle.locale_numbers_formatter.specs.HeldFormats.{currency_format, percent_format};
 
 use crate::known_lenient_reader::KnownLenientReader;
 use crate::known_reader::KnownReader;
-use crate::lenient_reader::{LenientReader, has_ascii_digits};
+use crate::lenient_reader::LenientReader;
 use crate::number_formatter::{FormatterKind, NumberFormatter};
 use crate::unit_readers_in_turn::UnitReadersInTurn;
 use fixed_decimal::Decimal;
+use icu_decimal::DecimalFormatter;
 use icu_decimal::error::ReadError;
-use icu_decimal::{DecimalFormatter, DecimalTables};
 use icu_dimension::{CurrencyFormatter, PercentFormatter};
 use std::alloc::{AllocError, Global};
 use std::marker::Model;
@@ -52,18 +51,11 @@ impl<'a> Model for LenientNumberReader<'a> {
     ghost view = { λ r. typed_held r.kind };
 }
 
-// The second formatter of plain numbers, where the digits are others than those of ASCII.
-fn second_plain<'a>(
-    decimals: &DecimalTables<'_>,
-    latin: Option<&NumberFormatter<'a>>,
-) -> Option<DecimalFormatter<'a>>
-    ensures { option_map tables_of result ≡ where_native (borrowed_tables decimals.now).digits
-        (plain_in (option_map (λ f. f.now) latin.entry)) }
+// The second formatter, where it is one of plain numbers.
+fn second_plain<'a>(second: Option<&NumberFormatter<'a>>) -> Option<DecimalFormatter<'a>>
+    ensures { option_map tables_of result ≡ plain_in (option_map (λ f. f.now) second.entry) }
 {
-    if has_ascii_digits(decimals) {
-        return None;
-    }
-    match &latin?.kind {
+    match &second?.kind {
         FormatterKind::Plain(formatter) => Some(*formatter),
         FormatterKind::Compact(_) | FormatterKind::Percent(_) | FormatterKind::Currency(_) => None,
     }
@@ -108,25 +100,20 @@ fn typed_amounts<'a>(
     }
 }
 
-// What reads what people type of numbers with a unit by a second formatter, where the digits are others than those of
-// ASCII. It is apart, so that it and the first one take room on the stack in turn.
+// What reads what people type of numbers with a unit by a second formatter, where it is one of these. It is apart, so that
+// it and the first one take room on the stack in turn.
 #[inline(never)]
 fn second_unit<'a>(
     alloc: Global,
-    decimals: &DecimalTables<'_>,
-    latin: Option<&NumberFormatter<'a>>,
+    second: Option<&NumberFormatter<'a>>,
 ) -> Result<Option<KnownLenientReader<'a>>, AllocError>
-    ensures { IfOk result (λ second. second
-        ≡ option_map typed_unit (where_native (borrowed_tables decimals.now).digits
-        (unit_in (option_map (λ f. f.now) latin.entry)))) }
+    ensures { IfOk result
+        (λ reader. reader ≡ option_map typed_unit (unit_in (option_map (λ f. f.now) second.entry))) }
 {
-    if has_ascii_digits(decimals) {
-        return Ok(None);
-    }
-    let Some(latin) = latin else {
+    let Some(second) = second else {
         return Ok(None);
     };
-    match &latin.kind {
+    match &second.kind {
         FormatterKind::Percent(formatter) => match typed_percents(alloc, formatter) {
             Ok(reader) => Ok(Some(reader)),
             Err(refused) => Err(refused),
@@ -144,12 +131,12 @@ impl<'a> LenientNumberReader<'a> {
     pub(crate) fn of_plain(
         alloc: Global,
         formatter: &DecimalFormatter<'a>,
-        latin: Option<&NumberFormatter<'a>>,
+        second: Option<&NumberFormatter<'a>>,
     ) -> Self
         ensures { result ≡ typed_of (plain_tables (tables_of formatter.now))
-            (option_map (λ f. f.now) latin.entry) }
+            (option_map (λ f. f.now) second.entry) }
     {
-        let second = second_plain(formatter.tables(), latin);
+        let second = second_plain(second);
         LenientNumberReader {
             kind: LenientKind::Plain(LenientReader::keeping(alloc, *formatter, second)),
         }
@@ -169,13 +156,13 @@ impl<'a> LenientNumberReader<'a> {
     pub(crate) fn of_percent(
         alloc: Global,
         formatter: &PercentFormatter<'a>,
-        latin: Option<&NumberFormatter<'a>>,
+        second: Option<&NumberFormatter<'a>>,
     ) -> Result<Self, AllocError>
         ensures { IfOk result (λ reader. reader
             ≡ typed_of (unit_tables (percent_format (settings_of_percent formatter.now)))
-            (option_map (λ f. f.now) latin.entry)) }
+            (option_map (λ f. f.now) second.entry)) }
     {
-        let second = second_unit(alloc, formatter.decimals(), latin)?;
+        let second = second_unit(alloc, second)?;
         match typed_percents(alloc, formatter) {
             Ok(first) => Ok(LenientNumberReader {
                 kind: LenientKind::Unit(UnitReadersInTurn::new(first, second)),
@@ -192,14 +179,14 @@ impl<'a> LenientNumberReader<'a> {
     pub(crate) fn of_currency(
         alloc: Global,
         formatter: &CurrencyFormatter<'a>,
-        latin: Option<&NumberFormatter<'a>>,
+        second: Option<&NumberFormatter<'a>>,
     ) -> Result<Self, AllocError>
         ensures { IfOk result (λ reader. reader
             ≡ typed_of
             (unit_tables (currency_format (code_of formatter.now) (currency_settings_of formatter.now)))
-            (option_map (λ f. f.now) latin.entry)) }
+            (option_map (λ f. f.now) second.entry)) }
     {
-        let second = second_unit(alloc, formatter.decimals(), latin)?;
+        let second = second_unit(alloc, second)?;
         match typed_amounts(alloc, formatter) {
             Ok(first) => Ok(LenientNumberReader {
                 kind: LenientKind::Unit(UnitReadersInTurn::new(first, second)),

@@ -1,9 +1,6 @@
-//! What people type, read by a formatter, and where its digits are its own, also by one of the digits of ASCII.
+//! What people type, read by a formatter, and where a second one is given, also by that.
 
 ghost use Rattle.std.specs.Prelude.{◌≡◌, Option, None, Some, IsErrOf, IfSome, option_map};
-ghost use Rattle.std.specs.Str.{bytes_eq};
-ghost use Rattle.icu_decimal.specs.BorrowedTables.{borrowed_tables};
-ghost use Rattle.icu_decimal.specs.Folding.{plain_digits};
 ghost use Rattle.icu_decimal.specs.HeldTables.{tables_of};
 ghost use Rattle.icu_decimal.specs.PlainReading.{IsAnswered};
 ghost use Rattle.locale_numbers_formatter.specs.TypedPlain.{MayAllocateInTurn, reading_in_turn};
@@ -14,17 +11,6 @@ use icu_decimal::{DecimalFormatter, DecimalTables, LenientTables};
 use icu_decimal_lenient::{TableReader, read_typed, read_typed_or};
 use std::alloc::Global;
 use std::marker::Model;
-
-const ASCII_DIGITS: [char; 10] = ['0', '1', '2', '3', '4', '5', '6', '7', '8', '9'];
-
-// Whether the digits of tables are those of ASCII: of `en` they are, of `ar-EG` they are not.
-//
-// It does not allocate.
-pub(crate) fn has_ascii_digits(tables: &DecimalTables<'_>) -> bool
-    ensures { result ≡ bytes_eq (borrowed_tables tables.now).digits plain_digits }
-{
-    *tables.digits() == ASCII_DIGITS
-}
 
 // A formatter, and its symbols folded, where they are kept.
 #[derive(Drop)]

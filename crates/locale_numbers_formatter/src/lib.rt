@@ -12,6 +12,7 @@
 //! ```
 #![tactic(auto)]
 
+mod digit_tables;
 mod error;
 mod formatted_number;
 mod known_lenient_reader;
@@ -22,6 +23,7 @@ mod lenient_reader;
 mod number_formatter;
 mod number_reader;
 mod own_tables;
+mod shown_operands;
 mod unit_readers_in_turn;
 
 pub use error::ExactError;

@@ -1,17 +1,15 @@
 //! A formatter of numbers in any format.
 
 ghost use Rattle.std.specs.Prelude.{◌≡◌, ◌≢◌, ◌↔◌, Some, None, IfErr, IfOk, IsErrOf, IsOk, IsTrue, OnErr, option_map};
-ghost use Rattle.std.specs.Str.{bytes_eq};
 ghost use Rattle.fixed_decimal.specs.Range.{IsLong};
 ghost use Rattle.writeable.specs.AnnotatedText.{text_of};
-ghost use Rattle.icu_decimal.specs.Folding.{plain_digits};
 ghost use Rattle.icu_decimal.specs.HeldCompact.{compact_tables_of};
 ghost use Rattle.icu_decimal.specs.HeldTables.{tables_of};
 ghost use Rattle.icu_dimension.specs.HeldFormatters.{code_of, currency_settings_of, settings_of_percent};
 ghost use Rattle.locale_numbers_formatter.specs.ExactForms.{IsFormInRange, exact_shown};
 ghost use Rattle.locale_numbers_formatter.specs.FormatParts.{exact_format_events, format_events};
 ghost use Rattle.locale_numbers_formatter.specs.FormatReading.{reader_of};
-ghost use Rattle.locale_numbers_formatter.specs.FormatText.{CanFormat, FormatAllocates, HasNoUnit, ShowAllocates, compact_tables, digit_tables, format_text, format_value, fractions_in, plain_tables, unit_tables};
+ghost use Rattle.locale_numbers_formatter.specs.FormatText.{CanFormat, FormatAllocates, HasNoUnit, ShowAllocates, compact_tables, format_text, format_value, fractions_in, plain_tables, unit_tables};
 ghost use Rattle.locale_numbers_formatter.specs.FormatTyped.{typed_of};
 ghost use Rattle.locale_numbers_formatter.specs.FormattedNumbers.{formatted_events};
 ghost use Rattle.locale_numbers_formatter.specs.HeldFormats.{currency_format, format_of, percent_format};
@@ -20,7 +18,6 @@ use crate::error::ExactError;
 use crate::formatted_number::FormattedNumber;
 use crate::laws::{compact_is_layered, format_is_text, plain_is_layered, unit_is_layered};
 use crate::lenient_number_reader::LenientNumberReader;
-use crate::lenient_reader::has_ascii_digits;
 use crate::number_reader::NumberReader;
 use fixed_decimal::{CompactDecimal, Decimal};
 use icu_decimal::{CompactDecimalFormatter, DecimalFormatter};
@@ -269,18 +266,6 @@ impl<'a> NumberFormatter<'a> {
         &self.kind
     }
 
-    /// Whether its digits are those of ASCII: of `en` they are, of `ar-EG` they are not. It does not allocate.
-    pub fn has_ascii_digits(&self) -> bool
-        ensures { result ≡ bytes_eq (digit_tables self.now).digits plain_digits }
-    {
-        match &self.kind {
-            FormatterKind::Plain(formatter) => has_ascii_digits(formatter.tables()),
-            FormatterKind::Compact(formatter) => has_ascii_digits(formatter.plain().tables()),
-            FormatterKind::Percent(formatter) => has_ascii_digits(formatter.decimals()),
-            FormatterKind::Currency(formatter) => has_ascii_digits(formatter.decimals()),
-        }
-    }
-
     /// The digits of the currency, where it writes amounts: two of `EUR`. It does not allocate.
     pub fn fractions(&self) -> Option<FractionInfo>
         ensures { result ≡ fractions_in self.now }
@@ -390,31 +375,31 @@ impl<'a> NumberFormatter<'a> {
         }
     }
 
-    /// What reads what people type of the numbers that this formatter writes, and, where its digits are others than those of
-    /// ASCII, also by a second formatter, as that of `ar-EG-u-nu-latn` beside that of `ar-EG`: that of `en` and `EUR` reads
-    /// `€1.5`, `1.5` and `1.5 EUR` as 1.5, and that of compact numbers reads nothing.
+    /// What reads what people type of the numbers that this formatter writes, and, where one is given, also by a second
+    /// formatter, as that of `ar-EG-u-nu-latn` beside that of `ar-EG`: that of `en` and `EUR` reads `€1.5`, `1.5` and
+    /// `1.5 EUR` as 1.5, and that of compact numbers reads nothing.
     ///
     /// A second formatter of another kind counts for nothing. It allocates for each affix, and for each folded text; without
     /// a unit it always succeeds. `AllocError`: out of memory.
     pub fn lenient_reader(
         &self,
         alloc: Global,
-        latin: Option<&NumberFormatter<'a>>,
+        second: Option<&NumberFormatter<'a>>,
     ) -> Result<LenientNumberReader<'a>, AllocError>
         ensures succeeds { HasNoUnit self.now → IsOk result }
         ensures value { IfOk result
-            (λ reader. reader ≡ typed_of self.now (option_map (λ f. f.now) latin.entry)) }
+            (λ reader. reader ≡ typed_of self.now (option_map (λ f. f.now) second.entry)) }
     {
         match &self.kind {
             FormatterKind::Plain(formatter) => {
-                Ok(LenientNumberReader::of_plain(alloc, formatter, latin))
+                Ok(LenientNumberReader::of_plain(alloc, formatter, second))
             }
             FormatterKind::Compact(_) => Ok(LenientNumberReader::of_nothing()),
             FormatterKind::Percent(formatter) => {
-                LenientNumberReader::of_percent(alloc, formatter, latin)
+                LenientNumberReader::of_percent(alloc, formatter, second)
             }
             FormatterKind::Currency(formatter) => {
-                LenientNumberReader::of_currency(alloc, formatter, latin)
+                LenientNumberReader::of_currency(alloc, formatter, second)
             }
         }
     }

@@ -1,5 +1,4 @@
-//! What people type of numbers with a unit, read by a reader, and where its digits are its own, also by one of the digits of
-//! ASCII.
+//! What people type of numbers with a unit, read by a reader, and where a second one is given, also by that.
 
 ghost use Rattle.std.specs.Prelude.{◌≡◌, IsErrOf};
 ghost use Rattle.icu_decimal.specs.PlainReading.{IsAnswered};

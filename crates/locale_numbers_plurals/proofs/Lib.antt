@@ -1,5 +1,4 @@
 mod KnownValues
 pub mod FormLemmas
-pub mod FoundLemmas
 pub mod PluralsLemmas
 pub mod RangesLemmas

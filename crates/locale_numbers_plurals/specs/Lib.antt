@@ -1,5 +1,4 @@
--- What a reader must believe: what an entry of ranges says, both arrays as tables, their form, and what a locale finds.
+-- What a reader must believe: what an entry of ranges says, both arrays as tables, and their form.
 pub mod RangesEntries
 pub mod Plurals
 pub mod Form
-pub mod Found

@@ -1,4 +1,4 @@
-//! The two arrays of plurals, taken out of a JSON value.
+//! Arrays taken out of a JSON value, and the two of plurals.
 
 ghost use Rattle.std.specs.Prelude.{◌≡◌, true, false, drop, option_map, unwrap_or, IfSome, None};
 ghost use Rattle.std.specs.Option.{option_map_or};
@@ -22,7 +22,8 @@ pub struct PluralArrays {
     pub ranges: Vec<Value>,
 }
 
-fn is_array_at(value: &Value, place: usize) -> bool
+/// Whether the item at a place of a value is an array: of `[[],1]` at 0 it is, at 1 and at 2 it is not. It does not allocate.
+pub fn is_array_at(value: &Value, place: usize) -> bool
     ensures { result ≡ is_array_at place (view value.now) }
 {
     match value.get(place) {
@@ -69,8 +70,8 @@ fn has_form(value: &Value) -> bool
     }
 }
 
-// The items of an array.
-fn items_of(value: Value) -> Option<Vec<Value>>
+/// The items of an array: of `[1,2]` two; `None` of any other value. It does not allocate.
+pub fn items_of(value: Value) -> Option<Vec<Value>>
     ensures { option_map (λ items. items_view items.items) result ≡ as_array (view value) }
 {
     match value {
@@ -79,8 +80,8 @@ fn items_of(value: Value) -> Option<Vec<Value>>
     }
 }
 
-// The items of the next value, where it is an array.
-fn next_array(values: &mut IntoIter<Value>) -> Option<Vec<Value>>
+/// The items of the next value, where there is one and it is an array. It does not allocate.
+pub fn next_array(values: &mut IntoIter<Value>) -> Option<Vec<Value>>
     ensures first { option_map (λ items. items_view items.items) result
         ≡ field_at as_array 0 (array (items_view (into_iter_items values.old))) }
     ensures rest { into_iter_items values.new ≡ drop 1 (into_iter_items values.old) }
@@ -91,8 +92,8 @@ fn next_array(values: &mut IntoIter<Value>) -> Option<Vec<Value>>
     }
 }
 
-// The items of the array that comes next; none where no array does.
-fn next_items(alloc: Global, values: &mut IntoIter<Value>) -> Vec<Value>
+/// The items of the array that comes next; none where no array does. It does not allocate.
+pub fn next_items(alloc: Global, values: &mut IntoIter<Value>) -> Vec<Value>
     ensures first { items_view result.items ≡ items_at 0 (array (items_view (into_iter_items values.old))) }
     ensures rest { into_iter_items values.new ≡ drop 1 (into_iter_items values.old) }
 {

@@ -6,11 +6,11 @@
 #![tactic(auto)]
 
 mod arrays;
-mod finding;
+mod marker;
 mod plurals;
 mod ranges;
 
-pub use arrays::{PluralArrays, plural_arrays_of};
-pub use finding::find_along;
+pub use arrays::{PluralArrays, is_array_at, items_of, next_array, next_items, plural_arrays_of};
+pub use marker::{PluralsOrdinalV1, PluralsRangesV1};
 pub use plurals::Plurals;
 pub use ranges::PluralRanges;

@@ -3,15 +3,13 @@
 ghost use Rattle.std.specs.Prelude.{◌≡◌, true, IfErr, IfOk, IsErrOf};
 ghost use Rattle.std.specs.Option.{option_copied};
 ghost use Rattle.serde_json.specs.View.{items_view};
+ghost use Rattle.locale_numbers_tables.specs.Keys.{same_data_locale, table_at};
 ghost use Rattle.locale_numbers_tables.specs.Telling.{IsTold};
-ghost use Rattle.locale_numbers_plurals.specs.Found.{found_along};
 ghost use Rattle.locale_numbers_plurals.specs.Plurals.{ArePlurals, plurals_fault, plurals_may_grow};
 
 use crate::arrays::PluralArrays;
-use crate::finding::find_along;
 use crate::ranges::PluralRanges;
 use icu_decimal::plurals::PluralRules;
-use icu_decimal::provider::ParentProvider;
 use icu_locale_core::DataLocale;
 use locale_numbers_tables::{BookError, Seed, Table, table_of};
 use std::alloc::Global;
@@ -24,7 +22,6 @@ pub struct Plurals {
 }
 
 impl Model for Plurals {
-    ghost use Rattle.locale_numbers_plurals.specs.Found.{found_along};
     ghost use Rattle.locale_numbers_plurals.specs.Plurals.{PluralTables};
 
     ghost Value = { PluralTables };
@@ -71,29 +68,17 @@ impl Plurals {
         }
     }
 
-    /// The ordinal rules of a locale, along these parents: `None` where neither the locale nor one after it has an entry,
-    /// nor `und`; every number is then of `other`. It does not allocate.
-    pub fn ordinal_rules<P: ParentProvider>(
-        &self,
-        parents: &P,
-        locale: &DataLocale,
-    ) -> Option<&PluralRules>
-        ensures { option_copied result
-            ≡ found_along self.now.ordinals (P.next parents.now) (P.limit parents.now) locale.now }
+    /// The ordinal rules of the entry with this locale: `None` where there is none. It does not allocate.
+    pub fn ordinal_rules(&self, locale: &DataLocale) -> Option<&PluralRules>
+        ensures { option_copied result ≡ table_at same_data_locale locale.now self.now.ordinals }
     {
-        find_along(&self.ordinals, parents, locale)
+        self.ordinals.map.get(locale)
     }
 
-    /// The ranges of a locale, along these parents: `None` where neither the locale nor one after it has an entry, nor
-    /// `und`; every range then has the category of its second end. It does not allocate.
-    pub fn ranges<P: ParentProvider>(
-        &self,
-        parents: &P,
-        locale: &DataLocale,
-    ) -> Option<&PluralRanges>
-        ensures { option_copied result
-            ≡ found_along self.now.ranges (P.next parents.now) (P.limit parents.now) locale.now }
+    /// The ranges of the entry with this locale: `None` where there is none. It does not allocate.
+    pub fn ranges(&self, locale: &DataLocale) -> Option<&PluralRanges>
+        ensures { option_copied result ≡ table_at same_data_locale locale.now self.now.ranges }
     {
-        find_along(&self.ranges, parents, locale)
+        self.ranges.map.get(locale)
     }
 }

@@ -23,7 +23,7 @@ use Rattle.locale_numbers_requests.specs.declared.form_field.AmountWord.{AmountW
 use Rattle.locale_numbers_requests.specs.declared.form_field.FormAsked.{FormAsked}
 use Rattle.locale_numbers_requests.specs.declared.form_field.FormAsked.TheVariants.{OfWord, OfSkeleton}
 use Rattle.locale_numbers_requests.specs.declared.form_field.Task.{Task}
-use Rattle.locale_numbers_requests.specs.declared.form_field.Task.TheVariants.{Write, WriteExact, Read, ReadLenient}
+use Rattle.locale_numbers_requests.specs.declared.form_field.Task.TheVariants.{Write, WriteExact, Read, ReadLenient, Category, RangeCategory}
 use Rattle.locale_numbers_requests.specs.declared.rounding_field.DigitsAsked.{DigitsAsked}
 
 -- the unit of a form has a code, where it is a currency
@@ -60,6 +60,8 @@ of_task WriteExact f has = by (is_compact f.shape.notation)
     by false = tt
 of_task Read f has = has
 of_task ReadLenient f has = has
+of_task (Category rule_type) f has = has
+of_task RangeCategory f has = has
 
 of_skeleton : (task : Option Task) (text : List ℕ) (r : Result Skeleton SkeletonError) → skeleton_of text ≡ r → HasCodes (skeleton_by task r)
 of_skeleton None text r is = tt
@@ -93,7 +95,10 @@ of_list word =
     (listed (bytes_eq word (codes "read-lenient")) _ _ tt
     (listed (bytes_eq word (codes "percent")) _ _ tt
     (listed (bytes_eq word (codes "read-percent")) _ _ tt
-    (listed (bytes_eq word (codes "read-lenient-percent")) _ _ tt tt)))))))))
+    (listed (bytes_eq word (codes "read-lenient-percent")) _ _ tt
+    (listed (bytes_eq word (codes "plural")) _ _ tt
+    (listed (bytes_eq word (codes "ordinal")) _ _ tt
+    (listed (bytes_eq word (codes "range-plural")) _ _ tt tt))))))))))))
 
 either : (first second : Option FormAsked) → HasCodes first → HasCodes second → HasCodes (first_of first second)
 either (Some form) second has other = has

@@ -1,13 +1,15 @@
 -- Known values of the definitions: lines taken apart, the words of their fields.
-use Rattle.std.proofs.Common.{◌≡◌, [], ◌∷◌, ◌++◌, codes, pos, negsuc, Some, None, refl, ℕ, List, Option, ◌-◌, ◌*◌, ◌^◌}
+use Rattle.std.proofs.Common.{◌≡◌, [], ◌∷◌, ◌++◌, codes, pos, negsuc, Some, None, refl, ℕ, ℤ, List, Option, ◌-◌, ◌*◌, ◌^◌}
 use Rattle.fixed_decimal.specs.Number.{Number}
 use Rattle.fixed_decimal.specs.declared.SignedRoundingMode.TheVariants.{Unsigned}
 use Rattle.fixed_decimal.specs.declared.UnsignedRoundingMode.TheVariants.{HalfEven, HalfExpand, HalfTrunc, Trunc}
-use Rattle.fixed_decimal.specs.declared.RoundingIncrement.TheVariants.{MultiplesOf1, MultiplesOf5, MultiplesOf25}
+use Rattle.fixed_decimal.specs.declared.RoundingIncrement.{RoundingIncrement}
+use Rattle.fixed_decimal.specs.declared.RoundingIncrement.TheVariants.{MultiplesOf1, MultiplesOf2, MultiplesOf5, MultiplesOf25}
 use Rattle.icu_decimal_symbols.specs.declared.options.GroupingStrategy.{GroupingStrategy}
 use Rattle.icu_decimal_symbols.specs.declared.options.GroupingStrategy.TheVariants.{Auto, Min2, OnAligned}
 use Rattle.icu_dimension_fractions.specs.declared.CurrencyStyle.TheVariants as style
 use Rattle.icu_dimension_fractions.specs.declared.CurrencyWidth.TheVariants.{Short, IsoCode}
+use Rattle.icu_plurals.specs.declared.PluralRuleType.TheVariants.{Cardinal, Ordinal}
 use Rattle.locale_numbers_formats.specs.Changed.{shown}
 use Rattle.locale_numbers_formats.specs.declared.CompactWidth.TheVariants as compact
 use Rattle.locale_numbers_formats.specs.declared.LeadingZeros.TheVariants as leading
@@ -26,11 +28,12 @@ use Rattle.locale_numbers_formats.specs.declared.TrailingZeros.TheVariants as tr
 use Rattle.fixed_decimal.specs.declared.SignDisplay.TheVariants as display
 use Rattle.locale_numbers_requests.specs.FormField.{form_named}
 use Rattle.locale_numbers_requests.specs.OldRequests.{old_form_named, old_grouping_named, old_rounding_named}
+use Rattle.locale_numbers_requests.specs.RangeEnds.{range_ends}
 use Rattle.locale_numbers_requests.specs.Request.{tab, fields, format_by, request_in, grouping_named, sign_named}
 use Rattle.locale_numbers_requests.specs.RoundingField.{all_of, position_named, rounding_named}
 use Rattle.locale_numbers_requests.specs.declared.form_field.FormAsked.TheVariants.{OfWord, OfSkeleton}
 use Rattle.locale_numbers_requests.specs.declared.rounding_field.DigitsAsked.{DigitsAsked}
-use Rattle.locale_numbers_requests.specs.declared.form_field.Task.TheVariants.{Write, WriteExact, Read, ReadLenient}
+use Rattle.locale_numbers_requests.specs.declared.form_field.Task.TheVariants.{Write, WriteExact, Read, ReadLenient, Category, RangeCategory}
 
 -- the format of a line that chooses no digits and keeps the sign of the text
 abbrev by_words : NumberUnit → GroupingStrategy → Rounding → NumberFormat
@@ -43,6 +46,11 @@ by_words unit grouping rounding = record {
 abbrev digits_of : Option DigitsAsked → NumberOptions
 digits_of None = (by_words unit.None Auto Usual).options
 digits_of (Some digits) = (format_by Standard unit.None Auto Keep digits).options
+
+-- a rounding by an increment with zeros behind: to multiples of its digits at a position, with so many digits of a fraction
+abbrev raised_to : ℤ → RoundingIncrement → TrailingZeros → ℕ → DigitsAsked
+raised_to position increment zeros fraction =
+    record { rounding = At position (Unsigned HalfEven) increment; leading_zeros = leading.TrimRoundedZero; zeros = zeros; fraction_digits = pos fraction }
 
 abbrev options : List ℕ → NumberOptions
 options word = digits_of (rounding_named word)
@@ -254,6 +262,75 @@ skeleton_with_a_sign = refl
 skeleton_in_cash : request_in (codes "en" ∷ codes "::currency/CHF" ∷ codes "auto" ∷ codes "keep" ∷ codes "cash" ∷ codes "1" ∷ []) ≡ None
 skeleton_in_cash = refl
 
+-- ---- plural categories
+
+plural_line : request_in (codes "en" ∷ codes "plural" ∷ codes "auto" ∷ codes "keep" ∷ codes "-" ∷ codes "1" ∷ [])
+    ≡ Some (record { tag = codes "en"; task = Category Cardinal; format = by_words unit.None Auto Usual; text = codes "1" })
+plural_line = refl
+
+ordinal_word : form_named (codes "ordinal") ≡ Some (OfWord (Category Ordinal) Standard unit.None)
+ordinal_word = refl
+
+range_word : form_named (codes "range-plural") ≡ Some (OfWord RangeCategory Standard unit.None)
+range_word = refl
+
+-- they take any sign and rounding that a plain number takes
+rounded_plural : request_in (codes "pl" ∷ codes "plural" ∷ codes "min2" ∷ codes "always" ∷ codes "0,trunc,1" ∷ codes "2.5" ∷ [])
+    ≡ Some (record { tag = codes "pl"; task = Category Cardinal; format = format_by Standard unit.None Min2 (Show display.Always) (all_of (At (pos 0) (Unsigned Trunc) MultiplesOf1)); text = codes "2.5" })
+rounded_plural = refl
+
+plural_in_cash : request_in (codes "en" ∷ codes "plural" ∷ codes "auto" ∷ codes "keep" ∷ codes "cash" ∷ codes "1" ∷ []) ≡ None
+plural_in_cash = refl
+
+ordinal_in_cash : request_in (codes "en" ∷ codes "ordinal" ∷ codes "auto" ∷ codes "keep" ∷ codes "cash" ∷ codes "1" ∷ []) ≡ None
+ordinal_in_cash = refl
+
+range_in_cash : request_in (codes "en" ∷ codes "range-plural" ∷ codes "auto" ∷ codes "keep" ∷ codes "cash" ∷ codes "1..5" ∷ []) ≡ None
+range_in_cash = refl
+
+-- before a skeleton they ask for the category of what it shows
+plural_skeleton : form_named (codes "plural::currency/EUR")
+    ≡ Some (OfSkeleton (Category Cardinal) (by_skeleton (Currency (record { code = codes "EUR"; style = style.Standard; width = Short })) Usual trailing.Keep))
+plural_skeleton = refl
+
+ordinal_skeleton : form_named (codes "ordinal::percent") ≡ Some (OfSkeleton (Category Ordinal) (by_skeleton Percent (At (negsuc 5) (Unsigned HalfEven) MultiplesOf1) trailing.Trim))
+ordinal_skeleton = refl
+
+range_skeleton : form_named (codes "range-plural::currency/EUR")
+    ≡ Some (OfSkeleton RangeCategory (by_skeleton (Currency (record { code = codes "EUR"; style = style.Standard; width = Short })) Usual trailing.Keep))
+range_skeleton = refl
+
+plural_of_nothing : form_named (codes "plural::nothing") ≡ None
+plural_of_nothing = refl
+
+skeleton_of_plurals : form_named (codes "plurals::percent") ≡ None
+skeleton_of_plurals = refl
+
+range_of_ordinals : form_named (codes "range-ordinal") ≡ None
+range_of_ordinals = refl
+
+-- the ends of a range are cut at the first two dots
+two_ends : range_ends (codes "1..5") ≡ Some (codes "1", codes "5")
+two_ends = refl
+
+third_dot : range_ends (codes "1...5") ≡ Some (codes "1", codes ".5")
+third_dot = refl
+
+two_ranges : range_ends (codes "1..2..3") ≡ Some (codes "1", codes "2..3")
+two_ranges = refl
+
+no_ends : range_ends (codes "..") ≡ Some ([], [])
+no_ends = refl
+
+no_range : range_ends (codes "1") ≡ None
+no_range = refl
+
+one_dot : range_ends (codes "1.5") ≡ None
+one_dot = refl
+
+parted_dots : range_ends (codes ".1.") ≡ None
+parted_dots = refl
+
 -- ---- roundings
 
 -- -7.235, rounded at the hundredths to a multiple of 25 of them
@@ -293,23 +370,101 @@ third_increment = refl
 one_comma : rounding_named (codes "0,trunc") ≡ None
 one_comma = refl
 
+-- ---- increments with zeros behind
+
+-- 50 at the hundredths is 5 at the tenths, with two digits of a fraction
+halves : rounding_named (codes "-2,half-even,50") ≡ Some (raised_to (negsuc 0) MultiplesOf5 trailing.Keep 2)
+halves = refl
+
+tens : rounding_named (codes "0,half-even,10") ≡ Some (raised_to (pos 1) MultiplesOf1 trailing.Keep 0)
+tens = refl
+
+twenties : rounding_named (codes "-1,half-even,20") ≡ Some (raised_to (pos 0) MultiplesOf2 trailing.Keep 1)
+twenties = refl
+
+hundreds : rounding_named (codes "0,half-even,100") ≡ Some (raised_to (pos 2) MultiplesOf1 trailing.Keep 0)
+hundreds = refl
+
+two_hundreds : rounding_named (codes "0,half-even,200") ≡ Some (raised_to (pos 2) MultiplesOf2 trailing.Keep 0)
+two_hundreds = refl
+
+wider_quarters : rounding_named (codes "-3,half-even,250") ≡ Some (raised_to (negsuc 1) MultiplesOf25 trailing.Keep 3)
+wider_quarters = refl
+
+five_hundreds : rounding_named (codes "-1,half-even,500") ≡ Some (raised_to (pos 1) MultiplesOf5 trailing.Keep 1)
+five_hundreds = refl
+
+thousands : rounding_named (codes "0,half-even,1000") ≡ Some (raised_to (pos 3) MultiplesOf1 trailing.Keep 0)
+thousands = refl
+
+two_thousands : rounding_named (codes "2,half-even,2000") ≡ Some (raised_to (pos 5) MultiplesOf2 trailing.Keep 0)
+two_thousands = refl
+
+widest_quarters : rounding_named (codes "-2,half-even,2500") ≡ Some (raised_to (pos 0) MultiplesOf25 trailing.Keep 2)
+widest_quarters = refl
+
+five_thousands : rounding_named (codes "-2,half-even,5000") ≡ Some (raised_to (pos 1) MultiplesOf5 trailing.Keep 2)
+five_thousands = refl
+
+-- of a fraction the zeros behind the least digits are not shown
+halves_of_two : rounding_named (codes "f2-2,half-even,50") ≡ Some (raised_to (negsuc 0) MultiplesOf5 trailing.Trim 2)
+halves_of_two = refl
+
+halves_at_most : rounding_named (codes "f0-2,half-even,50") ≡ Some (raised_to (negsuc 0) MultiplesOf5 trailing.Trim 0)
+halves_at_most = refl
+
+halves_or_whole : rounding_named (codes "f2-2,half-even,50,whole") ≡ Some (raised_to (negsuc 0) MultiplesOf5 trailing.TrimWhole 2)
+halves_or_whole = refl
+
+-- the multiples are at a position up to 32767, and there are up to 32767 digits of a fraction
+highest_tens : rounding_named (codes "32766,half-even,10") ≡ Some (raised_to (pos 32767) MultiplesOf1 trailing.Keep 0)
+highest_tens = refl
+
+tens_too_high : rounding_named (codes "32767,half-even,10") ≡ None
+tens_too_high = refl
+
+thousands_too_high : rounding_named (codes "32765,half-even,5000") ≡ None
+thousands_too_high = refl
+
+lowest_tens : rounding_named (codes "-32767,half-even,10") ≡ Some (raised_to (negsuc 32765) MultiplesOf1 trailing.Keep 32767)
+lowest_tens = refl
+
+tens_too_low : rounding_named (codes "-32768,half-even,10") ≡ None
+tens_too_low = refl
+
+lowest_ones : rounding_named (codes "-32768,half-even,1") ≡ Some (all_of (At (negsuc 32767) (Unsigned HalfEven) MultiplesOf1))
+lowest_ones = refl
+
+-- an increment is written with its digits alone
+ten_thousand : rounding_named (codes "0,half-even,10000") ≡ None
+ten_thousand = refl
+
+thirty : rounding_named (codes "0,half-even,30") ≡ None
+thirty = refl
+
+zero_before_ten : rounding_named (codes "0,half-even,010") ≡ None
+zero_before_ten = refl
+
+significant_with_tens : rounding_named (codes "s1-3,half-even,10") ≡ None
+significant_with_tens = refl
+
 -- ---- digits of a fraction
 
 -- two at most, and none that is not needed
-two_at_most : rounding_named (codes "f0-2,half-even,1") ≡ Some (record { rounding = At (negsuc 1) (Unsigned HalfEven) MultiplesOf1; zeros = trailing.Trim; fraction_digits = pos 0 })
+two_at_most : rounding_named (codes "f0-2,half-even,1") ≡ Some (record { rounding = At (negsuc 1) (Unsigned HalfEven) MultiplesOf1; leading_zeros = leading.Keep; zeros = trailing.Trim; fraction_digits = pos 0 })
 two_at_most = refl
 
-one_to_three : rounding_named (codes "f1-3,half-expand,1") ≡ Some (record { rounding = At (negsuc 2) (Unsigned HalfExpand) MultiplesOf1; zeros = trailing.Trim; fraction_digits = pos 1 })
+one_to_three : rounding_named (codes "f1-3,half-expand,1") ≡ Some (record { rounding = At (negsuc 2) (Unsigned HalfExpand) MultiplesOf1; leading_zeros = leading.Keep; zeros = trailing.Trim; fraction_digits = pos 1 })
 one_to_three = refl
 
 -- to hundredths, 1.5 is `1.50`, and 2 is `2`
-none_of_a_whole_number : rounding_named (codes "f2-2,half-expand,5,whole") ≡ Some (record { rounding = At (negsuc 1) (Unsigned HalfExpand) MultiplesOf5; zeros = trailing.TrimWhole; fraction_digits = pos 0 })
+none_of_a_whole_number : rounding_named (codes "f2-2,half-expand,5,whole") ≡ Some (record { rounding = At (negsuc 1) (Unsigned HalfExpand) MultiplesOf5; leading_zeros = leading.Keep; zeros = trailing.TrimWhole; fraction_digits = pos 0 })
 none_of_a_whole_number = refl
 
-no_fraction : rounding_named (codes "f0-0,trunc,1") ≡ Some (record { rounding = At (pos 0) (Unsigned Trunc) MultiplesOf1; zeros = trailing.Trim; fraction_digits = pos 0 })
+no_fraction : rounding_named (codes "f0-0,trunc,1") ≡ Some (record { rounding = At (pos 0) (Unsigned Trunc) MultiplesOf1; leading_zeros = leading.Keep; zeros = trailing.Trim; fraction_digits = pos 0 })
 no_fraction = refl
 
-most_digits : rounding_named (codes "f0-32767,trunc,1") ≡ Some (record { rounding = At (negsuc 32766) (Unsigned Trunc) MultiplesOf1; zeros = trailing.Trim; fraction_digits = pos 0 })
+most_digits : rounding_named (codes "f0-32767,trunc,1") ≡ Some (record { rounding = At (negsuc 32766) (Unsigned Trunc) MultiplesOf1; leading_zeros = leading.Keep; zeros = trailing.Trim; fraction_digits = pos 0 })
 most_digits = refl
 
 too_many_digits : rounding_named (codes "f0-32768,trunc,1") ≡ None
@@ -344,22 +499,22 @@ five_words = refl
 
 -- ---- significant digits
 
-one_to_three_digits : rounding_named (codes "s1-3,half-even") ≡ Some (record { rounding = Significant (record { least = 1; most = 3 }) (Unsigned HalfEven); zeros = trailing.Trim; fraction_digits = pos 0 })
+one_to_three_digits : rounding_named (codes "s1-3,half-even") ≡ Some (record { rounding = Significant (record { least = 1; most = 3 }) (Unsigned HalfEven); leading_zeros = leading.Keep; zeros = trailing.Trim; fraction_digits = pos 0 })
 one_to_three_digits = refl
 
-none_of_a_whole_one : rounding_named (codes "s2-2,trunc,whole") ≡ Some (record { rounding = Significant (record { least = 2; most = 2 }) (Unsigned Trunc); zeros = trailing.TrimAll; fraction_digits = pos 0 })
+none_of_a_whole_one : rounding_named (codes "s2-2,trunc,whole") ≡ Some (record { rounding = Significant (record { least = 2; most = 2 }) (Unsigned Trunc); leading_zeros = leading.Keep; zeros = trailing.TrimAll; fraction_digits = pos 0 })
 none_of_a_whole_one = refl
 
-all_digits : rounding_named (codes "s1-65535,trunc") ≡ Some (record { rounding = Significant (record { least = 1; most = 65535 }) (Unsigned Trunc); zeros = trailing.Trim; fraction_digits = pos 0 })
+all_digits : rounding_named (codes "s1-65535,trunc") ≡ Some (record { rounding = Significant (record { least = 1; most = 65535 }) (Unsigned Trunc); leading_zeros = leading.Keep; zeros = trailing.Trim; fraction_digits = pos 0 })
 all_digits = refl
 
 -- digits of a fraction or significant ones
 more_of_either : rounding_named (codes "f0-2,s2-3,more,half-even")
-    ≡ Some (record { rounding = Either MorePrecision (negsuc 1) (record { least = 2; most = 3 }) (Unsigned HalfEven); zeros = trailing.Trim; fraction_digits = pos 0 })
+    ≡ Some (record { rounding = Either MorePrecision (negsuc 1) (record { least = 2; most = 3 }) (Unsigned HalfEven); leading_zeros = leading.Keep; zeros = trailing.Trim; fraction_digits = pos 0 })
 more_of_either = refl
 
 less_of_either : rounding_named (codes "f1-2,s3-3,less,trunc,whole")
-    ≡ Some (record { rounding = Either LessPrecision (negsuc 1) (record { least = 3; most = 3 }) (Unsigned Trunc); zeros = trailing.TrimAll; fraction_digits = pos 1 })
+    ≡ Some (record { rounding = Either LessPrecision (negsuc 1) (record { least = 3; most = 3 }) (Unsigned Trunc); leading_zeros = leading.Keep; zeros = trailing.TrimAll; fraction_digits = pos 1 })
 less_of_either = refl
 
 no_significant_digit : rounding_named (codes "s0-3,trunc") ≡ None
@@ -408,7 +563,26 @@ both_go = refl
 both_are_shown : seen (codes "f2-2,half-expand,5") (number 200 2) ≡ number 200 2
 both_are_shown = refl
 
--- ---- before there were newer forms, and cash
+-- 1.5 to multiples of 50 hundredths is `1.50`, and by a choice from none `1.5`; a zero that tens leave is `0`, also where there were four digits
+two_down : seen (codes "-2,half-even,50") (number 15 1) ≡ number 150 2
+two_down = refl
+
+one_at_most : seen (codes "f0-2,half-even,50") (number 15 1) ≡ number 15 1
+one_at_most = refl
+
+two_of_a_whole_one : seen (codes "f2-2,half-even,50,whole") (number 15 1) ≡ number 150 2
+two_of_a_whole_one = refl
+
+none_of_two : seen (codes "f2-2,half-even,50,whole") (number 20 1) ≡ number 2 0
+none_of_two = refl
+
+one_zero : seen (codes "0,half-even,1000") (record { count = 0; low = 32768; high = 32771 }) ≡ number 0 0
+one_zero = refl
+
+zero_of_tenths : seen (codes "-1,half-even,1000") (record { count = 0; low = 32768; high = 32769 }) ≡ number 0 1
+zero_of_tenths = refl
+
+-- ---- before there were newer forms, cash and increments
 
 percent_was_none : old_form_named (codes "percent") ≡ None
 percent_was_none = refl
@@ -422,5 +596,14 @@ significant_was_none = refl
 aligned_was_none : old_grouping_named (codes "on-aligned") ≡ None
 aligned_was_none = refl
 
+plural_was_none : old_form_named (codes "plural") ≡ None
+plural_was_none = refl
+
 cash_was_none : old_rounding_named (codes "cash") ≡ None
 cash_was_none = refl
+
+tens_were_none : old_rounding_named (codes "-2,half-even,50") ≡ None
+tens_were_none = refl
+
+quarters_were_themselves : old_rounding_named (codes "-2,half-even,25") ≡ Some (all_of (At (negsuc 1) (Unsigned HalfEven) MultiplesOf25))
+quarters_were_themselves = refl

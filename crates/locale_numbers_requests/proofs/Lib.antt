@@ -3,4 +3,5 @@ pub mod DigitsLemmas
 mod KnownValues
 pub mod MagnitudeLemmas
 pub mod OldRequestsLemmas
+pub mod RangeLemmas
 pub mod RequestLemmas

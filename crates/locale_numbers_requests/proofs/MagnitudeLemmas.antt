@@ -1,11 +1,10 @@
 -- The options of a request fit decimals: the position of its rounding is a magnitude: `specs/Laws.antt`.
 use Rattle.std.proofs.Common.{◌≡◌, ◌+◌, ◌≤◌, ◌<◌, ◌&&◌, ℕ, zero, suc, Bool, true, false, List, [], ◌∷◌, Option, Some, None, Result, Ok, Err, refl, subst, arith, if◌then◌else◌, drop, length, take, ◌-◌}
 use Rattle.std.proofs.lemmas.Bool.{leb-true}
-use Rattle.std.specs.Prelude.{◌==◌, codes, int_le, ℤ, neg_ℤ, pos, negsuc, nat_le}
+use Rattle.std.specs.Prelude.{◌==◌, ◌+ℤ◌, ◌-ℤ◌, codes, int_le, ℤ, neg_ℤ, pos, negsuc, nat_le}
 use Rattle.std.specs.Str.{bytes_eq, is_utf8}
 use Rattle.fixed_decimal.specs.Number.{place}
 use Rattle.fixed_decimal.specs.NumberText.{minus, spelled}
-use Rattle.fixed_decimal.specs.declared.RoundingIncrement.{RoundingIncrement}
 use Rattle.fixed_decimal.specs.declared.SignedRoundingMode.{SignedRoundingMode}
 use Rattle.icu_decimal_symbols.specs.declared.options.GroupingStrategy.{GroupingStrategy}
 use Rattle.icu_dimension_fractions.specs.CurrencyCodes.{is_currency_code}
@@ -15,7 +14,9 @@ use Rattle.locale_numbers_formats.proofs.ReadLemmas.{skeleton_is}
 use Rattle.locale_numbers_formats.specs.Cutting.{cut_at}
 use Rattle.locale_numbers_formats.specs.SkeletonFormats as skeletons
 use Rattle.locale_numbers_formats.specs.SkeletonFormats.{by_usage, format_of, to_digits}
+use Rattle.locale_numbers_formats.specs.SkeletonLaws.{HasMarks}
 use Rattle.locale_numbers_formats.specs.Skeletons.{is_compact, is_currency, skeleton_of}
+use Rattle.locale_numbers_formats.specs.declared.LeadingZeros.{LeadingZeros}
 use Rattle.locale_numbers_formats.specs.declared.NumberFormat.{NumberFormat}
 use Rattle.locale_numbers_formats.specs.declared.Precision.{Precision}
 use Rattle.locale_numbers_formats.specs.declared.Precision.TheVariants as precision
@@ -29,18 +30,21 @@ use Rattle.locale_numbers_formats.specs.declared.SignificantDigits.{SignificantD
 use Rattle.locale_numbers_formats.specs.declared.SkeletonError.{SkeletonError}
 use Rattle.locale_numbers_requests.specs.Laws.{FitDecimals, IsAtMagnitude, RequestsAreAtMagnitude}
 use Rattle.locale_numbers_requests.specs.FormField.{amount_by, amount_form, amount_word, coded_form, colon, first_of, form_for, form_named, listed_form, rounding_read, skeleton_by, skeleton_in, skeleton_task}
+use Rattle.locale_numbers_requests.specs.Increments.{digits_down, has_no_zeros, increment_named, multiples_at, raised}
 use Rattle.locale_numbers_requests.specs.Request.{Asked, asked_by, fields, format_asked, format_by, grouping_named, request_by, request_in, says_nothing, sign_named, takes}
-use Rattle.locale_numbers_requests.specs.RoundingField.{above_zero, all_of, below_zero, comma, count_named, counts_by, counts_in, digits_by, digits_in, either_by, increment_named, is_size, is_whole, last_named, letter_f, mode_named, places_named, position_by, position_named, priority_named, rounding_named, significant_at, significant_named, size_named, whole_by}
+use Rattle.locale_numbers_requests.specs.RoundingField.{above_zero, all_of, all_shown, below_zero, comma, count_named, counts_by, counts_in, digits_by, digits_in, either_by, front_by, is_size, is_whole, last_named, least_shown, letter_f, mode_named, places_named, position_by, position_named, priority_named, rounding_named, significant_at, significant_named, size_named, whole_by}
 use Rattle.locale_numbers_requests.specs.declared.form_field.AmountWord.{AmountWord}
 use Rattle.locale_numbers_requests.specs.declared.form_field.FormAsked.{FormAsked}
 use Rattle.locale_numbers_requests.specs.declared.form_field.FormAsked.TheVariants.{OfWord, OfSkeleton}
 use Rattle.locale_numbers_requests.specs.declared.form_field.Task.{Task}
-use Rattle.locale_numbers_requests.specs.declared.form_field.Task.TheVariants.{Write, WriteExact, Read, ReadLenient}
+use Rattle.locale_numbers_requests.specs.declared.form_field.Task.TheVariants.{Write, WriteExact, Read, ReadLenient, Category, RangeCategory}
+use Rattle.locale_numbers_requests.specs.declared.increments.Increment.{Increment}
+use Rattle.locale_numbers_requests.specs.declared.increments.Multiples.{Multiples}
 use Rattle.locale_numbers_requests.specs.declared.rounding_field.DigitsAsked.{DigitsAsked}
 use Rattle.locale_numbers_requests.specs.declared.rounding_field.Places.{Places}
 use Rattle.locale_numbers_requests.specs.declared.rounding_field.Places.TheVariants.{Position, Fraction}
 use Rattle.locale_numbers_formats.specs.declared.TrailingZeros.{TrailingZeros}
-use Rattle.locale_numbers_formats.specs.declared.TrailingZeros.TheVariants.{Trim, TrimWhole, TrimAll}
+use Rattle.locale_numbers_formats.specs.declared.TrailingZeros.TheVariants.{Keep, Trim, TrimWhole, TrimAll}
 
 abbrev IsPlaced : ℤ → Type 0
 IsPlaced position = place position < 65536
@@ -124,19 +128,55 @@ places_placed (c ∷ cs) = by (c == letter_f)
     by true = counts_placed (cut_at minus cs)
     by false = positioned (position_named (c ∷ cs)) (position_placed (c ∷ cs))
 
-digits_placed : (p : Option Places) (m : Option SignedRoundingMode) (i : Option RoundingIncrement) → AreNamed p → ArePlaced (digits_by p m i)
-digits_placed (Some (Position position)) (Some m) (Some i) placed = placed
-digits_placed (Some (Fraction least last)) (Some m) (Some i) placed = placed
+-- the position of multiples is a magnitude, where that of their increment is
+abbrev AreMultiples : Option Multiples → Type 0
+AreMultiples None = Unit {0}
+AreMultiples (Some multiples) = IsPlaced multiples.position
+
+below_most : (p : ℤ) → int_le p (pos 32767) ≡ true → IsPlaced p
+below_most (pos n) is = let below = leb-true n 32767 is in omega (arith, below)
+below_most (negsuc n) is = omega arith
+
+raised_placed : (low : Bool) (p higher : ℤ) (increment : Increment)
+    → AreMultiples (if low && int_le higher (pos 32767) then Some (record { position = higher; increment = increment.digits; fraction_digits = digits_down p }) else None)
+raised_placed false p higher increment = tt
+raised_placed true p higher increment = by (int_le higher (pos 32767)) refl
+  where
+    by : (b : Bool) → int_le higher (pos 32767) ≡ b
+        → AreMultiples (if b then Some (record { position = higher; increment = increment.digits; fraction_digits = digits_down p }) else None)
+    by true is = below_most higher is
+    by false is = tt
+
+multiples_placed : (p : ℤ) (increment : Increment) → IsPlaced p → AreMultiples (multiples_at p increment)
+multiples_placed p increment placed = by (has_no_zeros increment)
+  where
+    by : (b : Bool) → AreMultiples (if b then Some (record { position = p; increment = increment.digits; fraction_digits = pos 0 }) else raised p increment)
+    by true = placed
+    by false = raised_placed (int_le (neg_ℤ (pos 32767)) p) p (p +ℤ pos increment.zeros) increment
+
+all_placed : (front : LeadingZeros) (zeros : TrailingZeros) (m : SignedRoundingMode) (multiples : Option Multiples) → AreMultiples multiples
+    → ArePlaced (all_shown front zeros m multiples)
+all_placed front zeros m None placed = tt
+all_placed front zeros m (Some multiples) placed = placed
+
+least_placed : (front : LeadingZeros) (least : ℤ) (m : SignedRoundingMode) (multiples : Option Multiples) → AreMultiples multiples
+    → ArePlaced (least_shown front least m multiples)
+least_placed front least m None placed = tt
+least_placed front least m (Some multiples) placed = placed
+
+digits_placed : (p : Option Places) (m : Option SignedRoundingMode) (i : Option Increment) → AreNamed p → ArePlaced (digits_by p m i)
+digits_placed (Some (Position position)) (Some m) (Some i) placed = all_placed (front_by i) Keep m (multiples_at position i) (multiples_placed position i placed)
+digits_placed (Some (Fraction least last)) (Some m) (Some i) placed = least_placed (front_by i) least m (multiples_at last i) (multiples_placed last i placed)
 digits_placed (Some places) (Some m) None placed = tt
 digits_placed (Some places) None i placed = tt
 digits_placed None m i placed = tt
 
-whole_placed : (p : Option Places) (m : Option SignedRoundingMode) (i : Option RoundingIncrement) → AreNamed p → ArePlaced (whole_by p m i)
+whole_placed : (p : Option Places) (m : Option SignedRoundingMode) (i : Option Increment) → AreNamed p → ArePlaced (whole_by p m i)
 whole_placed (Some (Position position)) (Some m) (Some i) placed = tt
 whole_placed (Some (Fraction least last)) (Some m) (Some i) placed = by (int_le (neg_ℤ last) least)
   where
-    by : (b : Bool) → ArePlaced (if b then Some (record { rounding = At last m i; zeros = TrimWhole; fraction_digits = pos 0 }) else None)
-    by true = placed
+    by : (b : Bool) → ArePlaced (if b then all_shown (front_by i) TrimWhole m (multiples_at last i) else None)
+    by true = all_placed (front_by i) TrimWhole m (multiples_at last i) (multiples_placed last i placed)
     by false = tt
 whole_placed (Some places) (Some m) None placed = tt
 whole_placed (Some places) None i placed = tt
@@ -192,25 +232,35 @@ usage_placed : (u : CurrencyUsage) → IsAtMagnitude (by_usage u)
 usage_placed usage.Standard = tt
 usage_placed usage.Cash = tt
 
-precision_placed : (amount : Bool) (mode : SignedRoundingMode) (p : Precision) → IsAtMagnitude (skeletons.rounding_by amount mode p)
-precision_placed true mode precision.Usual = tt
-precision_placed false mode precision.Usual = to_placed 6 mode
-precision_placed amount mode precision.Unlimited = tt
-precision_placed amount mode (precision.Fraction least more) = to_placed _ mode
-precision_placed amount mode (precision.AtLeast least) = tt
-precision_placed amount mode (precision.Whole least more) = to_placed _ mode
-precision_placed amount mode (precision.Significant least more zeros) = tt
-precision_placed amount mode (precision.SignificantAtLeast least zeros) = tt
-precision_placed amount mode (precision.Either least more digits others priority zeros) = to_placed (least + more) mode
-precision_placed amount mode (precision.Currency u) = usage_placed u
-precision_placed amount mode (precision.WholeCurrency u) = usage_placed u
+-- a difference is no higher than what is lessened
+difference_placed : (b : Bool) (below above : ℕ) → above ≤ 100 → IsPlaced (if b then negsuc below else pos above)
+difference_placed true below above most = omega arith
+difference_placed false below above most = omega (arith, most)
 
-skeleton_placed : (s : Skeleton) → IsAtMagnitude (skeletons.rounding_of s)
-skeleton_placed s = by (is_compact s.notation)
+increment_placed : (zeros digits : ℕ) → zeros ≤ 100 → IsPlaced (pos zeros -ℤ pos digits)
+increment_placed zeros zero most = omega (arith, most)
+increment_placed zeros (suc digits) most = difference_placed _ _ (zeros - suc digits) (omega (arith, most))
+
+precision_placed : (amount : Bool) (mode : SignedRoundingMode) (p : Precision) → HasMarks p → IsAtMagnitude (skeletons.rounding_by amount mode p)
+precision_placed true mode precision.Usual marks = tt
+precision_placed false mode precision.Usual marks = to_placed 6 mode
+precision_placed amount mode precision.Unlimited marks = tt
+precision_placed amount mode (precision.Fraction least more) marks = to_placed _ mode
+precision_placed amount mode (precision.AtLeast least) marks = tt
+precision_placed amount mode (precision.Whole least more) marks = to_placed _ mode
+precision_placed amount mode (precision.Significant least more zeros) marks = tt
+precision_placed amount mode (precision.SignificantAtLeast least zeros) marks = tt
+precision_placed amount mode (precision.Either least more digits others priority zeros) marks = to_placed (least + more) mode
+precision_placed amount mode (precision.Increment step zeros digits whole) marks = increment_placed zeros digits marks.0
+precision_placed amount mode (precision.Currency u) marks = usage_placed u
+precision_placed amount mode (precision.WholeCurrency u) marks = usage_placed u
+
+skeleton_placed : (s : Skeleton) → HasMarks s.precision → IsAtMagnitude (skeletons.rounding_of s)
+skeleton_placed s marks = by (is_compact s.notation)
   where
     by : (b : Bool) → IsAtMagnitude (if b then AsGiven else skeletons.rounding_by (is_currency s.unit) s.mode s.precision)
     by true = tt
-    by false = precision_placed (is_currency s.unit) s.mode s.precision
+    by false = precision_placed (is_currency s.unit) s.mode s.precision marks
 
 read_placed : (asked : Rounding) → IsAtMagnitude (rounding_read asked)
 read_placed Usual = tt
@@ -221,7 +271,10 @@ read_placed (Significant digits mode) = tt
 read_placed (Either priority position digits mode) = tt
 
 skeleton_fits : (text : List ℕ) (s : Skeleton) → skeleton_of text ≡ Ok s → FitDecimals (format_of s).options
-skeleton_fits text s is = let whole = (skeleton_is text s is).whole in record { position = skeleton_placed s; integer = omega (arith, whole) }
+skeleton_fits text s is =
+    let read = skeleton_is text s is in
+    let whole = read.whole in
+    record { position = skeleton_placed s read.marks; integer = omega (arith, whole) }
 
 -- ---- forms
 
@@ -251,6 +304,8 @@ of_task WriteExact f fits = by (is_compact f.shape.notation)
     by false = tt
 of_task Read f fits = record { position = read_placed f.options.rounding; integer = fits.integer }
 of_task ReadLenient f fits = record { position = read_placed f.options.rounding; integer = fits.integer }
+of_task (Category rule_type) f fits = fits
+of_task RangeCategory f fits = fits
 
 of_skeleton : (task : Option Task) (text : List ℕ) (r : Result Skeleton SkeletonError) → skeleton_of text ≡ r → FitForms (skeleton_by task r)
 of_skeleton None text r is = tt
@@ -284,7 +339,10 @@ of_list word =
     (listed (bytes_eq word (codes "read-lenient")) _ _ tt
     (listed (bytes_eq word (codes "percent")) _ _ tt
     (listed (bytes_eq word (codes "read-percent")) _ _ tt
-    (listed (bytes_eq word (codes "read-lenient-percent")) _ _ tt tt)))))))))
+    (listed (bytes_eq word (codes "read-lenient-percent")) _ _ tt
+    (listed (bytes_eq word (codes "plural")) _ _ tt
+    (listed (bytes_eq word (codes "ordinal")) _ _ tt
+    (listed (bytes_eq word (codes "range-plural")) _ _ tt tt))))))))))))
 
 either : (first second : Option FormAsked) → FitForms first → FitForms second → FitForms (first_of first second)
 either (Some form) second fits other = fits

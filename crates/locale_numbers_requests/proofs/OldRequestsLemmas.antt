@@ -1,4 +1,4 @@
--- Each line asks what it asked before forms, the grouping `on-aligned` and roundings were added: `specs/OldRequests.antt`.
+-- Each line asks what it asked before forms, the grouping `on-aligned`, roundings and increments were added: `specs/OldRequests.antt`.
 use Rattle.std.proofs.Common.{◌≡◌, ℕ, ℤ, pos, neg_ℤ, Bool, true, false, List, [], ◌∷◌, Option, None, Some, Result, Ok, Err, refl, if◌then◌else◌, drop, length, take, ◌-◌}
 use Rattle.std.proofs.lemmas.Bool.{eqb-true}
 use Rattle.std.proofs.lemmas.Slice.Eq.{bytes_eq-Decides}
@@ -6,6 +6,7 @@ use Rattle.std.specs.Prelude.{◌||◌, ◌==◌, codes, int_le}
 use Rattle.std.specs.Str.{bytes_eq, is_utf8}
 use Rattle.fixed_decimal.specs.NumberText.{minus}
 use Rattle.fixed_decimal.specs.declared.RoundingIncrement.{RoundingIncrement}
+use Rattle.fixed_decimal.specs.declared.RoundingIncrement.TheVariants.{MultiplesOf1, MultiplesOf2, MultiplesOf5, MultiplesOf25}
 use Rattle.fixed_decimal.specs.declared.SignedRoundingMode.{SignedRoundingMode}
 use Rattle.icu_decimal_symbols.specs.declared.options.GroupingStrategy.{GroupingStrategy}
 use Rattle.icu_decimal_symbols.specs.declared.options.GroupingStrategy.TheVariants as grouping
@@ -13,6 +14,7 @@ use Rattle.icu_dimension_fractions.specs.CurrencyCodes.{is_currency_code}
 use Rattle.locale_numbers_formats.specs.Cutting.{cut_at}
 use Rattle.locale_numbers_formats.specs.SkeletonFormats.{format_of}
 use Rattle.locale_numbers_formats.specs.Skeletons.{is_compact, skeleton_of}
+use Rattle.locale_numbers_formats.specs.declared.LeadingZeros.{LeadingZeros}
 use Rattle.locale_numbers_formats.specs.declared.LeadingZeros.TheVariants as leading
 use Rattle.locale_numbers_formats.specs.declared.NumberFormat.{NumberFormat}
 use Rattle.locale_numbers_formats.specs.declared.NumberUnit.{NumberUnit}
@@ -28,14 +30,17 @@ use Rattle.locale_numbers_formats.specs.declared.SignificantDigits.{SignificantD
 use Rattle.locale_numbers_formats.specs.declared.TrailingZeros.{TrailingZeros}
 use Rattle.locale_numbers_formats.specs.declared.TrailingZeros.TheVariants as trailing
 use Rattle.locale_numbers_requests.specs.FormField.{amount_by, amount_form, amount_word, coded_form, colon, first_of, form_for, form_named, listed_form, skeleton_by, skeleton_in, skeleton_task}
-use Rattle.locale_numbers_requests.specs.OldRequests.{OldRequestsStay, StaysRequest, same, none, added, is_added, is_added_grouping, is_added_task, old_form_named, old_grouping_named, old_request_by, old_request_in, old_rounding_by, old_rounding_in, old_rounding_named, old_takes, trims}
+use Rattle.locale_numbers_requests.specs.Increments.{has_no_zeros, increment_by, increment_named, multiples_at, with_zeros}
+use Rattle.locale_numbers_requests.specs.OldRequests.{OldRequestsStay, StaysRequest, same, none, added, is_added, is_added_grouping, is_added_task, old_form_named, old_grouping_named, old_increment_named, old_request_by, old_request_in, old_rounding_by, old_rounding_in, old_rounding_named, old_takes, trims}
 use Rattle.locale_numbers_requests.specs.Request.{Asked, asked_by, fields, format_by, grouping_named, request_by, request_in, says_nothing, sign_named, takes}
-use Rattle.locale_numbers_requests.specs.RoundingField.{all_of, comma, count_named, counts_by, counts_in, digits_at, digits_by, digits_in, either_by, increment_named, is_cash, is_whole, last_named, letter_f, mode_named, places_named, position_by, position_named, priority_named, rounding_named, significant_at, significant_named, whole_by}
+use Rattle.locale_numbers_requests.specs.RoundingField.{all_of, all_shown, comma, count_named, counts_by, counts_in, digits_by, digits_in, either_by, front_by, is_cash, is_whole, last_named, least_shown, letter_f, mode_named, multiples_shown, places_named, position_by, position_named, priority_named, rounding_named, significant_at, significant_named, whole_by}
 use Rattle.locale_numbers_requests.specs.declared.form_field.AmountWord.{AmountWord}
 use Rattle.locale_numbers_requests.specs.declared.form_field.FormAsked.{FormAsked}
 use Rattle.locale_numbers_requests.specs.declared.form_field.FormAsked.TheVariants.{OfWord, OfSkeleton}
 use Rattle.locale_numbers_requests.specs.declared.form_field.Task.{Task}
-use Rattle.locale_numbers_requests.specs.declared.form_field.Task.TheVariants.{Write, WriteExact, Read, ReadLenient}
+use Rattle.locale_numbers_requests.specs.declared.form_field.Task.TheVariants.{Write, WriteExact, Read, ReadLenient, Category, RangeCategory}
+use Rattle.locale_numbers_requests.specs.declared.increments.Increment.{Increment}
+use Rattle.locale_numbers_requests.specs.declared.increments.Multiples.{Multiples}
 use Rattle.locale_numbers_requests.specs.declared.rounding_field.DigitsAsked.{DigitsAsked}
 use Rattle.locale_numbers_requests.specs.declared.rounding_field.Places.{Places}
 use Rattle.locale_numbers_requests.specs.declared.rounding_field.Places.TheVariants.{Position, Fraction}
@@ -96,6 +101,8 @@ of_format WriteExact f trimmed = by (is_compact f.shape.notation)
     by false = no_form refl refl
 of_format Read f trimmed = added_form _ trimmed refl refl
 of_format ReadLenient f trimmed = added_form _ trimmed refl refl
+of_format (Category rule_type) f trimmed = added_form _ trimmed refl refl
+of_format RangeCategory f trimmed = added_form _ trimmed refl refl
 
 of_skeleton : (task : Option Task) (r : Result Skeleton SkeletonError) → StaysForm (skeleton_by task r) None
 of_skeleton None r = no_form refl refl
@@ -133,7 +140,10 @@ of_list word =
     (listed_new (bytes_eq word (codes "read-lenient")) _ _ refl
     (listed_new (bytes_eq word (codes "percent")) _ _ refl
     (listed_new (bytes_eq word (codes "read-percent")) _ _ refl
-    (listed_new (bytes_eq word (codes "read-lenient-percent")) _ _ refl (no_form refl refl))))))))))
+    (listed_new (bytes_eq word (codes "read-lenient-percent")) _ _ refl
+    (listed_new (bytes_eq word (codes "plural")) _ _ refl
+    (listed_new (bytes_eq word (codes "ordinal")) _ _ refl
+    (listed_new (bytes_eq word (codes "range-plural")) _ _ refl (no_form refl refl)))))))))))))
 
 -- a form, or another that was added
 either : (now before other : Option FormAsked) → StaysForm now before → StaysForm other None → StaysForm (first_of now other) before
@@ -177,7 +187,7 @@ data StaysRounding (now before : Option DigitsAsked) : Type 0 where
   same_rounding : (rounding : Rounding) → is_cash rounding ≡ false → now ≡ Some (all_of rounding) → before ≡ Some (all_of rounding) → StaysRounding now before
   no_rounding : now ≡ None → before ≡ None → StaysRounding now before
   added_cash : now ≡ Some (all_of Cash) → before ≡ None → StaysRounding now before
-  added_digits : (digits : DigitsAsked) → trims leading.Keep digits.zeros ≡ true → now ≡ Some digits → before ≡ None → StaysRounding now before
+  added_digits : (digits : DigitsAsked) → trims digits.leading_zeros digits.zeros ≡ true → now ≡ Some digits → before ≡ None → StaysRounding now before
 
 -- a word of places is the same position, none, or counts that were none
 data StaysPlaces (now : Option Places) (before : Option ℤ) : Type 0 where
@@ -216,33 +226,99 @@ places_stay (c ∷ cs) = by (c == letter_f) refl
     by true is = rw (letter_is_none c cs (eqb-true c letter_f is)) (of_two (cut_at minus cs))
     by false is = of_position (position_named (c ∷ cs))
 
+-- a word is the same increment, none, or one with zeros behind that was none
+data StaysIncrement (now : Option Increment) (before : Option RoundingIncrement) : Type 0 where
+  same_increment : (digits : RoundingIncrement) → now ≡ Some (with_zeros digits 0) → before ≡ Some digits → StaysIncrement now before
+  no_increment : now ≡ None → before ≡ None → StaysIncrement now before
+  added_increment : (increment : Increment) → has_no_zeros increment ≡ false → now ≡ Some increment → before ≡ None → StaysIncrement now before
+
+listed_increment : (b : Bool) (digits : RoundingIncrement) (now : Option (RoundingIncrement × ℕ)) (before : Option RoundingIncrement)
+    → StaysIncrement (increment_by now) before → StaysIncrement (increment_by (if b then Some (digits, 0) else now)) (if b then Some digits else before)
+listed_increment true digits now before rest = same_increment digits refl refl
+listed_increment false digits now before rest = rest
+
+newer_increment : (b : Bool) (found : RoundingIncrement × ℕ) (now : Option (RoundingIncrement × ℕ)) → has_no_zeros (with_zeros found.0 found.1) ≡ false
+    → StaysIncrement (increment_by now) None → StaysIncrement (increment_by (if b then Some found else now)) None
+newer_increment true found now zeros rest = added_increment (with_zeros found.0 found.1) zeros refl refl
+newer_increment false found now zeros rest = rest
+
+increment_stays : (word : List ℕ) → StaysIncrement (increment_named word) (old_increment_named word)
+increment_stays word =
+    listed_increment (bytes_eq word (codes "1")) MultiplesOf1 _ _
+    (listed_increment (bytes_eq word (codes "2")) MultiplesOf2 _ _
+    (listed_increment (bytes_eq word (codes "5")) MultiplesOf5 _ _
+    (listed_increment (bytes_eq word (codes "25")) MultiplesOf25 _ _
+    (newer_increment (bytes_eq word (codes "10")) _ _ refl
+    (newer_increment (bytes_eq word (codes "20")) _ _ refl
+    (newer_increment (bytes_eq word (codes "50")) _ _ refl
+    (newer_increment (bytes_eq word (codes "100")) _ _ refl
+    (newer_increment (bytes_eq word (codes "200")) _ _ refl
+    (newer_increment (bytes_eq word (codes "250")) _ _ refl
+    (newer_increment (bytes_eq word (codes "500")) _ _ refl
+    (newer_increment (bytes_eq word (codes "1000")) _ _ refl
+    (newer_increment (bytes_eq word (codes "2000")) _ _ refl
+    (newer_increment (bytes_eq word (codes "2500")) _ _ refl
+    (newer_increment (bytes_eq word (codes "5000")) _ _ refl (no_increment refl refl)))))))))))))))
+
+-- what trims with the zeros in front kept trims by every increment, and an increment with zeros behind trims by itself
+front_trims : (increment : Increment) (zeros : TrailingZeros) → trims leading.Keep zeros ≡ true → trims (front_by increment) zeros ≡ true
+front_trims increment zeros is = by (has_no_zeros increment)
+  where
+    by : (b : Bool) → trims (if b then leading.Keep else leading.TrimRoundedZero) zeros ≡ true
+    by true = is
+    by false = refl
+
+zeros_trim : (increment : Increment) (zeros : TrailingZeros) → has_no_zeros increment ≡ false → trims (front_by increment) zeros ≡ true
+zeros_trim increment zeros is = rw is refl
+
+-- multiples that were none
+of_multiples : (front : LeadingZeros) (zeros : TrailingZeros) (m : SignedRoundingMode) (multiples : Option Multiples) → trims front zeros ≡ true
+    → StaysRounding (all_shown front zeros m multiples) None
+of_multiples front zeros m None trimmed = no_rounding refl refl
+of_multiples front zeros m (Some multiples) trimmed = added_digits (multiples_shown front zeros multiples.fraction_digits m multiples) trimmed refl refl
+
+of_least : (front : LeadingZeros) (least : ℤ) (m : SignedRoundingMode) (multiples : Option Multiples) → trims front trailing.Trim ≡ true
+    → StaysRounding (least_shown front least m multiples) None
+of_least front least m None trimmed = no_rounding refl refl
+of_least front least m (Some multiples) trimmed = added_digits (multiples_shown front trailing.Trim least m multiples) trimmed refl refl
+
 -- three words say what they said, and are never cash
-of_places : (now : Option Places) (before : Option ℤ) (m : Option SignedRoundingMode) (i : Option RoundingIncrement) → StaysPlaces now before → StaysRounding (digits_by now m i) (old_rounding_by before m i)
-of_places now before None i (same_position p e d) = rw (e, d) (no_rounding refl refl)
-of_places now before (Some m) None (same_position p e d) = rw (e, d) (no_rounding refl refl)
-of_places now before (Some m) (Some i) (same_position p e d) = rw (e, d) (same_rounding (At p m i) refl refl refl)
-of_places now before m i (no_places e d) = rw (e, d) (no_rounding refl refl)
-of_places now before None i (added_counts least last e d) = rw (e, d) (no_rounding refl refl)
-of_places now before (Some m) None (added_counts least last e d) = rw (e, d) (no_rounding refl refl)
-of_places now before (Some m) (Some i) (added_counts least last e d) = rw (e, d) (added_digits (digits_at (Fraction least last) m i) refl refl refl)
+of_position_words : (p : ℤ) (m : Option SignedRoundingMode) (i : Option Increment) (before : Option RoundingIncrement) → StaysIncrement i before
+    → StaysRounding (digits_by (Some (Position p)) m i) (old_rounding_by (Some p) m before)
+of_position_words p None i before stays = no_rounding refl refl
+of_position_words p (Some m) i before (same_increment digits e d) = rw (e, d) (same_rounding (At p m digits) refl refl refl)
+of_position_words p (Some m) i before (no_increment e d) = rw (e, d) (no_rounding refl refl)
+of_position_words p (Some m) i before (added_increment increment zeros e d) =
+    rw (e, d) (of_multiples (front_by increment) trailing.Keep m (multiples_at p increment) (zeros_trim increment trailing.Keep zeros))
+
+of_count_words : (least last : ℤ) (m : Option SignedRoundingMode) (i : Option Increment) → StaysRounding (digits_by (Some (Fraction least last)) m i) None
+of_count_words least last None i = no_rounding refl refl
+of_count_words least last (Some m) None = no_rounding refl refl
+of_count_words least last (Some m) (Some i) = of_least (front_by i) least m (multiples_at last i) (front_trims i trailing.Trim refl)
+
+of_places : (now : Option Places) (before : Option ℤ) (m : Option SignedRoundingMode) (i : Option Increment) (old : Option RoundingIncrement)
+    → StaysPlaces now before → StaysIncrement i old → StaysRounding (digits_by now m i) (old_rounding_by before m old)
+of_places now before m i old (same_position p e d) stays = rw (e, d) (of_position_words p m i old stays)
+of_places now before m i old (no_places e d) stays = rw (e, d) (no_rounding refl refl)
+of_places now before m i old (added_counts least last e d) stays = rw (e, d) (of_count_words least last m i)
 
 -- four words said nothing, nor did any that end with `whole`
-of_whole : (places : Option Places) (m : Option SignedRoundingMode) (i : Option RoundingIncrement) → StaysRounding (whole_by places m i) None
+of_whole : (places : Option Places) (m : Option SignedRoundingMode) (i : Option Increment) → StaysRounding (whole_by places m i) None
 of_whole None m i = no_rounding refl refl
 of_whole (Some places) None i = no_rounding refl refl
 of_whole (Some places) (Some m) None = no_rounding refl refl
 of_whole (Some (Position p)) (Some m) (Some i) = no_rounding refl refl
 of_whole (Some (Fraction least last)) (Some m) (Some i) = by (int_le (neg_ℤ last) least)
   where
-    by : (b : Bool) → StaysRounding (if b then Some (record { rounding = At last m i; zeros = trailing.TrimWhole; fraction_digits = pos 0 }) else None) None
-    by true = added_digits (record { rounding = At last m i; zeros = trailing.TrimWhole; fraction_digits = pos 0 }) refl refl refl
+    by : (b : Bool) → StaysRounding (if b then all_shown (front_by i) trailing.TrimWhole m (multiples_at last i) else None) None
+    by true = of_multiples (front_by i) trailing.TrimWhole m (multiples_at last i) (front_trims i trailing.TrimWhole refl)
     by false = no_rounding refl refl
 
 -- nor did significant digits
 of_significant : (zeros : TrailingZeros) (digits : Option SignificantDigits) (m : Option SignedRoundingMode) → trims leading.Keep zeros ≡ true → StaysRounding (significant_at zeros digits m) None
 of_significant zeros None m trimmed = no_rounding refl refl
 of_significant zeros (Some digits) None trimmed = no_rounding refl refl
-of_significant zeros (Some digits) (Some m) trimmed = added_digits (record { rounding = Significant digits m; zeros = zeros; fraction_digits = pos 0 }) trimmed refl refl
+of_significant zeros (Some digits) (Some m) trimmed = added_digits (record { rounding = Significant digits m; leading_zeros = leading.Keep; zeros = zeros; fraction_digits = pos 0 }) trimmed refl refl
 
 of_either : (zeros : TrailingZeros) (places : Option Places) (digits : Option SignificantDigits) (r : Option RoundingPriority) (m : Option SignedRoundingMode) → trims leading.Keep zeros ≡ true
     → StaysRounding (either_by zeros places digits r m) None
@@ -251,10 +327,10 @@ of_either zeros (Some places) None r m trimmed = no_rounding refl refl
 of_either zeros (Some places) (Some digits) None m trimmed = no_rounding refl refl
 of_either zeros (Some places) (Some digits) (Some r) None trimmed = no_rounding refl refl
 of_either zeros (Some (Position p)) (Some digits) (Some r) (Some m) trimmed = no_rounding refl refl
-of_either zeros (Some (Fraction least last)) (Some digits) (Some r) (Some m) trimmed = added_digits (record { rounding = Either r last digits m; zeros = zeros; fraction_digits = least }) trimmed refl refl
+of_either zeros (Some (Fraction least last)) (Some digits) (Some r) (Some m) trimmed = added_digits (record { rounding = Either r last digits m; leading_zeros = leading.Keep; zeros = zeros; fraction_digits = least }) trimmed refl refl
 
--- the word of whole numbers is no increment
-whole_is_none : (word : List ℕ) → is_whole word ≡ true → increment_named word ≡ None
+-- the word of whole numbers was no increment
+whole_is_none : (word : List ℕ) → is_whole word ≡ true → old_increment_named word ≡ None
 whole_is_none word is = let w : word ≡ codes "whole" = (bytes_eq-Decides word (codes "whole")).0 is in rw w refl
 
 without_increment : (position : Option ℤ) (m : Option SignedRoundingMode) → old_rounding_by position m None ≡ None
@@ -267,9 +343,10 @@ of_three a b c = by (is_whole c) refl
   where
     by : (whole : Bool) → is_whole c ≡ whole
         → StaysRounding (if whole then significant_at trailing.TrimAll (significant_named a) (mode_named b) else digits_by (places_named a) (mode_named b) (increment_named c))
-        (old_rounding_by (position_named a) (mode_named b) (increment_named c))
+        (old_rounding_by (position_named a) (mode_named b) (old_increment_named c))
     by true is = rw (whole_is_none c is, without_increment (position_named a) (mode_named b)) (of_significant trailing.TrimAll (significant_named a) (mode_named b) refl)
-    by false is = of_places (places_named a) (position_named a) (mode_named b) (increment_named c) (places_stay a)
+    by false is =
+        of_places (places_named a) (position_named a) (mode_named b) (increment_named c) (old_increment_named c) (places_stay a) (increment_stays c)
 
 of_four : (a b c d : List ℕ) → StaysRounding (digits_in (a ∷ b ∷ c ∷ d ∷ [])) None
 of_four a b c d = by (is_whole d)
@@ -323,6 +400,8 @@ takes_so Read unit.None sign (Either priority position digits mode) old is = ref
 takes_so Read unit.Percent sign rounding old is = absurd (cc)
 takes_so Read (unit.Currency currency) sign rounding old is = absurd (cc)
 takes_so ReadLenient unit sign rounding old is = absurd (cc)
+takes_so (Category rule_type) unit sign rounding old is = absurd (cc)
+takes_so RangeCategory unit sign rounding old is = absurd (cc)
 
 -- and no cash
 takes_no_cash : (task : Task) (unit : NumberUnit) (sign : SignAsked) → is_added_task task unit ≡ false → takes task unit sign Cash ≡ false
@@ -335,6 +414,8 @@ takes_no_cash Read unit.None (Show display) old = refl
 takes_no_cash Read unit.Percent sign old = absurd (cc)
 takes_no_cash Read (unit.Currency currency) sign old = absurd (cc)
 takes_no_cash ReadLenient unit sign old = absurd (cc)
+takes_no_cash (Category rule_type) unit sign old = absurd (cc)
+takes_no_cash RangeCategory unit sign old = absurd (cc)
 
 module _ (tag : List ℕ) (text : List ℕ) where
   -- a request, where the form takes the other fields
@@ -376,7 +457,7 @@ module _ (tag : List ℕ) (text : List ℕ) where
       rw (e, d) (not_taken (takes task unit s Cash) task (format_by notation unit g s (all_of Cash)) (takes_no_cash task unit s old))
   with_old (OfWord task notation unit) g (Some s) now before old plain (added_digits digits new e d) =
       rw (e, d) (newly_taken (takes task unit s digits.rounding) task (format_by notation unit g s digits)
-      (either_true (is_added_grouping g) (trims leading.Keep digits.zeros || is_added_task task unit) (rw new refl)))
+      (either_true (is_added_grouping g) (trims digits.leading_zeros digits.zeros || is_added_task task unit) (rw new refl)))
   with_old (OfSkeleton task format) g s now before old plain stays = absurd old
 
   with_new : (form : FormAsked) (g : Option GroupingStrategy) (s : Option SignAsked) (now : Option DigitsAsked) → IsNew form → StaysRequest (request_by tag (Some form) g s now text) None
@@ -385,7 +466,7 @@ module _ (tag : List ℕ) (text : List ℕ) where
   with_new form (Some g) (Some s) None new = none refl refl
   with_new (OfWord task notation unit) (Some g) (Some s) (Some d) new =
       newly_taken (takes task unit s d.rounding) task (format_by notation unit g s d)
-      (either_true (is_added_grouping g) (trims leading.Keep d.zeros || is_added_task task unit) (either_true (trims leading.Keep d.zeros) (is_added_task task unit) new))
+      (either_true (is_added_grouping g) (trims d.leading_zeros d.zeros || is_added_task task unit) (either_true (trims d.leading_zeros d.zeros) (is_added_task task unit) new))
   with_new (OfSkeleton task format) (Some g) (Some s) (Some d) new =
       newly_taken (says_nothing g s d.rounding) task format
       (either_true (is_added_grouping format.shape.grouping) (trims format.options.leading_zeros format.options.zeros || is_added_task task format.shape.unit) (rw new refl))

@@ -7,6 +7,7 @@ use Rattle.std.specs.Str.{bytes_eq}
 use Rattle.icu_dimension_fractions.specs.CurrencyCodes.{is_currency_code}
 use Rattle.icu_dimension_fractions.specs.declared.CurrencyStyle.TheVariants as style
 use Rattle.icu_dimension_fractions.specs.declared.CurrencyWidth.TheVariants as width
+use Rattle.icu_plurals.specs.declared.PluralRuleType.TheVariants.{Cardinal, Ordinal}
 use Rattle.locale_numbers_formats.specs.Cutting.{cut_at}
 use Rattle.locale_numbers_formats.specs.SkeletonFormats.{format_of}
 use Rattle.locale_numbers_formats.specs.Skeletons.{is_compact, skeleton_of}
@@ -22,7 +23,7 @@ use Rattle.locale_numbers_requests.specs.declared.form_field.AmountWord.{AmountW
 use Rattle.locale_numbers_requests.specs.declared.form_field.FormAsked.{FormAsked}
 use Rattle.locale_numbers_requests.specs.declared.form_field.FormAsked.TheVariants.{OfWord, OfSkeleton}
 use Rattle.locale_numbers_requests.specs.declared.form_field.Task.{Task}
-use Rattle.locale_numbers_requests.specs.declared.form_field.Task.TheVariants.{Write, WriteExact, Read, ReadLenient}
+use Rattle.locale_numbers_requests.specs.declared.form_field.Task.TheVariants.{Write, WriteExact, Read, ReadLenient, Category, RangeCategory}
 
 -- ---- amounts of money
 
@@ -65,6 +66,9 @@ skeleton_task front =
     else if bytes_eq front (codes "exact") then Some WriteExact
     else if bytes_eq front (codes "read") then Some Read
     else if bytes_eq front (codes "read-lenient") then Some ReadLenient
+    else if bytes_eq front (codes "plural") then Some (Category Cardinal)
+    else if bytes_eq front (codes "ordinal") then Some (Category Ordinal)
+    else if bytes_eq front (codes "range-plural") then Some RangeCategory
     else None
 
 -- what is read has the digits of its currency, where the skeleton shows them, and else any digits
@@ -85,6 +89,8 @@ form_for Write f = Some (OfSkeleton Write f)
 form_for WriteExact f = if is_compact f.shape.notation then Some (OfSkeleton WriteExact f) else None
 form_for Read f = Some (OfSkeleton Read (format_read f))
 form_for ReadLenient f = Some (OfSkeleton ReadLenient (format_read f))
+form_for (Category rule_type) f = Some (OfSkeleton (Category rule_type) f)
+form_for RangeCategory f = Some (OfSkeleton RangeCategory f)
 
 abbrev pub skeleton_by : Option Task → Result Skeleton SkeletonError → Option FormAsked
 skeleton_by (Some task) (Ok skeleton) = form_for task (format_of skeleton)
@@ -110,6 +116,9 @@ listed_form word =
     else if bytes_eq word (codes "percent") then Some (OfWord Write Standard unit.Percent)
     else if bytes_eq word (codes "read-percent") then Some (OfWord Read Standard unit.Percent)
     else if bytes_eq word (codes "read-lenient-percent") then Some (OfWord ReadLenient Standard unit.Percent)
+    else if bytes_eq word (codes "plural") then Some (OfWord (Category Cardinal) Standard unit.None)
+    else if bytes_eq word (codes "ordinal") then Some (OfWord (Category Ordinal) Standard unit.None)
+    else if bytes_eq word (codes "range-plural") then Some (OfWord RangeCategory Standard unit.None)
     else None
 
 abbrev pub first_of : Option FormAsked → Option FormAsked → Option FormAsked

@@ -1,6 +1,8 @@
 -- What a reader must believe: request lines, and the words that refuse them.
 pub mod Digits
 pub mod FormField
+pub mod Increments
+pub mod RangeEnds
 pub mod Request
 pub mod RoundingField
 pub mod Refusal

@@ -1,11 +1,13 @@
 -- What a line asked when there were the forms `plain`, `short`, `long`, `exact-short`, `exact-long` and `read` alone, without the grouping
--- `on-aligned`, without the rounding `cash` and without choices of digits; and that such a line asks the same now.
+-- `on-aligned`, without the rounding `cash`, without choices of digits, and with the increments 1, 2, 5 and 25 alone; and that such a line asks the
+-- same now.
 -- Defined in docs/requests.md, "Request line".
 -- Cited by the law of `laws.rt`, and by that of old lines of `locale_numbers`.
 -- A form, a sign and a rounding are types with cases, and the cases of each are imported beside it.
 use Rattle.std.specs.Prelude.{◌≡◌, ℕ, ℤ, Bool, true, false, ◌&&◌, ◌||◌, if◌then◌else◌, List, [], ◌∷◌, Option, Some, None, codes}
 use Rattle.std.specs.Str.{bytes_eq, is_utf8}
 use Rattle.fixed_decimal.specs.declared.RoundingIncrement.{RoundingIncrement}
+use Rattle.fixed_decimal.specs.declared.RoundingIncrement.TheVariants.{MultiplesOf1, MultiplesOf2, MultiplesOf5, MultiplesOf25}
 use Rattle.fixed_decimal.specs.declared.SignedRoundingMode.{SignedRoundingMode}
 use Rattle.icu_decimal_symbols.specs.declared.options.GroupingStrategy.{GroupingStrategy}
 use Rattle.icu_decimal_symbols.specs.declared.options.GroupingStrategy.TheVariants as grouping
@@ -23,11 +25,11 @@ use Rattle.locale_numbers_formats.specs.declared.SignAsked.{SignAsked}
 use Rattle.locale_numbers_formats.specs.declared.TrailingZeros.{TrailingZeros}
 use Rattle.locale_numbers_formats.specs.declared.TrailingZeros.TheVariants as trailing
 use Rattle.locale_numbers_requests.specs.Request.{Asked, asked_by, fields, format_by, keeps_sign, request_of, sign_named}
-use Rattle.locale_numbers_requests.specs.RoundingField.{all_of, comma, increment_named, keeps_digits, mode_named, position_named}
+use Rattle.locale_numbers_requests.specs.RoundingField.{all_of, comma, keeps_digits, mode_named, position_named}
 use Rattle.locale_numbers_requests.specs.declared.form_field.FormAsked.{FormAsked}
 use Rattle.locale_numbers_requests.specs.declared.form_field.FormAsked.TheVariants.{OfWord, OfSkeleton}
 use Rattle.locale_numbers_requests.specs.declared.form_field.Task.{Task}
-use Rattle.locale_numbers_requests.specs.declared.form_field.Task.TheVariants.{Write, WriteExact, Read, ReadLenient}
+use Rattle.locale_numbers_requests.specs.declared.form_field.Task.TheVariants.{Write, WriteExact, Read, ReadLenient, Category, RangeCategory}
 use Rattle.locale_numbers_requests.specs.declared.rounding_field.DigitsAsked.{DigitsAsked}
 
 -- the six forms
@@ -50,13 +52,22 @@ old_grouping_named word =
     else if bytes_eq word (codes "min2") then Some grouping.Min2
     else None
 
+-- the four increments
+abbrev pub old_increment_named : List ℕ → Option RoundingIncrement
+old_increment_named word =
+    if bytes_eq word (codes "1") then Some MultiplesOf1
+    else if bytes_eq word (codes "2") then Some MultiplesOf2
+    else if bytes_eq word (codes "5") then Some MultiplesOf5
+    else if bytes_eq word (codes "25") then Some MultiplesOf25
+    else None
+
 -- a position, a mode and an increment
 abbrev pub old_rounding_by : Option ℤ → Option SignedRoundingMode → Option RoundingIncrement → Option DigitsAsked
 old_rounding_by (Some position) (Some mode) (Some increment) = Some (all_of (At position mode increment))
 old_rounding_by _ _ _ = None
 
 abbrev pub old_rounding_in : List (List ℕ) → Option DigitsAsked
-old_rounding_in (position ∷ mode ∷ increment ∷ []) = old_rounding_by (position_named position) (mode_named mode) (increment_named increment)
+old_rounding_in (position ∷ mode ∷ increment ∷ []) = old_rounding_by (position_named position) (mode_named mode) (old_increment_named increment)
 old_rounding_in _ = None
 
 -- no rounding, or such a one
@@ -69,6 +80,8 @@ old_takes Write sign rounding = true
 old_takes WriteExact sign rounding = keeps_digits rounding
 old_takes Read sign rounding = keeps_sign sign && keeps_digits rounding
 old_takes ReadLenient sign rounding = false
+old_takes (Category rule_type) sign rounding = false
+old_takes RangeCategory sign rounding = false
 
 abbrev pub old_format_asked : FormAsked → GroupingStrategy → SignAsked → DigitsAsked → Option (Task × NumberFormat)
 old_format_asked (OfWord task notation unit) grouping sign digits =
@@ -98,8 +111,10 @@ is_added_task Read unit.None = false
 is_added_task Read unit.Percent = true
 is_added_task Read (unit.Currency currency) = true
 is_added_task ReadLenient unit = true
+is_added_task (Category rule_type) unit = true
+is_added_task RangeCategory unit = true
 
--- zeros are trimmed
+-- zeros are trimmed: those of a zero in front are after an increment that was added
 abbrev pub trims : LeadingZeros → TrailingZeros → Bool
 trims leading.Keep trailing.Keep = false
 trims leading.Keep trailing.Trim = true
@@ -116,7 +131,7 @@ is_added_grouping grouping.Always = false
 is_added_grouping grouping.Min2 = false
 is_added_grouping grouping.OnAligned = true
 
--- a grouping, a task or a choice of digits that was added
+-- a grouping, a task, a choice of digits or an increment that was added
 abbrev pub is_added : Asked → Bool
 is_added asked =
     is_added_grouping asked.format.shape.grouping

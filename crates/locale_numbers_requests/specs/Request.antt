@@ -8,7 +8,6 @@ use Rattle.fixed_decimal.specs.declared.SignDisplay.TheVariants as display
 use Rattle.icu_decimal_symbols.specs.declared.options.GroupingStrategy.{GroupingStrategy}
 use Rattle.icu_decimal_symbols.specs.declared.options.GroupingStrategy.TheVariants.{Auto, Never, Always, Min2, OnAligned}
 use Rattle.locale_numbers_formats.specs.Cutting.{cut_at}
-use Rattle.locale_numbers_formats.specs.declared.LeadingZeros.TheVariants as leading
 use Rattle.locale_numbers_formats.specs.declared.Notation.{Notation}
 use Rattle.locale_numbers_formats.specs.declared.NumberFormat.{NumberFormat}
 use Rattle.locale_numbers_formats.specs.declared.NumberUnit.{NumberUnit}
@@ -21,7 +20,7 @@ use Rattle.locale_numbers_requests.specs.RoundingField.{is_cash, keeps_digits, r
 use Rattle.locale_numbers_requests.specs.declared.form_field.FormAsked.{FormAsked}
 use Rattle.locale_numbers_requests.specs.declared.form_field.FormAsked.TheVariants.{OfWord, OfSkeleton}
 use Rattle.locale_numbers_requests.specs.declared.form_field.Task.{Task}
-use Rattle.locale_numbers_requests.specs.declared.form_field.Task.TheVariants.{Write, WriteExact, Read, ReadLenient}
+use Rattle.locale_numbers_requests.specs.declared.form_field.Task.TheVariants.{Write, WriteExact, Read, ReadLenient, Category, RangeCategory}
 use Rattle.locale_numbers_requests.specs.declared.rounding_field.DigitsAsked.{DigitsAsked}
 
 -- the code of a tab
@@ -66,12 +65,14 @@ is_amount (unit.Currency currency) = true
 
 -- whether a task of numbers with a unit takes a sign and a rounding: an exact form shows the digits that are given, so nothing is
 -- rounded there; what is read back is the number that was written or typed, so neither is chosen there; only an amount of money
--- has digits of cash
+-- has digits of cash; a category is that of what is written
 abbrev pub takes : Task → NumberUnit → SignAsked → Rounding → Bool
 takes Write unit sign rounding = is_amount unit || not (is_cash rounding)
 takes WriteExact unit sign rounding = keeps_digits rounding
 takes Read unit sign rounding = keeps_sign sign && (keeps_digits rounding || (is_amount unit && is_cash rounding))
 takes ReadLenient unit sign rounding = keeps_sign sign && (keeps_digits rounding || (is_amount unit && is_cash rounding))
+takes (Category rule_type) unit sign rounding = is_amount unit || not (is_cash rounding)
+takes RangeCategory unit sign rounding = is_amount unit || not (is_cash rounding)
 
 -- a skeleton says all, so the other fields say nothing
 abbrev pub says_nothing : GroupingStrategy → SignAsked → Rounding → Bool
@@ -81,13 +82,13 @@ says_nothing Always sign rounding = false
 says_nothing Min2 sign rounding = false
 says_nothing OnAligned sign rounding = false
 
--- the format of a line: the zeros in front stay, and none is added there
+-- the format of a line: none is added in front
 abbrev pub format_by : Notation → NumberUnit → GroupingStrategy → SignAsked → DigitsAsked → NumberFormat
 format_by notation unit grouping sign digits = record {
   shape = record { notation = notation; unit = unit; grouping = grouping };
   options = record {
     rounding = digits.rounding;
-    leading_zeros = leading.Keep;
+    leading_zeros = digits.leading_zeros;
     zeros = digits.zeros;
     integer_digits = pos 0;
     fraction_digits = digits.fraction_digits;

@@ -9,9 +9,9 @@ use Rattle.fixed_decimal.specs.NumberText.{minus, digit_zero, spelled}
 use Rattle.fixed_decimal.specs.declared.SignedRoundingMode.{SignedRoundingMode}
 use Rattle.fixed_decimal.specs.declared.SignedRoundingMode.TheVariants.{Unsigned, Ceil, Floor, HalfCeil, HalfFloor}
 use Rattle.fixed_decimal.specs.declared.UnsignedRoundingMode.TheVariants.{Expand, Trunc, HalfExpand, HalfTrunc, HalfEven}
-use Rattle.fixed_decimal.specs.declared.RoundingIncrement.{RoundingIncrement}
-use Rattle.fixed_decimal.specs.declared.RoundingIncrement.TheVariants.{MultiplesOf1, MultiplesOf2, MultiplesOf5, MultiplesOf25}
 use Rattle.locale_numbers_formats.specs.Cutting.{cut_at}
+use Rattle.locale_numbers_formats.specs.declared.LeadingZeros.{LeadingZeros}
+use Rattle.locale_numbers_formats.specs.declared.LeadingZeros.TheVariants as leading
 use Rattle.locale_numbers_formats.specs.declared.Rounding.{Rounding}
 use Rattle.locale_numbers_formats.specs.declared.Rounding.TheVariants.{Usual, Cash, AsGiven, At, Significant, Either}
 use Rattle.locale_numbers_formats.specs.declared.RoundingPriority.{RoundingPriority}
@@ -20,6 +20,9 @@ use Rattle.locale_numbers_formats.specs.declared.SignificantDigits.{SignificantD
 use Rattle.locale_numbers_formats.specs.declared.TrailingZeros.{TrailingZeros}
 use Rattle.locale_numbers_formats.specs.declared.TrailingZeros.TheVariants.{Keep, Trim, TrimWhole, TrimAll}
 use Rattle.locale_numbers_requests.specs.Digits.{is_digit}
+use Rattle.locale_numbers_requests.specs.Increments.{has_no_zeros, increment_named, multiples_at}
+use Rattle.locale_numbers_requests.specs.declared.increments.Increment.{Increment}
+use Rattle.locale_numbers_requests.specs.declared.increments.Multiples.{Multiples}
 use Rattle.locale_numbers_requests.specs.declared.rounding_field.DigitsAsked.{DigitsAsked}
 use Rattle.locale_numbers_requests.specs.declared.rounding_field.Places.{Places}
 use Rattle.locale_numbers_requests.specs.declared.rounding_field.Places.TheVariants.{Position, Fraction}
@@ -113,7 +116,7 @@ priority_named word =
     else if bytes_eq word (codes "less") then Some LessPrecision
     else None
 
--- ---- modes and increments
+-- ---- modes
 
 -- the mode that a word names
 abbrev pub mode_named : List ℕ → Option SignedRoundingMode
@@ -129,49 +132,60 @@ mode_named word =
     else if bytes_eq word (codes "half-even") then Some (Unsigned HalfEven)
     else None
 
--- the increment that a word names
-abbrev pub increment_named : List ℕ → Option RoundingIncrement
-increment_named word =
-    if bytes_eq word (codes "1") then Some MultiplesOf1
-    else if bytes_eq word (codes "2") then Some MultiplesOf2
-    else if bytes_eq word (codes "5") then Some MultiplesOf5
-    else if bytes_eq word (codes "25") then Some MultiplesOf25
-    else None
-
 -- ---- what is shown
 
 -- a rounding with all zeros that it shows
 abbrev pub all_of : Rounding → DigitsAsked
-all_of rounding = record { rounding = rounding; zeros = Keep; fraction_digits = pos 0 }
+all_of rounding = record { rounding = rounding; leading_zeros = leading.Keep; zeros = Keep; fraction_digits = pos 0 }
+
+-- the zeros in front stay, but those of a zero that an increment with zeros behind leaves
+abbrev pub front_by : Increment → LeadingZeros
+front_by increment = if has_no_zeros increment then leading.Keep else leading.TrimRoundedZero
+
+-- multiples, with so many digits of a fraction
+abbrev pub multiples_shown : LeadingZeros → TrailingZeros → ℤ → SignedRoundingMode → Multiples → DigitsAsked
+multiples_shown front zeros fraction mode multiples =
+    record { rounding = At multiples.position mode multiples.increment; leading_zeros = front; zeros = zeros; fraction_digits = fraction }
+
+-- with the digits down to the position
+abbrev pub all_shown : LeadingZeros → TrailingZeros → SignedRoundingMode → Option Multiples → Option DigitsAsked
+all_shown front zeros mode None = None
+all_shown front zeros mode (Some multiples) = Some (multiples_shown front zeros multiples.fraction_digits mode multiples)
+
+-- with no zeros behind the least digits
+abbrev pub least_shown : LeadingZeros → ℤ → SignedRoundingMode → Option Multiples → Option DigitsAsked
+least_shown front least mode None = None
+least_shown front least mode (Some multiples) = Some (multiples_shown front Trim least mode multiples)
 
 -- a rounding at a position shows all zeros down to it; one to the most digits of a fraction no zeros behind the least ones
-abbrev pub digits_at : Places → SignedRoundingMode → RoundingIncrement → DigitsAsked
-digits_at (Position position) mode increment = all_of (At position mode increment)
-digits_at (Fraction least last) mode increment = record { rounding = At last mode increment; zeros = Trim; fraction_digits = least }
+abbrev pub digits_at : Places → SignedRoundingMode → Increment → Option DigitsAsked
+digits_at (Position position) mode increment = all_shown (front_by increment) Keep mode (multiples_at position increment)
+digits_at (Fraction least last) mode increment = least_shown (front_by increment) least mode (multiples_at last increment)
 
-abbrev pub digits_by : Option Places → Option SignedRoundingMode → Option RoundingIncrement → Option DigitsAsked
-digits_by (Some places) (Some mode) (Some increment) = Some (digits_at places mode increment)
+abbrev pub digits_by : Option Places → Option SignedRoundingMode → Option Increment → Option DigitsAsked
+digits_by (Some places) (Some mode) (Some increment) = digits_at places mode increment
 digits_by _ _ _ = None
 
 -- so many digits of a fraction, or none of a whole number: no more may be shown than are shown at least
-abbrev pub whole_at : Places → SignedRoundingMode → RoundingIncrement → Option DigitsAsked
+abbrev pub whole_at : Places → SignedRoundingMode → Increment → Option DigitsAsked
 whole_at (Position position) mode increment = None
 whole_at (Fraction least last) mode increment =
-    if int_le (neg_ℤ last) least then Some (record { rounding = At last mode increment; zeros = TrimWhole; fraction_digits = pos 0 }) else None
+    if int_le (neg_ℤ last) least then all_shown (front_by increment) TrimWhole mode (multiples_at last increment) else None
 
-abbrev pub whole_by : Option Places → Option SignedRoundingMode → Option RoundingIncrement → Option DigitsAsked
+abbrev pub whole_by : Option Places → Option SignedRoundingMode → Option Increment → Option DigitsAsked
 whole_by (Some places) (Some mode) (Some increment) = whole_at places mode increment
 whole_by _ _ _ = None
 
 -- so many significant digits: of these the least ones count, and not those of a fraction
 abbrev pub significant_at : TrailingZeros → Option SignificantDigits → Option SignedRoundingMode → Option DigitsAsked
-significant_at zeros (Some digits) (Some mode) = Some (record { rounding = Significant digits mode; zeros = zeros; fraction_digits = pos 0 })
+significant_at zeros (Some digits) (Some mode) = Some (record { rounding = Significant digits mode; leading_zeros = leading.Keep; zeros = zeros; fraction_digits = pos 0 })
 significant_at zeros _ _ = None
 
 -- so many digits of a fraction, or so many significant ones
 abbrev pub either_at : TrailingZeros → Places → SignificantDigits → RoundingPriority → SignedRoundingMode → Option DigitsAsked
 either_at zeros (Position position) digits priority mode = None
-either_at zeros (Fraction least last) digits priority mode = Some (record { rounding = Either priority last digits mode; zeros = zeros; fraction_digits = least })
+either_at zeros (Fraction least last) digits priority mode =
+    Some (record { rounding = Either priority last digits mode; leading_zeros = leading.Keep; zeros = zeros; fraction_digits = least })
 
 abbrev pub either_by : TrailingZeros → Option Places → Option SignificantDigits → Option RoundingPriority → Option SignedRoundingMode → Option DigitsAsked
 either_by zeros (Some places) (Some digits) (Some priority) (Some mode) = either_at zeros places digits priority mode

@@ -7,6 +7,7 @@ ghost use Rattle.locale_numbers_requests.specs.FormField.{amount_form, coded_for
 
 use crate::pieces::three_pieces;
 use icu_dimension_fractions::{CurrencyCode, CurrencyStyle, CurrencyWidth};
+use icu_plurals::PluralRuleType;
 use locale_numbers_formats::{
     CompactWidth, CurrencyUnit, Notation, NumberFormat, NumberOptions, NumberUnit, Rounding,
     Skeleton, value_beside,
@@ -25,6 +26,10 @@ pub enum Task {
     Read,
     /// The number is read that people type so: 1234.5 of `1234.5`.
     ReadLenient,
+    /// The plural category of the number that it spells is written, by rules of this type: of `1` as `one`.
+    Category(PluralRuleType),
+    /// The plural category of the range whose ends it spells is written: of `1..5` as `other`.
+    RangeCategory,
 }
 
 // What a form asks for.
@@ -41,8 +46,13 @@ const SHORT: Notation = Notation::Compact(CompactWidth::Short);
 
 const LONG: Notation = Notation::Compact(CompactWidth::Long);
 
+// Categories by the rules of how many there are, and by those of which one it is.
+const CARDINAL: Task = Task::Category(PluralRuleType::Cardinal);
+
+const ORDINAL: Task = Task::Category(PluralRuleType::Ordinal);
+
 // The words of forms, but for those with the code of a currency.
-const FORMS: [(&[u8], FormAsked); 10] = [
+const FORMS: [(&[u8], FormAsked); 13] = [
     (
         b"plain",
         FormAsked::OfWord(Task::Write, Notation::Standard, NumberUnit::None),
@@ -82,6 +92,18 @@ const FORMS: [(&[u8], FormAsked); 10] = [
     (
         b"read-lenient-percent",
         FormAsked::OfWord(Task::ReadLenient, Notation::Standard, NumberUnit::Percent),
+    ),
+    (
+        b"plural",
+        FormAsked::OfWord(CARDINAL, Notation::Standard, NumberUnit::None),
+    ),
+    (
+        b"ordinal",
+        FormAsked::OfWord(ORDINAL, Notation::Standard, NumberUnit::None),
+    ),
+    (
+        b"range-plural",
+        FormAsked::OfWord(Task::RangeCategory, Notation::Standard, NumberUnit::None),
     ),
 ];
 
@@ -198,11 +220,14 @@ fn coded_form(word: &[u8]) -> Option<FormAsked>
 }
 
 // What is done, by what is before the two colons of a skeleton.
-const SKELETON_TASKS: [(&[u8], Task); 4] = [
+const SKELETON_TASKS: [(&[u8], Task); 7] = [
     (b"", Task::Write),
     (b"exact", Task::WriteExact),
     (b"read", Task::Read),
     (b"read-lenient", Task::ReadLenient),
+    (b"plural", CARDINAL),
+    (b"ordinal", ORDINAL),
+    (b"range-plural", Task::RangeCategory),
 ];
 
 // The task that stands before the two colons of a skeleton.
@@ -251,7 +276,9 @@ fn form_for(task: Task, format: NumberFormat) -> Option<FormAsked>
     ensures { result ≡ form_for task format }
 {
     match task {
-        Task::Write => Some(FormAsked::OfSkeleton(task, format)),
+        Task::Write | Task::Category(_) | Task::RangeCategory => {
+            Some(FormAsked::OfSkeleton(task, format))
+        }
         Task::WriteExact if is_compact(format.shape.notation) => {
             Some(FormAsked::OfSkeleton(task, format))
         }

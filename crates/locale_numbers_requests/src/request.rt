@@ -9,8 +9,8 @@ use crate::rounding_field::{DigitsAsked, is_cash, keeps_digits, rounding_named};
 use crate::sign_field::{keeps_sign, sign_named};
 use icu_decimal_symbols::options::GroupingStrategy;
 use locale_numbers_formats::{
-    LeadingZeros, Notation, NumberFormat, NumberOptions, NumberShape, NumberUnit, Rounding,
-    SignAsked, cut_field, value_beside,
+    Notation, NumberFormat, NumberOptions, NumberShape, NumberUnit, Rounding, SignAsked, cut_field,
+    value_beside,
 };
 
 const TAB: u8 = b'\t';
@@ -54,7 +54,9 @@ fn takes(task: Task, unit: NumberUnit, sign: SignAsked, rounding: Rounding) -> b
     ensures { result ≡ takes task unit sign rounding }
 {
     match task {
-        Task::Write => is_amount(unit) || !is_cash(rounding),
+        Task::Write | Task::Category(_) | Task::RangeCategory => {
+            is_amount(unit) || !is_cash(rounding)
+        }
         Task::WriteExact => keeps_digits(rounding),
         Task::Read | Task::ReadLenient => {
             keeps_sign(sign) && (keeps_digits(rounding) || (is_amount(unit) && is_cash(rounding)))
@@ -87,7 +89,7 @@ fn format_by(
         },
         options: NumberOptions {
             rounding: digits.rounding,
-            leading_zeros: LeadingZeros::Keep,
+            leading_zeros: digits.leading_zeros,
             zeros: digits.zeros,
             integer_digits: 0,
             fraction_digits: digits.fraction_digits,

@@ -3,14 +3,16 @@
 ghost use Rattle.std.specs.Prelude.{◌≡◌, ◌≤◌, ◌∷◌, [], IfSome};
 ghost use Rattle.fixed_decimal.specs.NumberText.{minus};
 ghost use Rattle.locale_numbers_formats.specs.Cutting.{cut_at};
-ghost use Rattle.locale_numbers_requests.specs.RoundingField.{all_of, comma, count_named, counts_by, counts_in, digits_at, digits_by, digits_in, either_at, either_by, increment_named, is_cash, is_size, is_whole, keeps_digits, last_named, mode_named, places_named, position_named, priority_named, rounding_named, significant_at, significant_named, size_named, whole_at, whole_by};
+ghost use Rattle.locale_numbers_requests.specs.Increments.{increment_named, multiples_at};
+ghost use Rattle.locale_numbers_requests.specs.RoundingField.{all_of, all_shown, comma, count_named, counts_by, counts_in, digits_at, digits_by, digits_in, either_at, either_by, front_by, is_cash, is_size, is_whole, keeps_digits, last_named, mode_named, places_named, position_named, priority_named, rounding_named, significant_at, significant_named, size_named, whole_at, whole_by};
 
 use crate::digits::{are_digits, capped_number};
+use crate::increments::{Increment, increment_named, multiples_at};
 use crate::pieces::{five_pieces, four_pieces, three_pieces, two_pieces};
 use crate::significant_field::{priority_named, significant_named};
-use fixed_decimal::{RoundingIncrement, SignedRoundingMode, UnsignedRoundingMode};
+use fixed_decimal::{SignedRoundingMode, UnsignedRoundingMode};
 use locale_numbers_formats::{
-    Rounding, RoundingPriority, SignificantDigits, TrailingZeros, value_beside,
+    LeadingZeros, Rounding, RoundingPriority, SignificantDigits, TrailingZeros, value_beside,
 };
 
 const COMMA: u8 = b',';
@@ -20,6 +22,8 @@ const COMMA: u8 = b',';
 pub(crate) struct DigitsAsked {
     // What the number is rounded to.
     pub(crate) rounding: Rounding,
+    // What becomes of the zeros in front.
+    pub(crate) leading_zeros: LeadingZeros,
     // What becomes of the zeros at the end of its fraction.
     pub(crate) zeros: TrailingZeros,
     // How many fraction digits are shown at least.
@@ -169,21 +173,6 @@ pub fn mode_named(word: &[u8]) -> Option<SignedRoundingMode>
     value_beside(&MODES, word)
 }
 
-// The words of increments.
-const INCREMENTS: [(&[u8], RoundingIncrement); 4] = [
-    (b"1", RoundingIncrement::MultiplesOf1),
-    (b"2", RoundingIncrement::MultiplesOf2),
-    (b"5", RoundingIncrement::MultiplesOf5),
-    (b"25", RoundingIncrement::MultiplesOf25),
-];
-
-/// The increment that a word names: `MultiplesOf5` of `5`. `None` where it names none, as `3`. It does not allocate.
-pub fn increment_named(word: &[u8]) -> Option<RoundingIncrement>
-    ensures { result ≡ increment_named word.now }
-{
-    value_beside(&INCREMENTS, word)
-}
-
 // Whether nothing is said of a rounding.
 pub(crate) fn keeps_digits(rounding: Rounding) -> bool
     ensures { result ≡ keeps_digits rounding }
@@ -204,39 +193,65 @@ fn all_of(rounding: Rounding) -> DigitsAsked
 {
     DigitsAsked {
         rounding,
+        leading_zeros: LeadingZeros::Keep,
         zeros: TrailingZeros::Keep,
         fraction_digits: 0,
     }
 }
 
+// The zeros in front: they stay, but those of a zero that an increment with zeros behind leaves.
+fn front_by(increment: Increment) -> LeadingZeros
+    ensures { result ≡ front_by increment }
+{
+    if increment.has_no_zeros() {
+        LeadingZeros::Keep
+    } else {
+        LeadingZeros::TrimRoundedZero
+    }
+}
+
+// The multiples of an increment, with the digits down to the position.
+fn all_shown(
+    position: i16,
+    mode: SignedRoundingMode,
+    increment: Increment,
+    zeros: TrailingZeros,
+) -> Option<DigitsAsked>
+    ensures { result ≡ all_shown (front_by increment) zeros mode (multiples_at position increment) }
+{
+    let multiples = multiples_at(position, increment)?;
+    Some(DigitsAsked {
+        rounding: Rounding::At(multiples.position, mode, multiples.increment),
+        leading_zeros: front_by(increment),
+        zeros,
+        fraction_digits: multiples.fraction_digits,
+    })
+}
+
 // The digits that are shown: all zeros down to a position, or no zeros behind the least digits of a fraction.
-fn digits_at(places: Places, mode: SignedRoundingMode, increment: RoundingIncrement) -> DigitsAsked
+fn digits_at(places: Places, mode: SignedRoundingMode, increment: Increment) -> Option<DigitsAsked>
     ensures { result ≡ digits_at places mode increment }
 {
     match places {
-        Places::Position(position) => all_of(Rounding::At(position, mode, increment)),
-        Places::Fraction(least, last) => DigitsAsked {
-            rounding: Rounding::At(last, mode, increment),
-            zeros: TrailingZeros::Trim,
-            fraction_digits: least,
-        },
+        Places::Position(position) => all_shown(position, mode, increment, TrailingZeros::Keep),
+        Places::Fraction(least, last) => {
+            let asked = all_shown(last, mode, increment, TrailingZeros::Trim)?;
+            Some(DigitsAsked {
+                fraction_digits: least,
+                ..asked
+            })
+        }
     }
 }
 
 // So many digits of a fraction, or none of a whole number.
-fn whole_at(
-    places: Places,
-    mode: SignedRoundingMode,
-    increment: RoundingIncrement,
-) -> Option<DigitsAsked>
+fn whole_at(places: Places, mode: SignedRoundingMode, increment: Increment) -> Option<DigitsAsked>
     ensures { result ≡ whole_at places mode increment }
 {
     match places {
-        Places::Fraction(least, last) if -(last as i32) <= least as i32 => Some(DigitsAsked {
-            rounding: Rounding::At(last, mode, increment),
-            zeros: TrailingZeros::TrimWhole,
-            fraction_digits: 0,
-        }),
+        Places::Fraction(least, last) if -(last as i32) <= least as i32 => {
+            all_shown(last, mode, increment, TrailingZeros::TrimWhole)
+        }
         Places::Fraction(_, _) | Places::Position(_) => None,
     }
 }
@@ -248,7 +263,7 @@ fn digits_by(places: &[u8], mode: &[u8], increment: &[u8]) -> Option<DigitsAsked
     let places = places_named(places)?;
     let mode = mode_named(mode)?;
     let increment = increment_named(increment)?;
-    Some(digits_at(places, mode, increment))
+    digits_at(places, mode, increment)
 }
 
 // What they ask for where a whole number has no fraction.
@@ -269,6 +284,7 @@ fn significant_at(zeros: TrailingZeros, digits: &[u8], mode: &[u8]) -> Option<Di
     let mode = mode_named(mode)?;
     Some(DigitsAsked {
         rounding: Rounding::Significant(digits, mode),
+        leading_zeros: LeadingZeros::Keep,
         zeros,
         fraction_digits: 0,
     })
@@ -288,6 +304,7 @@ fn either_at(
         Places::Position(_) => None,
         Places::Fraction(least, last) => Some(DigitsAsked {
             rounding: Rounding::Either(priority, last, digits, mode),
+            leading_zeros: LeadingZeros::Keep,
             zeros,
             fraction_digits: least,
         }),

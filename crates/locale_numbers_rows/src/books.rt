@@ -119,6 +119,31 @@ const TYPED: &str = r#"[[[["en","","latn","-","","+","",".",",",3,3,1],
   ["hi","INR","₹",0],
   ["ar-EG","EGP","ج.م.\u200f",3]],[]]]"#;
 
+// Entries of English, French and German, from CLDR, with amounts of euros, ordinal rules and the categories of ranges.
+// Austria has other separators in amounts than in numbers.
+const PLURALS: &str = r#"[[[["en","","latn","-","","+","",".",",",3,3,1],
+  ["fr","","latn","-","","+","",",","\u202f",3,3,1],
+  ["de","","latn","-","","+","",",",".",3,3,1],
+  ["de-AT","","latn","-","","+","",",","\u00a0",3,3,1]],
+ [["latn","0123456789"]],
+ [["en",[["one","i = 1 and v = 0"],["other",""]]],
+  ["fr",[["one","i = 0,1"],["many","e = 0 and i != 0 and i % 1000000 = 0 and v = 0 or e != 0..5"],["other",""]]],
+  ["de",[["one","i = 1 and v = 0"],["other",""]]]],
+ [["en","",[[3,3,[["other",["","K"]]]],[6,6,[["other",["","M"]]]]],null],
+  ["fr","",[[3,3,[["other",["","\u00a0k"]]]],[6,6,[["other",["","\u00a0M"]]]]],null]],[],[]],
+ [[["en","","%",null,["","¤"]]],
+ [["en","",null,["¤",""],["¤\u00a0",""]],
+  ["de","",null,["","\u00a0¤"],null],
+  ["de-AT","",["latn","-","","+","",",",".",3,3,1],["¤\u00a0",""],null]],
+ [],
+ [["en","EUR","€",0],
+  ["de","EUR","€",0]],[]],
+ [[["en",[["one","n % 10 = 1 and n % 100 != 11"],["two","n % 10 = 2 and n % 100 != 12"],["few","n % 10 = 3 and n % 100 != 13"],["other",""]]],
+  ["fr",[["one","n = 1"],["other",""]]],
+  ["und",[]]],
+ [["en",[["one","other","other"],["other","one","other"],["other","other","other"]]],
+  ["fr",[["one","one","one"],["one","other","other"],["other","other","other"]]]]]]"#;
+
 /// The text of the book with this name.
 pub fn book_named(name: &str) -> Option<&'static str> {
     match name {
@@ -140,6 +165,7 @@ pub fn book_named(name: &str) -> Option<&'static str> {
         "no-rules" => Some(NO_RULES),
         "thai-behind" => Some(THAI_BEHIND),
         "typed" => Some(TYPED),
+        "plurals" => Some(PLURALS),
         _ => None,
     }
 }

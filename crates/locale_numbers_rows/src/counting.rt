@@ -12,6 +12,7 @@ use icu_dimension::provider::{
 };
 use icu_locale_core::DataLocale;
 use locale_numbers::{Book, Tables};
+use locale_numbers_plurals::{PluralRanges, PluralsOrdinalV1, PluralsRangesV1};
 use std::cell::Cell;
 
 /// The tables of a book, and counts of the loads of digits and of patterns.
@@ -133,6 +134,26 @@ impl<'b> DataProvider<CurrencyFractionsV1> for Counting<'b> {
     }
 }
 
+impl<'b> DataProvider<PluralsOrdinalV1> for Counting<'b> {
+    ghost use Rattle.locale_numbers.specs.Tables.{ordinals_under};
+
+    ghost table = { λ s id. ordinals_under s.book.now id };
+
+    fn load(&self, id: &DataIdentifier) -> Result<&PluralRules, DataError> {
+        DataProvider::<PluralsOrdinalV1>::load(self.book, id)
+    }
+}
+
+impl<'b> DataProvider<PluralsRangesV1> for Counting<'b> {
+    ghost use Rattle.locale_numbers.specs.Tables.{ranges_under};
+
+    ghost table = { λ s id. ranges_under s.book.now id };
+
+    fn load(&self, id: &DataIdentifier) -> Result<&PluralRanges, DataError> {
+        DataProvider::<PluralsRangesV1>::load(self.book, id)
+    }
+}
+
 impl<'b> ParentProvider for Counting<'b> {
     ghost use Rattle.locale_numbers.specs.Tables.{parent_under, steps_in};
 
@@ -173,6 +194,10 @@ impl<'b> Tables for Counting<'b> {
     ghost currency_symbols = { λ s id. refl };
 
     ghost fractions = { λ s id. refl };
+
+    ghost ordinals = { λ s id. refl };
+
+    ghost ranges = { λ s id. refl };
 
     ghost parents = { λ s l. refl };
 

@@ -2,7 +2,7 @@
 //! `tools/world_copies --write` makes this file of `books/world.json`.
 
 /// How many bytes the book has.
-pub const LENGTH: usize = 203637;
+pub const LENGTH: usize = 207534;
 
 const SYMBOLS: &str = r#"["af","","latn","-","","+","",","," ",3,3,1]
 ["agq","","latn","-","","+","",","," ",3,3,1]
@@ -4585,4 +4585,89 @@ const CURRENCY_DIGITS: &str = r#"["ADP",0,1,0,1]
 /// The entries of the digits of currencies. The proof of what calls this has not their text in it, as that of what names the constant has.
 pub fn currency_digits() -> &'static str {
     CURRENCY_DIGITS
+}
+
+const ORDINALS: &str =
+    r#"["as",[["one","n = 1,5,7,8,9,10"],["two","n = 2,3"],["few","n = 4"],["many","n = 6"]]]
+["az",[["one","i % 10 = 1,2,5,7,8 or i % 100 = 20,50,70,80"],["few","i % 10 = 3,4 or i % 1000 = 100,200,300,400,500,600,700,800,900"],["many","i = 0 or i % 10 = 6 or i % 100 = 40,60,90"]]]
+["az-Cyrl",[["one","i % 10 = 1,2,5,7,8 or i % 100 = 20,50,70,80"],["few","i % 10 = 3,4 or i % 1000 = 100,200,300,400,500,600,700,800,900"],["many","i = 0 or i % 10 = 6 or i % 100 = 40,60,90"]]]
+["be",[["few","n % 10 = 2,3 and n % 100 != 12,13"]]]
+["blo",[["zero","i = 0"],["one","i = 1"],["few","i = 2,3,4,5,6"]]]
+["bn",[["one","n = 1,5,7,8,9,10"],["two","n = 2,3"],["few","n = 4"],["many","n = 6"]]]
+["ca",[["one","n = 1,3"],["two","n = 2"],["few","n = 4"]]]
+["cy",[["zero","n = 0,7,8,9"],["one","n = 1"],["two","n = 2"],["few","n = 3,4"],["many","n = 5,6"]]]
+["en",[["one","n % 10 = 1 and n % 100 != 11"],["two","n % 10 = 2 and n % 100 != 12"],["few","n % 10 = 3 and n % 100 != 13"]]]
+["fil",[["one","n = 1"]]]
+["fr",[["one","n = 1"]]]
+["ga",[["one","n = 1"]]]
+["gd",[["one","n = 1,11"],["two","n = 2,12"],["few","n = 3,13"]]]
+["gu",[["one","n = 1"],["two","n = 2,3"],["few","n = 4"],["many","n = 6"]]]
+["hi",[["one","n = 1"],["two","n = 2,3"],["few","n = 4"],["many","n = 6"]]]
+["hi-Latn",[["one","n = 1"],["two","n = 2,3"],["few","n = 4"],["many","n = 6"]]]
+["hu",[["one","n = 1,5"]]]
+["hy",[["one","n = 1"]]]
+["it",[["many","n = 11,8,80,800"]]]
+["ka",[["one","i = 1"],["many","i = 0 or i % 100 = 2..20,40,60,80"]]]
+["kk",[["many","n % 10 = 6 or n % 10 = 9 or n % 10 = 0 and n != 0"]]]
+["kk-Arab",[["many","n % 10 = 6 or n % 10 = 9 or n % 10 = 0 and n != 0"]]]
+["kok",[["one","n = 1"],["two","n = 2,3"],["few","n = 4"]]]
+["kok-Latn",[["one","n = 1"],["two","n = 2,3"],["few","n = 4"]]]
+["kw",[["one","n = 1..4 or n % 100 = 1..4,21..24,41..44,61..64,81..84"],["many","n = 5 or n % 100 = 5"]]]
+["lij",[["many","n = 11,8,80..89,800..899"]]]
+["lo",[["one","n = 1"]]]
+["mk",[["one","i % 10 = 1 and i % 100 != 11"],["two","i % 10 = 2 and i % 100 != 12"],["many","i % 10 = 7,8 and i % 100 != 17,18"]]]
+["mr",[["one","n = 1"],["two","n = 2,3"],["few","n = 4"]]]
+["ms",[["one","n = 1"]]]
+["ne",[["one","n = 1..4"]]]
+["or",[["one","n = 1,5,7..9"],["two","n = 2,3"],["few","n = 4"],["many","n = 6"]]]
+["ro",[["one","n = 1"]]]
+["sc",[["many","n = 11,8,80,800"]]]
+["scn",[["many","n = 11,8,80..89,800..899"]]]
+["sq",[["one","n = 1"],["many","n % 10 = 4 and n % 100 != 14"]]]
+["sv",[["one","n % 10 = 1,2 and n % 100 != 11,12"]]]
+["tk",[["few","n % 10 = 6,9 or n = 10"]]]
+["uk",[["few","n % 10 = 3 and n % 100 != 13"]]]
+["und",[]]
+["vec",[["many","n = 11,8,80,800"]]]
+["vi",[["one","n = 1"]]]
+"#;
+
+/// The entries of ordinal rules. The proof of what calls this has not their text in it, as that of what names the constant has.
+pub fn ordinals() -> &'static str {
+    ORDINALS
+}
+
+const RANGES: &str = r#"["af",[["other","one","other"]]]
+["ak",[["one","one","other"]]]
+["ar",[["zero","one","zero"],["zero","two","zero"],["one","two","other"],["other","one","other"],["other","two","other"]]]
+["bg",[["other","one","other"]]]
+["ca",[["other","one","other"]]]
+["en",[["other","one","other"]]]
+["es",[["other","one","other"]]]
+["et",[["other","one","other"]]]
+["eu",[["other","one","other"]]]
+["fa",[["one","one","other"]]]
+["fi",[["other","one","other"]]]
+["he",[["one","two","other"],["other","one","other"],["other","two","other"]]]
+["hi-Latn",[]]
+["ia",[["other","one","other"]]]
+["ka",[["one","other","one"],["other","one","other"]]]
+["lv",[["zero","zero","other"],["one","zero","other"],["other","zero","other"]]]
+["mk",[["one","one","other"],["other","one","other"]]]
+["nn",[]]
+["no",[["other","one","other"]]]
+["or",[["one","one","other"]]]
+["pcm",[["other","one","other"]]]
+["ro",[["few","one","few"]]]
+["sd",[["one","one","other"]]]
+["sd-Deva",[["one","one","other"]]]
+["si",[["other","one","other"]]]
+["sl",[["one","one","few"],["two","one","few"],["few","one","few"],["other","one","few"]]]
+["sv",[["other","one","other"]]]
+["ur",[["other","one","other"]]]
+"#;
+
+/// The entries of the categories of ranges. The proof of what calls this has not their text in it, as that of what names the constant has.
+pub fn ranges() -> &'static str {
+    RANGES
 }

@@ -1,7 +1,7 @@
 //! A book as texts, an array of it each.
 
 ghost use Rattle.std.specs.Prelude.{◌≡◌, ◌++◌, OnOk, string_bytes};
-ghost use Rattle.locale_numbers_book.specs.BookText.{arrays_text, number_lines, unit_lines, whole_text};
+ghost use Rattle.locale_numbers_book.specs.BookText.{arrays_text, more_text, number_lines, option_plural_lines, unit_lines, whole_text};
 
 mod arrays;
 mod chain;
@@ -45,13 +45,24 @@ pub struct UnitTexts<'t> {
     pub digits: &'t str,
 }
 
-/// The entries of a book, and of its units or none.
+/// The entries of what a book has of plurals beside its rules: a text for each array, as [`NumberTexts`] has them.
+#[derive(Clone, Copy)]
+pub struct PluralTexts<'t> {
+    /// The ordinal rules of locales.
+    pub ordinals: &'t str,
+    /// The categories of ranges of locales.
+    pub ranges: &'t str,
+}
+
+/// The entries of a book, of its units or none, and of its plurals or none.
 #[derive(Clone, Copy)]
 pub struct BookTexts<'t> {
     /// Those of its tables of numbers.
     pub numbers: NumberTexts<'t>,
     /// Those of its units, where it has units.
     pub units: Option<UnitTexts<'t>>,
+    /// Those of its plurals, where it has some. They count where it has units.
+    pub plurals: Option<PluralTexts<'t>>,
 }
 
 // Appends the arrays of the tables of numbers.
@@ -87,6 +98,22 @@ fn put_units(alloc: Global, out: &mut String, texts: &UnitTexts<'_>) -> Result<(
     )
 }
 
+// Appends a comma and the arrays of plurals, where there are some.
+fn put_plurals(
+    alloc: Global,
+    out: &mut String,
+    texts: Option<PluralTexts<'_>>,
+) -> Result<(), AllocError>
+    ensures text { OnOk result (string_bytes out.new
+        ≡ string_bytes out.old ++ more_text (option_plural_lines texts.entry)) }
+{
+    let Some(texts) = texts else {
+        return Ok(());
+    };
+    out.push_str(",")?;
+    put_arrays(alloc, out, &[texts.ordinals, texts.ranges])
+}
+
 /// Appends the text of a book with all entries of these texts, which `Book::from_json` reads.
 ///
 /// A line feed is at its end, and brackets of arrays have lines of their own, so that each other line is an entry. It
@@ -102,5 +129,6 @@ pub fn put_book(alloc: Global, out: &mut String, texts: &BookTexts<'_>) -> Resul
     put_numbers(alloc, out, &texts.numbers)?;
     out.push_str(",")?;
     put_units(alloc, out, &units)?;
+    put_plurals(alloc, out, texts.plurals)?;
     out.push_str("]\n")
 }

@@ -1,16 +1,16 @@
 //! The small book of a tag: the entries that its lines can ask for.
 
-ghost use Rattle.std.specs.Prelude.{◌≡◌, ◌++◌, ◌∷◌, [], List, codes, filter, map, IfOk, OnOk, string_bytes};
+ghost use Rattle.std.specs.Prelude.{◌≡◌, ◌++◌, ◌∷◌, [], List, codes, filter, map, option_map, IfOk, OnOk, string_bytes};
 ghost use Rattle.std.specs.List.{filter_map};
 ghost use Rattle.std.specs.Str.Lines.{lines};
-ghost use Rattle.locale_numbers_book.specs.BookText.{array_text, arrays_text};
+ghost use Rattle.locale_numbers_book.specs.BookText.{array_text, arrays_text, more_text};
 ghost use Rattle.locale_numbers_book.specs.EntryFields.{asked_fronts, begins, opening, third_field, under_fronts};
-ghost use Rattle.locale_numbers_book.specs.SelectedText.{selected_by, selected_numbers, selected_text, selected_units, selected_with, systems_asked, systems_named, unknown};
+ghost use Rattle.locale_numbers_book.specs.SelectedText.{option_selected_plurals, selected_by, selected_numbers, selected_plurals, selected_text, selected_units, selected_with, systems_asked, systems_named, unknown};
 
 use crate::texts::arrays::{put_array, put_whole};
 use crate::texts::chain::put_chain;
 use crate::texts::entries::{kept, opening_of, put_all_pairs, put_openings, quoted};
-use crate::texts::{BookTexts, NumberTexts, UnitTexts};
+use crate::texts::{BookTexts, NumberTexts, PluralTexts, UnitTexts};
 use icu_decimal::DecimalFormatterPreferences;
 use icu_locale_core::preferences::extensions::unicode::keywords::NumberingSystem;
 use std::alloc::{AllocError, Global};
@@ -166,22 +166,43 @@ fn put_units(
     out.push_str("]")
 }
 
-// Appends the arrays of units, for which `und` is asked for too.
-fn put_units_with_und(
+// Appends a comma and the arrays of plurals, where there are some.
+fn put_plurals(
     alloc: Global,
     out: &mut String,
-    texts: &UnitTexts<'_>,
+    texts: &Option<PluralTexts<'_>>,
+    under: &[String],
+) -> Result<(), AllocError>
+    ensures { OnOk result (string_bytes out.new ≡ string_bytes out.old
+        ++ more_text (option_map (λ plurals. selected_plurals plurals (map string_bytes under.now)) texts.now)) }
+{
+    let Some(texts) = texts else {
+        return Ok(());
+    };
+    put_kept(alloc, out, ",[", texts.ordinals, under)?;
+    put_kept(alloc, out, ",", texts.ranges, under)?;
+    out.push_str("]")
+}
+
+// Appends the arrays of units and of plurals, for which `und` is asked for too.
+fn put_beside(
+    alloc: Global,
+    out: &mut String,
+    units: &UnitTexts<'_>,
+    plurals: &Option<PluralTexts<'_>>,
     under: &mut Vec<String>,
     asked: &mut Vec<String>,
     systems: &[&str],
 ) -> Result<(), AllocError>
     ensures { OnOk result (string_bytes out.new ≡ string_bytes out.old
-        ++ arrays_text (selected_units texts.now (map string_bytes under.old.items ++ under_fronts unknown)
-        (map string_bytes asked.old.items ++ asked_fronts unknown (map (λ system. system.now) systems.now)))) }
+        ++ (arrays_text (selected_units units.now (map string_bytes under.old.items ++ under_fronts unknown)
+        (map string_bytes asked.old.items ++ asked_fronts unknown (map (λ system. system.now) systems.now)))
+        ++ more_text (option_selected_plurals plurals.now (map string_bytes under.old.items)))) }
 {
     put_openings(alloc, under, &["und"])?;
     put_all_pairs(alloc, asked, &["und"], systems)?;
-    put_units(alloc, out, texts, under.as_slice(), asked.as_slice())
+    put_units(alloc, out, units, under.as_slice(), asked.as_slice())?;
+    put_plurals(alloc, out, plurals, under.as_slice())
 }
 
 // Appends the text of the book of numbers alone, with the entries that begin so, and these parents.
@@ -229,29 +250,32 @@ fn put_first(
     out.push_str(",")
 }
 
-// Appends the arrays of units, and what ends a pair.
+// Appends the arrays of units and of plurals, and what ends them.
 fn put_second(
     alloc: Global,
     out: &mut String,
-    texts: &UnitTexts<'_>,
+    units: &UnitTexts<'_>,
+    plurals: &Option<PluralTexts<'_>>,
     under: &mut Vec<String>,
     asked: &mut Vec<String>,
     systems: &[&str],
 ) -> Result<(), AllocError>
     ensures { OnOk result (string_bytes out.new ≡ string_bytes out.old
-        ++ (arrays_text (selected_units texts.now (map string_bytes under.old.items ++ under_fronts unknown)
-        (map string_bytes asked.old.items ++ asked_fronts unknown (map (λ system. system.now) systems.now))) ++ codes "]\n")) }
+        ++ (arrays_text (selected_units units.now (map string_bytes under.old.items ++ under_fronts unknown)
+        (map string_bytes asked.old.items ++ asked_fronts unknown (map (λ system. system.now) systems.now)))
+        ++ more_text (option_selected_plurals plurals.now (map string_bytes under.old.items)) ++ codes "]\n")) }
 {
-    put_units_with_und(alloc, out, texts, under, asked, systems)?;
+    put_beside(alloc, out, units, plurals, under, asked, systems)?;
     out.push_str("]\n")
 }
 
-// Appends the text of the pair of a book and its units, with the entries that begin so, and these parents.
-fn put_pair(
+// Appends the text of a book, its units and its plurals, with the entries that begin so, and these parents.
+fn put_parts(
     alloc: Global,
     out: &mut String,
     numbers: &NumberTexts<'_>,
     units: &UnitTexts<'_>,
+    plurals: &Option<PluralTexts<'_>>,
     under: &mut Vec<String>,
     asked: &mut Vec<String>,
     systems: &[&str],
@@ -261,7 +285,8 @@ fn put_pair(
         ++ (codes "[" ++ arrays_text (selected_numbers numbers.now (map string_bytes under.old.items)
         (map string_bytes asked.old.items) (map (λ system. system.now) systems.now) (map (λ line. line.now) parents.now)) ++ codes ",")
         ++ (arrays_text (selected_units units.now (map string_bytes under.old.items ++ under_fronts unknown)
-        (map string_bytes asked.old.items ++ asked_fronts unknown (map (λ system. system.now) systems.now))) ++ codes "]\n")) }
+        (map string_bytes asked.old.items ++ asked_fronts unknown (map (λ system. system.now) systems.now)))
+        ++ more_text (option_selected_plurals plurals.now (map string_bytes under.old.items)) ++ codes "]\n")) }
 {
     put_first(
         alloc,
@@ -272,7 +297,7 @@ fn put_pair(
         systems,
         parents,
     )?;
-    put_second(alloc, out, units, under, asked, systems)
+    put_second(alloc, out, units, plurals, under, asked, systems)
 }
 
 // Appends the text of the book with the entries that begin so, and these parents.
@@ -291,11 +316,12 @@ fn put_fronts(
 {
     match &texts.units {
         None => put_alone(alloc, out, &texts.numbers, under, asked, systems, parents),
-        Some(units) => put_pair(
+        Some(units) => put_parts(
             alloc,
             out,
             &texts.numbers,
             units,
+            &texts.plurals,
             under,
             asked,
             systems,
@@ -408,7 +434,7 @@ fn put_small<'t>(
 ///
 /// They are those of the locales of the chain, without a system, with `latn` and with the system that is preferred; the digits of
 /// these systems and of those that the chosen symbols name; the parents along the chain, from its end to its front; and
-/// of units those of the chain and of `und`, with the digits of all currencies. Of the world's book with `de-AT` it has the
+/// of units, of ordinal rules and of ranges those of the chain and of `und`, with the digits of all currencies. Of the world's book with `de-AT` it has the
 /// symbols of `de-AT` and of `de`, the plural rules and patterns of `de`, and the digits of `latn`. An entry is found by the bytes
 /// that it begins with, so each has to be written as those of `books/world.json` are.
 ///

@@ -1,4 +1,3 @@
-use Rattle.std.proofs.Common.{sym}
 use Rattle.legumeyet.proofs.LinesLemmas.{before_place, before_none}
 use Rattle.legumeyet.proofs.input.before_feed.Goals as goal
 

@@ -1,10 +1,11 @@
-use Rattle.std.proofs.Common.{◌≡◌, ℕ, ◌<◌, List, true, false, length, Some, sym, ap, subst, ◌∙◌}
+use Rattle.std.proofs.Common.{◌≡◌, ◌<◌, true, false, length, sym, ap, subst, ◌∙◌}
 use Rattle.std.specs.List.{before_first}
 use Rattle.std.specs.Io.BufRead.{drop_through}
 use Rattle.std.specs.Io.KnownBytes.{Appends, IsAtEnd}
 use Rattle.std.proofs.KnownBytes.{Appends-nil}
 use Rattle.legumeyet.specs.Output.{input_shown, is_last}
-use Rattle.legumeyet.specs.Trimming.{is_feed, trimmed}
+use Rattle.legumeyet_columns.specs.Trimming.{trimmed}
+use Rattle.legumeyet.specs.Feeds.{is_feed}
 use Rattle.legumeyet.proofs.LinesLemmas.{line_and_more, last_line_shown}
 use Rattle.legumeyet.proofs.input.put_lines.Goals as goal
 

@@ -1,4 +1,4 @@
-use Rattle.std.proofs.Common.{◌≡◌, ℕ, List, Option, drop, map}
+use Rattle.std.proofs.Common.{ℕ, List, Option, drop, map}
 use Rattle.std.specs.Io.KnownBytes.{Appends}
 use Rattle.legumeyet.specs.Output.{ReadNothing, texts_shown}
 use Rattle.legumeyet.proofs.words.put_words.Given as goal

@@ -1,9 +1,9 @@
 use Rattle.std.proofs.Common.{rules, w32, Ok, Err, ◌∙◌}
 use Rattle.std.proofs.lemmas.Int.{to_z-of_z}
 use mir.Val.{SFits}
-use Rattle.legumeyet_c.specs.Formatted.{IsExactFault, IsExactText}
 use Rattle.legumeyet_c.specs.Kinds.{format_in}
 use Rattle.legumeyet_c.specs.Opened.{opened}
+use Rattle.legumeyet_c.specs.Worded.{IsForm, IsFormFault}
 use Rattle.legumeyet_c.specs.Writing.{GivesForm, IsFormRefused, asked_of}
 use Rattle.legumeyet_c.proofs.AskedLemmas.{asked_put, unasked_put}
 use Rattle.legumeyet_c.proofs.exact.answer_form.Goals as goal
@@ -15,7 +15,7 @@ returns-in-Ok c =
     record {
       outcome = c.write_form.result;
       number = to_z-of_z w32 c.answer.result fits ∙ c.answer.ensures;
-      held = asked_put IsExactText IsExactFault (GivesForm number) (IsFormRefused number) (asked_of (format_in (opened c.args.content)) c.args.words.now) (Ok c.in-Ok.asked) _ _ _ _ _
+      held = asked_put IsForm IsFormFault (GivesForm number) (IsFormRefused number) (asked_of (format_in (opened c.args.content)) c.args.words.now) (Ok c.in-Ok.asked) _ _ _ _ _
           c.in-Ok.ensures c.write_form.ensures;
     }
 
@@ -26,5 +26,5 @@ returns-in-Err c =
     record {
       outcome = Err c.in-Err.error;
       number = to_z-of_z w32 c.number.result fits ∙ c.number.ensures;
-      held = unasked_put IsExactText IsExactFault (GivesForm number) (IsFormRefused number) (format_in (opened c.args.content)) c.args.words.now _ _ c.in-Err.error c.in-Err.ensures;
+      held = unasked_put IsForm IsFormFault (GivesForm number) (IsFormRefused number) (format_in (opened c.args.content)) c.args.words.now _ _ c.in-Err.error c.in-Err.ensures;
     }

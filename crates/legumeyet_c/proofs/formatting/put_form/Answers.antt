@@ -1,18 +1,18 @@
-use Rattle.std.proofs.Common.{Some, List, Option, ap, sym, ◌∙◌}
-use Rattle.std.specs.Prelude.{option_map}
-use Rattle.writeable.specs.AnnotatedText.{Event, text_of}
-use Rattle.legumeyet_c_values.proofs.PuttingLemmas.{put_by}
-use Rattle.legumeyet_c.proofs.AskedLemmas.{form_in_range}
+use Rattle.std.proofs.Common.{None, Some}
+use Rattle.locale_numbers.specs.FoundRules.{rules_held}
+use Rattle.legumeyet_c.specs.Formatted.{IsExactFault}
+use Rattle.legumeyet_c.specs.Worded.{IsFormBy}
+use Rattle.legumeyet_c.proofs.WordedLemmas.{put_wording}
 use Rattle.legumeyet_c.proofs.formatting.put_form.Goals as goal
 
-pub returns-in-Ok : goal.returns-in-Ok
-returns-in-Ok c =
-    put_by _ _ _ _ _
-    (λ text is. record {
-      can = form_in_range c.args.formatter.now c.args.form.now (λ beyond. absurd (cc (c.in-Ok.ensures.range.1 beyond)));
-      is = c.format_is_text.ensures.exact c.args.formatter.now c.args.form.now
-          ∙ ap (λ (es : Option (List Event)). option_map text_of es) c.in-Ok.ensures.parts
-          ∙ ap Some (sym is);
-    })
-    (λ error none. absurd none)
-    c.put.ensures
+pub returns-in-Some : goal.returns-in-Some
+returns-in-Some c =
+    let form = c.args.form.now in
+    put_wording (λ p f text. IsFormBy p f form text) (λ p f error. IsExactFault f form error) c.args.lent.now c.get.result.now (Some (rules_held c.in-Some.plurals)) _ _ _ _ _
+    c.get.ensures c.in-Some.ensures c.put_form_category.ensures
+
+pub returns-in-None : goal.returns-in-None
+returns-in-None c =
+    let form = c.args.form.now in
+    put_wording (λ p f text. IsFormBy p f form text) (λ p f error. IsExactFault f form error) c.args.lent.now c.get-in-None.result.now None _ _ _ _ _
+    c.get-in-None.ensures c.in-None.ensures c.put_form_text.ensures

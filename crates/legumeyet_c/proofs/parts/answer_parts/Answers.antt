@@ -4,9 +4,9 @@ use mir.Val.{SFits}
 use Rattle.writeable.specs.AnnotatedText.{AnnotatedText}
 use Rattle.legumeyet_c_values.specs.Numbers.{spelled}
 use Rattle.legumeyet_c_values.proofs.PartsLemmas.{parts_by, parts_refused}
-use Rattle.legumeyet_c.specs.Formatted.{IsFormatInParts}
 use Rattle.legumeyet_c.specs.Kinds.{format_in}
 use Rattle.legumeyet_c.specs.Opened.{opened}
+use Rattle.legumeyet_c.specs.Worded.{IsTextInParts}
 use Rattle.legumeyet_c.specs.Writing.{WritesNumber}
 use Rattle.legumeyet_c.proofs.AskedLemmas.{parts_other}
 use Rattle.legumeyet_c.proofs.parts.answer_parts.Goals as goal
@@ -18,7 +18,7 @@ returns-in-Ok c =
       outcome = c.put_parts.result;
       number = to_z-of_z w32 c.answer.result fits ∙ c.answer.ensures;
       held = parts_by _ _ _
-          (λ text is. subst (λ (t : AnnotatedText). WritesNumber IsFormatInParts (format_in (opened c.args.content)) c.args.words.now (spelled c.args.number.now) t) (sym is) c.in-Ok.ensures.value)
+          (λ text is. subst (λ (t : AnnotatedText). WritesNumber IsTextInParts (format_in (opened c.args.content)) c.args.words.now (spelled c.args.number.now) t) (sym is) c.in-Ok.ensures.value)
           (λ error none. absurd none)
           c.put_parts.ensures;
     }

@@ -2,9 +2,9 @@ use Rattle.std.proofs.Common.{rules, w32, Ok, Err, ◌∙◌}
 use Rattle.std.proofs.lemmas.Int.{to_z-of_z}
 use mir.Val.{SFits}
 use Rattle.legumeyet_c_values.specs.Numbers.{given_of}
-use Rattle.legumeyet_c.specs.Formatted.{IsFormatFault, IsFormatText}
 use Rattle.legumeyet_c.specs.Kinds.{format_in}
 use Rattle.legumeyet_c.specs.Opened.{opened}
+use Rattle.legumeyet_c.specs.Worded.{IsText, IsTextFault}
 use Rattle.legumeyet_c.specs.Writing.{GivesNumber, IsNumberRefused, asked_of}
 use Rattle.legumeyet_c.proofs.AskedLemmas.{asked_put, unasked_put}
 use Rattle.legumeyet_c.proofs.writing.answer_number.Goals as goal
@@ -16,7 +16,7 @@ returns-in-Ok c =
     record {
       outcome = c.write_asked.result;
       number = to_z-of_z w32 c.answer.result fits ∙ c.answer.ensures;
-      held = asked_put IsFormatText IsFormatFault (GivesNumber number) (IsNumberRefused number) (asked_of (format_in (opened c.args.content)) c.args.words.now) (Ok c.in-Ok.asked) _ _ _ _ _
+      held = asked_put IsText IsTextFault (GivesNumber number) (IsNumberRefused number) (asked_of (format_in (opened c.args.content)) c.args.words.now) (Ok c.in-Ok.asked) _ _ _ _ _
           c.in-Ok.ensures c.write_asked.ensures;
     }
 
@@ -27,5 +27,5 @@ returns-in-Err c =
     record {
       outcome = Err c.in-Err.error;
       number = to_z-of_z w32 c.number.result fits ∙ c.number.ensures;
-      held = unasked_put IsFormatText IsFormatFault (GivesNumber number) (IsNumberRefused number) (format_in (opened c.args.content)) c.args.words.now _ _ c.in-Err.error c.in-Err.ensures;
+      held = unasked_put IsText IsTextFault (GivesNumber number) (IsNumberRefused number) (format_in (opened c.args.content)) c.args.words.now _ _ c.in-Err.error c.in-Err.ensures;
     }

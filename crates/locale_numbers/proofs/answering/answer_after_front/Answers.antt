@@ -1,10 +1,11 @@
 use Rattle.std.proofs.Common.{subst, inl, inr}
 use Rattle.fixed_decimal.specs.CompactText.{ReadsLongCompact}
-use Rattle.locale_numbers_answers.specs.AnswerMemory.{ReadAllocates, TypedFoundAllocates}
+use Rattle.locale_numbers_answers.specs.AnswerMemory.{RangeAllocates, ReadAllocates, TypedFoundAllocates}
 use Rattle.locale_numbers_answers.specs.AnswerSink.{HasRoom}
-use Rattle.locale_numbers_requests.specs.declared.Task.TheVariants.{Write, WriteExact, Read, ReadLenient}
-use Rattle.locale_numbers.specs.Answer.{found_for, in_latin}
-use Rattle.locale_numbers.proofs.FrontMemory.{answer_done, answer_shown, may_take, of_key}
+use Rattle.locale_numbers_requests.specs.declared.Task.TheVariants.{Write, WriteExact, Read, ReadLenient, Category, RangeCategory}
+use Rattle.locale_numbers.specs.Answer.{found_for, second_for}
+use Rattle.locale_numbers_requests.specs.RangeEnds.{range_ends}
+use Rattle.locale_numbers.proofs.FrontMemory.{answer_done, answer_shown, category_done, may_take, of_key, range_shown}
 use Rattle.locale_numbers.proofs.answering.answer_after_front.Goals as goal
 
 pub returns-in-Write-clause-room : goal.returns-in-Write-clause-room
@@ -43,5 +44,25 @@ returns-in-ReadLenient-clause-room g c = λ room quiet small.
     (subst (λ answer. HasRoom c.args.out.now answer) (answer_shown book c.args.front.now c.in-Some.front c.in-Some-key.key c.args.text.now c.in-Some.is c.in-Some-key.is ReadLenient c.in-Some-as_text.text.now c.in-ReadLenient.is c.in-Some-as_text.ensures.0 c.in-Some-as_text.ensures.1) room)
     (of_key book c.args.front.now c.in-Some.front c.in-Some-key.key c.args.text.now c.in-Some.is c.in-Some-key.is (λ key. g.F.Formatters.may_take_memory c.args.formatters.now key → ⊥) quiet)
     (λ many. small (may_take book c.args.front.now c.in-Some.front c.in-Some-key.key c.args.text.now c.in-Some.is c.in-Some-key.is ReadLenient c.args.value.now c.in-ReadLenient.is
-    (c.in-Some-as_text.ensures.0, inl (subst (TypedFoundAllocates (found_for key.shape book key.preferences) (found_for key.shape book (in_latin key.preferences))) c.in-Some-as_text.ensures.1 many))))
+    (c.in-Some-as_text.ensures.0, inl (subst (TypedFoundAllocates (found_for key.shape book key.preferences) (second_for key.shape book key.preferences)) c.in-Some-as_text.ensures.1 many))))
     (λ units. small (may_take book c.args.front.now c.in-Some.front c.in-Some-key.key c.args.text.now c.in-Some.is c.in-Some-key.is ReadLenient c.args.value.now c.in-ReadLenient.is (c.in-Some-as_text.ensures.0, inr units)))
+
+pub returns-in-Category-clause-room : goal.returns-in-Category-clause-room
+returns-in-Category-clause-room g c = λ room quiet small.
+    let book = g.F.Formatters.book c.args.formatters.now in
+    let task = Category c.in-Category.field-0 in
+    c.answer_category.ensures.room
+    (subst (λ answer. HasRoom c.args.out.now answer) (category_done book c.args.front.now c.in-Some.front c.in-Some-key.key c.args.text.now c.in-Some.is c.in-Some-key.is c.requires.fits c.in-Category.field-0 c.in-Category.is) room)
+    (of_key book c.args.front.now c.in-Some.front c.in-Some-key.key c.args.text.now c.in-Some.is c.in-Some-key.is (λ key. g.F.Formatters.may_take_memory c.args.formatters.now key → ⊥) quiet)
+    (λ more. small (may_take book c.args.front.now c.in-Some.front c.in-Some-key.key c.args.text.now c.in-Some.is c.in-Some-key.is task c.args.value.now c.in-Category.is (inl more)))
+    (λ grows. small (may_take book c.args.front.now c.in-Some.front c.in-Some-key.key c.args.text.now c.in-Some.is c.in-Some-key.is task c.args.value.now c.in-Category.is (inr grows)))
+
+pub returns-in-RangeCategory-clause-room : goal.returns-in-RangeCategory-clause-room
+returns-in-RangeCategory-clause-room g c = λ room quiet small.
+    let book = g.F.Formatters.book c.args.formatters.now in
+    let key = c.in-Some-key.key in
+    c.answer_range.ensures.room
+    (subst (λ answer. HasRoom c.args.out.now answer) (range_shown book c.args.front.now c.in-Some.front c.in-Some-key.key c.args.text.now c.in-Some.is c.in-Some-key.is c.requires.fits c.in-Some-as_text.text.now c.in-RangeCategory.is c.in-Some-as_text.ensures.0 c.in-Some-as_text.ensures.1) room)
+    (of_key book c.args.front.now c.in-Some.front c.in-Some-key.key c.args.text.now c.in-Some.is c.in-Some-key.is (λ key. g.F.Formatters.may_take_memory c.args.formatters.now key → ⊥) quiet)
+    (λ many. small (may_take book c.args.front.now c.in-Some.front c.in-Some-key.key c.args.text.now c.in-Some.is c.in-Some-key.is RangeCategory c.args.value.now c.in-RangeCategory.is
+    (c.in-Some-as_text.ensures.0, subst (λ shown. RangeAllocates (found_for key.shape book key.preferences) c.in-Some.front.options.rounding (range_ends shown) c.args.value.now) c.in-Some-as_text.ensures.1 many)))

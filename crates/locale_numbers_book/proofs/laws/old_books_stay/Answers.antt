@@ -1,5 +1,8 @@
-use Rattle.locale_numbers_book.proofs.BookLemmas.{old_books_stay}
+use Rattle.locale_numbers_book.proofs.BookLemmas.{alone_stays, pairs_stay}
 use Rattle.locale_numbers_book.proofs.laws.old_books_stay.Goals as goal
 
-pub returns : goal.returns
-returns c = old_books_stay
+pub returns-clause-alone : goal.returns-clause-alone
+returns-clause-alone c = alone_stays
+
+pub returns-clause-pairs : goal.returns-clause-pairs
+returns-clause-pairs c = pairs_stay

@@ -1,0 +1,114 @@
+//! The words of plural categories into bytes of the caller's.
+
+ghost use Rattle.std.specs.Prelude.{◌≡◌, Some, None, IfOk, IfErr};
+ghost use Rattle.icu_plurals.specs.Categories.{word};
+ghost use Rattle.locale_numbers.specs.FoundRules.{rules_held};
+ghost use Rattle.legumeyet_c_values.specs.Parts.{held_text};
+ghost use Rattle.legumeyet_c_values.specs.Putting.{IsPut};
+ghost use Rattle.locale_numbers_formatter.specs.ShownOperands.{value_operands};
+ghost use Rattle.legumeyet_c.specs.Formatted.{IsExactFault};
+ghost use Rattle.legumeyet_c.specs.Worded.{IsFormWord, IsRangeWordFault, IsWordFault, IsWordInParts, IsWordPartsFault, category_word, range_word};
+
+use fixed_decimal::{CompactDecimal, Decimal};
+use icu_plurals::{PluralCategory, PluralOperands, PluralRules, PluralRulesWithRanges};
+use legumeyet_c_values::{CallError, put_bytes};
+use locale_numbers_formatter::{ExactError, NumberFormatter};
+use std::alloc::Global;
+use writeable::{PartsSink, Writeable};
+
+// Writes the word of a category.
+fn put_word(category: PluralCategory, out: &mut [u8], length: &mut usize) -> Result<(), CallError>
+    ensures { IsPut (λ text. text ≡ word category) (λ error. ⊥) out.old out.new length.old length.new result }
+{
+    put_bytes(category.as_str().as_bytes(), out, length)
+}
+
+// Writes the word of the category of a number as it is shown. `Range`: what is shown would be no decimal.
+pub(crate) fn put_category(
+    formatter: &NumberFormatter<'_>,
+    rules: &PluralRules,
+    value: &mut Decimal,
+    out: &mut [u8],
+    length: &mut usize,
+) -> Result<(), CallError>
+    ensures { IsPut (λ text. category_word rules.now formatter.now value.old ≡ Some text)
+        (IsWordFault rules.now formatter.now value.old) out.old out.new length.old length.new result }
+{
+    match formatter.plural_operands(value) {
+        Some(operands) => put_word(rules.category_for(&operands), out, length),
+        None => Err(CallError::Range),
+    }
+}
+
+// The same word as a text with parts, of which it has none.
+pub(crate) fn category_in_parts(
+    alloc: Global,
+    formatter: &NumberFormatter<'_>,
+    rules: &PluralRules,
+    value: &mut Decimal,
+) -> Result<PartsSink, CallError>
+    ensures value { IfOk result (λ sink. IsWordInParts rules.now formatter.now value.old (held_text sink)) }
+    ensures fault { IfErr result (λ error. IsWordPartsFault rules.now formatter.now value.old error) }
+{
+    let Some(operands) = formatter.plural_operands(value) else {
+        return Err(CallError::Range);
+    };
+    let text = rules.category_for(&operands).as_str();
+    let mut sink = PartsSink::new(alloc);
+    match text.write_to(&mut sink) {
+        Ok(()) => Ok(sink),
+        Err(_) => Err(CallError::Memory),
+    }
+}
+
+// What rules see of an exact form.
+fn operands_of(form: &CompactDecimal) -> PluralOperands
+    ensures { result ≡ value_operands form.now }
+{
+    let significand = form.significand();
+    PluralOperands::from_significand_and_exponent(&significand.absolute, form.exponent())
+}
+
+// Writes the word of the category of an exact form.
+pub(crate) fn put_form_category(
+    formatter: &NumberFormatter<'_>,
+    rules: &PluralRules,
+    form: &CompactDecimal,
+    out: &mut [u8],
+    length: &mut usize,
+) -> Result<(), CallError>
+    ensures { IsPut (IsFormWord rules.now formatter.now form.now) (IsExactFault formatter.now form.now) out.old out.new
+        length.old length.new result }
+{
+    match formatter.format_exact(form) {
+        Ok(_shown) => {
+            let operands = operands_of(form);
+            put_word(rules.category_for(&operands), out, length)
+        }
+        Err(ExactError::Range) => Err(CallError::Range),
+        Err(ExactError::Exponent) => Err(CallError::Exponent),
+    }
+}
+
+// Writes the word of the category of a range, by its ends as they are shown. `Range`: what is shown for one would be no
+// decimal.
+pub(crate) fn put_range(
+    formatter: &NumberFormatter<'_>,
+    plurals: &PluralRulesWithRanges<'_>,
+    first: &mut Decimal,
+    second: &mut Decimal,
+    out: &mut [u8],
+    length: &mut usize,
+) -> Result<(), CallError>
+    ensures { IsPut (λ text. range_word (rules_held plurals.now) formatter.now (first.old, second.old) ≡ Some text)
+        (IsRangeWordFault (rules_held plurals.now) formatter.now (first.old, second.old)) out.old out.new length.old
+        length.new result }
+{
+    let Some(start) = formatter.plural_operands(first) else {
+        return Err(CallError::Range);
+    };
+    match formatter.plural_operands(second) {
+        Some(end) => put_word(plurals.category_for_range(&start, &end), out, length),
+        None => Err(CallError::Range),
+    }
+}

@@ -1,0 +1,86 @@
+//! What writes numbers, borrowed for a call.
+
+ghost use Rattle.std.specs.Prelude.{◌≡◌, None, IfSome, option_map};
+ghost use Rattle.icu_decimal_direct.specs.TextTables.{text_tables};
+ghost use Rattle.locale_numbers.specs.FoundRules.{rules_held};
+ghost use Rattle.locale_numbers_formatter.specs.FormatText.{fractions_in, plain_tables};
+ghost use Rattle.legumeyet_c.specs.HeldFormats.{in_numbers};
+
+use crate::direct::texts_of;
+use icu_decimal_direct::TextTables;
+use icu_dimension_fractions::FractionInfo;
+use icu_plurals::{PluralRules, PluralRulesWithRanges};
+use locale_numbers_formatter::{FormatterKind, NumberFormatter};
+use std::marker::Model;
+
+// The same formatter. It does not allocate.
+pub(crate) fn copied<'a>(formatter: &'a NumberFormatter<'static>) -> NumberFormatter<'a>
+    ensures { result ≡ formatter.now }
+{
+    match formatter.kind() {
+        FormatterKind::Plain(formatter) => NumberFormatter::from(*formatter),
+        FormatterKind::Compact(formatter) => NumberFormatter::from(*formatter),
+        FormatterKind::Percent(formatter) => NumberFormatter::from(*formatter),
+        FormatterKind::Currency(formatter) => NumberFormatter::of_amounts(formatter),
+    }
+}
+
+// What writes numbers, or where there are rules the words of their plural categories, borrowed for a call.
+#[derive(Drop)]
+pub(crate) struct LentFormatter<'a> {
+    pub(crate) formatter: NumberFormatter<'a>,
+    pub(crate) plurals: Option<PluralRulesWithRanges<'a>>,
+}
+
+impl<'a> Model for LentFormatter<'a> {
+    ghost use Rattle.std.specs.Prelude.{option_map};
+    ghost use Rattle.locale_numbers.specs.FoundRules.{rules_held};
+    ghost use Rattle.legumeyet_c.specs.HeldFormats.{Wording};
+
+    ghost Value = { Wording };
+
+    ghost view = { λ l. record { tables = l.formatter; plurals = option_map rules_held l.plurals } };
+}
+
+impl<'a> LentFormatter<'a> {
+    // The formatter. It does not allocate.
+    pub(crate) fn get(&self) -> &NumberFormatter<'a>
+        ensures { result.now ≡ self.now.tables }
+    {
+        &self.formatter
+    }
+
+    // The rules, where words are written. It does not allocate.
+    pub(crate) fn plurals(&self) -> Option<PluralRulesWithRanges<'a>>
+        ensures { option_map rules_held result ≡ self.now.plurals }
+    {
+        self.plurals
+    }
+
+    // The rules alone, where words are written. It does not allocate.
+    pub(crate) fn rules(&self) -> Option<&'a PluralRules>
+        ensures { option_map (λ rules. rules.now) result ≡ option_map (λ plurals. plurals.0) self.now.plurals }
+    {
+        match self.plurals {
+            Some(plurals) => Some(plurals.rules),
+            None => None,
+        }
+    }
+
+    // The digits of the currency, where it writes amounts. It does not allocate.
+    pub(crate) fn fractions(&self) -> Option<FractionInfo>
+        ensures { result ≡ fractions_in self.now.tables }
+    {
+        self.formatter.fractions()
+    }
+
+    // What texts are put with directly, where that can be. It does not allocate.
+    pub(crate) fn texts(&self) -> Option<TextTables<'a>>
+        ensures { IfSome result (λ texts. in_numbers (plain_tables (text_tables texts)) ≡ self.now) }
+    {
+        if self.plurals.is_some() {
+            return None;
+        }
+        texts_of(&self.formatter)
+    }
+}

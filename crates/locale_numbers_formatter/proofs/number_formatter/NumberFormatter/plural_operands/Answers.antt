@@ -1,0 +1,30 @@
+use Rattle.std.proofs.Common.{◌≡◌, IfSome, Some, ap, sym, subst, ◌∙◌}
+use Rattle.fixed_decimal.specs.Number.{Number}
+use Rattle.fixed_decimal.specs.SignedValue.{SignedValue}
+use Rattle.icu_decimal.specs.Operands.{Operands, operands_of}
+use Rattle.locale_numbers_formatter.specs.FormatText.{FormatTables, format_value}
+use Rattle.locale_numbers_formatter.specs.HeldFormats.{format_of}
+use Rattle.locale_numbers_formatter.specs.ShownOperands.{shown_operands}
+use Rattle.locale_numbers_formatter.proofs.ShownOperandsLemmas.{ShowsAsItIs, kind_shows}
+use Rattle.locale_numbers_formatter.proofs.number_formatter.NumberFormatter.plural_operands.Goals as goal
+
+pub returns-in-Compact-clause-operands : goal.returns-in-Compact-clause-operands
+returns-in-Compact-clause-operands c =
+    c.compact_operands.ensures.operands
+    ∙ ap (λ (f : FormatTables). shown_operands f c.args.value.now) (ap format_of (sym c.in-Compact.is) ∙ c.self.view_is)
+
+pub returns-in-Compact-clause-value : goal.returns-in-Compact-clause-value
+returns-in-Compact-clause-value c =
+    subst (λ (f : FormatTables). IfSome c.compact_operands.result (λ operands. c.compact_operands.new.value ≡ (format_value f c.args.value.now).significand))
+    (ap format_of (sym c.in-Compact.is) ∙ c.self.view_is) c.compact_operands.ensures.value
+
+pub returns-in-Plain-clause-operands : goal.returns-in-Plain-clause-operands
+returns-in-Plain-clause-operands c =
+    let shows : ShowsAsItIs c.args.self.now = subst ShowsAsItIs c.self.view_is (kind_shows c.self.inside.kind c.in-Plain.is) in
+    ap (λ (o : Operands). Some o) (c.from_significand_and_exponent.ensures ∙ ap (λ (v : SignedValue Number). operands_of v.absolute 0) c.value.view_is)
+    ∙ sym (shows.operands c.args.value.now)
+
+pub returns-in-Plain-clause-value : goal.returns-in-Plain-clause-value
+returns-in-Plain-clause-value c =
+    let shows : ShowsAsItIs c.args.self.now = subst ShowsAsItIs c.self.view_is (kind_shows c.self.inside.kind c.in-Plain.is) in
+    sym (shows.value c.args.value.now)

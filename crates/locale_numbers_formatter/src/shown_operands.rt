@@ -1,0 +1,76 @@
+//! The plural operands of a number as it is shown.
+
+ghost use Rattle.std.specs.Prelude.{◌≡◌, IfNone, IfSome};
+ghost use Rattle.icu_decimal.specs.HeldCompact.{compact_tables_of};
+ghost use Rattle.icu_decimal.specs.Significand.{Shows};
+ghost use Rattle.icu_decimal.specs.ShownChoice.{CanShow};
+ghost use Rattle.locale_numbers_formatter.specs.FormatText.{CanFormat, compact_tables, format_value};
+ghost use Rattle.locale_numbers_formatter.specs.ShownOperands.{shown_operands, value_operands};
+
+use crate::number_formatter::{FormatterKind, NumberFormatter};
+use fixed_decimal::Decimal;
+use icu_decimal::CompactDecimalFormatter;
+use icu_decimal::plurals::PluralOperands;
+use icu_decimal_compact_value::{CompactEntry, ShownUnder, show_in_place};
+
+// Makes a number what it is shown as under these entries, its sign kept.
+fn show_absolute(value: &mut Decimal, entries: &[CompactEntry]) -> ShownUnder
+    requires { CanShow entries.now value.old.absolute.count }
+    ensures sign { value.new.sign ≡ value.old.sign }
+    ensures value { Shows entries.now value.old.absolute
+        (record { significand = value.new.absolute; exponent = result.exponent; entry = result.entry }) }
+{
+    show_in_place(&mut value.absolute, entries)
+}
+
+// Makes a number what compact text shows for it, and returns the operands of that.
+fn show_operands(formatter: &CompactDecimalFormatter<'_>, value: &mut Decimal) -> PluralOperands
+    requires { CanFormat (compact_tables (compact_tables_of formatter.now)) value.old }
+    ensures value { value.new
+        ≡ (format_value (compact_tables (compact_tables_of formatter.now)) value.old).significand }
+    ensures operands { result
+        ≡ value_operands (format_value (compact_tables (compact_tables_of formatter.now)) value.old) }
+{
+    let under = show_absolute(value, formatter.patterns().entries());
+    PluralOperands::from_significand_and_exponent(&value.absolute, under.exponent)
+}
+
+// The same where what is shown is a decimal; else the number stays.
+fn compact_operands(
+    formatter: &CompactDecimalFormatter<'_>,
+    value: &mut Decimal,
+) -> Option<PluralOperands>
+    ensures operands { result ≡ shown_operands (compact_tables (compact_tables_of formatter.now)) value.old }
+    ensures value { IfSome result (λ operands. value.new
+        ≡ (format_value (compact_tables (compact_tables_of formatter.now)) value.old).significand) }
+    ensures same { IfNone result (value.new ≡ value.old) }
+{
+    if formatter.can_format(value) {
+        Some(show_operands(formatter, value))
+    } else {
+        None
+    }
+}
+
+impl<'a> NumberFormatter<'a> {
+    /// What plural rules see of the number as this formatter shows it: of 1.50 the operands of `1.50`, and of 1650 by a
+    /// short formatter of `en` those of `1.6` with the exponent 3.
+    ///
+    /// By a compact formatter the number becomes the one in the pattern, 1.6; by any other it stays. `None`: by a compact
+    /// formatter, where what is shown would be no decimal, as `can_format` says; the number then stays too. It does not
+    /// allocate.
+    ///
+    /// Source: UTS 35, part 3 (numbers), section 5.1.1.
+    pub fn plural_operands(&self, value: &mut Decimal) -> Option<PluralOperands>
+        ensures operands { result ≡ shown_operands self.now value.old }
+        ensures value { IfSome result (λ operands. value.new ≡ (format_value self.now value.old).significand) }
+        ensures same { IfNone result (value.new ≡ value.old) }
+    {
+        match &self.kind {
+            FormatterKind::Compact(formatter) => compact_operands(formatter, value),
+            FormatterKind::Plain(_) | FormatterKind::Percent(_) | FormatterKind::Currency(_) => {
+                Some(PluralOperands::from_significand_and_exponent(&value.absolute, 0))
+            }
+        }
+    }
+}
