@@ -31,7 +31,7 @@ static const char BOOK[] = "[[[[\"ar\",\"\",\"arab\",\"-\",\"\",\"+\",\"\",\"\\u
                            "[[\"en\",\"\",null,[\"\\u00a4\",\"\",\"(\\u00a4\",\")\",\"+\\u00a4\",\"\"],null]],[[\"en\",\"USD\",\"$\",0]],"
                            "[[\"USD\",2,1,2,25]]]]";
 
-enum { PLAIN, SHORT, PERCENTS, DOLLARS, ARABIC, ARABIC_PERCENTS, FORMATS };
+enum { PLAIN, SHORT, PERCENTS, DOLLARS, ARABIC, ARABIC_PERCENTS, CATEGORIES, FORMATS };
 
 /* The formatters: the first two are those whose memory is compared. */
 static const struct {
@@ -44,6 +44,7 @@ static const struct {
     [DOLLARS] = {"en", "USD", {.unit = LEGUMEYET_UNIT_CURRENCY, .currency_style = LEGUMEYET_STYLE_ACCOUNTING}},
     [ARABIC] = {"ar", "", {0}},
     [ARABIC_PERCENTS] = {"ar", "", {.unit = LEGUMEYET_UNIT_PERCENT}},
+    [CATEGORIES] = {"en", "", {.notation = LEGUMEYET_NOTATION_COMPACT, .plurals = LEGUMEYET_PLURALS_CARDINAL}},
 };
 
 static legumeyet_book book;
@@ -125,6 +126,24 @@ static void write_column(legumeyet_formatter *plain) {
     expect_text("1234.598,765,432,109,876,123-7100,000,000,000,000,000,000");
 }
 
+/* Words of plural categories. */
+static void write_words(legumeyet_formatter *words) {
+    legumeyet_interval parts[8];
+    size_t count = 77;
+    TWICE(legumeyet_formatter_format(words, TEXT("1"), NULL, 0, out, sizeof out, &length));
+    expect_text("one");
+    TWICE(legumeyet_formatter_format(words, TEXT("98765432109876123"), NULL, 0, out, sizeof out, &length));
+    expect_text("other");
+    TWICE(legumeyet_formatter_format_parts(words, TEXT("1"), NULL, 0, out, sizeof out, &length, parts, 8, &count));
+    expect("no parts", (int64_t)count, 0);
+    TWICE(legumeyet_formatter_format_range(words, TEXT("98765432109876123"), TEXT("98765432109876124"), NULL, 0, out, sizeof out, &length));
+    expect_text("other");
+    expect("facts", legumeyet_formatter_tell(words, LEGUMEYET_FACT_CATEGORIES, out, sizeof out, &length), LEGUMEYET_OK);
+    expect_text("one other");
+    expect("no word is read", legumeyet_formatter_read(words, TEXT("one"), out, sizeof out, &length), LEGUMEYET_UNREADABLE);
+    expect("nor a number", legumeyet_formatter_read_lenient(words, TEXT("1"), out, sizeof out, &length), LEGUMEYET_UNREADABLE);
+}
+
 /* Each other call of formatters, which are the same whoever has the tables. */
 static void write_all(legumeyet_formatter *formatters) {
     legumeyet_formatter *compact = &formatters[SHORT], *dollars = &formatters[DOLLARS];
@@ -132,6 +151,7 @@ static void write_all(legumeyet_formatter *formatters) {
     size_t count = 0;
     write_rows(formatters);
     write_column(&formatters[PLAIN]);
+    write_words(&formatters[CATEGORIES]);
     TWICE(legumeyet_formatter_format_parts(&formatters[PLAIN], TEXT("-12345.5"), NULL, 0, out, sizeof out, &length, parts, 8, &count));
     expect("parts", (int64_t)count, 5);
     TWICE(legumeyet_formatter_format(compact, TEXT("1650"), NULL, 0, out, sizeof out, &length));

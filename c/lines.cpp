@@ -104,9 +104,20 @@ static std::string read_by(NumberFormatter &it, const std::string &text, bool is
     return number;
 }
 
+// The word of the plural category of a number, or of the range that it is.
+static std::string category_for(Book &book, const Words &fields, const Options &options) {
+    PluralRules rules(book, fields[0], fields[1] == "ordinal" ? Plurals::Ordinal : Plurals::Cardinal);
+    const std::string &number = fields[5];
+    if (fields[1] != "range-plural") return std::string(name(rules.select(number, options)));
+    const std::size_t mark = number.find("..");
+    if (mark == std::string::npos) throw Error(Code::Number);
+    return std::string(name(rules.select_range(number.substr(0, mark), number.substr(mark + 2), options)));
+}
+
 // The text for the fields of a request by the call of a formatter; for `short` and `long` with the value shown after a tab.
 static std::string text_for(Book &book, const Words &fields, const Options &options) {
     std::smatch form;
+    if (fields[1] == "plural" || fields[1] == "ordinal" || fields[1] == "range-plural") return category_for(book, fields, options);
     if (!std::regex_match(fields[1], form, FORM)) return "no form";
     NumberFormatter it = formatter_of(book, fields[0], form, choice_of<Grouping>(fields[2], GROUPINGS));
     const std::string task = form[1], &number = fields[5];

@@ -80,6 +80,18 @@ static void call_row(legumeyet_book *book, size_t row) {
     expect_well(legumeyet_formatter_close(&it));
 }
 
+/* A formatter of words, which has rules of its own. */
+static void call_words(legumeyet_book *book) {
+    static const legumeyet_format WORDS = {.plurals = LEGUMEYET_PLURALS_CARDINAL};
+    legumeyet_formatter it = {0};
+    TWICE(legumeyet_formatter_open(book, TEXT(TAG), LEGUMEYET_WORDS(WORDS), NULL, 0, &it));
+    TWICE(legumeyet_formatter_format(&it, TEXT("1"), NULL, 0, out, sizeof out, &length));
+    expect_text("one");
+    TWICE(legumeyet_formatter_format_range(&it, TEXT("1"), TEXT(DIGITS), NULL, 0, out, sizeof out, &length));
+    expect_text("other");
+    expect_well(legumeyet_formatter_close(&it));
+}
+
 /* The other calls, of a plain formatter and a compact one, whose book is closed before they write. */
 static void call_others(legumeyet_book *book) {
     static const legumeyet_format COMPACT = {.notation = LEGUMEYET_NOTATION_COMPACT, .grouping = LEGUMEYET_GROUPING_MIN2};
@@ -118,6 +130,7 @@ static void call_all(const char *path) {
     TWICE(legumeyet_book_answer(&book, TEXT(TAG "\tplain\tauto\tkeep\t-\t" DIGITS), out, sizeof out, &length));
     expect_text("ok\t-98,765,432,109,876,543,210.5");
     for (row = 0; row < sizeof ROWS / sizeof *ROWS; row++) call_row(&book, row);
+    call_words(&book);
     call_others(&book);
 }
 

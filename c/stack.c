@@ -12,7 +12,7 @@
 #include <stdlib.h>
 #include <string.h>
 
-enum { STACK = 1 << 20, PROMISED = 64 << 10, PROMISED_DEEP = 160 << 10, MARK = 0xa5, DEEP = 100000, LONG = 32767, PARTS = 1 << 15, STEP = 7 };
+enum { STACK = 1 << 20, PROMISED = 72 << 10, PROMISED_DEEP = 168 << 10, MARK = 0xa5, DEEP = 100000, LONG = 32767, PARTS = 1 << 15, STEP = 7 };
 
 /* Ends the work of a thread where a call returns another number. */
 #define EXPECT(wanted, call) \
@@ -89,6 +89,10 @@ static void *deep(void *given) {
         WELL(calls##_shown(it, digits, LONG, LEGUMEYET_WORDS(ROUNDED), out, sizeof out, &length)); \
         NOT_MEMORY(calls##_format_exact(it, digits, LONG, LEGUMEYET_WORDS(ROUNDED), out, sizeof out, &length)); \
         NOT_MEMORY(calls##_format_exact(it, LEGUMEYET_TEXT("1.20c6"), NULL, 0, out, sizeof out, &length)); \
+        NOT_MEMORY(calls##_format_range(it, digits, LONG, digits, LONG, LEGUMEYET_WORDS(ROUNDED), out, sizeof out, &length)); \
+        NOT_MEMORY(calls##_tell(it, LEGUMEYET_FACT_DIGITS, out, sizeof out, &length)); \
+        NOT_MEMORY(calls##_tell(it, LEGUMEYET_FACT_CASH_INCREMENT, out, sizeof out, &length)); \
+        NOT_MEMORY(calls##_tell(it, LEGUMEYET_FACT_CATEGORIES, out, sizeof out, &length)); \
         WELL(calls##_format(it, digits, LONG, NULL, 0, out, sizeof out / 2, &length)); \
         NOT_MEMORY(calls##_read(it, out, length, said, sizeof out / 2, &count)); \
         NOT_MEMORY(calls##_read_lenient(it, out, length, said, sizeof out / 2, &count)); \
@@ -107,6 +111,8 @@ static const struct {
     {{.notation = LEGUMEYET_NOTATION_COMPACT, .width = LEGUMEYET_WIDTH_LONG, .grouping = LEGUMEYET_GROUPING_MIN2}, "", NULL},
     {{.unit = LEGUMEYET_UNIT_PERCENT}, "", NULL},
     {{.unit = LEGUMEYET_UNIT_CURRENCY, .currency_style = LEGUMEYET_STYLE_ACCOUNTING}, "USD", NULL},
+    {{.notation = LEGUMEYET_NOTATION_COMPACT, .plurals = LEGUMEYET_PLURALS_CARDINAL}, "", NULL},
+    {{.plurals = LEGUMEYET_PLURALS_ORDINAL}, "", NULL},
     {{0}, "", "currency/CHF precision-currency-cash sign-accounting-except-zero unit-width-iso-code group-min2 integer-width/*000"},
     {{0}, "", "compact-short sign-always"},
 };
@@ -173,7 +179,11 @@ static const struct {
     {"currency-USD", "-", "-1234.5"}, {"currency-CHF", "cash", "2.345"}, {"accounting-EUR", "-", "-5"}, {"code-JPY", "3,floor,1", "1234.5"},
     {"read-percent", "-", "5%"}, {"read-currency-USD", "-", "$5.00"}, {"read-accounting-USD", "-", "($5.00)"}, {"read-code-CHF", "cash", "CHF 5.00"},
     {"read-lenient-percent", "-", "12.5"}, {"read-lenient-currency-USD", "-", "USD 1234.5"}, {"read-lenient-accounting-EUR", "-", "(5)"},
-    {"read-lenient-code-QQQ", "-", "5 QQQ"}, {"none", "-", "1"}, {"plain", "-", "1x"}};
+    {"read-lenient-code-QQQ", "-", "5 QQQ"}, {"none", "-", "1"}, {"plain", "-", "1x"}, {"plain", "f0-2,s1-3,more,half-even", "12345.678"},
+    {"plural", "s1-3,half-even", "-1234.5"}, {"ordinal", "-", "22"}, {"range-plural", "f0-2,half-even,1", "1..1234.5"},
+    {"plural::currency/USD", "-", "1"}, {"ordinal::compact-long", "-", "1234567"}, {"range-plural::compact-short", "-", "1..1234567"},
+    {"::currency/CHF precision-currency-cash sign-accounting-except-zero unit-width-iso-code group-min2 integer-width/*000", "-", "-1234.5"},
+    {"exact::compact-short sign-always", "-", "1.20c6"}, {"read::percent", "-", "5%"}, {"read-lenient::currency/EUR", "-", "EUR 1234.5"}};
 
 /* Lines of each form for tags with ASCII digits and with others, and for one with all that a tag may have. */
 static void *lines(void *given) {

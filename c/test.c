@@ -103,6 +103,11 @@ static const struct {
     {LEGUMEYET_OPTION, {"e", {.currency_width = 2}, "", NULL}},
     {LEGUMEYET_OPTION, {"e", {.grouping = 5}, "", NULL}},
     {LEGUMEYET_OPTION, {"e", {.grouping = INT32_MIN}, "", NULL}},
+    {LEGUMEYET_OPTION, {"e", {.plurals = 3}, "", NULL}},
+    {LEGUMEYET_OPTION, {"e", {.unit = LEGUMEYET_UNIT_CURRENCY, .plurals = -1}, "eur", NULL}},
+    {LEGUMEYET_TAG, {"e", {.plurals = LEGUMEYET_PLURALS_CARDINAL}, "", NULL}},
+    {LEGUMEYET_TABLE, {"tr", {.plurals = LEGUMEYET_PLURALS_CARDINAL}, "", NULL}},
+    {LEGUMEYET_TABLE, {"en", {.plurals = LEGUMEYET_PLURALS_ORDINAL}, "", NULL}},
 };
 
 static void opens(void) {
@@ -156,7 +161,7 @@ static void words(void) {
         expect_text("words of a format", by_words(PERCENTS, count, ROUNDED, 0), count < 3 ? "-1,234.56" : "-1,234.56%");
     for (count = 6; count <= 12; count++) expect_text("more words", by_words(PERCENTS, count, ROUNDED, 0), "-1234.56%");
     for (count = 0; count <= 12; count++) expect_text("options", by_words(PERCENTS, 3, ROUNDED, count), TEXTS[count < 10 ? count : 10]);
-    for (count = 6; count < 12; count++) {
+    for (count = 7; count < 12; count++) {
         memcpy(more, PERCENTS, sizeof more);
         more[count] = count % 2 == 0 ? 1 : INT32_MIN;
         expect_error("a word that is not known", by_words(more, 12, ROUNDED, 0), LEGUMEYET_OPTION);
@@ -168,7 +173,7 @@ static void words(void) {
         expect_error("a word that is not known", by_words(PERCENTS, 3, more, 12), LEGUMEYET_OPTION);
         expect_text("it is not among them", by_words(PERCENTS, 3, more, count), TEXTS[10]);
     }
-    expect("the words of a format", (int64_t)(sizeof(legumeyet_format) / sizeof(int32_t)), 6);
+    expect("the words of a format", (int64_t)(sizeof(legumeyet_format) / sizeof(int32_t)), 7);
     expect("the words of options", (int64_t)(sizeof(legumeyet_options) / sizeof(int32_t)), 10);
 }
 
@@ -252,6 +257,29 @@ static const struct {
     {PLAIN, "1234567.88", AT(-2, .increment = 25), WELL, "1,234,568.00"},
     {PLAIN, "1234567.8", AT(-2, .increment = 25), WELL, "1,234,567.75"},
     {PLAIN, "1.235", {.increment = 25}, WELL, "1.235"},
+    {PLAIN, "1.26", AT(-2, .increment = 50), WELL, "1.50"},
+    {PLAIN, "1.26", AT(-2, .increment = 50, .trailing_zeros = LEGUMEYET_TRAILING_ZEROS_TRIM), WELL, "1.5"},
+    {PLAIN, "1.26", AT(-2, .increment = 50, .trailing_zeros = LEGUMEYET_TRAILING_ZEROS_TRIM, .minimum_fraction_digits = 2), WELL, "1.50"},
+    {PLAIN, "1.98", AT(-2, .increment = 50, .trailing_zeros = LEGUMEYET_TRAILING_ZEROS_TRIM_WHOLE), WELL, "2"},
+    {PLAIN, "1.26", AT(-2, .increment = 50, .minimum_fraction_digits = 3), WELL, "1.500"},
+    {PLAIN, "1.26", {.increment = 50, .position = -2}, WELL, "1.26"},
+    {PLAIN, "15", AT(0, .increment = 10), WELL, "20"},
+    {PLAIN, "-30", AT(0, .increment = 20), WELL, "-40"},
+    {PLAIN, "149.9", AT(0, .increment = 100), WELL, "100"},
+    {PLAIN, "300", AT(0, .increment = 200), WELL, "400"},
+    {PLAIN, "1.37", AT(-3, .increment = 250), WELL, "1.250"},
+    {PLAIN, "76", AT(-1, .increment = 500), WELL, "100.0"},
+    {PLAIN, "1499", AT(0, .increment = 1000), WELL, "1,000"},
+    {PLAIN, "2999", AT(0, .increment = 2000), WELL, "2,000"},
+    {PLAIN, "1300", AT(0, .increment = 2500), WELL, "2,500"},
+    {PLAIN, "2500", AT(0, .increment = 5000), WELL, "0"},
+    {PLAIN, "2.4", AT(-1, .increment = 1000), WELL, "0.0"},
+    {EUROS, "1.26", AT(-2, .increment = 50), WELL, EURO "1.50"},
+    {PLAIN, "1", AT(32766, .increment = 10), WELL, "0"},
+    {PLAIN, "1", AT(32767, .increment = 10), LEGUMEYET_OPTION, NULL},
+    {PLAIN, "1", AT(-32768, .increment = 10), LEGUMEYET_OPTION, NULL},
+    {PLAIN, "1", AT(-2, .increment = 30), LEGUMEYET_OPTION, NULL},
+    {PLAIN, "1", AT(-2, .increment = 10000), LEGUMEYET_OPTION, NULL},
     {SHORT, "1370", AT(-2, .increment = 5), WELL, "1.4K"},
     {PLAIN, "1", AT(-2, .increment = 3), LEGUMEYET_OPTION, NULL},
     {PLAIN, "1", {.increment = 3}, LEGUMEYET_OPTION, NULL},
@@ -331,6 +359,7 @@ static const struct {
     {EUROS, "1", DIGITS(0, 3, MODE(CASH)), LEGUMEYET_OPTION, NULL},
     {EUROS, "1", DIGITS(0, 3, MODE(NONE)), LEGUMEYET_OPTION, NULL},
     {PLAIN, "1", DIGITS(0, 3, MODE(FLOOR), .increment = 5), LEGUMEYET_OPTION, NULL},
+    {PLAIN, "1", DIGITS(0, 3, MODE(FLOOR), .increment = 10), LEGUMEYET_OPTION, NULL},
     {PLAIN, "1", DIGITS(0, 3, MODE(FLOOR), .rounding_priority = 3), LEGUMEYET_OPTION, NULL},
     {PLAIN, "1", DIGITS(0, 3, .rounding_priority = LEGUMEYET_PRIORITY_MORE_PRECISION), LEGUMEYET_OPTION, NULL},
     {PLAIN, "1", AT(-2, .rounding_priority = LEGUMEYET_PRIORITY_LESS_PRECISION), LEGUMEYET_OPTION, NULL},

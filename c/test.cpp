@@ -121,6 +121,8 @@ static void doubles(DecimalFormatter &english) {
     expect(english.format(5.0), "5");
     expect(english.format(-0.0), "-0");
     expect(english.format(1.23, options), "001.25");
+    expect(english.format(1.26, options.with_increment(Increment::Fifty)), "001.50");
+    expect(english.format(1234, Options().with_rounding(Rounding::HalfEven, 0).with_increment(Increment::TwoHundredFifty)), "1,250");
     expect(english.format(400, Options().with_rounding(Rounding::HalfEven, 3)) + english.format("000"), "0000");
     expect(english.format("2.00", Options().with_trailing_zeros(TrailingZeros::TrimWhole)), "2");
     expect(english.format("2.50", Options().with_trailing_zeros(TrailingZeros::TrimWhole)), "2.50");

@@ -13,7 +13,7 @@
 
 enum { ROOM = 256, HALF = ROOM / 2 };
 
-static legumeyet_book world;
+static legumeyet_book world, unkept;
 static uint8_t out[ROOM];
 static size_t length;
 
@@ -36,10 +36,14 @@ static void expect_trip(legumeyet_formatter *formatter, const char *number, legu
     expect(text, legumeyet_formatter_close(formatter), LEGUMEYET_OK);
 }
 
-/* Opens a formatter of percents where there is no code, and else one of amounts. */
-static int32_t open_units(const char *tag, const char *code, int32_t style, int32_t width, legumeyet_formatter *formatter) {
+/* Opens a formatter of percents where there is no code, and else one of amounts, by a book. */
+static int32_t open_by(legumeyet_book *book, const char *tag, const char *code, int32_t style, int32_t width, legumeyet_formatter *formatter) {
     const legumeyet_format words = {.unit = *code == 0 ? LEGUMEYET_UNIT_PERCENT : LEGUMEYET_UNIT_CURRENCY, .currency_style = style, .currency_width = width};
-    return legumeyet_formatter_open(&world, LEGUMEYET_TEXT(tag), LEGUMEYET_WORDS(words), LEGUMEYET_TEXT(code), formatter);
+    return legumeyet_formatter_open(book, LEGUMEYET_TEXT(tag), LEGUMEYET_WORDS(words), LEGUMEYET_TEXT(code), formatter);
+}
+
+static int32_t open_units(const char *tag, const char *code, int32_t style, int32_t width, legumeyet_formatter *formatter) {
+    return open_by(&world, tag, code, style, width, formatter);
 }
 
 /* Texts of numbers in some locales, standard ones by their symbols where the row says nothing else. */
@@ -71,6 +75,43 @@ static void texts(void) {
     expect("no such language", open_units("xx", "EUR", 0, 0, &it), LEGUMEYET_TABLE);
     expect("small letters", open_units("de", "eur", 0, 0, &it), LEGUMEYET_CODE);
     expect("it stayed closed", legumeyet_formatter_close(&it), LEGUMEYET_CLOSED);
+}
+
+/* What people type of amounts: the number, or nothing where it is none. Those with symbols of their own are read by the symbols of plain
+   numbers too, and a text that is two numbers so is none, unless the formatter writes it. */
+static const struct {
+    const char *tag, *code, *text, *digits;
+} TYPED[] = {
+    {"ar-EG", "EGP", "1,234.5", "1234.5"},
+    {"de-AT", "EUR", EURO SPACE "1.234,50", "1234.50"},
+    {"de-AT", "EUR", "1.234,50", "1234.50"},
+    {"de-AT", "EUR", EURO " 1 234,50", "1234.50"},
+    {"de-AT", "EUR", "1,234.50", ""},
+    {"de-LU", "LUF", "1.234" SPACE "F", "1.234"},
+    {"de-LU", "LUF", "1.234", ""},
+    {"en-DE", "EUR", "1.234,50", "1234.50"},
+    {"fr-CH", "CHF", "5,50", "5.50"},
+    {"fr-CH", "CHF", "5.50 CHF", "5.50"},
+    {"pt-CV", "CVE", "12$50", "12.50"},
+    {"pt-CV", "CVE", "12,50", "12.50"},
+};
+
+static void expect_typed(legumeyet_formatter *formatter, const char *text, const char *digits) {
+    const int32_t error = legumeyet_formatter_read_lenient(formatter, LEGUMEYET_TEXT(text), out, ROOM, &length);
+    if (*digits == 0) expect(text, error, LEGUMEYET_NOT_WRITTEN);
+    else expect_text(text, error, digits);
+}
+
+static void typed(void) {
+    legumeyet_formatter it = {0};
+    size_t row, at;
+    for (row = 0; row < sizeof TYPED / sizeof *TYPED; row++) {
+        for (at = 0; at < 2; at++) {
+            expect(TYPED[row].tag, open_by(at == 0 ? &world : &unkept, TYPED[row].tag, TYPED[row].code, 0, 0, &it), LEGUMEYET_OK);
+            expect_typed(&it, TYPED[row].text, TYPED[row].digits);
+        }
+    }
+    expect("a close", legumeyet_formatter_close(&it), LEGUMEYET_OK);
 }
 
 /* Each locale has percents and amounts, in each style and width: a formatter writes, and reads it back. */
@@ -108,9 +149,12 @@ static void locales(void) {
 int main(void) {
     expect("the world", legumeyet_book_open_world(&world), LEGUMEYET_OK);
     expect("kept", legumeyet_book_keep(&world), LEGUMEYET_OK);
+    expect("the world again", legumeyet_book_open_world(&unkept), LEGUMEYET_OK);
     texts();
+    typed();
     all_locales();
     locales();
     expect("the book", legumeyet_book_close(&world), LEGUMEYET_OK);
+    expect("the other book", legumeyet_book_close(&unkept), LEGUMEYET_OK);
     return wrong;
 }

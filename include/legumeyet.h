@@ -19,17 +19,15 @@
  * has one. A pointer to a text of length 0, to no words, to no numbers, or to a room of 0, may be NULL, so `NULL, 0` asks how much room a
  * text needs. No other pointer may be NULL, but where a call says so.
  *
- * A handle is memory of the caller's. Zeroed memory is a closed handle. A handle is not copied, and its fields are not for callers. Handles
- * are free of each other: a formatter has the tables that it needs, so its book may be closed before it. A handle that has something of
- * another type open, as a book's that is cast to a formatter's, is closed to a call: LEGUMEYET_CLOSED, and what it has stays open. Only a
- * call that opens the handle closes what it had, once it returns 0.
+ * A handle is memory of the caller's. Zeroed memory is a closed handle. A handle is not copied, and its fields are not for callers. A
+ * formatter has the tables that it needs, so its book may be closed before it. A handle that has something of another type open, as a
+ * book's that is cast to a formatter's, is closed to a call. Only a call that opens the handle closes what it had, once it returns 0.
  *
  * A call that returns a number other than 0 leaves its handles as they were. Of several such numbers it returns the first of its list.
  *
  * A call that takes `out`, `room` and `length` writes the text to the front of the `room` bytes at `out`, and its length in bytes to
  * `length`; the bytes after the text stay as they were. Where the text is longer than `room` it returns LEGUMEYET_TOO_SMALL, the `room`
- * bytes are the first of the text, which may end inside a character, and `length` is what the text needs. Any other error leaves `out` and
- * `length` as they were.
+ * bytes are the first of the text, which may end inside a character, and `length` is what it needs. Any other error leaves both as they were.
  * What a call writes to overlaps nothing else that it is given, and nothing else writes meanwhile to what a call is given.
  *
  * Threads: one call at a time has a handle, also a call that only reads, as legumeyet_formatter_format, but for the calls that take the
@@ -37,7 +35,7 @@
  * or join, or a sequentially consistent atomic. Two handles may be used at once, also two formatters of one book; to open a formatter is a
  * call on its book. No call is made in a signal handler, or in a forked child of a process with threads.
  *
- * A call takes at most 64 KiB of stack, and 160 KiB where it opens a book of a JSON that is nested far deeper than a book.
+ * A call takes at most 72 KiB of stack, and 168 KiB where it opens a book of a JSON that is nested far deeper than a book.
  */
 #ifndef LEGUMEYET_H
 #define LEGUMEYET_H
@@ -55,7 +53,7 @@ extern "C" {
 #define LEGUMEYET_VERSION 2
 
 /* The minor version, which rises when a function, a number or a word is added. */
-#define LEGUMEYET_MINOR 0
+#define LEGUMEYET_MINOR 1
 
 /* The two arguments that a text with a NUL at its end is given by. The text is evaluated twice. */
 #define LEGUMEYET_TEXT(text) (const uint8_t *)(text), strlen(text)
@@ -77,14 +75,14 @@ enum {
     LEGUMEYET_LIMIT = 8,        /* a digit of the number is beyond the magnitudes -32768 to 32767 */
     LEGUMEYET_RANGE = 9,        /* what the number is shown as in compact form, or an exact form, reaches ten to the power 32768 */
     LEGUMEYET_UTF8 = 10,        /* the text is not UTF-8 */
-    LEGUMEYET_UNREADABLE = 11,  /* two numbers may have one text: under the formatter's symbols, or since it writes compact numbers */
+    LEGUMEYET_UNREADABLE = 11,  /* two numbers may have one text: under the symbols, or since compact numbers or words are written */
     LEGUMEYET_NOT_WRITTEN = 12, /* the formatter writes no number so, as `98,7654` in English */
     LEGUMEYET_EXPONENT = 13,    /* numbers of the magnitude of an exact form have another exponent, as 3 that of `1.2c5` in English */
     LEGUMEYET_CODE = 14,        /* the text is no code of a currency, three letters `A` to `Z`, as `eur`; or no currency is asked for */
     LEGUMEYET_UNKEPT = 15,      /* the book is not kept, as by legumeyet_book_keep */
     /* Why a text is no book: the first faulty entry decides, and of an entry the least number. */
     LEGUMEYET_BOOK_JSON = 101,      /* the bytes are no JSON, as `[1` */
-    LEGUMEYET_BOOK_SHAPE = 102,     /* the value is no book of arrays, nor a pair of one and of units, or an entry has another form */
+    LEGUMEYET_BOOK_SHAPE = 102,     /* the value is no book of arrays, nor one with units and more beside it, or an entry has another form */
     LEGUMEYET_BOOK_TAG = 103,       /* a locale, or the parent of one, is refused, as `e` */
     LEGUMEYET_BOOK_SYSTEM = 104,    /* a name of a numbering system is not 3 to 8 lower-case letters and digits */
     LEGUMEYET_BOOK_TEXT = 105,      /* a tab or a line feed is in the text of a symbol or a pattern */
@@ -146,6 +144,13 @@ enum {
     LEGUMEYET_GROUPING_ON_ALIGNED = 4 /* as AUTO, but already with one digit before the last separator, also in Spanish: `1.234` */
 };
 
+/* What is written of a number: the number, or its plural category, a word: `zero`, `one`, `two`, `few`, `many` or `other`. */
+enum {
+    LEGUMEYET_PLURALS_NONE = 0,     /* the number: `1,650` in English */
+    LEGUMEYET_PLURALS_CARDINAL = 1, /* the category of how many there are: in English `one` of `1`, and `other` of `1.0` and `2` */
+    LEGUMEYET_PLURALS_ORDINAL = 2   /* that of which one it is: `one` of 1 and 21, `two` of 2, `few` of 3, else `other`: 1st, 2nd, 3rd, 4th */
+};
+
 /* Which sign is written; chosen by what the rounding left. */
 enum {
     LEGUMEYET_SIGN_KEEP = 0,        /* the one of the number as it was given: `+5` stays `+5` */
@@ -199,6 +204,21 @@ enum {
     LEGUMEYET_PART_PERCENT_SIGN = 8
 };
 
+/* The facts of a formatter that legumeyet_formatter_tell tells. */
+enum {
+    LEGUMEYET_FACT_DECIMAL_SEPARATOR = 1,  /* `,` in German */
+    LEGUMEYET_FACT_GROUPING_SEPARATOR = 2, /* `.` */
+    LEGUMEYET_FACT_MINUS_BEFORE = 3,       /* what a minus is before the number: `-` */
+    LEGUMEYET_FACT_MINUS_AFTER = 4,        /* and after it: mostly nothing */
+    LEGUMEYET_FACT_PLUS_BEFORE = 5,
+    LEGUMEYET_FACT_PLUS_AFTER = 6,
+    LEGUMEYET_FACT_DIGITS = 7,          /* the ten digits, zero first: `0123456789` */
+    LEGUMEYET_FACT_FRACTION_DIGITS = 8, /* how many digits an amount has after the separator: `2` of euros */
+    LEGUMEYET_FACT_CASH_DIGITS = 9,     /* the same in cash */
+    LEGUMEYET_FACT_CASH_INCREMENT = 10, /* to which multiples of the last digit cash is rounded: `5` of Swiss francs, `1` of euros */
+    LEGUMEYET_FACT_CATEGORIES = 11      /* the plural categories that numbers may have, with blanks between: `one other` in English */
+};
+
 /* The handles; see above, "A handle", and below, "Shared formatters". */
 typedef struct { void *content; bool is_open; } legumeyet_book;                   /* the tables of a book */
 typedef struct { void *content; bool is_open; } legumeyet_formatter;              /* what numbers of one format are written with */
@@ -217,11 +237,12 @@ typedef struct { void *content; bool is_open; } legumeyet_answers;              
  */
 typedef struct {
     int32_t notation;       /* a LEGUMEYET_NOTATION */
-    int32_t width;          /* a LEGUMEYET_WIDTH; it counts for compact numbers alone */
+    int32_t width;          /* a LEGUMEYET_WIDTH; it counts only for compact numbers */
     int32_t unit;           /* a LEGUMEYET_UNIT; compact numbers have none: LEGUMEYET_TABLE */
-    int32_t currency_style; /* a LEGUMEYET_STYLE; it counts for amounts alone */
-    int32_t currency_width; /* a LEGUMEYET_CURRENCY; it counts for amounts alone */
+    int32_t currency_style; /* a LEGUMEYET_STYLE; it counts only for amounts */
+    int32_t currency_width; /* a LEGUMEYET_CURRENCY; it counts only for amounts */
     int32_t grouping;       /* a LEGUMEYET_GROUPING; people mostly expect MIN2 of compact numbers: `1000T`, `10,000T` */
+    int32_t plurals;        /* a LEGUMEYET_PLURALS */
 } legumeyet_format;
 
 /*
@@ -238,14 +259,17 @@ typedef struct {
  * another increment than 1, and of a least count above the greatest; a priority other than AUTO needs them, and a rounding that is a mode.
  *
  * At most two fraction digits, and none that is not needed: LEGUMEYET_ROUND_HALF_EVEN, the position -2 and LEGUMEYET_TRAILING_ZEROS_TRIM write
- * 1.995 as `2` and 1.255 as `1.26`; with `minimum_fraction_digits` 1 too 1.995 is `2.0`. To the nearest twentieth: the position -2 and the
- * increment 5 write 1.23 as `1.25`.
+ * 1.995 as `2` and 1.255 as `1.26`. To the nearest twentieth: the position -2 and the increment 5 write 1.23 as `1.25`.
+ *
+ * An increment that ends in zeros is one of its digits at a higher position, and the fraction digits down to the given position are shown too,
+ * where LEGUMEYET_TRAILING_ZEROS keeps them: the position -2 and the increment 50 write 1.26 as `1.50`, and with TRIM as `1.5`. LEGUMEYET_OPTION
+ * of such an increment where the higher position is above 32767, or the given one is -32768.
  */
 typedef struct {
     int32_t sign;                       /* a LEGUMEYET_SIGN */
     int32_t rounding;                   /* a LEGUMEYET_ROUND */
     int32_t position;                   /* the magnitude that is rounded at, -32768 to 32767: 0 the ones, -2 the hundredths */
-    int32_t increment;                  /* 1, 2, 5 or 25: it is rounded to a multiple of this, at the position; 0 is 1 */
+    int32_t increment;                  /* it is rounded to a multiple of 1, 2, 5 or 25 at the position, or of these with zeros up to 5000; 0 is 1 */
     int32_t trailing_zeros;             /* a LEGUMEYET_TRAILING_ZEROS */
     int32_t minimum_integer_digits;     /* so many integer digits are shown at least, 0 to 32767: with 3 7 is `007` */
     int32_t minimum_fraction_digits;    /* so many fraction digits are shown at least, 0 to 32767: with 2 7.5 is `7.50` */
@@ -257,10 +281,7 @@ typedef struct {
 /* A part of a text: the bytes from `start` up to `end`; `kind` is a LEGUMEYET_PART. */
 typedef struct { size_t start, end; uint32_t kind; } legumeyet_interval;
 
-/*
- * Opens the world's book, which is in the library: of all locales of CLDR, the Unicode Consortium's data, it has the symbols, digits,
- * plural rules and patterns. Returns 0; LEGUMEYET_MEMORY.
- */
+/* Opens the world's book, which is in the library: the tables of all locales of CLDR, Unicode's data. Returns 0; LEGUMEYET_MEMORY. */
 int32_t legumeyet_book_open_world(legumeyet_book *book);
 
 /*
@@ -274,8 +295,7 @@ int32_t legumeyet_book_open_file(const char *path, legumeyet_book *book);
 
 /*
  * Opens the book that a JSON text is. docs/books.md of the repository has its form, and books/README.md says how one of a choice of locales
- * is made; the shortest is `[[],[],[],[],[]]`. It keeps none of the bytes.
- * Returns 0; LEGUMEYET_BOOK_JSON to LEGUMEYET_BOOK_CODE; LEGUMEYET_MEMORY.
+ * is made; the shortest is `[[],[],[],[],[]]`. Returns 0; LEGUMEYET_BOOK_JSON to LEGUMEYET_BOOK_CODE; LEGUMEYET_MEMORY.
  */
 int32_t legumeyet_book_open(const uint8_t *json, size_t json_length, legumeyet_book *book);
 
@@ -301,8 +321,7 @@ int32_t legumeyet_book_locale(legumeyet_book *book, size_t index, uint8_t *out, 
 /*
  * Answers a request line, without its line feed: `en`, `plain`, `auto`, `keep`, `-`, `-987654.321` with tabs between by `ok`, a tab and
  * `-987,654.321`. For a line that is refused the text is `err`, a tab and a word, and the call returns 0. The page legumeyet(1) of `man`
- * has the six fields, and docs/requests.md of the repository all about them. Each call makes a formatter: who writes many numbers of one
- * tag opens one.
+ * has the six fields, and docs/requests.md of the repository all about them. Each call makes a formatter.
  * Returns 0; LEGUMEYET_CLOSED; LEGUMEYET_MEMORY; LEGUMEYET_TOO_SMALL.
  */
 int32_t legumeyet_book_answer(legumeyet_book *book, const uint8_t *line, size_t line_length, uint8_t *out, size_t room, size_t *length);
@@ -332,26 +351,27 @@ int32_t legumeyet_answers_close(legumeyet_answers *answers);
  *         at += read;
  *     } while (error == LEGUMEYET_TOO_SMALL && needs <= sizeof out);
  *
- * Returns 0, where all lines that end were answered; LEGUMEYET_CLOSED, and then the three counts are 0; LEGUMEYET_MEMORY;
- * LEGUMEYET_TOO_SMALL.
+ * Returns 0, where all lines that end were answered; LEGUMEYET_CLOSED, and the three counts are 0; LEGUMEYET_MEMORY; LEGUMEYET_TOO_SMALL.
  */
-int32_t legumeyet_answers_answer(legumeyet_answers *answers, const uint8_t *lines, size_t lines_length, uint8_t *out, size_t room,
-                                 size_t *read, size_t *written, size_t *needs);
+int32_t legumeyet_answers_answer(legumeyet_answers *answers, const uint8_t *lines, size_t lines_length, uint8_t *out, size_t room, size_t *read,
+    size_t *written, size_t *needs);
 
 /*
- * Opens the formatter of a format for a locale tag. Without words that of `en` writes -1234.5 as `-1,234.5`, that of `ar-EG` as
- * `-١٬٢٣٤٫٥`; of compact numbers that of `en` writes 1650 as `1.6K`, of percents that of `tr` 12.5 as `%12,5`, and of amounts that of
- * `de-CH` and `CHF` -5 as `CHF-5.00`.
+ * Opens the formatter of a format for a locale tag. Without words that of `en` writes -1234.5 as `-1,234.5`; of compact numbers that of
+ * `en` writes 1650 as `1.6K`, of percents that of `tr` 12.5 as `%12,5`, and of amounts that of `de-CH` and `CHF` -5 as `CHF-5.00`.
  *
  * `unit` is the code of the currency, three letters `A` to `Z`, where the format is of amounts, and else `NULL, 0`. A currency that the
  * book does not know is written by its code, and has two digits. The formatter has its own copy of the tables, unless the book is kept.
  *
+ * With `plurals` each call that writes the text of a number writes its plural category instead, by what would be shown: of `1` with two
+ * fraction digits at least `other` in English, and of 1200000 compact `many` in French, as `1,2 M`. It has no parts, and reads no text.
+ *
  * Returns 0; LEGUMEYET_CLOSED, of the book; LEGUMEYET_OPTION, of the format; LEGUMEYET_CODE; LEGUMEYET_TAG; LEGUMEYET_TABLE, where the book
- * has no symbols or no digits for the tag, or lacks what the format needs: plural rules and patterns of the width, percents, or currencies;
+ * has no symbols or no digits for the tag, or lacks what the format needs: plural rules, patterns of the width, percents, or currencies;
  * LEGUMEYET_MEMORY, also in place of the last two.
  */
 int32_t legumeyet_formatter_open(legumeyet_book *book, const uint8_t *tag, size_t tag_length, const legumeyet_format *format,
-                                 size_t format_words, const uint8_t *unit, size_t unit_length, legumeyet_formatter *formatter);
+    size_t format_words, const uint8_t *unit, size_t unit_length, legumeyet_formatter *formatter);
 
 /*
  * Opens the formatter of a skeleton, the text by which ICU asks for a format: `currency/EUR .00`, `compact-short`, `percent .##`. The
@@ -360,14 +380,13 @@ int32_t legumeyet_formatter_open(legumeyet_book *book, const uint8_t *tag, size_
  * where the faulty word begins, in bytes of the skeleton, 8 of `percent foo`; LEGUMEYET_TAG; LEGUMEYET_TABLE; LEGUMEYET_MEMORY.
  */
 int32_t legumeyet_formatter_open_skeleton(legumeyet_book *book, const uint8_t *tag, size_t tag_length, const uint8_t *skeleton,
-                                          size_t skeleton_length, size_t *place, legumeyet_formatter *formatter);
+    size_t skeleton_length, size_t *place, legumeyet_formatter *formatter);
 
 /*
  * Writes the normal text of a skeleton, one for all that ask for the same format: of `K  sign-auto` the text `compact-short`.
  * Returns 0; LEGUMEYET_SKELETON_UNKNOWN to LEGUMEYET_SKELETON_UNSUPPORTED, with `place` as above; LEGUMEYET_TOO_SMALL.
  */
-int32_t legumeyet_skeleton_normal(const uint8_t *skeleton, size_t skeleton_length, size_t *place, uint8_t *out, size_t room,
-                                  size_t *length);
+int32_t legumeyet_skeleton_normal(const uint8_t *skeleton, size_t skeleton_length, size_t *place, uint8_t *out, size_t room, size_t *length);
 
 /* Closes a formatter. Returns 0; LEGUMEYET_CLOSED, where it was closed already. */
 int32_t legumeyet_formatter_close(legumeyet_formatter *formatter);
@@ -386,7 +405,7 @@ int32_t legumeyet_formatter_close(legumeyet_formatter *formatter);
  * LEGUMEYET_MEMORY, which a number of sixteen digits at most takes only where multiples of 25 give it a seventeenth; LEGUMEYET_TOO_SMALL.
  */
 int32_t legumeyet_formatter_format(legumeyet_formatter *formatter, const uint8_t *number, size_t number_length,
-                                   const legumeyet_options *options, size_t option_words, uint8_t *out, size_t room, size_t *length);
+    const legumeyet_options *options, size_t option_words, uint8_t *out, size_t room, size_t *length);
 
 /*
  * Writes the number `mantissa` times ten to the power `exponent`: -123456 and -2 as `-1,234.56` in English, 5 and 3 as `5,000`.
@@ -395,19 +414,19 @@ int32_t legumeyet_formatter_format(legumeyet_formatter *formatter, const uint8_t
  * Returns as legumeyet_formatter_format, but for LEGUMEYET_NUMBER.
  */
 int32_t legumeyet_formatter_format_i64(legumeyet_formatter *formatter, int64_t mantissa, int16_t exponent, const legumeyet_options *options,
-                                       size_t option_words, uint8_t *out, size_t room, size_t *length);
+    size_t option_words, uint8_t *out, size_t room, size_t *length);
 
 /* Writes as legumeyet_formatter_format_i64 does, of a number without a sign: 18446744073709551615 and -18 as `18.446744073709551615`. */
-int32_t legumeyet_formatter_format_u64(legumeyet_formatter *formatter, uint64_t mantissa, int16_t exponent,
-                                       const legumeyet_options *options, size_t option_words, uint8_t *out, size_t room, size_t *length);
+int32_t legumeyet_formatter_format_u64(legumeyet_formatter *formatter, uint64_t mantissa, int16_t exponent, const legumeyet_options *options,
+    size_t option_words, uint8_t *out, size_t room, size_t *length);
 
 /*
  * Writes a double, by the shortest decimal number that gives it back where it is read as a double: in English 0.1 as `0.1`, 5.0 as `5`,
  * 1e21 as `1,000,000,000,000,000,000,000`, -0.0 as `-0`, and 2.675 dollars, whose exact value is a little less, as `$2.68`.
  * Returns as legumeyet_formatter_format, but for LEGUMEYET_LIMIT; LEGUMEYET_NUMBER of what is not finite.
  */
-int32_t legumeyet_formatter_format_double(legumeyet_formatter *formatter, double number, const legumeyet_options *options,
-                                          size_t option_words, uint8_t *out, size_t room, size_t *length);
+int32_t legumeyet_formatter_format_double(legumeyet_formatter *formatter, double number, const legumeyet_options *options, size_t option_words,
+    uint8_t *out, size_t room, size_t *length);
 
 /*
  * Writes as legumeyet_formatter_format does, and lists the parts of the text in order of their beginning: of `-€1,234.50` the minus sign at
@@ -421,16 +440,16 @@ int32_t legumeyet_formatter_format_double(legumeyet_formatter *formatter, double
  * Returns as legumeyet_formatter_format; LEGUMEYET_MEMORY of any number.
  */
 int32_t legumeyet_formatter_format_parts(legumeyet_formatter *formatter, const uint8_t *number, size_t number_length,
-                                         const legumeyet_options *options, size_t option_words, uint8_t *out, size_t room, size_t *length,
-                                         legumeyet_interval *intervals, size_t intervals_room, size_t *count);
+    const legumeyet_options *options, size_t option_words, uint8_t *out, size_t room, size_t *length, legumeyet_interval *intervals,
+    size_t intervals_room, size_t *count);
 
 /*
  * Writes the value that the text of a number shows: of `-1172700` in short English `-1.2c6`, which is -1.2 times ten to the power 6. Where
  * the exponent is 0, as always but in compact numbers, it is only the number, as the options leave it: `950`, and of `5` dollars `5.00`.
  * Returns as legumeyet_formatter_format; LEGUMEYET_MEMORY also where what is shown has more than sixteen digits.
  */
-int32_t legumeyet_formatter_shown(legumeyet_formatter *formatter, const uint8_t *number, size_t number_length,
-                                  const legumeyet_options *options, size_t option_words, uint8_t *out, size_t room, size_t *length);
+int32_t legumeyet_formatter_shown(legumeyet_formatter *formatter, const uint8_t *number, size_t number_length, const legumeyet_options *options,
+    size_t option_words, uint8_t *out, size_t room, size_t *length);
 
 /*
  * Writes an exact form, as legumeyet_formatter_shown writes one, its digits as they are given: `-1.20c6` as `-1.20M` in short English. In
@@ -441,7 +460,22 @@ int32_t legumeyet_formatter_shown(legumeyet_formatter *formatter, const uint8_t 
  * of both together is above 32767; LEGUMEYET_EXPONENT; LEGUMEYET_TOO_SMALL.
  */
 int32_t legumeyet_formatter_format_exact(legumeyet_formatter *formatter, const uint8_t *number, size_t number_length,
-                                         const legumeyet_options *options, size_t option_words, uint8_t *out, size_t room, size_t *length);
+    const legumeyet_options *options, size_t option_words, uint8_t *out, size_t room, size_t *length);
+
+/*
+ * Writes the plural category of the range from one number to another, by those of both ends, as they are shown: of `0` and `1` in French
+ * `one`, in English `other`. It is for a formatter with `plurals`; of another one it returns LEGUMEYET_OPTION: texts of ranges are not
+ * written yet. Returns as legumeyet_formatter_format, of `first` before `second`.
+ */
+int32_t legumeyet_formatter_format_range(legumeyet_formatter *formatter, const uint8_t *first, size_t first_length, const uint8_t *second,
+    size_t second_length, const legumeyet_options *options, size_t option_words, uint8_t *out, size_t room, size_t *length);
+
+/*
+ * Tells a fact of a formatter, a LEGUMEYET_FACT, as text. Amounts have the separators and signs of their currency, where it has its own.
+ * Returns 0; LEGUMEYET_CLOSED; LEGUMEYET_OPTION, of a number that is not in the list, of 8 to 10 where there is no currency, and of 11
+ * where there are no `plurals`; LEGUMEYET_TOO_SMALL.
+ */
+int32_t legumeyet_formatter_tell(legumeyet_formatter *formatter, uint32_t fact, uint8_t *out, size_t room, size_t *length);
 
 /*
  * Reads a text back as the one number that the formatter writes so, and writes it as digits: in English `-1,234.50` as `-1234.50`, and with
@@ -450,27 +484,28 @@ int32_t legumeyet_formatter_format_exact(legumeyet_formatter *formatter, const u
  * A formatter of a kept book keeps what it makes of its tables at the first call that reads, until it is closed. Another one, or one to
  * which memory for that is refused, makes it for each text.
  *
- * Returns 0; LEGUMEYET_CLOSED; LEGUMEYET_UTF8; LEGUMEYET_UNREADABLE, as of every text by compact numbers; LEGUMEYET_NOT_WRITTEN, as of
+ * Returns 0; LEGUMEYET_CLOSED; LEGUMEYET_UTF8; LEGUMEYET_UNREADABLE, as always of compact numbers and of `plurals`; LEGUMEYET_NOT_WRITTEN, as of
  * `$1.00` with euros; LEGUMEYET_MEMORY, which a plain number of sixteen digits at most never takes; LEGUMEYET_TOO_SMALL.
  */
 int32_t legumeyet_formatter_read(legumeyet_formatter *formatter, const uint8_t *text, size_t text_length, uint8_t *out, size_t room,
-                                 size_t *length);
+    size_t *length);
 
 /*
  * Reads a text that somebody typed: as legumeyet_formatter_read does what the formatter writes, and other texts by folding. In English
  * ` 1234.5 `, `1,234.5`, `.5`, `5.` and `-5` with the minus sign U+2212 are read; `1,23`, `1,234,5` and `1 234` are not. With euros also
- * `€1234.5`, `1,234.5 €`, `EUR 5`, `-5 EUR` and `5` are read; `$5` is not: the unit or its code, of percents `%`, is before or after the
- * number, with a space between or none, or left out.
+ * `€1234.5`, `1,234.5 €`, `EUR 5` and `5` are read; `$5` is not: the unit, its code, or `%` is before or after the number, or left out.
  *
  * Digits of any one system are read: `१२३` is 123. Where those of the formatter are not `0` to `9`, and the book has symbols of `latn` for
- * the locale, these are tried too: `١٬٢٣٤٫٥` and `1,234.5` are 1234.5 in `ar-EG`. Nothing is dropped or guessed, and digits are grouped
- * wholly, by the sizes of the locale, or not at all. docs/reading.md and docs/units.md of the repository have the rules.
+ * the locale, these are tried too: `١٬٢٣٤٫٥` and `1,234.5` are 1234.5 in `ar-EG`. Else an amount that has symbols of its own is tried with
+ * those of plain numbers too: `€ 1.234,50` and `1 234,50` are 1234.50 in `de-AT`. What the formatter does not write, and the two read as
+ * different numbers, is refused. Nothing is dropped or guessed, and digits are grouped wholly, by the sizes of the locale, or not at all.
+ * docs/reading.md and docs/units.md of the repository have the rules.
  *
  * Returns as legumeyet_formatter_read; LEGUMEYET_UNREADABLE also where two numbers may have one text once symbols, affixes and unit are
  * folded, but not of a plain number as it is written; LEGUMEYET_MEMORY of any text that the formatter does not write.
  */
 int32_t legumeyet_formatter_read_lenient(legumeyet_formatter *formatter, const uint8_t *text, size_t text_length, uint8_t *out, size_t room,
-                                         size_t *length);
+    size_t *length);
 
 /*
  * Columns: many numbers in one call. Their texts are written to the front of `out`, one after the other and nothing between:
@@ -495,18 +530,15 @@ int32_t legumeyet_formatter_read_lenient(legumeyet_formatter *formatter, const u
 
 /* Writes doubles, each as legumeyet_formatter_format_double does. */
 int32_t legumeyet_formatter_format_doubles(legumeyet_formatter *formatter, const double *numbers, size_t number_count,
-                                           const legumeyet_options *options, size_t option_words, uint8_t *out, size_t room, size_t *ends,
-                                           size_t ends_room, size_t *count);
+    const legumeyet_options *options, size_t option_words, uint8_t *out, size_t room, size_t *ends, size_t ends_room, size_t *count);
 
 /* Writes each mantissa times ten to the power `exponent`, as legumeyet_formatter_format_i64 does. */
-int32_t legumeyet_formatter_format_integers(legumeyet_formatter *formatter, const int64_t *mantissas, size_t mantissa_count,
-                                            int16_t exponent, const legumeyet_options *options, size_t option_words, uint8_t *out,
-                                            size_t room, size_t *ends, size_t ends_room, size_t *count);
+int32_t legumeyet_formatter_format_integers(legumeyet_formatter *formatter, const int64_t *mantissas, size_t mantissa_count, int16_t exponent,
+    const legumeyet_options *options, size_t option_words, uint8_t *out, size_t room, size_t *ends, size_t ends_room, size_t *count);
 
 /* Writes the numbers that lines are, each as legumeyet_formatter_format does: of `1234.5`, a line feed and `-7` `1,234.5` and `-7`. */
 int32_t legumeyet_formatter_format_texts(legumeyet_formatter *formatter, const uint8_t *numbers, size_t numbers_length,
-                                         const legumeyet_options *options, size_t option_words, uint8_t *out, size_t room, size_t *ends,
-                                         size_t ends_room, size_t *count);
+    const legumeyet_options *options, size_t option_words, uint8_t *out, size_t room, size_t *ends, size_t ends_room, size_t *count);
 
 /*
  * Shared formatters: one formatter for any number of threads at once. It is opened as any other, and then shared:
@@ -517,11 +549,9 @@ int32_t legumeyet_formatter_format_texts(legumeyet_formatter *formatter, const u
  *     legumeyet_formatter_share(&opened, &german);
  *     legumeyet_shared_formatter_format(&german, LEGUMEYET_TEXT("1234.5"), NULL, 0, out, sizeof out, &length);
  *
- * Each call that takes a shared formatter as `const` may run in any thread, any number of them at once, with the same handle: it takes no
- * lock of its own, and writes only to `out`, `length` and the like.
+ * Each call that takes a shared formatter as `const` may run in any thread, any number of them at once with the same handle, without a lock.
  *
- * A shared formatter stays for the rest of the program: its memory, one small block where the book is kept, and else its copy of the tables
- * too, is never given back. So share those that a program uses until it ends, and not one for each request.
+ * A shared formatter stays for the rest of the program: its memory is never given back. So share one for the program, not one a request.
  *
  * The handle of a shared formatter may be copied by `=`, as to another thread: each copy is a handle of its own. That which shares a formatter
  * by a handle, and that which closes it, which frees nothing, write to it. They come before and after all other calls on this very handle,
@@ -539,38 +569,36 @@ int32_t legumeyet_shared_formatter_close(legumeyet_shared_formatter *formatter);
 
 /* Each as the call of its name without `shared`. */
 int32_t legumeyet_shared_formatter_format(const legumeyet_shared_formatter *formatter, const uint8_t *number, size_t number_length,
-                                          const legumeyet_options *options, size_t option_words, uint8_t *out, size_t room, size_t *length);
+    const legumeyet_options *options, size_t option_words, uint8_t *out, size_t room, size_t *length);
 int32_t legumeyet_shared_formatter_format_i64(const legumeyet_shared_formatter *formatter, int64_t mantissa, int16_t exponent,
-                                              const legumeyet_options *options, size_t option_words, uint8_t *out, size_t room,
-                                              size_t *length);
+    const legumeyet_options *options, size_t option_words, uint8_t *out, size_t room, size_t *length);
 int32_t legumeyet_shared_formatter_format_u64(const legumeyet_shared_formatter *formatter, uint64_t mantissa, int16_t exponent,
-                                              const legumeyet_options *options, size_t option_words, uint8_t *out, size_t room,
-                                              size_t *length);
-int32_t legumeyet_shared_formatter_format_double(const legumeyet_shared_formatter *formatter, double number,
-                                                 const legumeyet_options *options, size_t option_words, uint8_t *out, size_t room,
-                                                 size_t *length);
+    const legumeyet_options *options, size_t option_words, uint8_t *out, size_t room, size_t *length);
+int32_t legumeyet_shared_formatter_format_double(const legumeyet_shared_formatter *formatter, double number, const legumeyet_options *options,
+    size_t option_words, uint8_t *out, size_t room, size_t *length);
 int32_t legumeyet_shared_formatter_format_parts(const legumeyet_shared_formatter *formatter, const uint8_t *number, size_t number_length,
-                                                const legumeyet_options *options, size_t option_words, uint8_t *out, size_t room,
-                                                size_t *length, legumeyet_interval *intervals, size_t intervals_room, size_t *count);
+    const legumeyet_options *options, size_t option_words, uint8_t *out, size_t room, size_t *length, legumeyet_interval *intervals,
+    size_t intervals_room, size_t *count);
 int32_t legumeyet_shared_formatter_shown(const legumeyet_shared_formatter *formatter, const uint8_t *number, size_t number_length,
-                                         const legumeyet_options *options, size_t option_words, uint8_t *out, size_t room, size_t *length);
+    const legumeyet_options *options, size_t option_words, uint8_t *out, size_t room, size_t *length);
 int32_t legumeyet_shared_formatter_format_exact(const legumeyet_shared_formatter *formatter, const uint8_t *number, size_t number_length,
-                                                const legumeyet_options *options, size_t option_words, uint8_t *out, size_t room,
-                                                size_t *length);
+    const legumeyet_options *options, size_t option_words, uint8_t *out, size_t room, size_t *length);
+int32_t legumeyet_shared_formatter_format_range(const legumeyet_shared_formatter *formatter, const uint8_t *first, size_t first_length,
+    const uint8_t *second, size_t second_length, const legumeyet_options *options, size_t option_words, uint8_t *out, size_t room,
+    size_t *length);
+int32_t legumeyet_shared_formatter_tell(const legumeyet_shared_formatter *formatter, uint32_t fact, uint8_t *out, size_t room,
+    size_t *length);
 int32_t legumeyet_shared_formatter_read(const legumeyet_shared_formatter *formatter, const uint8_t *text, size_t text_length, uint8_t *out,
-                                        size_t room, size_t *length);
+    size_t room, size_t *length);
 int32_t legumeyet_shared_formatter_read_lenient(const legumeyet_shared_formatter *formatter, const uint8_t *text, size_t text_length,
-                                                uint8_t *out, size_t room, size_t *length);
+    uint8_t *out, size_t room, size_t *length);
 int32_t legumeyet_shared_formatter_format_doubles(const legumeyet_shared_formatter *formatter, const double *numbers, size_t number_count,
-                                                  const legumeyet_options *options, size_t option_words, uint8_t *out, size_t room,
-                                                  size_t *ends, size_t ends_room, size_t *count);
-int32_t legumeyet_shared_formatter_format_integers(const legumeyet_shared_formatter *formatter, const int64_t *mantissas,
-                                                   size_t mantissa_count, int16_t exponent, const legumeyet_options *options,
-                                                   size_t option_words, uint8_t *out, size_t room, size_t *ends, size_t ends_room,
-                                                   size_t *count);
+    const legumeyet_options *options, size_t option_words, uint8_t *out, size_t room, size_t *ends, size_t ends_room, size_t *count);
+int32_t legumeyet_shared_formatter_format_integers(const legumeyet_shared_formatter *formatter, const int64_t *mantissas, size_t mantissa_count,
+    int16_t exponent, const legumeyet_options *options, size_t option_words, uint8_t *out, size_t room, size_t *ends, size_t ends_room,
+    size_t *count);
 int32_t legumeyet_shared_formatter_format_texts(const legumeyet_shared_formatter *formatter, const uint8_t *numbers, size_t numbers_length,
-                                                const legumeyet_options *options, size_t option_words, uint8_t *out, size_t room,
-                                                size_t *ends, size_t ends_room, size_t *count);
+    const legumeyet_options *options, size_t option_words, uint8_t *out, size_t room, size_t *ends, size_t ends_room, size_t *count);
 
 /*
  * Writes what a number of these calls means, in English: of LEGUMEYET_TAG `no locale tag`.
@@ -579,10 +607,9 @@ int32_t legumeyet_shared_formatter_format_texts(const legumeyet_shared_formatter
 int32_t legumeyet_error_text(int32_t error, uint8_t *out, size_t room, size_t *length);
 
 /*
- * Writes the tag of a locale's name as LANG, LC_ALL and setlocale give it: of `de_DE.UTF-8` and `de_DE` the tag `de-DE`.
- * The name ends with a NUL. What is from the first `.` or `@` on is cut, and each `_` becomes `-`: `sr_RS@latin` is `sr-RS`. `C`, `POSIX`, an
- * empty name and NULL are `en`. Whether a formatter can be opened of the tag is not looked at.
- * Returns 0; LEGUMEYET_TOO_SMALL.
+ * Writes the tag of a locale's name, which ends with a NUL, as LANG and setlocale give it: of `de_DE.UTF-8` and `de_DE` the tag `de-DE`.
+ * What is from the first `.` or `@` on is cut, and each `_` becomes `-`: `sr_RS@latin` is `sr-RS`. `C`, `POSIX`, an empty name and NULL are
+ * `en`. Whether a formatter can be opened of the tag is not looked at. Returns 0; LEGUMEYET_TOO_SMALL.
  */
 int32_t legumeyet_tag_of_locale_name(const char *name, uint8_t *out, size_t room, size_t *length);
 

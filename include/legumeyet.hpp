@@ -3,11 +3,10 @@
 //     legumeyet::DecimalFormatter german("de");
 //     german.format(1234567.891);                                // 1.234.567,891
 //     std::cout << german(1234.5);                               // 1.234,5
-//     legumeyet::CompactDecimalFormatter short_german("de");
-//     short_german.format(1234567);                              // 1,2 Mio. with a no-break space
+//     legumeyet::CompactDecimalFormatter("de").format(1234567);  // 1,2 Mio. with a no-break space
 //     legumeyet::CurrencyFormatter("de", "EUR").format(1234.5);  // 1.234,50 € with a no-break space
-//     auto whole = legumeyet::NumberFormatter::skeleton("de", "currency/EUR .00/w");
-//     whole.format(5);                                           // 5 € with a no-break space
+//     legumeyet::NumberFormatter::skeleton("de", "currency/EUR .00/w").format(5); // 5 € with a no-break space
+//     legumeyet::PluralRules("pl").select(5);                    // PluralCategory::Many
 //     german.format_all(std::vector<double>{1234.5, 0.25});      // a Column of 1.234,5 and 0,25
 //     legumeyet::Answers(16).answer(lines);                      // the answers to request lines
 //
@@ -15,10 +14,9 @@
 // FormatToResult; `format_all_to` and `try_keep` return it as a Code, and each other call throws it as an Error. A program that is compiled
 // with -fno-exceptions has all but the last. A call that makes a std::string or a std::vector may throw std::bad_alloc.
 //
-// Threads: a book, a formatter or answers may go to another thread, and are used by one call at a time, also by a call that only reads, so no
-// call is const. A shared formatter, as SharedDecimalFormatter, is used by any number of threads at once, and its calls are const:
-//
-//     static const legumeyet::SharedDecimalFormatter german{legumeyet::DecimalFormatter{"de"}};
+// Threads: a book, a formatter, rules or answers may go to another thread, and are used by one call at a time, also by a call that only reads, so
+// no call is const. A shared formatter is used by any number of threads at once, and its calls are const:
+// static const legumeyet::SharedDecimalFormatter german{legumeyet::DecimalFormatter{"de"}};
 //
 // A null pointer in place of a text is an empty text, which is no tag and no number. The macros None and Always of X11 may be there when this
 // header is included; a program that has them writes Rounding{LEGUMEYET_ROUND_NONE} and Sign{LEGUMEYET_SIGN_ALWAYS}.
@@ -40,18 +38,16 @@
 #include <iterator>
 #include <memory>
 #include <mutex>
+#include <stdexcept>
 #include <string>
 #include <string_view>
+#include <system_error>
 #include <type_traits>
 #include <unistd.h>
 #include <utility>
 #include <variant>
 #include <vector>
 
-#ifdef __cpp_exceptions
-#include <stdexcept>
-#include <system_error>
-#endif
 #if __cplusplus >= 202002L
 #include <version>
 #endif
@@ -81,11 +77,10 @@ enum class Code : int32_t {
     File = LEGUMEYET_FILE, Ok = LEGUMEYET_OK, Memory = LEGUMEYET_MEMORY, Closed = LEGUMEYET_CLOSED, TooSmall = LEGUMEYET_TOO_SMALL,
     Option = LEGUMEYET_OPTION, Tag = LEGUMEYET_TAG, Table = LEGUMEYET_TABLE, Number = LEGUMEYET_NUMBER, Limit = LEGUMEYET_LIMIT,
     Range = LEGUMEYET_RANGE, Utf8 = LEGUMEYET_UTF8, Unreadable = LEGUMEYET_UNREADABLE, NotWritten = LEGUMEYET_NOT_WRITTEN,
-    Exponent = LEGUMEYET_EXPONENT, Code = LEGUMEYET_CODE, Unkept = LEGUMEYET_UNKEPT,
-    BookJson = LEGUMEYET_BOOK_JSON, BookShape = LEGUMEYET_BOOK_SHAPE, BookTag = LEGUMEYET_BOOK_TAG, BookSystem = LEGUMEYET_BOOK_SYSTEM,
-    BookText = LEGUMEYET_BOOK_TEXT, BookDigits = LEGUMEYET_BOOK_DIGITS, BookCondition = LEGUMEYET_BOOK_CONDITION,
-    BookTypes = LEGUMEYET_BOOK_TYPES, BookExponents = LEGUMEYET_BOOK_EXPONENTS, BookDuplicate = LEGUMEYET_BOOK_DUPLICATE,
-    BookCycle = LEGUMEYET_BOOK_CYCLE, BookUnit = LEGUMEYET_BOOK_UNIT, BookCode = LEGUMEYET_BOOK_CODE,
+    Exponent = LEGUMEYET_EXPONENT, Code = LEGUMEYET_CODE, Unkept = LEGUMEYET_UNKEPT, BookJson = LEGUMEYET_BOOK_JSON, BookShape = LEGUMEYET_BOOK_SHAPE,
+    BookTag = LEGUMEYET_BOOK_TAG, BookSystem = LEGUMEYET_BOOK_SYSTEM, BookText = LEGUMEYET_BOOK_TEXT, BookDigits = LEGUMEYET_BOOK_DIGITS,
+    BookCondition = LEGUMEYET_BOOK_CONDITION, BookTypes = LEGUMEYET_BOOK_TYPES, BookExponents = LEGUMEYET_BOOK_EXPONENTS,
+    BookDuplicate = LEGUMEYET_BOOK_DUPLICATE, BookCycle = LEGUMEYET_BOOK_CYCLE, BookUnit = LEGUMEYET_BOOK_UNIT, BookCode = LEGUMEYET_BOOK_CODE,
     SkeletonUnknown = LEGUMEYET_SKELETON_UNKNOWN, SkeletonTwice = LEGUMEYET_SKELETON_TWICE, SkeletonCode = LEGUMEYET_SKELETON_CODE,
     SkeletonPair = LEGUMEYET_SKELETON_PAIR, SkeletonSystem = LEGUMEYET_SKELETON_SYSTEM, SkeletonLater = LEGUMEYET_SKELETON_LATER,
     SkeletonUnsupported = LEGUMEYET_SKELETON_UNSUPPORTED
@@ -107,23 +102,30 @@ enum class Grouping : int32_t {
     OnAligned = LEGUMEYET_GROUPING_ON_ALIGNED
 };
 
+// What is written of a number, it or the word of its plural category: LEGUMEYET_PLURALS.
+enum class Plurals : int32_t { None = LEGUMEYET_PLURALS_NONE, Cardinal = LEGUMEYET_PLURALS_CARDINAL, Ordinal = LEGUMEYET_PLURALS_ORDINAL };
+// A plural category, for which a language has words of its own: `name` has its own word, as `few`.
+enum class PluralCategory { Zero, One, Two, Few, Many, Other };
+
 // Which sign is written: LEGUMEYET_SIGN.
 enum class Sign : int32_t {
     Keep = LEGUMEYET_SIGN_KEEP, Auto = LEGUMEYET_SIGN_AUTO, Never = LEGUMEYET_SIGN_NEVER, Always = LEGUMEYET_SIGN_ALWAYS,
     ExceptZero = LEGUMEYET_SIGN_EXCEPT_ZERO, Negative = LEGUMEYET_SIGN_NEGATIVE
 };
 
-// Which multiple of the increment, at the position, a number is rounded to: LEGUMEYET_ROUND. Usual and Keep are one: an amount of money is
-// rounded to the digits of its currency, and Cash to those in cash; any other number is not rounded.
+// Which multiple of the increment, at the position, a number is rounded to: LEGUMEYET_ROUND. Usual and Keep are one.
 enum class Rounding : int32_t {
-    Usual = LEGUMEYET_ROUND_USUAL, Keep = Usual, Expand = LEGUMEYET_ROUND_EXPAND, Trunc = LEGUMEYET_ROUND_TRUNC,
-    Ceil = LEGUMEYET_ROUND_CEIL, Floor = LEGUMEYET_ROUND_FLOOR, HalfExpand = LEGUMEYET_ROUND_HALF_EXPAND,
-    HalfTrunc = LEGUMEYET_ROUND_HALF_TRUNC, HalfCeil = LEGUMEYET_ROUND_HALF_CEIL, HalfFloor = LEGUMEYET_ROUND_HALF_FLOOR,
-    HalfEven = LEGUMEYET_ROUND_HALF_EVEN, Cash = LEGUMEYET_ROUND_CASH, None = LEGUMEYET_ROUND_NONE
+    Usual = LEGUMEYET_ROUND_USUAL, Keep = Usual, Expand = LEGUMEYET_ROUND_EXPAND, Trunc = LEGUMEYET_ROUND_TRUNC, Ceil = LEGUMEYET_ROUND_CEIL,
+    Floor = LEGUMEYET_ROUND_FLOOR, HalfExpand = LEGUMEYET_ROUND_HALF_EXPAND, HalfTrunc = LEGUMEYET_ROUND_HALF_TRUNC,
+    HalfCeil = LEGUMEYET_ROUND_HALF_CEIL, HalfFloor = LEGUMEYET_ROUND_HALF_FLOOR, HalfEven = LEGUMEYET_ROUND_HALF_EVEN, Cash = LEGUMEYET_ROUND_CASH,
+    None = LEGUMEYET_ROUND_NONE
 };
 
 // What a number is rounded to a multiple of, at the position.
-enum class Increment : int32_t { One = 1, Two = 2, Five = 5, TwentyFive = 25 };
+enum class Increment : int32_t {
+    One = 1, Two = 2, Five = 5, Ten = 10, Twenty = 20, TwentyFive = 25, Fifty = 50, OneHundred = 100, TwoHundred = 200, TwoHundredFifty = 250,
+    FiveHundred = 500, OneThousand = 1000, TwoThousand = 2000, TwoThousandFiveHundred = 2500, FiveThousand = 5000
+};
 // What becomes of the zeros at the end of the fraction digits: LEGUMEYET_TRAILING_ZEROS.
 enum class TrailingZeros : int32_t {
     Keep = LEGUMEYET_TRAILING_ZEROS_KEEP, Trim = LEGUMEYET_TRAILING_ZEROS_TRIM, TrimWhole = LEGUMEYET_TRAILING_ZEROS_TRIM_WHOLE,
@@ -136,12 +138,21 @@ enum class RoundingPriority : int32_t {
 
 // What a part of a text is: LEGUMEYET_PART. A later library may have other kinds.
 enum class Kind : uint32_t {
-    MinusSign = LEGUMEYET_PART_MINUS_SIGN, PlusSign = LEGUMEYET_PART_PLUS_SIGN, Integer = LEGUMEYET_PART_INTEGER,
-    Group = LEGUMEYET_PART_GROUP, Decimal = LEGUMEYET_PART_DECIMAL, Fraction = LEGUMEYET_PART_FRACTION,
-    Currency = LEGUMEYET_PART_CURRENCY, PercentSign = LEGUMEYET_PART_PERCENT_SIGN
+    MinusSign = LEGUMEYET_PART_MINUS_SIGN, PlusSign = LEGUMEYET_PART_PLUS_SIGN, Integer = LEGUMEYET_PART_INTEGER, Group = LEGUMEYET_PART_GROUP,
+    Decimal = LEGUMEYET_PART_DECIMAL, Fraction = LEGUMEYET_PART_FRACTION, Currency = LEGUMEYET_PART_CURRENCY, PercentSign = LEGUMEYET_PART_PERCENT_SIGN
+};
+
+// What a formatter tells of itself: LEGUMEYET_FACT.
+enum class Fact : uint32_t {
+    DecimalSeparator = LEGUMEYET_FACT_DECIMAL_SEPARATOR, GroupingSeparator = LEGUMEYET_FACT_GROUPING_SEPARATOR,
+    MinusBefore = LEGUMEYET_FACT_MINUS_BEFORE, MinusAfter = LEGUMEYET_FACT_MINUS_AFTER, PlusBefore = LEGUMEYET_FACT_PLUS_BEFORE,
+    PlusAfter = LEGUMEYET_FACT_PLUS_AFTER, Digits = LEGUMEYET_FACT_DIGITS, FractionDigits = LEGUMEYET_FACT_FRACTION_DIGITS,
+    CashDigits = LEGUMEYET_FACT_CASH_DIGITS, CashIncrement = LEGUMEYET_FACT_CASH_INCREMENT, Categories = LEGUMEYET_FACT_CATEGORIES
 };
 
 namespace inner {
+
+inline constexpr std::string_view CATEGORIES[] = {"zero", "one", "two", "few", "many", "other"};
 
 // For a template that is only of what a condition holds of.
 template <bool holds> using If = std::enable_if_t<holds, int>;
@@ -225,14 +236,16 @@ struct Format {
     CurrencyStyle currency_style = CurrencyStyle::Standard;
     CurrencyWidth currency_width = CurrencyWidth::Symbol;
     Grouping grouping = Grouping::Auto;
-
+    Plurals plurals = Plurals::None;
     // The same for legumeyet.h, but for the code.
     constexpr explicit operator legumeyet_format() const noexcept {
         const Unit known = unit == Unit::None && !currency.empty() ? Unit::Currency : unit;
-        return {static_cast<int32_t>(notation),       static_cast<int32_t>(width),          static_cast<int32_t>(known),
-                static_cast<int32_t>(currency_style), static_cast<int32_t>(currency_width), static_cast<int32_t>(grouping)};
+        return {static_cast<int32_t>(notation),       static_cast<int32_t>(width),    static_cast<int32_t>(known),  static_cast<int32_t>(currency_style),
+                static_cast<int32_t>(currency_width), static_cast<int32_t>(grouping), static_cast<int32_t>(plurals)};
     }
 };
+
+constexpr std::string_view name(PluralCategory it) noexcept { return inner::CATEGORIES[static_cast<std::size_t>(it)]; }
 
 // What is made of a number before it is written: legumeyet_options. At most two fraction digits, in C++20 and in each version:
 //
@@ -256,7 +269,6 @@ struct Options {
 
     // The formatter's own, for a function that passes options on.
     static constexpr Options own() noexcept { return {{}, {}, 0, {}, Increment::One, 0, 0, 0, 0, {}, true}; }
-
     // The same with another choice. An integer that has no room in its field is refused by the call that is given the options: Code::Option.
     constexpr Options with_sign(Sign it) const noexcept { return inner::with(*this, &Options::sign, it); }
     constexpr Options with_rounding(Rounding it, inner::Word at = 0) const noexcept {
@@ -269,7 +281,6 @@ struct Options {
     constexpr Options with_minimum_significant_digits(inner::Word count) const noexcept { return inner::with(*this, &Options::minimum_significant_digits, count); }
     constexpr Options with_maximum_significant_digits(inner::Word count) const noexcept { return inner::with(*this, &Options::maximum_significant_digits, count); }
     constexpr Options with_rounding_priority(RoundingPriority it) const noexcept { return inner::with(*this, &Options::rounding_priority, it); }
-
     // The same for legumeyet.h.
     constexpr explicit operator legumeyet_options() const noexcept {
         return {static_cast<int32_t>(sign), static_cast<int32_t>(rounding), position, static_cast<int32_t>(increment), static_cast<int32_t>(trailing_zeros),
@@ -305,8 +316,7 @@ class SkeletonError : public Error {
 };
 #endif
 
-// What a call found, or the code that refused it, which is not Code::Ok. It is the same type in each version of C++; in C++23 it converts
-// to a std::expected.
+// What a call found, or the code that refused it, which is not Code::Ok. In C++23 it converts to a std::expected.
 template <class T> class [[nodiscard]] Result {
     static_assert(std::is_nothrow_move_constructible_v<T>);
     std::variant<T, Code> content;
@@ -318,14 +328,12 @@ template <class T> class [[nodiscard]] Result {
     bool has_value() const noexcept { return content.index() == 0; }
     explicit operator bool() const noexcept { return has_value(); }
     Code error() const noexcept { return has_value() ? Code::Ok : *std::get_if<1>(&content); }
-
     // What was found; only of a result that has it.
     T &operator*() &noexcept LEGUMEYET_BORROWS { return *std::get_if<0>(&content); }
     const T &operator*() const &noexcept LEGUMEYET_BORROWS { return *std::get_if<0>(&content); }
     T operator*() &&noexcept { return std::move(**this); }
     T *operator->() noexcept { return std::get_if<0>(&content); }
     const T *operator->() const noexcept { return std::get_if<0>(&content); }
-
     // What was found, or another value.
     template <class U> T value_or(U &&other) const & { return has_value() ? **this : static_cast<T>(std::forward<U>(other)); }
     template <class U> T value_or(U &&other) && { return has_value() ? std::move(**this) : static_cast<T>(std::forward<U>(other)); }
@@ -464,7 +472,6 @@ class Number {
 
   public:
     template <class T, inner::If<inner::is_text<T>> = 0> Number(const T &text LEGUMEYET_BORROWS) : content(inner::Text(text)) {}
-
     // The number `mantissa` times ten to the power `exponent`, with all digits down to it: 500 and -2 are `5.00`.
     template <class T, inner::If<inner::is_number<T>> = 0> Number(T number) noexcept : Number(number, 0) {}
     template <class T, class E, inner::If<inner::is_number<T> && inner::is_number<E>> = 0> Number(T mantissa, E power) noexcept {
@@ -476,10 +483,8 @@ class Number {
             content = static_cast<uint64_t>(mantissa);
         exponent = static_cast<int16_t>(power);
     }
-
     // The shortest number that gives the double back: `1,234.5` of 1234.5 in English, `5` of 5.0. That of a float is another: it is refused.
     template <class T, inner::If<std::is_same_v<T, double>> = 0> Number(T number) noexcept : content(number) {}
-
     // Has the function of legumeyet.h for the number write it.
     template <class Handle, class... Out> int32_t written_by(Handle *by, const inner::Words &words, Out... out) const noexcept {
         const auto write = [&](auto call, auto... number) { return call(by, number..., &words.options, words.count, out...); };
@@ -533,9 +538,7 @@ class Column {
     std::vector<std::size_t> ends;
 
     friend class inner::Numbers;
-
-    // Adds the texts of `total` numbers. A call writes those from a number on, and takes the last five arguments of such a function of
-    // legumeyet.h.
+    // Adds the texts of `total` numbers. A call writes those from a number on, and takes the last five arguments of legumeyet.h.
     template <class Call> Code add(std::size_t total, Call call) {
         struct Written {
             Column &column;
@@ -568,7 +571,6 @@ class Column {
 
     std::size_t size() const noexcept { return ends.size(); }
     [[nodiscard]] bool empty() const noexcept { return ends.empty(); }
-
     // A text, of a place below `size()`. It is the column's: it is used before that is changed, and a temporary column has none to give.
     std::string_view operator[](std::size_t at) const &noexcept LEGUMEYET_BORROWS {
         const std::size_t start = at == 0 ? 0 : ends[at - 1];
@@ -583,17 +585,21 @@ class Column {
     std::string_view back() && = delete;
     iterator begin() && = delete;
     iterator end() && = delete;
-
     // All texts, with nothing between.
     const std::string &text() const &noexcept LEGUMEYET_BORROWS { return content; }
     std::string text() &&noexcept { return std::move(content); }
-
     // Leaves no text. The memory is kept for those that come.
     void clear() noexcept {
         content.clear();
         ends.clear();
     }
 };
+
+// What a formatter writes numbers with: separators, what is before and after a number with a minus or a plus, and the ten digits, zero first.
+struct Symbols { std::string decimal_separator, grouping_separator, minus_before, minus_after, plus_before, plus_after, digits; };
+
+// How many digits amounts of a currency have after the separator, and in cash, which is rounded to a multiple, the increment, of the last one.
+struct CurrencyDigits { int fraction, cash, cash_increment; };
 
 template <class Formatter> class Formatted;
 
@@ -639,8 +645,7 @@ template <class T, class Range>
 inline constexpr bool is_memory_of<T, Range, std::void_t<decltype(std::data(std::declval<Range &>()), std::size(std::declval<Range &>()))>> =
     std::is_convertible_v<decltype(std::data(std::declval<Range &>())), const T *> && is_contiguous<T, iterator_of<Range>>;
 
-// Many numbers to be written: a range of doubles, integers or texts, or doubles or int64_t behind a pointer. Integers may all be times a
-// power of ten. What is in one piece of memory as the library takes it is borrowed, and the rest is copied.
+// Many numbers to be written. What is in one piece of memory as the library takes it is borrowed, and the rest is copied.
 class Numbers {
     const double *doubles = nullptr;
     const int64_t *integers = nullptr;
@@ -657,7 +662,6 @@ class Numbers {
         for (const auto &it : range) copied.push_back(it);
         take(copied.data(), copied.size());
     }
-
     // A line feed inside a text would make two numbers of it: with a space there it is none, as before.
     void copy_line(std::string_view text) {
         lines += text;
@@ -688,7 +692,6 @@ class Numbers {
         take(numbers, static_cast<std::size_t>(total));
     }
     Numbers(const Numbers &) = delete;
-
     // Has the functions of legumeyet.h for the numbers add their texts to a column.
     template <class Handle> Code written_by(Handle *by, const Words &words, Column &into) const {
         if (!exponent.has_room()) return Code::Limit;
@@ -711,16 +714,13 @@ class Numbers {
 template <class... Given> using Many = If<std::is_constructible_v<Numbers, Given...>>;
 
 // The handle of a shared formatter: it is copied as its bytes are, and what it shows stays for the rest of the program.
-struct Kept {
-    legumeyet_shared_formatter handle{};
-};
+struct Kept { legumeyet_shared_formatter handle{}; };
 
 // What a formatter writes and reads by the handle that `Base` has.
 template <class Base> class Formatter : Base {
     friend class Formatted<Formatter>;
 
     Words words_of(const Options &options) const noexcept { return Words(options.is_own ? own : options); }
-
     // The call that writes a number, but for its last arguments; and one for a number as text.
     auto writing(const Number &number, const Options &options) noexcept {
         return [by = &handle, &number, words = words_of(options)](auto... out) { return number.written_by(by, words, out...); };
@@ -746,7 +746,6 @@ template <class Base> class Formatter : Base {
         const auto code = static_cast<Code>(writing(number, options)(bytes(first), room, &size));
         return {first == nullptr ? first : first + std::min(size, room), size, code};
     }
-
     // Writes the text of a number to an output iterator, as std::back_inserter(text). A text up to 256 bytes takes no allocation.
     template <class Out, If<!std::is_pointer_v<Out>> = 0> FormatToResult<Out> format_to(Out out, Number number, Options options = OWN) {
         std::size_t size = 0;
@@ -756,17 +755,13 @@ template <class Base> class Formatter : Base {
         });
         return {std::move(out), size, code};
     }
-
     // What `<<` and std::format write a number by; it borrows the formatter, and a text. It is used in the statement that makes it.
     Formatted<Formatter> operator()(Number number LEGUMEYET_BORROWS, Options options = OWN) &noexcept LEGUMEYET_BORROWS { return {*this, number, options}; }
-
     // The text of a number.
     Result<std::string> try_format(Number number, Options options = OWN) { return text_of(writing(number, options)); }
-
     // Adds the texts of many numbers to a column: of a range of doubles, integers or texts, or of doubles or int64_t behind a pointer and
-    // their count; as `format` has each, and sooner. Where one is refused the column has those before it, so that its size says which. The
-    // numbers are not texts of the column itself. Integers may all be times a power of ten, so that cents need no arithmetic:
-    // format_all_to(column, cents, Exponent(-2)).
+    // their count. Where one is refused the column has those before it, so that its size says which. The numbers are not texts of the column
+    // itself. Integers may all be times a power of ten: format_all_to(column, cents, Exponent(-2)).
     [[nodiscard]] Code format_all_to(Column &into, const Numbers &numbers, Options options = OWN) { return numbers.written_by(&handle, words_of(options), into); }
     template <class A, class B, Many<A, B> = 0> [[nodiscard]] Code format_all_to(Column &into, A &&numbers, B how, Options options = OWN) {
         return format_all_to(into, Numbers(numbers, how), options);
@@ -774,7 +769,6 @@ template <class Base> class Formatter : Base {
     template <class C> [[nodiscard]] Code format_all_to(Column &into, const int64_t *numbers, C count, Exponent power, Options options = OWN) {
         return format_all_to(into, Numbers(numbers, count, power), options);
     }
-
     // The texts of many numbers, which are given as to `format_all_to`.
     Result<Column> try_format_all(const Numbers &numbers, Options options = OWN) {
         Column column;
@@ -788,7 +782,6 @@ template <class Base> class Formatter : Base {
     template <class C> Result<Column> try_format_all(const int64_t *numbers, C count, Exponent power, Options options = OWN) {
         return try_format_all(Numbers(numbers, count, power), options);
     }
-
     // The text of a number with its parts, in order of their beginning; of a compact number those of its sign.
     Result<Annotated> try_format_parts(const Digits &number, Options options = OWN) {
         const auto write = writing(twin(&handle, legumeyet_formatter_format_parts, legumeyet_shared_formatter_format_parts), number, options);
@@ -803,23 +796,32 @@ template <class Base> class Formatter : Base {
         found.parts.resize(count);
         return found;
     }
-
     // The value that the text of a number shows: `-1.2c6` of `-1.2M`, and where it is not compact its digits after the options.
     Result<std::string> try_shown(const Digits &number, Options options = OWN) {
         return text_of(writing(twin(&handle, legumeyet_formatter_shown, legumeyet_shared_formatter_shown), number, options));
     }
-
     // The text of a significand with an exponent, its digits as they are: `-1.20M` of `-1.20c6`. Where it is not compact it has no exponent.
     Result<std::string> try_format_exact(Text number, Options options = OWN) {
         return text_of(writing(twin(&handle, legumeyet_formatter_format_exact, legumeyet_shared_formatter_format_exact), number, options));
     }
-
+    // The word of the plural category of a range from one number to another, where the format has plurals, and else Code::Option.
+    Result<std::string> try_format_range(const Digits &start, const Digits &end, Options options = OWN) {
+        const auto call = twin(&handle, legumeyet_formatter_format_range, legumeyet_shared_formatter_format_range);
+        const auto ranges = [&, second = std::string_view(end)](auto *by, const uint8_t *first, std::size_t length, auto... more) {
+            return call(by, first, length, bytes(second), second.size(), more...);
+        };
+        return text_of(writing(ranges, start, options));
+    }
+    // A fact of the formatter as text: `,` of Fact::DecimalSeparator in German. Code::Option of one that it does not have.
+    Result<std::string> try_tell(Fact fact) {
+        const auto tell = twin(&handle, legumeyet_formatter_tell, legumeyet_shared_formatter_tell);
+        return text_of([&](auto... out) { return tell(&handle, static_cast<uint32_t>(fact), out...); });
+    }
     // The number that is written so, as digits: in English `-1234.50` of `-1,234.50`, and of `-€1,234.50` with euros. Not of a compact one.
     Result<std::string> try_read(Text text) {
         const auto read = twin(&handle, legumeyet_formatter_read, legumeyet_shared_formatter_read);
         return text_of([&](auto... out) { return read(&handle, text.bytes(), text.size(), out...); });
     }
-
     // The number that somebody typed, as digits: `1234.5` of ` 1234.5 ` in English; legumeyet_formatter_read_lenient has the rule.
     Result<std::string> try_read_lenient(Text text) {
         const auto read = twin(&handle, legumeyet_formatter_read_lenient, legumeyet_shared_formatter_read_lenient);
@@ -849,8 +851,17 @@ template <class Base> class Formatter : Base {
     Annotated format_parts(const Digits &number, Options options = OWN) { return try_format_parts(number, options).value(); }
     std::string shown(const Digits &number, Options options = OWN) { return try_shown(number, options).value(); }
     std::string format_exact(Text number, Options options = OWN) { return try_format_exact(number, options).value(); }
+    std::string format_range(const Digits &start, const Digits &end, Options options = OWN) { return try_format_range(start, end, options).value(); }
     std::string read(Text text) { return try_read(text).value(); }
     std::string read_lenient(Text text) { return try_read_lenient(text).value(); }
+    std::string tell(Fact fact) { return try_tell(fact).value(); }
+    Symbols symbols() {
+        return {tell(Fact::DecimalSeparator), tell(Fact::GroupingSeparator), tell(Fact::MinusBefore), tell(Fact::MinusAfter),
+                tell(Fact::PlusBefore), tell(Fact::PlusAfter), tell(Fact::Digits)};
+    }
+    CurrencyDigits currency_digits() {
+        return {std::stoi(tell(Fact::FractionDigits)), std::stoi(tell(Fact::CashDigits)), std::stoi(tell(Fact::CashIncrement))};
+    }
 #endif
 };
 
@@ -869,7 +880,6 @@ template <class Formatter> class Formatted {
   public:
     // Calls with the text.
     template <class Use> Code with_text(Use use) const { return inner::with_text(formatter->writing(number, options), use); }
-
     // Writes the text, or where a program has no exceptions sets the failbit.
     template <class Traits> friend std::basic_ostream<char, Traits> &operator<<(std::basic_ostream<char, Traits> &out, const Formatted &it) {
         using View = std::basic_string_view<char, Traits>;
@@ -883,8 +893,7 @@ template <class Formatter> class Formatted {
     }
 };
 
-// The tag of a locale's name as LANG and setlocale give it: `de-DE` of `de_DE.UTF-8`; legumeyet_tag_of_locale_name has the rule. A null
-// pointer is an empty name.
+// The tag of a locale's name as LANG and setlocale give it: `de-DE` of `de_DE.UTF-8`; legumeyet_tag_of_locale_name has the rule.
 inline std::string tag_of_locale_name(const char *name) { return *inner::text_of([&](auto... out) { return legumeyet_tag_of_locale_name(name, out...); }); }
 
 // The tags of the world's locales, in order.
@@ -894,8 +903,7 @@ inline std::vector<std::string_view> world_locales() {
     return found;
 }
 
-// The normal text of a skeleton, one for all that ask for the same format: `compact-short` of `K  sign-auto`. Where a text is no skeleton, the
-// place is where the faulty word begins, in bytes.
+// The normal text of a skeleton: `compact-short` of `K  sign-auto`. Where a text is none, `place` is where the faulty word begins, in bytes.
 inline Result<std::string> try_normal_skeleton(inner::Text skeleton, std::size_t *place = nullptr) {
     std::size_t at = 0, *const found = place != nullptr ? place : &at;
     return inner::text_of([&](auto... out) { return legumeyet_skeleton_normal(skeleton.bytes(), skeleton.size(), found, out...); });
@@ -926,26 +934,19 @@ class Book : inner::Owned<legumeyet_book, legumeyet_book_close> {
     static Result<Book> try_from_json(inner::Text json) noexcept {
         return opened([&](legumeyet_book *book) { return legumeyet_book_open(json.bytes(), json.size(), book); });
     }
-
     // The world's book, which is in the library.
     static Result<Book> try_world() noexcept { return opened(legumeyet_book_open_world); }
-
     // The book that a file is. Of Code::File errno says why the file cannot be read.
     static Result<Book> try_from_file(const std::string &path) noexcept {
         return opened([&](legumeyet_book *book) { return legumeyet_book_open_file(path.c_str(), book); });
     }
-
-    // Keeps the book for the rest of the program: its memory is never given back. Formatters that are opened from it afterwards borrow
-    // its tables: they are opened sooner and hold less memory.
+    // Keeps the book for the rest of the program: formatters that are opened from it afterwards borrow its tables.
     [[nodiscard]] Code try_keep() noexcept { return static_cast<Code>(legumeyet_book_keep(&handle)); }
-
     // The answer to a request line, without its line feed: `ok`, a tab and a text, or `err`, a tab and a word.
     Result<std::string> try_answer(inner::Text line) {
         return inner::text_of([&](auto... out) { return legumeyet_book_answer(&handle, line.bytes(), line.size(), out...); });
     }
-
-    // The tags of the locales that the book has symbols of, in its order. Others have the tables of their parents: of the world's book
-    // world_locales lists all.
+    // The tags of the locales that the book has symbols of, in its order; world_locales lists those of the world's book.
     Result<std::vector<std::string>> try_locales() {
         std::vector<std::string> found;
         std::size_t count = 0;
@@ -976,7 +977,7 @@ class Book : inner::Owned<legumeyet_book, legumeyet_book_close> {
 
 namespace inner {
 
-// The world's book, kept, which a process opens at the first formatter of a tag alone. A forked child opens its own, since a thread that is
+// The world's book, kept, which a process opens at the first formatter of a tag without a book. A forked child opens its own, since a thread that is
 // not in it may have had the book's lock.
 class World {
     Book book;
@@ -997,7 +998,6 @@ class World {
 
   public:
     explicit World(Book opened) noexcept : book(std::move(opened)) {}
-
     // Calls with the book, one call at a time.
     template <class Call> static auto with(Call call) -> decltype(call(std::declval<Book &>())) {
         const Result<World *> world = of_process();
@@ -1011,24 +1011,20 @@ class World {
 
 } // namespace inner
 
-// The answers to many request lines, by the formatters that were used last, as many as the capacity is: who has many lines of few tags
-// does not open a formatter for each, as Book::answer does. They may outlive their book.
+// The answers to many request lines, by the formatters that were used last, as many as the capacity is. They may outlive their book.
 class Answers : inner::Owned<legumeyet_answers, legumeyet_answers_close> {
     struct Unopened {};
     explicit Answers(Unopened) noexcept {}
 
   public:
     static constexpr std::size_t CAPACITY = 512;
-
     // By the world's book, which the process opens once and keeps. Code::Option of a capacity of 0.
     static Result<Answers> try_open(std::size_t capacity = CAPACITY) { return inner::World::with([&](Book &book) { return try_open(book, capacity); }); }
-
     // By a book that is kept: Code::Unkept of another.
     static Result<Answers> try_open(Book &book, std::size_t capacity = CAPACITY) noexcept {
         Answers found{Unopened()};
         return inner::opened_by(found, found.handle, [&](legumeyet_answers *it) { return legumeyet_answers_open(&book.handle, capacity, it); });
     }
-
     // The answers to the lines, in order, as Book::answer has them, each with a line feed. A last line without one is answered too.
     Result<std::string> try_answer(inner::Text given) {
         std::string_view lines = given;
@@ -1060,10 +1056,7 @@ class NumberFormatter : public inner::Formatter<inner::Owned<legumeyet_formatter
 
   protected:
     using Text = inner::Text;
-    struct Closed {
-        explicit Closed() = default;
-    };
-
+    struct Closed { explicit Closed() = default; };
     // A formatter of any class.
     template <class Self> static Result<Self> opened(Book &book, Text tag, const Format &format, Options options = OWN) noexcept {
         const auto words = static_cast<legumeyet_format>(format);
@@ -1077,7 +1070,6 @@ class NumberFormatter : public inner::Formatter<inner::Owned<legumeyet_formatter
 
   public:
     explicit NumberFormatter(Closed) noexcept {}
-
     // Of a format, and with options of its own, which its calls look at. Code::Table of compact numbers with a unit.
     static Result<NumberFormatter> try_open(Book &book, Text tag, const Format &format, Options options = OWN) noexcept {
         return opened<NumberFormatter>(book, tag, format, options);
@@ -1085,9 +1077,7 @@ class NumberFormatter : public inner::Formatter<inner::Owned<legumeyet_formatter
     static Result<NumberFormatter> try_open(Text tag, const Format &format, Options options = OWN) {
         return inner::World::with([&](Book &book) { return try_open(book, tag, format, options); });
     }
-
-    // Of a skeleton, the text by which ICU asks for a format: docs/skeletons.md of the repository. Where it is none, `place` is where the
-    // faulty word begins, in bytes: 8 of `percent foo`.
+    // Of a skeleton, the text by which ICU asks for a format: docs/skeletons.md of the repository. `place` is as of try_normal_skeleton.
     static Result<NumberFormatter> try_skeleton(Book &book, Text tag, Text skeleton, std::size_t *place = nullptr) noexcept {
         NumberFormatter found{Closed()};
         std::size_t at = 0, *const fault = place != nullptr ? place : &at;
@@ -1169,13 +1159,46 @@ class PercentFormatter : public inner::Face<PercentFormatter> {
 };
 
 // The formatter of amounts of money for a locale tag and the code of a currency: CurrencyFormatter("de", "EUR", CurrencyStyle::Accounting).
-// Without a rounding an amount is rounded to the digits of its currency, half even, and shown down to them: 5 dollars as `$5.00`. With
-// Rounding::Cash they are those of the currency in cash, and with Rounding::None it is written as given.
+// An amount has the digits of its currency, with Rounding::Cash those in cash, and with Rounding::None those that are given.
 class CurrencyFormatter : public inner::Face<CurrencyFormatter> {
   public:
     using Face::Face;
     static Format format_of(Text currency, CurrencyStyle style = CurrencyStyle::Standard, CurrencyWidth width = CurrencyWidth::Symbol,
                             Grouping grouping = Grouping::Auto) noexcept { return {{}, {}, Unit::Currency, currency, style, width, grouping}; }
+};
+
+// The plural rules of a locale tag: the category of a number as it is shown, by the options, and in another format too: PluralCategory::Many of
+// PluralRules("fr", Plurals::Cardinal, CompactDecimalFormatter::format_of()).select(1200000), and Two of PluralRules("en", Plurals::Ordinal).select(2).
+class PluralRules : public inner::Face<PluralRules> {
+    using Digits = inner::Digits;
+
+    static Result<PluralCategory> category_of(const Result<std::string> &word) noexcept {
+        if (!word) return word.error();
+        return static_cast<PluralCategory>(std::find(inner::CATEGORIES, inner::CATEGORIES + 5, *word) - inner::CATEGORIES);
+    }
+
+  public:
+    using Face::Face;
+    static Format format_of(Plurals type = Plurals::Cardinal, Format format = {}) noexcept { return format.plurals = type, format; }
+    // The category of a number, of the range from one to another, and those that numbers may have, in their order.
+    Result<PluralCategory> try_select(Number number, Options options = OWN) { return category_of(try_format(number, options)); }
+    Result<PluralCategory> try_select_range(const Digits &start, const Digits &end, Options options = OWN) {
+        return category_of(try_format_range(start, end, options));
+    }
+    Result<std::vector<PluralCategory>> try_categories() {
+        const Result<std::string> words = try_tell(Fact::Categories);
+        if (!words) return words.error();
+        std::vector<PluralCategory> found;
+        for (auto it : {PluralCategory::Zero, PluralCategory::One, PluralCategory::Two, PluralCategory::Few, PluralCategory::Many, PluralCategory::Other})
+            if (words->find(name(it)) != std::string::npos) found.push_back(it);
+        return found;
+    }
+
+#ifdef __cpp_exceptions
+    PluralCategory select(Number number, Options options = OWN) { return try_select(number, options).value(); }
+    PluralCategory select_range(const Digits &start, const Digits &end, Options options = OWN) { return try_select_range(start, end, options).value(); }
+    std::vector<PluralCategory> categories() { return try_categories().value(); }
+#endif
 };
 
 // A formatter for any number of threads at once. It is copied as a pointer is, and what it writes with stays for the rest of the program. A call
@@ -1185,7 +1208,6 @@ class SharedNumberFormatter : inner::Formatter<inner::Kept> {
     using Digits = inner::Digits;
     using Numbers = inner::Numbers;
     using Text = inner::Text;
-
     // The functions of legumeyet.h take the handle as const, so no call writes to it.
     Calling &by() const noexcept { return const_cast<SharedNumberFormatter &>(*this); }
 
@@ -1219,6 +1241,8 @@ class SharedNumberFormatter : inner::Formatter<inner::Kept> {
     Result<Annotated> try_format_parts(const Digits &number, Options options = OWN) const { return by().try_format_parts(number, options); }
     Result<std::string> try_shown(const Digits &number, Options options = OWN) const { return by().try_shown(number, options); }
     Result<std::string> try_format_exact(Text number, Options options = OWN) const { return by().try_format_exact(number, options); }
+    Result<std::string> try_format_range(const Digits &start, const Digits &end, Options options = OWN) const { return by().try_format_range(start, end, options); }
+    Result<std::string> try_tell(Fact fact) const { return by().try_tell(fact); }
     Result<std::string> try_read(Text text) const { return by().try_read(text); }
     Result<std::string> try_read_lenient(Text text) const { return by().try_read_lenient(text); }
 
@@ -1236,6 +1260,8 @@ class SharedNumberFormatter : inner::Formatter<inner::Kept> {
     Annotated format_parts(const Digits &number, Options options = OWN) const { return by().format_parts(number, options); }
     std::string shown(const Digits &number, Options options = OWN) const { return by().shown(number, options); }
     std::string format_exact(Text number, Options options = OWN) const { return by().format_exact(number, options); }
+    std::string format_range(const Digits &start, const Digits &end, Options options = OWN) const { return by().format_range(start, end, options); }
+    std::string tell(Fact fact) const { return by().tell(fact); }
     std::string read(Text text) const { return by().read(text); }
     std::string read_lenient(Text text) const { return by().read_lenient(text); }
 #endif

@@ -29,7 +29,10 @@ export interface CallOptions {
   position?: number;
   /** `halfExpand` without it. Of plain numbers and percents it needs `position` or `maximumFractionDigits`: without these no digit is rounded off. */
   roundingMode?: RoundingMode;
-  /** The number is rounded to a multiple of this at the last digit that is shown; 1 without it. Compact numbers need `position` for it. */
+  /**
+   * The number is rounded to a multiple of this at the last digit that is shown; 1 without it: 1.23 by 50 with two fraction digits is `1.00`. Plain
+   * numbers and percents need as many fraction digits at least as at most, or `position`, and compact ones `position`.
+   */
   roundingIncrement?: RoundingIncrement;
 }
 
@@ -91,8 +94,28 @@ export interface NumberFormatterOptions extends OpeningOptions {
   skeleton: string;
 }
 
+/** How many digits of the fraction amounts of a currency have: usually, and in cash, which is rounded to a multiple of the last one. */
+export interface CurrencyDigits {
+  currencyFractionDigits: number;
+  cashFractionDigits: number;
+  cashIncrement: number;
+}
+
 export type ResolvedOptions<Options> = Omit<Options, "book" | "fallback"> &
-  (Options extends NumberFormatterOptions ? { locale: string } : { locale: string; useGrouping: UseGrouping; signDisplay: SignDisplay });
+  (Options extends NumberFormatterOptions
+    ? { locale: string } & Partial<CurrencyDigits>
+    : { locale: string; useGrouping: UseGrouping; signDisplay: SignDisplay } & (Options extends CurrencyFormatterOptions ? CurrencyDigits : {}));
+
+/** What a formatter writes numbers with; of amounts the symbols of their currency, where it has its own. */
+export interface Symbols {
+  decimal: string;
+  group: string;
+  /** What is before a number with a minus, and after it. */
+  minus: [before: string, after: string];
+  plus: [before: string, after: string];
+  /** The ten digits, zero first. */
+  digits: string[];
+}
 
 export interface Part {
   type: "minusSign" | "plusSign" | "integer" | "group" | "decimal" | "fraction" | "currency" | "percentSign" | "literal";
@@ -147,7 +170,9 @@ declare abstract class Formatter<Options, Call> extends Open {
   read(text: string): string;
   /** The digits of the number that was typed so: in English also `1234.5`, `.5` and ` 5`; `12.5`, `12.5 %` and `%12.5`; `5 €` and `EUR 5`. */
   readLenient(text: string): string;
-  /** The options, as they were given or as they are without; and the locale that was found. */
+  /** The separators, the signs and the digits: in German `,` and `.`. */
+  symbols(): Symbols;
+  /** The options, as they were given or as they are without; the locale that was found; and of amounts the digits of their currency. */
   resolvedOptions(): ResolvedOptions<Options>;
 }
 
@@ -184,6 +209,119 @@ export class CurrencyFormatter extends Formatter<CurrencyFormatterOptions, Curre
   constructor(locales: Locales | undefined, options: CurrencyFormatterOptions);
   /** Those of the locales that the book has tables for. */
   static supportedLocalesOf(locales: Locales, options: CurrencyFormatterOptions): string[];
+}
+
+/** The options of `Intl.NumberFormat`, with the meaning and the defaults that they have there. What the library cannot write yet is refused by its name. */
+export interface NumberFormatOptions {
+  localeMatcher?: "lookup" | "best fit";
+  /** The name of a system of digits, as `thai`; without it that of the tag, or the locale's own. */
+  numberingSystem?: string;
+  /** `percent` writes a ratio: 0.5 is `50%`. No unit is written yet. */
+  style?: "decimal" | "percent" | "currency" | "unit";
+  currency?: string;
+  /** No narrow symbol and no name is written yet. */
+  currencyDisplay?: "code" | "symbol" | "narrowSymbol" | "name";
+  currencySign?: "standard" | "accounting";
+  unit?: string;
+  unitDisplay?: "short" | "narrow" | "long";
+  /** Compact numbers are of the style `decimal`, and have no options of digits yet; the two of exponents are not written yet. */
+  notation?: "standard" | "scientific" | "engineering" | "compact";
+  compactDisplay?: "short" | "long";
+  useGrouping?: UseGrouping | "true" | "false";
+  signDisplay?: Exclude<SignDisplay, "keep">;
+  minimumIntegerDigits?: number;
+  minimumFractionDigits?: number;
+  maximumFractionDigits?: number;
+  minimumSignificantDigits?: number;
+  maximumSignificantDigits?: number;
+  roundingIncrement?: RoundingIncrement;
+  roundingMode?: RoundingMode;
+  roundingPriority?: RoundingPriority;
+  trailingZeroDisplay?: TrailingZeroDisplay;
+}
+
+export interface ResolvedNumberFormatOptions {
+  locale: string;
+  numberingSystem: string;
+  style: "decimal" | "percent" | "currency";
+  currency?: string;
+  currencyDisplay?: "code" | "symbol";
+  currencySign?: "standard" | "accounting";
+  minimumIntegerDigits: number;
+  minimumFractionDigits?: number;
+  maximumFractionDigits?: number;
+  minimumSignificantDigits?: number;
+  maximumSignificantDigits?: number;
+  useGrouping: "auto" | "always" | "min2" | false;
+  notation: "standard" | "compact";
+  compactDisplay?: "short" | "long";
+  signDisplay: Exclude<SignDisplay, "keep">;
+  roundingIncrement: RoundingIncrement;
+  roundingMode: RoundingMode;
+  roundingPriority: RoundingPriority;
+  trailingZeroDisplay: TrailingZeroDisplay;
+}
+
+export interface NumberFormatPart {
+  type: Part["type"] | "compact";
+  value: string;
+}
+
+/** Writes numbers as `Intl.NumberFormat` does. A number that is not finite, and a text that is no number, is refused by a RangeError. */
+export interface NumberFormat {
+  /** The text of a number. It may be handed on without its object: `numbers.map(german.format)`. */
+  readonly format: (value: Num) => string;
+  /** The parts of a number's text. */
+  formatToParts(value: Num): NumberFormatPart[];
+  /** Is refused yet, as is the next. */
+  formatRange(start: Num, end: Num): string;
+  formatRangeToParts(start: Num, end: Num): (NumberFormatPart & { source: "startRange" | "endRange" | "shared" })[];
+  /** The options, as they were given or as they are without, with the locale and the numbering system that were found. */
+  resolvedOptions(): ResolvedNumberFormatOptions;
+}
+
+export interface NumberFormatConstructor {
+  /** Of a list of locales the first is taken that there are tables for, and without one that of the machine. */
+  new (locales?: Locales, options?: NumberFormatOptions): NumberFormat;
+  (locales?: Locales, options?: NumberFormatOptions): NumberFormat;
+  readonly prototype: NumberFormat;
+  /** Those of the locales that there are tables for. */
+  supportedLocalesOf(locales: Locales, options?: Pick<NumberFormatOptions, "localeMatcher">): string[];
+}
+
+/** In place of `Intl.NumberFormat`, over the world's book or that of `setWorld`. */
+export const NumberFormat: NumberFormatConstructor;
+
+export type PluralCategory = "zero" | "one" | "two" | "few" | "many" | "other";
+
+/** Which digits a number is shown with, as Intl has it: up to three of a fraction without these, and no zeros at its end. Compact numbers have `roundingMode` only. */
+export interface PluralRulesOptions extends OpeningOptions, Omit<DecimalCallOptions, "signDisplay" | "position"> {
+  /** `cardinal` without it: how many there are. `ordinal` is which one it is: `1st`, `2nd`. */
+  type?: "cardinal" | "ordinal";
+  /** `standard` without it. */
+  notation?: "standard" | "compact";
+  /** `short` without it, of compact numbers. */
+  compactDisplay?: "short" | "long";
+}
+
+export type ResolvedPluralRulesOptions = Omit<PluralRulesOptions, "book" | "fallback"> & {
+  locale: string;
+  type: "cardinal" | "ordinal";
+  notation: "standard" | "compact";
+  pluralCategories: PluralCategory[];
+};
+
+/** Says which plural form goes with a number, by its digits as they are shown: in English `one` of 1, and `other` of 1 with a digit of the fraction. */
+export class PluralRules extends Open {
+  constructor(locales?: Locales, options?: PluralRulesOptions);
+  /** The category of a number; of a number of JavaScript that is not finite `other`. */
+  select(number: Num): PluralCategory;
+  /** The category of a range, by those of its two ends. */
+  selectRange(start: Num, end: Num): PluralCategory;
+  /** The options, as they were given or as they are without; the locale that was found; and the categories that its numbers may have. */
+  resolvedOptions(): ResolvedPluralRulesOptions;
+  /** Those of the locales that the book has rules for. */
+  static supportedLocalesOf(locales: Locales, options?: PluralRulesOptions): string[];
 }
 
 /** The one text of all skeletons that ask for the same: of `K  sign-auto` it is `compact-short`. Throws a SkeletonError. */

@@ -21,12 +21,9 @@ export class Digits {
   #own; // from 0 on
   #group;
 
-  /** They are found in the parts of 9876543210.5; without digits there no text is changed. */
-  constructor(parts) {
-    const ofType = (type) => parts.filter((it) => it.type === type).map((it) => it.value);
-    this.#own = [...ofType("integer").join("")].reverse();
-    [this.#group] = ofType("group");
-    [this.decimal] = ofType("decimal");
+  /** They are its symbols; without digits there no text is changed. */
+  constructor({ decimal, group, digits } = { decimal: ".", group: ",", digits: [] }) {
+    [this.decimal, this.#group, this.#own] = [decimal, group, digits];
   }
 
   /** Whether a character is a digit, of these or of any system. */
@@ -53,11 +50,11 @@ export class Digits {
   }
 
   #takesArabic(text, zero) {
-    if (ARABIC_SEPARATOR.test(this.decimal + (this.#group ?? ""))) return false;
+    if (ARABIC_SEPARATOR.test(this.decimal + this.#group)) return false;
     return zero === undefined || (ARABIC.includes(zero) && text.match(ARABIC_RUN).length === 1);
   }
 
   #withSeparators(text) {
-    return text.replaceAll(ARABIC_DECIMAL, this.decimal).replaceAll(ARABIC_GROUP, this.#group ?? ARABIC_GROUP);
+    return text.replaceAll(ARABIC_DECIMAL, this.decimal).replaceAll(ARABIC_GROUP, this.#group);
   }
 }

@@ -72,8 +72,9 @@ export class FieldText {
   /** Without a formatter no text is a number. */
   constructor(formatter) {
     this.#formatter = formatter;
-    this.#digits = new Digits(formatter?.formatToParts("9876543210.5") ?? [{ type: "decimal", value: "." }]);
-    if (this.#digits.decimal === undefined) throw new RangeError("the formatter of a field shows a fraction as it is: it rounds no number, and is not compact");
+    this.#digits = new Digits(formatter?.symbols());
+    const isRounding = formatter?.formatToParts("9876543210.5").every(({ type }) => type !== "fraction");
+    if (isRounding) throw new RangeError("the formatter of a field shows a fraction as it is: it rounds no number, and is not compact");
   }
 
   /** What is shown, as it is kept for `restore`: its text, the caret, and its value. */

@@ -2,6 +2,7 @@
 import { ErrorNumber, LegumeyetError, ask, calling, calls, partsWritten, putBoth, written } from "./instance.js";
 import { sourceOf, withBook } from "./books.js";
 import { allWritten } from "./columns.js";
+import { categoriesOf, currencyDigitsOf, symbolsOf } from "./facts.js";
 import { digitsOf } from "./numbers.js";
 import { closesAtEnd, isOpen, openHandle } from "./open.js";
 import { read as readOptions, readCall } from "./options.js";
@@ -12,6 +13,7 @@ import { isTag, listed, tagsOf } from "./tags.js";
 
 // What a module of pages may be made without, by the kind of numbers that needs it.
 const PARTS = { compact: "js_compact", percent: "js_units", currency: "js_units" };
+const OF_PLURALS = "js_plurals";
 
 // What the message of an error says of a tag, or of the code of a currency.
 function hint(number, tag, code) {
@@ -25,8 +27,9 @@ function hint(number, tag, code) {
  * @param {import("./sharing.js").Native} native
  * @param {import("./sharing.js").Asked} asked
  */
-function openNative(native, { source, tag, opening: { format, unit, isSkeleton, call } }) {
+function openNative(native, { source, tag, opening: { format, unit, isSkeleton, hasPlurals, call } }) {
   if (call.kind in PARTS) calling(PARTS[call.kind]);
+  if (hasPlurals) calling(OF_PLURALS);
   const open = calling(isSkeleton ? "js_formatter_open_skeleton" : "js_formatter_open");
   const fill = (book, at) => {
     ask(format);
@@ -42,7 +45,8 @@ function openNative(native, { source, tag, opening: { format, unit, isSkeleton, 
  */
 const askedFor = (source, tag, opening) => ({ source, key: `${opening.key}\n${tag}`, close: "js_formatter_close", open: openNative, tag, opening });
 
-function isWithoutTables(error) {
+/** Whether there are no tables for what was asked for. */
+export function isWithoutTables(error) {
   return error instanceof LegumeyetError && error.number === ErrorNumber.TABLE;
 }
 
@@ -66,14 +70,20 @@ function textOf(text) {
   return text;
 }
 
+/** What is open of a formatter, and the call of its own options. */
+export let openedOf;
+
 /** The one formatter: each of the classes below is it, opened by options of its own. */
-class Formatter {
+export class Formatter {
+  static {
+    openedOf = (it) => ({ native: it.#opened(), call: it.#call });
+  }
+
   #asked;
   #native;
   #call;
 
-  constructor(kind, locales, options) {
-    const opening = readOptions(kind, options);
+  constructor(opening, locales, options) {
     this.#asked = firstOpened(sourceOf(options.book), tagsOf(locales, options.fallback), opening);
     this.#native = shared(this.#asked);
     this.#call = placed(this.#native, opening.call);
@@ -155,9 +165,18 @@ class Formatter {
     this.#native = CLOSED;
   }
 
-  /** The options, as they were given or as they are without; and the locale that was found. */
+  /** The separators, the signs and the digits that it writes. */
+  symbols() {
+    return symbolsOf(this.#opened());
+  }
+
+  /** The options, as they were given or as they are without; the locale that was found; and the digits of a currency, or the categories of plural rules. */
   resolvedOptions() {
-    return { locale: this.#asked.tag, ...this.#asked.opening.resolved };
+    const { tag, opening } = this.#asked;
+    /** @type {Record<string, any>} */
+    const found = { locale: tag, ...opening.resolved };
+    if (opening.hasPlurals) found.pluralCategories = categoriesOf(shared(this.#asked)); // also where it is closed
+    return this.#call.kind === "currency" ? { ...found, ...currencyDigitsOf(shared(this.#asked)) } : found;
   }
 
   /** Those of the locales that the book has tables for. */
@@ -178,7 +197,7 @@ closesAtEnd(Formatter);
 // The formatter of a kind.
 const of = (kind) => class extends Formatter {
   constructor(locales, options = {}) {
-    super(kind, locales, options);
+    super(readOptions(kind, options), locales, options);
   }
 };
 

@@ -175,9 +175,8 @@ export class NumberField extends HTMLElement {
     if (library.error) throw library.error;
     this.#formatter = this.#formatterOf(tags);
     this.#field = new FieldText(this.#formatter);
-    const { locale } = this.#formatter.resolvedOptions();
-    const shown = this.currency === null ? [] : this.#formatter.formatToParts("0", { currencyDigits: "standard" });
-    this.#digits = shown.find((it) => it.type === "fraction")?.value.length ?? 0;
+    const { locale, currencyFractionDigits = 0 } = this.#formatter.resolvedOptions();
+    this.#digits = currencyFractionDigits;
     this.#fault = "";
     this.#input.lang = locale;
     this.#input.dir = directionOf(locale);

@@ -4,7 +4,8 @@ import { NONE } from "./instance.js";
 const GROUPINGS = { auto: 0, false: 1, always: 4, true: 4, min2: 3 };
 const SIGNS = { keep: 0, auto: 1, never: 2, always: 3, exceptZero: 4, negative: 5 };
 const MODES = { expand: 1, trunc: 2, ceil: 3, floor: 4, halfExpand: 5, halfTrunc: 6, halfCeil: 7, halfFloor: 8, halfEven: 9 };
-const WIDTHS = { short: 0, long: 1 };
+/** How wide compact numbers are. */
+export const WIDTHS = { short: 0, long: 1 };
 const CURRENCY_SIGNS = { standard: 0, accounting: 1 };
 const CURRENCY_DISPLAYS = { symbol: 0, code: 1 };
 const PRIORITIES = { auto: 0, morePrecision: 1, lessPrecision: 2 };
@@ -13,9 +14,10 @@ const CURRENCY_DIGITS = { standard: 0, cash: 10, given: 11 }; // roundings that 
 const INCREMENTS = [1, 2, 5, 10, 20, 25, 50, 100, 200, 250, 500, 1000, 2000, 2500, 5000];
 const [MOST, MOST_SIGNIFICANT] = [32767, 65535];
 const UNITS = { percent: 1, currency: 2 };
-// The options of a kind: of its calls, and of its opening alone.
+// The options of a kind: of its calls, and of its opening only.
 const OF_EACH = ["signDisplay", "position", "roundingMode", "roundingIncrement"];
-const OF_DIGITS = [
+/** The options of numbers that are not compact. */
+export const OF_DIGITS = [
   ...OF_EACH, "minimumIntegerDigits", "minimumFractionDigits", "maximumFractionDigits", "minimumSignificantDigits", "maximumSignificantDigits", "roundingPriority",
   "trailingZeroDisplay",
 ];
@@ -24,7 +26,8 @@ const OF_FORMATS = {
   decimal: ["useGrouping"], compact: ["useGrouping", "compactDisplay"], percent: ["useGrouping"],
   currency: ["useGrouping", "currency", "currencySign", "currencyDisplay"], skeleton: ["skeleton"],
 };
-const HOW_OPENED = ["book", "fallback"]; // what resolvedOptions does not tell
+/** What resolvedOptions does not tell. */
+export const HOW_OPENED = ["book", "fallback"];
 // The options of the rounding that do something where nothing says at which place.
 const UNPLACED = { compact: ["roundingMode"], standard: ["roundingMode", "roundingIncrement"], cash: ["roundingMode"] };
 // The kinds of numbers that a skeleton may ask for beside plain ones, by a word that it then has.
@@ -56,7 +59,7 @@ export const asGiven = (fraction) => wordsOf({ mode: CURRENCY_DIGITS.given, frac
  * @param {Record<string, any>} options
  * @param {Record<string, number>} table
  */
-function chosen(options, name, table, otherwise) {
+export function chosen(options, name, table, otherwise) {
   const word = options[name] === undefined ? otherwise : options[name];
   const isWord = typeof word === "boolean" || (typeof word === "string" && word !== "true" && word !== "false");
   if (!isWord || !Object.hasOwn(table, String(word))) {
@@ -75,16 +78,18 @@ export function whole(options, name, least, most) {
 }
 
 // Fraction digits as Intl has them: at most so many, and at least so many, zeros at the end among them. Of an amount as many are shown at least as
-// at most, where nothing else is said.
+// at most, where nothing else is said, and by an increment as many at most as at least.
 function fractionOf(kind, options) {
-  const most = whole(options, "maximumFractionDigits", 0, MOST);
-  const least = whole(options, "minimumFractionDigits", 0, MOST) ?? (kind === "currency" ? most : undefined);
+  const given = whole(options, "maximumFractionDigits", 0, MOST);
+  const least = whole(options, "minimumFractionDigits", 0, MOST) ?? (kind === "currency" ? given : undefined);
+  const isBoth = kind !== "currency" && options.position === undefined && (options.roundingIncrement ?? 1) !== 1;
+  const most = given ?? (isBoth ? least : undefined);
   if (most !== undefined && least > most) throw new RangeError(`minimumFractionDigits ${least} is above maximumFractionDigits ${most}`);
   if (most !== undefined && options.position !== undefined) throw new RangeError("maximumFractionDigits and position both say where to round");
   return { least, most };
 }
 
-// Significant digits as Intl has them, and whether they count alone; null where there are none.
+// Significant digits as Intl has them, and whether only they count; null where there are none.
 function significantOf(options) {
   const least = whole(options, "minimumSignificantDigits", 1, MOST_SIGNIFICANT);
   const most = whole(options, "maximumSignificantDigits", 1, MOST_SIGNIFICANT);
@@ -103,7 +108,6 @@ function significantOf(options) {
 export function multiplesOf(given, position) {
   let [increment, tens] = [given, 0];
   for (; increment % 10 === 0; increment /= 10) tens += 1;
-  if (position <= 0 && position + tens > 0) throw new RangeError(`roundingIncrement ${given} is above the ones there: position says so otherwise`);
   if (position + tens > MOST) throw new RangeError(`roundingIncrement ${given} is above ten to the power ${MOST} there`);
   return { position: position + tens, increment: increment === 1 ? 0 : increment, fraction: tens > 0 && position < 0 ? -position : 0 };
 }
@@ -209,7 +213,8 @@ function ofWords(kind, options) {
   return { format, unit, isSkeleton: false, key: `${format} ${unit}`, call, resolved: resolvedOf(kind, options, call.how) };
 }
 
-function checked(options, names, of) {
+/** Refuses what is no options, or has one of another name than these. */
+export function checked(options, names, of) {
   if (typeof options !== "object" || options === null) throw new TypeError("options are an object");
   const unknown = Object.keys(options).find((it) => !names.includes(it));
   if (unknown !== undefined) throw new RangeError(`${unknown} is no option${of}: there are ${names.join(", ")}`);
@@ -221,7 +226,7 @@ const defaults = new Map();
 /**
  * What a kind of formatters, as `decimal`, is opened with: the words of its format, with the code of its currency, or a skeleton; `key` is one text for
  * all that have both alike. `call` is what the options say to calls that are given none, and `resolved` what resolvedOptions tells.
- * @typedef {{ format: Int32Array, unit: string, isSkeleton: boolean, key: string, call: Call, resolved: Record<string, any> }} Opening
+ * @typedef {{ format: Int32Array, unit: string, isSkeleton: boolean, hasPlurals?: boolean, key: string, call: Call, resolved: Record<string, any> }} Opening
  * @returns {Opening}
  */
 export function read(kind, options) {

@@ -1,5 +1,5 @@
-/** What a page's module may be made without: compact numbers, percents and amounts, what reads texts, and skeletons. */
-export type PagePart = "compact" | "units" | "read" | "skeletons";
+/** What a page's module may be made without: compact numbers, percents and amounts, what reads texts, skeletons, and plural rules. */
+export type PagePart = "compact" | "units" | "read" | "skeletons" | "plurals";
 export const PARTS: readonly PagePart[];
 
 /**

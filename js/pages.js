@@ -158,8 +158,8 @@ function withMemory(sections, memory, left) {
   return joined([HEAD, ...all.flatMap(({ id, data }) => [[id], numberOf(data.length), data])]);
 }
 
-/** What a page's module may be made without: compact numbers, percents and amounts, what reads texts, and skeletons. */
-export const PARTS = Object.freeze(["compact", "units", "read", "skeletons"]);
+/** What a page's module may be made without: compact numbers, percents and amounts, what reads texts, skeletons, and plural rules. */
+export const PARTS = Object.freeze(["compact", "units", "read", "skeletons", "plurals"]);
 
 /**
  * The WebAssembly module of a page, for `load` of `legumeyet/page`: that of `page.wasm` with the locales of these tags, and those below them.

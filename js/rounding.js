@@ -6,7 +6,8 @@ import { magnitudeOf, mayBeHalfway } from "./numbers.js";
 import { asGiven, isOfHalves, multiplesOf, wordsOf } from "./options.js";
 
 const [LEAST, MOST] = [-32768, 32767]; // magnitudes of numbers
-const AS_IT_IS = wordsOf({});
+/** The words of options without one. */
+export const AS_IT_IS = wordsOf({});
 // The multiples of the last digit that a currency may be rounded to.
 const MULTIPLES = [1, 2, 5, 10, 20, 25, 50];
 

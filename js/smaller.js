@@ -40,15 +40,16 @@ function withoutTables(tags, symbols, parents) {
  */
 export function smallerBook(json, tags) {
   const book = JSON.parse(json);
-  const [tables, units] = book.length === 2 ? book : [book];
+  const [tables, units, more] = book.length === 2 || book.length === 3 ? book : [book];
   const [symbols, digits, ...others] = tables;
   const parents = new Map(others[3]);
   const wrong = withoutTables(tags, symbols, parents);
   if (wrong !== undefined) throw new RangeError(`the book has no tables for ${wrong}`);
-  const locales = [symbols, ...others, ...(units ?? []).slice(0, 4)].flatMap((array) => array.map(([locale]) => locale));
+  const locales = [symbols, ...others, ...(units ?? []).slice(0, 4), ...(more ?? [])].flatMap((array) => array.map(([locale]) => locale));
   const isKept = keptOf([...new Set(locales)], tags, parents);
   const kept = (array) => array.filter(([locale]) => isKept.has(locale));
   const systems = new Set([ANY_SYSTEM, ...kept(symbols).map(([, , system]) => system)]);
   const fewer = [kept(symbols), digits.filter(([system]) => systems.has(system)), ...others.map(kept)];
-  return JSON.stringify(units === undefined ? fewer : [fewer, [...units.slice(0, 4).map(kept), units[4]]]);
+  const parts = [fewer, units && [...units.slice(0, 4).map(kept), units[4]], more?.map(kept)].filter((it) => it !== undefined);
+  return JSON.stringify(parts.length === 1 ? fewer : parts);
 }

@@ -50,6 +50,8 @@ number legumeyet_formatter_shown(handle *, const u8 *, u64, WORDS, TEXT);
 number legumeyet_formatter_format_doubles(handle *, const double *, u64, WORDS, COLUMN_TEXTS);
 number legumeyet_formatter_format_integers(handle *, const long long *, u64, short, WORDS, COLUMN_TEXTS);
 number legumeyet_formatter_format_texts(handle *, const u8 *, u64, WORDS, COLUMN_TEXTS);
+number legumeyet_formatter_format_range(handle *, const u8 *, u64, const u8 *, u64, WORDS, TEXT);
+number legumeyet_formatter_tell(handle *, u32, TEXT);
 number legumeyet_formatter_read(handle *, const u8 *, u64, TEXT);
 number legumeyet_formatter_read_lenient(handle *, const u8 *, u64, TEXT);
 number legumeyet_skeleton_normal(const u8 *, u64, u64 *, TEXT);
@@ -225,8 +227,9 @@ void js_answers_close(handle *it) {
 }
 
 /*
- * Formatters. The text that one is opened of is a tag and, behind it, the code of its currency or its skeleton. What a module of a page may be made
- * without has a call that does nothing, by which JavaScript knows that it is there: compact numbers, and percents and amounts.
+ * Formatters. The text that one is opened of is a tag and, behind it, the code of its currency or its skeleton, and that of a range its second end
+ * behind its first. What a module of a page may be made without has a call that does nothing, by which JavaScript knows that it is there: compact
+ * numbers, percents and amounts, and plural rules.
  */
 number js_formatter_open(handle *book, u32 n, u32 unit, handle *it) {
     return -legumeyet_formatter_open(book, text_in(), n, ASKED, unit ? text_in() + n : 0, unit, it);
@@ -238,6 +241,10 @@ number js_formatter_format(handle *it, u32 n) { WRITTEN(legumeyet_formatter_form
 number js_formatter_parts(handle *it, u32 n) { WRITTEN(legumeyet_formatter_format_parts(it, text_in(), n, ASKED, PARTS_OUT)) }
 number js_formatter_shown(handle *it, u32 n) { WRITTEN(legumeyet_formatter_shown(it, text_in(), n, ASKED, OUT)) }
 number js_formatter_exact(handle *it, u32 n) { WRITTEN(legumeyet_formatter_format_exact(it, text_in(), n, ASKED, OUT)) }
+number js_formatter_range(handle *it, u32 n, u32 second) {
+    WRITTEN(legumeyet_formatter_format_range(it, text_in(), n, text_in() + n, second, ASKED, OUT))
+}
+number js_formatter_tell(handle *it, u32 fact) { WRITTEN(legumeyet_formatter_tell(it, fact, OUT)) }
 number js_formatter_read(handle *it, u32 n) { WRITTEN(legumeyet_formatter_read(it, text_in(), n, OUT)) }
 number js_formatter_read_lenient(handle *it, u32 n) { WRITTEN(legumeyet_formatter_read_lenient(it, text_in(), n, OUT)) }
 number js_formatter_doubles(handle *it, u32 n) { COLUMN(legumeyet_formatter_format_doubles(it, column_in.doubles, n, COLUMN_OUT)) }
@@ -250,6 +257,7 @@ void js_formatter_close(handle *it) {
 number js_skeleton_normal(u32 n) { WRITTEN(legumeyet_skeleton_normal(text_in(), n, &fault_place, OUT)) }
 void js_compact(void) {}
 void js_units(void) {}
+void js_plurals(void) {}
 
 number js_error_text(number of) { WRITTEN(legumeyet_error_text(of, OUT)) }
 u32 js_version(void) { return legumeyet_version(); }

@@ -3,7 +3,7 @@ import assert from "node:assert/strict";
 import { readFileSync } from "node:fs";
 import { createRequire } from "node:module";
 import { test } from "node:test";
-import { Book, CompactDecimalFormatter, CurrencyFormatter, DecimalFormatter, ErrorNumber, LegumeyetError, PercentFormatter, version } from "legumeyet";
+import { Book, CompactDecimalFormatter, CurrencyFormatter, DecimalFormatter, ErrorNumber, LegumeyetError, NumberFormatter, PercentFormatter, version } from "legumeyet";
 
 const JSON_OF_ONE = '[[["xx","","latn","-","","+","",";","_",3,3,1]],[["latn","0123456789"]],[],[],[]]';
 const en = new DecimalFormatter("en");
@@ -64,8 +64,12 @@ test("options as Intl has them", () => {
     { maximumFractionDigits: 2 }, { maximumFractionDigits: 0 }, { minimumFractionDigits: 1, maximumFractionDigits: 3 }, { minimumFractionDigits: 3, maximumFractionDigits: 3 },
     { maximumFractionDigits: 20, minimumIntegerDigits: 3 }, { maximumFractionDigits: 1, roundingMode: "floor" }, { maximumFractionDigits: 1, roundingMode: "halfEven", signDisplay: "exceptZero" },
   ];
-  for (const roundingIncrement of [5, 10, 20, 25, 50, 200, 500]) choices.push({ minimumFractionDigits: 2, maximumFractionDigits: 2, roundingIncrement });
-  for (const roundingIncrement of [100, 250, 1000, 5000]) choices.push({ minimumFractionDigits: 3, maximumFractionDigits: 3, roundingIncrement });
+  for (const roundingIncrement of [1, 2, 5, 10, 20, 25, 50, 100, 200, 250, 500, 1000, 2000, 2500, 5000]) {
+    for (const digits of [0, 1, 2, 3, 5]) {
+      for (const more of [{}, { trailingZeroDisplay: "stripIfInteger" }, { roundingMode: "expand" }]) choices.push({ minimumFractionDigits: digits, maximumFractionDigits: digits, roundingIncrement, ...more });
+      if (roundingIncrement > 1) choices.push({ minimumFractionDigits: digits, roundingIncrement });
+    }
+  }
   for (const options of choices) {
     const [ours, theirs] = [new DecimalFormatter("de", options), new Intl.NumberFormat("de", options)];
     for (const number of numbers) {
@@ -83,9 +87,8 @@ test("options that are none", () => {
     [{ useGrouping: "x" }, "useGrouping"], [{ useGrouping: "false" }, "useGrouping"], [{ signDisplay: "toString" }, "signDisplay"], [{ signDisplay: 1 }, "signDisplay"],
     [{ position: 0, roundingMode: "half-even" }, "roundingMode"], [{ roundingMode: "floor" }, "position"], [{ position: 1.5 }, "position"], [{ position: 40000 }, "position"],
     [{ maximumFractionDigits: -1 }, "maximumFractionDigits"], [{ minimumFractionDigits: 3, maximumFractionDigits: 2 }, "minimumFractionDigits"], [{ minimumIntegerDigits: 0 }, "minimumIntegerDigits"],
-    [{ position: 0, maximumFractionDigits: 0 }, "position"], [{ maximumFractionDigits: 2, roundingIncrement: 5 }, "roundingIncrement"], [{ position: -2, roundingIncrement: 3 }, "roundingIncrement"], [{ position: -2, roundingIncrement: 5000 }, "roundingIncrement"],
+    [{ position: 0, maximumFractionDigits: 0 }, "position"], [{ maximumFractionDigits: 2, roundingIncrement: 5 }, "roundingIncrement"], [{ position: -2, roundingIncrement: 3 }, "roundingIncrement"], [{ roundingIncrement: 5 }, "roundingIncrement"],
     [{ position: 32767, roundingIncrement: 10 }, "roundingIncrement"],
-    [{ maximumFractionDigits: 0, minimumFractionDigits: 0, roundingIncrement: 50 }, "roundingIncrement"],
     [{ style: "percent" }, "style"], [{ compactDisplay: "short" }, "compactDisplay"],
   ];
   for (const [options, word] of rows) assert.throws(() => new DecimalFormatter("en", options), (error) => error instanceof RangeError && error.message.includes(word), JSON.stringify(options));
@@ -230,7 +233,7 @@ test("amounts and percents that are refused", () => {
   const rows = [
     [{ currencySign: "x" }, "currencySign"], [{ currencyDisplay: "name" }, "currencyDisplay"], [{ currencyDigits: "toString" }, "currencyDigits"], [{ style: "currency" }, "style"],
     [{ currencyDigits: "cash", position: 0 }, "currencyDigits"], [{ currencyDigits: "given", maximumFractionDigits: 2 }, "currencyDigits"], [{ currencyDigits: "given", roundingMode: "floor" }, "roundingMode"],
-    [{ currencyDigits: "cash", roundingIncrement: 5 }, "roundingIncrement"], [{ roundingIncrement: 3 }, "roundingIncrement"], [{ roundingIncrement: 5000 }, "roundingIncrement"],
+    [{ currencyDigits: "cash", roundingIncrement: 5 }, "roundingIncrement"], [{ roundingIncrement: 3 }, "roundingIncrement"],
   ];
   for (const [options, word] of rows) assert.throws(() => money("en", "USD", options), (error) => error instanceof RangeError && error.message.includes(word), JSON.stringify(options));
   for (const options of [{ currency: "EUR" }, { currencyDigits: "cash" }, { currencySign: "accounting" }]) {
@@ -250,12 +253,16 @@ test("amounts and percents that are refused", () => {
 });
 
 test("resolved options of amounts", () => {
-  const found = { locale: "en", useGrouping: "auto", signDisplay: "auto", currency: "USD", currencySign: "standard", currencyDisplay: "symbol" };
+  const digits = { currencyFractionDigits: 2, cashFractionDigits: 2, cashIncrement: 1 };
+  const found = { locale: "en", useGrouping: "auto", signDisplay: "auto", currency: "USD", currencySign: "standard", currencyDisplay: "symbol", ...digits };
   assert.deepEqual(money("en", "USD").resolvedOptions(), { ...found, currencyDigits: "standard", roundingMode: "halfExpand" });
   assert.deepEqual(money("en", "USD", { currencyDigits: "cash" }).resolvedOptions(), { ...found, currencyDigits: "cash", roundingMode: "halfExpand" });
   assert.deepEqual(money("en", "USD", { currencyDigits: "given" }).resolvedOptions(), { ...found, currencyDigits: "given" });
   assert.deepEqual(money("en", "USD", { position: 0 }).resolvedOptions(), { ...found, position: 0, roundingMode: "halfExpand" });
   assert.deepEqual(new PercentFormatter("en").resolvedOptions(), { locale: "en", useGrouping: "auto", signDisplay: "auto" });
+  const told = (currency) => Object.keys(digits).map((it) => money("en", currency, { currencyDigits: "given" }).resolvedOptions()[it]);
+  assert.deepEqual(["CHF", "JPY", "KWD", "CZK", "QQQ"].map(told), [[2, 2, 5], [0, 0, 1], [3, 3, 1], [2, 0, 1], [2, 2, 1]]);
+  assert.deepEqual(new NumberFormatter("en", { skeleton: "currency/CHF" }).resolvedOptions(), { locale: "en", skeleton: "currency/CHF", currencyFractionDigits: 2, cashFractionDigits: 2, cashIncrement: 5 });
 });
 
 test("locales of a book", () => {

@@ -54,7 +54,7 @@ test("options that a call has not", () => {
     for (const wrong of [null, "x", true, 5n, Symbol("x"), () => 1]) assert.throws(() => call(it, wrong), TypeError);
     const rows = [
       [it, "useGrouping", false], [it, "book", null], [it, "fallback", "en"], [it, "skeleton", ""], [it, "currencyDigits", "cash"], [it, "style", "percent"], [it, "signDisplay", "x"], [it, "roundingMode", "floor"], [it, "position", 1.5],
-      [short, "compactDisplay", "long"], [short, "maximumFractionDigits", 1], [euros, "currency", "USD"], [euros, "currencySign", "accounting"], [euros, "roundingIncrement", 3], [euros, "roundingIncrement", 5000],
+      [short, "compactDisplay", "long"], [short, "maximumFractionDigits", 1], [euros, "currency", "USD"], [euros, "currencySign", "accounting"], [euros, "roundingIncrement", 3],
     ];
     for (const [one, name, value] of rows) assert.throws(() => call(one, { [name]: value }), (error) => error instanceof RangeError && !(error instanceof LegumeyetError) && error.message.includes(name), name);
   }

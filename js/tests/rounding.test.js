@@ -68,7 +68,7 @@ test("amounts by each rounding, as Intl has them", { skip: !isNew }, () => {
       for (const number of [...all, "1.00005", "1.0005", "0.00045"]) assert.equal(ours.format(number), theirs.format(number), `${tag} ${currency} ${roundingMode} ${number}`);
     }
   }
-  for (const options of [{ roundingIncrement: 5 }, { roundingIncrement: 50, roundingMode: "floor" }, { minimumFractionDigits: 2, signDisplay: "exceptZero" }]) {
+  for (const options of [{ roundingIncrement: 5 }, { roundingIncrement: 5000 }, { roundingIncrement: 50, roundingMode: "floor" }, { minimumFractionDigits: 2, signDisplay: "exceptZero" }]) {
     const [ours, theirs] = [new CurrencyFormatter("en", { currency: "USD", ...options }), new Intl.NumberFormat("en", { style: "currency", currency: "USD", ...options })];
     for (const number of all) assert.equal(ours.format(number), theirs.format(number), `${JSON.stringify(options)} ${number}`);
   }

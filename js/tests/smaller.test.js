@@ -37,6 +37,13 @@ test("each locale of a smaller book is written as by the world's", () => {
   for (const tags of [["zz"], ["en", "zz"], ["de_DE"], [""]]) assert.throws(() => smallerBook(world, tags), RangeError);
 });
 
+test("ordinal rules and ranges of the locales that are kept", () => {
+  const [, , more] = JSON.parse(smallerBook(world, ["sl", "mr"]));
+  assert.deepEqual(more.map((array) => array.map(([locale]) => locale)), [["mr", "und"], ["sl"]]);
+  const pair = JSON.stringify(JSON.parse(world).slice(0, 2));
+  assert.equal(JSON.parse(smallerBook(pair, ["de"])).length, 2);
+});
+
 test("of books without units and without parents", () => {
   const five = '[[["en","","latn","-","","+","",".",",",3,3,1],["de","","latn","-","","+","",",",".",3,3,1]],[["latn","0123456789"],["thai","๐๑๒๓๔๕๖๗๘๙"]],[],[],[]]';
   assert.deepEqual(JSON.parse(smallerBook(five, ["de"])).map((it) => it.length), [1, 1, 0, 0, 0]);

@@ -1,14 +1,15 @@
 // What `tsc --strict` has to take, and what it has to refuse: a line after `@ts-expect-error` is refused.
 import {
-  Answers, Book, CompactDecimalFormatter, CurrencyFormatter, DecimalFormatter, ErrorNumber, LegumeyetError, LoadError, NumberFormatter, PercentFormatter, SkeletonError, normalSkeleton, version,
+  Answers, Book, CompactDecimalFormatter, CurrencyFormatter, DecimalFormatter, ErrorNumber, LegumeyetError, LoadError, NumberFormat, NumberFormatter, PercentFormatter, PluralRules, SkeletonError, normalSkeleton, version,
 } from "legumeyet";
-import type { CurrencyCallOptions, CurrencyFormatterOptions, DecimalFormatterOptions, NumberFormatterOptions, Part } from "legumeyet";
+import type { CurrencyCallOptions, CurrencyFormatterOptions, DecimalFormatterOptions, NumberFormatOptions, NumberFormatPart, NumberFormatterOptions, Part, PluralCategory, PluralRulesOptions, Symbols } from "legumeyet";
 import { load, loadSync, memorySize, setWorld } from "legumeyet/core";
 import { FieldText } from "legumeyet/field";
 import { CurrencyFormatter as Inside, init } from "legumeyet/inline";
 import locales from "legumeyet/locales";
-import { DecimalFormatter as OfPage, NumberFormatter as BySkeletonOfPage, load as loadPage, loadSync as loadPageSync } from "legumeyet/page";
+import { DecimalFormatter as OfPage, NumberFormat as NumbersOfPage, NumberFormatter as BySkeletonOfPage, PluralRules as PluralsOfPage, load as loadPage, loadSync as loadPageSync } from "legumeyet/page";
 import { pageModule } from "legumeyet/pages";
+import { install } from "legumeyet/polyfill";
 import { smallerBook } from "legumeyet/smaller";
 
 const options: DecimalFormatterOptions = { minimumFractionDigits: 2, maximumFractionDigits: 2, roundingMode: "halfEven", useGrouping: false };
@@ -34,6 +35,18 @@ const asked: CurrencyCallOptions = { maximumFractionDigits: 2, signDisplay: "alw
 const euros = new NumberFormatter("de", bySkeleton);
 texts.push(euros.format(5, asked), euros.resolvedOptions().skeleton, german.shown(5), german.format(5, { position: 2 }), ...dollars.formatAll([1], { currencyDigits: "cash" }));
 const faults: string[] = [new SkeletonError(201, "foo", 0)].map(({ fault, place, number }) => `${fault} ${place + number}`);
+const ofRules: PluralRulesOptions = { type: "ordinal", minimumFractionDigits: 1, roundingMode: "floor", book: new Book("[]"), fallback: "en" };
+const rules = new PluralRules(["pl", "en"], ofRules);
+const categories: PluralCategory[] = [rules.select(1), rules.selectRange("1", 2n), ...rules.resolvedOptions().pluralCategories, new PluralsOfPage("de", { notation: "compact" }).select(5)];
+const symbols: Symbols = german.symbols();
+texts.push(...categories, ...PluralRules.supportedLocalesOf("de", { type: "cardinal" }), symbols.minus[0], ...symbols.digits, String(dollars.resolvedOptions().cashIncrement + (euros.resolvedOptions().currencyFractionDigits ?? 0)));
+const asIntl: NumberFormatOptions = { style: "currency", currency: "EUR", currencySign: "accounting", useGrouping: "min2", roundingIncrement: 5, numberingSystem: "thai", localeMatcher: "lookup" };
+const byIntl: NumberFormat = new NumberFormat(["de", new Intl.Locale("en")], asIntl);
+class Own extends NumberFormat {}
+const ofIntl: NumberFormatPart[] = NumberFormat("de").formatToParts(5n);
+texts.push(...[1, "2", 3n].map(byIntl.format), byIntl.resolvedOptions().currency ?? "", ofIntl[0]?.type ?? "", new Own().format(5), ...NumberFormat.supportedLocalesOf("de", { localeMatcher: "best fit" }), new NumbersOfPage("de").formatRange(1, 2));
+const restore: () => void = install(["NumberFormat", "PluralRules"]);
+restore();
 const { value, text, caret } = new FieldText(german).edited("1", 1, { front: 0, back: 0 });
 german[Symbol.dispose]();
 const world: Book = setWorld("[]");
@@ -94,6 +107,23 @@ short.format(5, { maximumFractionDigits: 1 });
 // @ts-expect-error
 euros.resolvedOptions().signDisplay;
 // @ts-expect-error
+new PluralRules("de", { type: "other" });
+// @ts-expect-error
+new PluralRules("de", { signDisplay: "auto" });
+// @ts-expect-error
+rules.selectRange(1);
+// @ts-expect-error
+german.resolvedOptions().cashIncrement;
+// @ts-expect-error
 export { Formatter } from "legumeyet/core";
 // @ts-expect-error
 export { Open } from "legumeyet/core";
+
+// @ts-expect-error
+new NumberFormat("de", { style: "money" });
+// @ts-expect-error
+new NumberFormat("de", { signDisplay: "keep" });
+// @ts-expect-error
+byIntl.format(null);
+// @ts-expect-error
+install(["DateTimeFormat"]);

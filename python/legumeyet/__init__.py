@@ -21,6 +21,11 @@ Any format can be asked for by its number skeleton, as ICU and message formatter
 >>> NumberFormatter("de", "currency/EUR").format(1234.5)
 '1.234,50\xa0€'
 
+Message formats choose the words around a number by its plural category:
+
+>>> PluralRules("pl").select(5), PluralRules("en", "ordinal").select(2)
+('many', 'two')
+
 Books, formatters and answers close themselves when they are no longer used; `with` and `close` close them sooner. Threads, signal handlers and
 forked children may use them: a call waits where another thread is inside `format_all`, for 4,096 numbers of it at most, or inside the `answer` of
 answers, for 65,536 bytes of lines.
@@ -32,16 +37,19 @@ try:
 except ImportError as error:
     raise ImportError(f"{error}: the wheel of tools/build_wheel has this module, and `pip install ./python` compiles it") from None
 from ._formatters import (
-    Answers, Book, CompactDecimalFormatter, CurrencyFormatter, DecimalFormatter, NumberFormatter, Part, PercentFormatter, normal_skeleton,
+    Answers, Book, CompactDecimalFormatter, CurrencyDigits, CurrencyFormatter, DecimalFormatter, NumberFormatter, Part, PercentFormatter, Symbols,
+    normal_skeleton,
 )
 from ._locales import minor, tag_of_locale_name, version, world_locales
 from ._options import Fault, Grouping, Kind, Options, Rounding, RoundingPriority, Sign, TrailingZeros, Width
+from ._plurals import PluralRules
 
 __all__ = [
     "Answers",
     "Book",
     "ClosedError",
     "CompactDecimalFormatter",
+    "CurrencyDigits",
     "CurrencyFormatter",
     "Decimal",
     "DecimalFormatter",
@@ -55,10 +63,12 @@ __all__ = [
     "OutOfMemoryError",
     "Part",
     "PercentFormatter",
+    "PluralRules",
     "Rounding",
     "RoundingPriority",
     "Sign",
     "SkeletonError",
+    "Symbols",
     "TrailingZeros",
     "Width",
     "minor",

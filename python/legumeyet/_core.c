@@ -24,7 +24,7 @@ enum { CHUNK = 4096, ASIDE = 64, DIGITS_AT_MOST = 1 << 20, EACH = 32, LEAST = 1 
 enum { PIECE = 1 << 16, PIECE_ASIDE = 1 << 10 };
 
 /* What the objects of an interpreter share of Python: the types of this module, and from REFUSAL on what its modules in Python give to `use`. */
-enum object { BOOK, FORMATTER, ANSWERS, REFUSAL, WRONG_NUMBER, PART_OF, ROW_OF, DECIMAL, SIGN, ROUNDING, TRAILING_ZEROS, PRIORITY, OBJECTS };
+enum object { BOOK, FORMATTER, RULES, ANSWERS, REFUSAL, WRONG_NUMBER, PART_OF, ROW_OF, DECIMAL, SIGN, ROUNDING, TRAILING_ZEROS, PRIORITY, OBJECTS };
 
 /* What the objects of an interpreter share. It is freed with the last of them, which may come after the module. */
 struct shared {
@@ -41,7 +41,7 @@ struct options {
 };
 #define OPTIONS(of) (const legumeyet_options *)(of).words, (of).count
 
-/* A book, a formatter or answers. */
+/* A book, a formatter, plural rules, which are one that writes words, or answers. */
 struct open {
     PyObject_HEAD
     struct shared *shared; /* NULL before it is opened for the first time */
@@ -62,15 +62,16 @@ struct open {
 
 /* What is asked of the library. */
 struct request {
-    enum { TEXT, INTEGER, REAL, SHOWN, EXACT, READ, LENIENT, LINE, LOCALE, NORMAL, MEANING, NAME } what;
+    enum { TEXT, INTEGER, REAL, SHOWN, EXACT, RANGE, READ, LENIENT, FACT, LINE, LOCALE, NORMAL, MEANING, NAME } what;
     const uint8_t *at; /* the text of a number, a text that is read, a line, a skeleton, or the name of a locale */
     size_t length;
-    int64_t integer;   /* also the index of a locale, or the number of an error */
+    int64_t integer;   /* also the index of a locale, or the number of an error or a fact */
     double real;
     struct options options;
     PyObject *given;   /* what was given, lent, or NULL: an error tells it */
     Py_ssize_t place;  /* the place of a number among many, and of a word in a skeleton, from 1 on; 0 of one alone */
     PyObject *owner;   /* of the text, or NULL */
+    struct request *end; /* the other end of a range, or NULL */
 };
 
 /* Raises an error that was made, and takes it over. */
@@ -265,7 +266,7 @@ static int32_t take_integer(struct shared *shared, struct request *asked, PyObje
     return found;
 }
 
-/* A float, of which the library takes the shortest digits that give it back, or these digits where it takes a text alone. */
+/* A float, of which the library takes the shortest digits that give it back, or these digits where it takes only a text. */
 static int32_t take_real(struct request *asked, PyObject *number) {
     char *digits;
     int32_t found;
@@ -319,12 +320,12 @@ static const struct {
     enum object kind; /* DECIMAL of a whole number */
     long least, most;
 } known[WORDS + 1] = {
-    {"sign", SIGN, 0, 0}, {"rounding", ROUNDING, 0, 0}, {"position", DECIMAL, LOWEST, HIGHEST}, {"increment", DECIMAL, 1, 25},
+    {"sign", SIGN, 0, 0}, {"rounding", ROUNDING, 0, 0}, {"position", DECIMAL, LOWEST, HIGHEST}, {"increment", DECIMAL, 1, 5000},
     {"trailing_zeros", TRAILING_ZEROS, 0, 0}, {"minimum_integer_digits", DECIMAL, 0, HIGHEST}, {"minimum_fraction_digits", DECIMAL, 0, HIGHEST},
     {"minimum_significant_digits", DECIMAL, 0, SPAN}, {"maximum_significant_digits", DECIMAL, 0, SPAN}, {"rounding_priority", PRIORITY, 0, 0},
     {"exponent", DECIMAL, LOWEST, HIGHEST}};
 
-/* The word of an option that is of an enum. It looks at the type alone, and so runs nothing of Python before an error. */
+/* The word of an option that is of an enum. It looks only at the type, and so runs nothing of Python before an error. */
 static bool take_choice(PyObject *kind, PyObject *option, int32_t *word) {
     int overflow;
     if (PyObject_TypeCheck(option, (PyTypeObject *)kind)) {
@@ -336,6 +337,12 @@ static bool take_choice(PyObject *kind, PyObject *option, int32_t *word) {
     if (name != NULL) PyErr_Format(PyExc_TypeError, "an option is a %U, and not %R", name, option);
     Py_XDECREF(name);
     return false;
+}
+
+/* Whether a number from 1 to 5000 is an increment: 1, 2, 5 or 25, with zeros behind or not. */
+static bool is_increment(long number) {
+    while (number % 10 == 0) number /= 10;
+    return number == 1 || number == 2 || number == 5 || number == 25;
 }
 
 /* The word of an option that is a whole number: an int, or what has an index, as an integer of NumPy. */
@@ -350,10 +357,10 @@ static bool take_whole(int at, PyObject *option, int32_t *word) {
     *word = (int32_t)number;
     if (overflow != 0 || number < least || number > most)
         PyErr_Format(PyExc_ValueError, "%s is from %ld to %ld", known[at].name, least, most);
-    else if (at != INCREMENT_WORD || number == 1 || number == 2 || number == 5 || number == 25)
+    else if (at != INCREMENT_WORD || is_increment(number))
         return true;
     else
-        PyErr_SetString(PyExc_ValueError, "increment is 1, 2, 5 or 25");
+        PyErr_SetString(PyExc_ValueError, "increment is 1, 2, 5 or 25, or one of these with zeros up to 5000");
     return false;
 }
 
@@ -440,8 +447,10 @@ static int32_t ask(struct open *it, const struct request *asked, size_t *place, 
     case REAL: return BY(it, format_double, asked->real, OPTIONS(asked->options), out, room, length);
     case SHOWN: return BY(it, shown, asked->at, asked->length, OPTIONS(asked->options), out, room, length);
     case EXACT: return BY(it, format_exact, asked->at, asked->length, OPTIONS(asked->options), out, room, length);
+    case RANGE: return BY(it, format_range, asked->at, asked->length, asked->end->at, asked->end->length, OPTIONS(asked->options), out, room, length);
     case READ: return BY(it, read, asked->at, asked->length, out, room, length);
     case LENIENT: return BY(it, read_lenient, asked->at, asked->length, out, room, length);
+    case FACT: return BY(it, tell, (uint32_t)asked->integer, out, room, length);
     case LINE: return legumeyet_book_answer(&it->handle.book, asked->at, asked->length, out, room, length);
     case LOCALE: return legumeyet_book_locale(&it->handle.book, (size_t)asked->integer, out, room, length);
     case NORMAL: return legumeyet_skeleton_normal(asked->at, asked->length, place, out, room, length);
@@ -475,15 +484,22 @@ static PyObject *written(struct open *it, const struct request *asked) {
     return number > 0 ? refused(it->shared, number, asked) : text;
 }
 
-/* Takes the number and the options of a call of a formatter. Returns a number of the library, or -1 with an error of Python. */
+/* Takes the number and the options of a call of a formatter, or both ends of a range. Returns a number of the library, or -1 with an error of Python. */
 static int32_t take_call(struct open *it, PyObject *arguments, PyObject *given, struct request *asked) {
-    PyObject *number;
-    if (!PyArg_UnpackTuple(arguments, "the call", 1, 1, &number) || !is_ready(it)) return -1;
+    PyObject *number, *end = NULL;
+    const int count = asked->end == NULL ? 1 : 2;
+    int32_t found;
+    if (!PyArg_UnpackTuple(arguments, "the call", count, count, &number, &end) || !is_ready(it)) return -1;
     if (asked->what == EXACT && !PyUnicode_Check(number))
         return PyErr_Format(PyExc_TypeError, "an exact form is a str, and not %R", Py_TYPE(number)), -1;
     asked->options = it->options;
     if (given != NULL && !take_options(it->shared, given, &asked->options, asked->what == TEXT)) return -1;
-    return take_number(it->shared, asked, number);
+    found = take_number(it->shared, asked, number);
+    if (found == LEGUMEYET_OK && count == 2) {
+        found = take_number(it->shared, asked->end, end);
+        asked->given = arguments;
+    }
+    return found;
 }
 
 /* What a call of a formatter writes. */
@@ -503,6 +519,19 @@ static PyObject *called(PyObject *self, PyObject *arguments, PyObject *given, st
 CALLED(format, TEXT)
 CALLED(shown, SHOWN)
 CALLED(format_exact, EXACT)
+
+static PyObject *select_range(PyObject *it, PyObject *arguments, PyObject *given) {
+    struct request end = {.what = RANGE}, asked = {.what = RANGE, .end = &end};
+    PyObject *text = called(it, arguments, given, &asked);
+    Py_XDECREF(end.owner);
+    return text;
+}
+
+/* A fact of a formatter or of rules, by its number. */
+static PyObject *tell(PyObject *it, PyObject *fact) {
+    const struct request asked = {.what = FACT, .integer = PyLong_AsLong(fact)};
+    return PyErr_Occurred() ? NULL : written((struct open *)it, &asked);
+}
 
 static PyObject *read_back(PyObject *self, PyObject *arguments, PyObject *given) {
     struct open *it = (struct open *)self;
@@ -868,7 +897,7 @@ static PyObject *book_locales(PyObject *self, PyObject *none) {
 static void close_handle(struct open *it) {
     if (it->is_shared)
         legumeyet_shared_formatter_close(&it->handle.shared);
-    else if (it->kind == FORMATTER)
+    else if (it->kind == FORMATTER || it->kind == RULES)
         legumeyet_formatter_close(&it->handle.formatter);
     else if (it->kind == ANSWERS)
         legumeyet_answers_close(&it->handle.answers);
@@ -943,8 +972,28 @@ static PyMethodDef book_methods[] = {
      "['en']"},
     {NULL, NULL, 0, NULL}};
 
+#define TELL {"_tell", tell, METH_O, NULL}
+
+static PyMethodDef rules_methods[] = {
+    CLOSE,
+    TELL,
+    {"select", CALL(format),
+     "select($self, number, /, *, exponent=0, **options)\n--\n\n"
+     "The plural category of a number as it is shown: 'zero', 'one', 'two', 'few', 'many' or 'other'. Numbers and options are those of\n"
+     "DecimalFormatter.format. Raises as it does.\n\n"
+     ">>> english = PluralRules('en')\n"
+     ">>> english.select(1), english.select('1.0'), english.select(1, minimum_fraction_digits=2)\n"
+     "('one', 'other', 'other')"},
+    {"select_range", CALL(select_range),
+     "select_range($self, start, end, /, **options)\n--\n\n"
+     "The plural category of the range from one number to another, by those of both. Raises as select.\n\n"
+     ">>> PluralRules('fr').select_range(0, 1), PluralRules('en').select_range(0, 1)\n"
+     "('one', 'other')"},
+    {NULL, NULL, 0, NULL}};
+
 static PyMethodDef formatter_methods[] = {
     CLOSE,
+    TELL,
     {"share", share, METH_NOARGS,
      "share($self, /)\n--\n\n"
      "Shares the formatter: no call waits for one of format_all that is under way in another thread. It stays for the rest of the process, so\n"
@@ -957,8 +1006,9 @@ static PyMethodDef formatter_methods[] = {
      "100 first. An amount has the digits of its currency, half to even, and those that it has in cash with Rounding.CASH.\n\n"
      "The options are sign, rounding, position, increment, trailing_zeros, minimum_integer_digits, minimum_fraction_digits,\n"
      "minimum_significant_digits, maximum_significant_digits and rounding_priority; those that are not given are the ones that the formatter\n"
-     "was opened with. With a rounding the number is rounded at the position first, to a multiple of the increment, which is 1, 2, 5 or 25: 0,\n"
-     "as without a position, is the ones, -2 the hundredths. A position without a rounding is that of HALF_EVEN, and so are significant digits,\n"
+     "was opened with. With a rounding the number is rounded at the position first, to a multiple of the increment, which is 1, 2, 5 or 25, or\n"
+     "one of these with zeros up to 5000: 0, as without a position, is the ones, -2 the hundredths, and the digits down to it are shown, so\n"
+     "1.26 at -2 by 50 is 1.50. A position without a rounding is that of HALF_EVEN, and so are significant digits,\n"
      "which are counted from the first one that is not zero on. Options that do not go together, as an increment without a position, are a\n"
      "ValueError. Options that are given take the place of all that a skeleton says.\n\n"
      "Raises Error 7 where the text is no number, or a float is not finite, 8 where a digit is beyond the magnitudes -32768 to 32767, 9 where\n"
@@ -1039,7 +1089,8 @@ static PyMemberDef members[] = {
 #define TYPE(name, methods) \
     {"legumeyet._core." name, sizeof(struct open), 0, Py_TPFLAGS_DEFAULT | Py_TPFLAGS_BASETYPE, \
      (PyType_Slot[]){{Py_tp_dealloc, dealloc}, {Py_tp_methods, methods}, {Py_tp_members, members}, {0, NULL}}}
-static PyType_Spec specs[] = {TYPE("Book", book_methods), TYPE("NumberFormatter", formatter_methods), TYPE("Answers", answers_methods)};
+static PyType_Spec specs[] = {
+    TYPE("Book", book_methods), TYPE("NumberFormatter", formatter_methods), TYPE("PluralRules", rules_methods), TYPE("Answers", answers_methods)};
 
 /* NULL of a module that is not filled yet: before 3.9 such a module is already visited by the garbage collector, and freed as others are. */
 static struct shared *shared_of(PyObject *module) {
@@ -1077,7 +1128,7 @@ static PyObject *open_book(PyObject *module, PyObject *arguments) {
     return Py_BuildValue("");
 }
 
-/* open_formatter(formatter, book, tag, words of a format or None, code of a currency or None or else a skeleton, options). */
+/* open_formatter(formatter or rules, book, tag, words of a format or None, code of a currency or None or else a skeleton, options). */
 static PyObject *open_formatter(PyObject *module, PyObject *arguments) {
     struct shared *shared = shared_of(module);
     struct request tag = {.what = LINE}, text = {.what = LINE};
@@ -1087,14 +1138,16 @@ static PyObject *open_formatter(PyObject *module, PyObject *arguments) {
     legumeyet_format asked = {0};
     size_t place = 0;
     int32_t number = -1;
-    if (!PyArg_ParseTuple(arguments, "O!O!OOOO!", shared->objects[FORMATTER], &it, shared->objects[BOOK], &book, &tag.given, &words, &text.given,
-                          &PyDict_Type, &given))
+    if (!PyArg_ParseTuple(arguments, "OO!OOOO!", &it, shared->objects[BOOK], &book, &tag.given, &words, &text.given, &PyDict_Type, &given))
         return NULL;
+    const bool are_rules = PyObject_TypeCheck(it, (PyTypeObject *)shared->objects[RULES]);
+    if (!are_rules && !PyObject_TypeCheck(it, (PyTypeObject *)shared->objects[FORMATTER]))
+        return PyErr_Format(PyExc_TypeError, "a formatter or rules are opened, and not %R", Py_TYPE(it));
     const bool is_skeleton = words == Py_None, has_text = is_skeleton || text.given != Py_None;
-    if (!is_skeleton && !PyArg_ParseTuple(words, "iiiiii", &asked.notation, &asked.width, &asked.unit, &asked.currency_style, &asked.currency_width,
-                                          &asked.grouping))
+    if (!is_skeleton && !PyArg_ParseTuple(words, "iiiiiii", &asked.notation, &asked.width, &asked.unit, &asked.currency_style, &asked.currency_width,
+                                          &asked.grouping, &asked.plurals))
         return NULL;
-    if (may_be_opened(shared, it, FORMATTER) && take_options(shared, given, &tag.options, false) && take_text(&tag, tag.given) &&
+    if (may_be_opened(shared, it, are_rules ? RULES : FORMATTER) && take_options(shared, given, &tag.options, false) && take_text(&tag, tag.given) &&
         (!has_text || take_text(&text, text.given)) && is_ready(book) && is_ready(it))
         number = is_skeleton
             ? legumeyet_formatter_open_skeleton(&book->handle.book, tag.at, tag.length, text.at, text.length, &place, &made)

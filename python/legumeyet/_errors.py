@@ -122,12 +122,14 @@ def refusal(number: int, given: object, place: int, is_read: bool) -> Error:
         return SkeletonError(number, f": {told(word)} at {place}", place)
     if place >= 0:
         return Error(number, "" if number in (CLOSED, OPTION) else f": the number at {place}")
-    if number not in TELLS_GIVEN or not isinstance(given, (str, bytes, float)):
+    texts = [it for it in (given if isinstance(given, tuple) else (given,)) if isinstance(it, (str, bytes, float))]  # (both ends of a range)
+    if number not in TELLS_GIVEN or not texts:
         return Error(number)
-    tag = given.decode(errors="replace") if isinstance(given, bytes) else str(given)
+    tag = given.decode(errors="replace") if isinstance(given, bytes) else str(texts[0])
+    said = " or ".join(map(told, texts))
     if number == TAG and "_" in tag:
-        return Error(number, f": {told(given)} is written {told(tag.replace('_', '-'))}")
-    return Error(number, f": {told(given)}{'; with lenient=True what people type is read' if is_read and number == NOT_WRITTEN else ''}")
+        return Error(number, f": {said} is written {told(tag.replace('_', '-'))}")
+    return Error(number, f": {said}{'; with lenient=True what people type is read' if is_read and number == NOT_WRITTEN else ''}")
 
 
 MISSING = ("NoneType", "NAType", "NaTType", "MaskedConstant")

@@ -7,7 +7,7 @@ from typing import TYPE_CHECKING, Any, Dict, NamedTuple, NoReturn, Optional, Tup
 
 from . import _core
 from ._errors import refusal, wrong_number
-from ._options import Grouping, Kind, Options, Rounding, RoundingPriority, Sign, TrailingZeros, Width, kind_of, number_of
+from ._options import Fact, Grouping, Kind, Options, Rounding, RoundingPriority, Sign, TrailingZeros, Width, kind_of, number_of
 
 if TYPE_CHECKING:
     from typing_extensions import Unpack
@@ -26,6 +26,34 @@ class Part(NamedTuple):
     kind: Union[Kind, int]
     start: int
     end: int
+
+
+class Symbols(NamedTuple):
+    """What a formatter writes numbers with: `minus` and `plus` are what is before a number with that sign, and what is after it; `digits` are the
+    ten of them, zero first. Amounts have the symbols of their currency, where it has its own.
+
+    >>> DecimalFormatter("de").symbols
+    Symbols(decimal_separator=',', grouping_separator='.', minus=('-', ''), plus=('+', ''), digits='0123456789')
+    """
+
+    decimal_separator: str
+    grouping_separator: str
+    minus: Tuple[str, str]
+    plus: Tuple[str, str]
+    digits: str
+
+
+class CurrencyDigits(NamedTuple):
+    """How many digits the amounts of a currency have after the decimal separator, in general and in cash, which is rounded to a multiple, the
+    increment, of the last one.
+
+    >>> CurrencyFormatter("en", "CHF").currency_digits, CurrencyFormatter("en", "JPY").currency_digits.fraction
+    (CurrencyDigits(fraction=2, cash=2, cash_increment=5), 0)
+    """
+
+    fraction: int
+    cash: int
+    cash_increment: int
 
 
 def part_of(kind: int, start: int, end: int) -> Part:
@@ -70,6 +98,7 @@ class Format(NamedTuple):
     style: int = 0
     currency_width: int = 0
     grouping: int = 0
+    plurals: int = 0
 
 
 COMPACT, PERCENT, CURRENCY = 1, 1, 2
@@ -153,7 +182,7 @@ def world() -> Book:
 
 
 def named_by(book: Union[Book, Text], tag: Optional[Text]) -> Tuple[Book, Text]:
-    """The book and the tag that a formatter is opened of: both are given, or a tag alone, which is of the world's book."""
+    """The book and the tag that a formatter is opened of: both are given, or only a tag, which is of the world's book."""
     if isinstance(book, Book):
         if tag is None:
             raise TypeError("a tag is missing after the book")
@@ -190,6 +219,17 @@ class NumberFormatter(Open, _core.NumberFormatter):
         """Opens it by the words of a format, with options of its own."""
         _core.open_formatter(self, book, tag, format, currency[0] if currency else None, options)
         self._names = tag, *currency
+
+    @property
+    def symbols(self) -> Symbols:
+        """The separators, the signs and the digits. Raises `Error` 2 where the formatter is closed."""
+        decimal, grouping, minus, no_minus, plus, no_plus, digits = (self._tell(it) for it in list(Fact)[:7])
+        return Symbols(decimal, grouping, (minus, no_minus), (plus, no_plus), digits)
+
+    @property
+    def currency_digits(self) -> CurrencyDigits:
+        """The digits of the currency. Raises `Error` 4 where there is no currency, and 2 where the formatter is closed."""
+        return CurrencyDigits(*(int(self._tell(it)) for it in (Fact.FRACTION_DIGITS, Fact.CASH_DIGITS, Fact.CASH_INCREMENT)))
 
 
 def normal_skeleton(skeleton: Text) -> str:

@@ -145,6 +145,22 @@ class Fault(IntEnum):
     UNSUPPORTED = 207
 
 
+class Fact(IntEnum):
+    """What a formatter tells of itself."""
+
+    DECIMAL_SEPARATOR = 1
+    GROUPING_SEPARATOR = 2
+    MINUS_BEFORE = 3
+    MINUS_AFTER = 4
+    PLUS_BEFORE = 5
+    PLUS_AFTER = 6
+    DIGITS = 7
+    FRACTION_DIGITS = 8
+    CASH_DIGITS = 9
+    CASH_INCREMENT = 10
+    CATEGORIES = 11
+
+
 class Options(TypedDict, total=False):
     """The options that a call of a formatter is given by their names, and a formatter when it is opened: `DecimalFormatter.format` says what
     each does. It is the type of options that a program passes on.

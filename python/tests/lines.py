@@ -7,7 +7,7 @@ import sys
 from decimal import Decimal
 
 import legumeyet
-from legumeyet import Book, CompactDecimalFormatter, DecimalFormatter, Grouping, Rounding, RoundingPriority, Sign, TrailingZeros, Width
+from legumeyet import Book, CompactDecimalFormatter, DecimalFormatter, Error, Grouping, PluralRules, Rounding, RoundingPriority, Sign, TrailingZeros, Width
 
 WORDS = {5: "tag", 6: "table", 7: "number", 8: "limit", 9: "range", 11: "unreadable", 12: "not-written", 13: "exponent"}
 
@@ -40,6 +40,16 @@ def rounding_of(words):
     return {**found, "trailing_zeros": TrailingZeros(zeros)}
 
 
+def category_for(rules, form, number, options):
+    """The plural category of a number, or of the range that it is."""
+    start, mark, end = number.partition("..")
+    if form != "range-plural":
+        return rules.select(number, **options)
+    if not mark:
+        raise Error(7)
+    return rules.select_range(start, end, **options)
+
+
 def text_for(book, fields):
     """The text for the fields of a request by the call of a formatter, or the number that is read. KeyError: none says what is asked."""
     tag, form, grouping, sign, rounding, number = fields
@@ -51,6 +61,8 @@ def text_for(book, fields):
         return DecimalFormatter(book, tag, grouping=grouping).format(number, **options)
     if form == "read":
         return DecimalFormatter(book, tag, grouping=grouping).read(number)
+    if form in ("plural", "ordinal", "range-plural"):
+        return category_for(PluralRules(tag, "ordinal" if form == "ordinal" else "cardinal", book=book), form, number, options)
     is_exact, _, width = form.rpartition("-")
     compact = CompactDecimalFormatter(book, tag, width=option(Width, width), grouping=grouping)
     if is_exact:

@@ -31,7 +31,7 @@ from fractions import Fraction
 import legumeyet
 from legumeyet import (
     Answers, Book, ClosedError, CompactDecimalFormatter, CurrencyFormatter, DecimalFormatter, Error, Grouping, InputError, Kind,
-    OutOfMemoryError, PercentFormatter, Rounding, RoundingPriority, Sign, TrailingZeros, Width, _core, _errors, _formatters, _locales, _options,
+    OutOfMemoryError, PercentFormatter, Rounding, RoundingPriority, Sign, TrailingZeros, Width, _core, _errors, _formatters, _locales, _options, _plurals,
 )
 from legumeyet.__main__ import main
 
@@ -46,7 +46,7 @@ FORKS_BESIDE_THREADS = unittest.skipIf(
 
 def load_tests(_loader, tests, _pattern):
     """The tests of this file, and the examples."""
-    for module in (legumeyet, _core, _errors, _formatters, _locales, _options):
+    for module in (legumeyet, _core, _errors, _formatters, _locales, _options, _plurals):
         tests.addTests(doctest.DocTestSuite(module, extraglobs={**vars(legumeyet), "Decimal": Decimal}))
     return tests
 
@@ -1000,8 +1000,14 @@ class Calls(unittest.TestCase):
         self.assertEqual(english.format(1.995, position=-2, trailing_zeros=TrailingZeros.TRIM), "2")
         self.assertEqual(english.format("1.5", position=-2, trailing_zeros=TrailingZeros.TRIM, minimum_fraction_digits=2), "1.50")
         self.assertEqual(english.format("1.23", position=-2, increment=5), "1.25")
+        self.assertEqual(english.format("1.26", position=-2, increment=50), "1.50")
+        self.assertEqual(english.format("1.26", position=-2, increment=50, trailing_zeros=TrailingZeros.TRIM), "1.5")
+        self.assertEqual(english.format(1234, position=0, increment=250), "1,250")
+        for increment in (1, 2, 5, 10, 20, 25, 50, 100, 200, 250, 500, 1000, 2000, 2500, 5000):
+            self.assertEqual(english.format(7 * increment, position=0, increment=increment, rounding=Rounding.TRUNC), english.format(7 * increment))
         self.assertEqual(english.format(7, minimum_integer_digits=3), "007")
-        for options in ({"increment": 3}, {"increment": 0}, {"minimum_integer_digits": -1}, {"minimum_fraction_digits": 32768}):
+        self.assertRaises(Error, english.format, 1, position=32767, increment=10)
+        for options in ({"increment": 3}, {"increment": 0}, {"increment": 30}, {"increment": 10000}, {"minimum_integer_digits": -1}, {"minimum_fraction_digits": 32768}):
             self.assertRaises(ValueError, english.format, 1, **options)
         for options in ({"trailing_zeros": 1}, {"trailing_zeros": Sign.AUTO}, {"increment": "5"}, {"minimum_integer_digits": 1.0}):
             self.assertRaises(TypeError, english.format, 1, **options)
@@ -1058,11 +1064,11 @@ class Calls(unittest.TestCase):
         self.assertRaises(TypeError, _core.NumberFormatter.format, self.book, 1)
         for words in (
             (self.book, self.book, "en", None, "", {}), (self.english, None, "en", None, "", {}), (self.english, self.book, None, None, "", {}),
-            (self.english, self.book, "en", None, None, {}), (self.english, self.book, "en", (0, 0, 0, 0, 0), None, {}),
-            (self.english, self.book, "en", (0, 0, 0, 0, 0, "0"), None, {}), (self.english, self.book, "en", None, "", None),
+            (self.english, self.book, "en", None, None, {}), (self.english, self.book, "en", (0, 0, 0, 0, 0, 0), None, {}),
+            (self.english, self.book, "en", (0, 0, 0, 0, 0, 0, "0"), None, {}), (self.english, self.book, "en", None, "", None),
         ):
             self.assertRaises(TypeError, _core.open_formatter, *words)
-        for format, number in (((2, 0, 0, 0, 0, 0), 4), ((0, 0, 0, 0, 0, -1), 4), ((0, 0, 2, 0, 0, 0), 14), ((0, 7, 0, 0, 0, 0), 4)):
+        for format, number in (((2, 0, 0, 0, 0, 0, 0), 4), ((0, 0, 0, 0, 0, -1, 0), 4), ((0, 0, 2, 0, 0, 0, 0), 14), ((0, 7, 0, 0, 0, 0, 0), 4), ((0, 0, 0, 0, 0, 0, 3), 4)):
             self.refused(number, _core.open_formatter, self.english, self.book, "en", format, None, {})
         self.assertEqual(self.english.format(1234), "1,234")
         self.assertRaises(TypeError, _core.open_book, self.english, None)

@@ -3,7 +3,7 @@
 //!
 //! usage: lines BOOK < LINES > ANSWERS
 
-use legumeyet::{Book, CompactDecimalFormatter, DecimalFormatter, Error, Options, Rounding, TrailingZeros};
+use legumeyet::{Book, CompactDecimalFormatter, DecimalFormatter, Error, Options, PluralRuleType, PluralRules, Rounding, TrailingZeros};
 use std::error;
 use std::io::{self, BufRead, Write};
 
@@ -50,6 +50,19 @@ fn compact_text(compact: &CompactDecimalFormatter, form: &str, number: &str, opt
     Ok(format!("{}\t{}", compact.format(number, options)?, compact.shown(number, options)?))
 }
 
+/// The word of the plural category of a number, or of the range that it is.
+fn category_for(book: &Book, tag: &str, form: &str, number: &str, options: &Options) -> Result<String, Error> {
+    let rule_type = if form == "ordinal" { PluralRuleType::Ordinal } else { PluralRuleType::Cardinal };
+    let rules = PluralRules::new(book, tag, rule_type, options)?;
+    let category = if form == "range-plural" {
+        let (start, end) = number.split_once("..").ok_or(Error::NUMBER)?;
+        rules.category_for_range(start, end)?
+    } else {
+        rules.category_for(number)?
+    };
+    Ok(category.to_string())
+}
+
 /// The text for a request by the call of a formatter, where one does what is asked.
 fn text_for(book: &Book, fields: &[&str]) -> Option<Result<String, Error>> {
     let [tag, form, grouping, sign, rounding, number] = <[&str; 6]>::try_from(fields).ok()?;
@@ -58,6 +71,7 @@ fn text_for(book: &Book, fields: &[&str]) -> Option<Result<String, Error>> {
     match form {
         "plain" => Some(plain().and_then(|it| it.format(number, &options))),
         "read" => Some(plain().and_then(|it| it.read(number))),
+        "plural" | "ordinal" | "range-plural" => Some(category_for(book, tag, form, number, &options)),
         _ => {
             let width = form.strip_prefix("exact-").unwrap_or(form).parse().ok()?;
             let compact = CompactDecimalFormatter::from_book(book, tag, width, grouping);

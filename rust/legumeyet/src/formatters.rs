@@ -6,14 +6,15 @@ use crate::options::{words_of, Words};
 use crate::owned::{annotated, written, written_to, Owned, Shared};
 use crate::world::with_book;
 use crate::{
-    sys, Book, Column, ColumnError, CurrencyOptions, Error, Format, Grouping, Number, Options, Parts, SkeletonError, Width, WriteError,
+    sys, Book, Column, ColumnError, CurrencyDigits, CurrencyOptions, Error, Format, Grouping, Number, Options, Parts, SkeletonError,
+    Symbols, Width, WriteError,
 };
 use std::fmt;
 use std::str::FromStr;
 
-/// What a formatter does by the functions of a module of `sys`. Each call takes options, and without them those of the formatter.
-macro_rules! calls {
-    ($type:ident: $of:ident, $format:ident) => {
+/// The call that writes a number by the functions of a module of `sys`.
+macro_rules! writes {
+    ($type:ident: $of:ident) => {
         impl $type {
             fn call(&self, number: &Number<'_>, (words, count): &Words, out: *mut u8, room: usize, length: *mut usize) -> i32 {
                 let words = words.as_ptr();
@@ -25,7 +26,17 @@ macro_rules! calls {
                     }
                 }
             }
+        }
+    };
+}
+pub(crate) use writes;
 
+/// What a formatter does by the functions of a module of `sys`. Each call takes options, and without them those of the formatter.
+macro_rules! calls {
+    ($type:ident: $of:ident, $format:ident) => {
+        writes!($type: $of);
+
+        impl $type {
             /// The text of a number. `None` in place of options are those of the formatter itself.
             ///
             /// # Errors
@@ -109,6 +120,16 @@ macro_rules! calls {
                 let (at, len, words) = (number.as_ptr(), number.len(), words.as_ptr());
                 // SAFETY: as for `call`.
                 written(|out, room, length| unsafe { sys::$of::format_exact(self.0.at(), at, len, words, count, out, room, length) })
+            }
+
+            /// The separators, signs and digits that numbers are written with.
+            ///
+            /// # Errors
+            ///
+            /// [`Error::MEMORY`].
+            pub fn symbols(&self) -> Result<Symbols, Error> {
+                // SAFETY: as for `call`.
+                Symbols::told(|fact, out, room, length| unsafe { sys::$of::tell(self.0.at(), fact, out, room, length) })
             }
 
             /// The texts of many doubles, sooner than one by one.
@@ -198,6 +219,23 @@ macro_rules! reads {
     };
 }
 
+/// What a formatter of amounts tells.
+macro_rules! tells {
+    ($type:ident: $of:ident) => {
+        impl $type {
+            /// The digits of the currency.
+            ///
+            /// # Errors
+            ///
+            /// [`Error::OPTION`] where there is no currency, or [`Error::MEMORY`].
+            pub fn currency_digits(&self) -> Result<CurrencyDigits, Error> {
+                // SAFETY: as for `call`.
+                CurrencyDigits::told(|fact, out, room, length| unsafe { sys::$of::tell(self.0.at(), fact, out, room, length) })
+            }
+        }
+    };
+}
+
 /// The call by the formatter's own options.
 macro_rules! formats {
     ($type:ident: $of:ident) => {
@@ -273,7 +311,7 @@ formatters! {
     /// assert_eq!(thread::spawn(move || shared.format(5)).join().unwrap()?, "CHF\u{a0}5.00");
     /// # Ok::<(), Box<dyn std::error::Error>>(())
     /// ```
-    NumberFormatter: format_with, formats, reads;
+    NumberFormatter: format_with, formats, reads, tells;
     /// A formatter that any number of threads use at once: what [`NumberFormatter::share`] makes, with its calls.
     SharedNumberFormatter
 }
@@ -290,6 +328,7 @@ formatters! {
     /// assert_eq!(german.format("-1234.50", &as_given)?, "-1.234,50");
     /// assert_eq!(german.format_i64(-123450, -2, &as_given)?, "-1.234,50");
     /// assert_eq!(german.format_parts(-5, &as_given)?, ("-5".into(), vec![(Kind::MinusSign, 0..1), (Kind::Integer, 1..2)]));
+    /// assert_eq!(german.symbols()?.decimal_separator, ",");
     /// assert_eq!(german.read("-1.234,50")?, "-1234.50");
     /// assert_eq!(german.read_lenient(" 1234,50 ")?, "1234.50");
     /// assert_eq!(german.read_lenient("1.23"), Err(Error::NOT_WRITTEN));
@@ -355,7 +394,8 @@ formatters! {
     /// use legumeyet::{CurrencyFormatter, CurrencyOptions, CurrencyStyle, Error, Options, Rounding};
     ///
     /// let as_given = Options::default();
-    /// assert_eq!(CurrencyFormatter::new("en", "JPY")?.format(2.5, &as_given)?, "¥2");
+    /// let yen = CurrencyFormatter::new("en", "JPY")?;
+    /// assert_eq!((yen.format(2.5, &as_given)?.as_str(), yen.currency_digits()?.fraction), ("¥2", 0));
     /// assert_eq!(CurrencyFormatter::new("en", "CHF")?.format(2.345, &as_given.rounding(Rounding::Cash))?, "CHF\u{a0}2.35");
     /// let in_accounts = CurrencyOptions::default().style(CurrencyStyle::Accounting);
     /// let dollars = CurrencyFormatter::with_options("en", "USD", &in_accounts)?;
@@ -365,14 +405,18 @@ formatters! {
     /// assert_eq!(CurrencyFormatter::new("en", "usd").unwrap_err(), Error::CODE);
     /// # Ok::<(), Error>(())
     /// ```
-    CurrencyFormatter: format, reads;
+    CurrencyFormatter: format, reads, tells;
     /// A formatter of amounts of money that any number of threads use at once: what [`CurrencyFormatter::share`] makes, with its calls.
     SharedCurrencyFormatter
 }
 
 /// The handle of a formatter of a book, or of the world's.
 fn opened(book: Option<&Book>, tag: &str, format: &Format<'_>) -> Result<Owned, Error> {
-    let (words, code) = format.words();
+    opened_by(book, tag, format.words())
+}
+
+/// The same by the words of the format and the code of its currency.
+pub(crate) fn opened_by(book: Option<&Book>, tag: &str, (words, code): ([i32; 7], &str)) -> Result<Owned, Error> {
     with_book(book, |book| {
         let (book, tag_at, code_at) = (book.0.at(), tag.as_ptr(), code.as_ptr());
         // SAFETY: a text is memory of its length, no other call has the book's handle, and `open` passes a closed one.

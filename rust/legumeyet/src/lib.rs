@@ -4,25 +4,29 @@
 mod answers;
 mod column;
 mod error;
+mod facts;
 mod formatters;
 mod number;
 mod options;
 mod owned;
+mod plurals;
 mod sys;
 mod world;
 
 pub use answers::Answers;
 pub use column::{Column, ColumnError, Texts};
 pub use error::{Error, OpenError, SkeletonError, UnknownWord, WriteError};
+pub use facts::{CurrencyDigits, Symbols};
 pub use formatters::{
     normal_skeleton, CompactDecimalFormatter, CurrencyFormatter, DecimalFormatter, NumberFormatter, PercentFormatter,
     SharedCompactDecimalFormatter, SharedCurrencyFormatter, SharedDecimalFormatter, SharedNumberFormatter, SharedPercentFormatter,
 };
 pub use number::Number;
 pub use options::{
-    CurrencyOptions, CurrencyStyle, CurrencyWidth, Format, Grouping, Increment, Kind, Notation, Options, Rounding, RoundingPriority, Sign,
-    TrailingZeros, Unit, Width,
+    CurrencyOptions, CurrencyStyle, CurrencyWidth, Format, Grouping, Increment, Kind, Notation, Options, PluralRuleType, Rounding,
+    RoundingPriority, Sign, TrailingZeros, Unit, Width,
 };
+pub use plurals::{PluralCategory, PluralRules, SharedPluralRules};
 pub use world::{tag_of_locale_name, world_locales};
 
 use std::fs;

@@ -29,13 +29,15 @@ macro_rules! words {
 words!(Grouping: "auto" Auto, "never" Never, "always" Always, "min2" Min2, "on-aligned" OnAligned);
 words!(Width: "short" Short, "long" Long);
 words!(Sign: "keep" Keep, "auto" Auto, "never" Never, "always" Always, "except-zero" ExceptZero, "negative" Negative);
-words!(Increment: "1" One, "2" Two, "5" Five, "25" TwentyFive);
+words!(Increment: "1" One, "2" Two, "5" Five, "10" Ten, "20" Twenty, "25" TwentyFive, "50" Fifty, "100" OneHundred, "200" TwoHundred,
+    "250" TwoHundredFifty, "500" FiveHundred, "1000" OneThousand, "2000" TwoThousand, "2500" TwoThousandFiveHundred, "5000" FiveThousand);
 words!(TrailingZeros: "keep" Keep, "trim" Trim, "trim-whole" TrimWhole, "trim-all" TrimAll);
 words!(RoundingPriority: "auto" Auto, "more" MorePrecision, "less" LessPrecision);
 words!(Rounding: "keep" Keep, "expand" Expand, "trunc" Trunc, "ceil" Ceil, "floor" Floor, "half-expand" HalfExpand,
     "half-trunc" HalfTrunc, "half-ceil" HalfCeil, "half-floor" HalfFloor, "half-even" HalfEven, "cash" Cash, "none" None);
 words!(CurrencyStyle: "standard" Standard, "accounting" Accounting);
 words!(CurrencyWidth: "symbol" Symbol, "code" Code);
+words!(PluralRuleType: "cardinal" Cardinal, "ordinal" Ordinal);
 
 /// Calls that change one field.
 macro_rules! changes {
@@ -126,6 +128,17 @@ impl CurrencyOptions {
     }
 }
 
+/// Which plural categories numbers have: those of how many there are, or of which one it is.
+#[derive(Clone, Copy, Debug, Default, PartialEq, Eq, Hash)]
+#[non_exhaustive]
+pub enum PluralRuleType {
+    /// Of how many there are: `1 day`, `2 days`.
+    #[default]
+    Cardinal = 1,
+    /// Of which one it is: `1st`, `2nd`, `3rd`, `4th`.
+    Ordinal = 2,
+}
+
 /// How the digits are written.
 #[derive(Clone, Copy, Debug, Default, PartialEq, Eq, Hash)]
 #[non_exhaustive]
@@ -199,7 +212,7 @@ impl<'a> Format<'a> {
     }
 
     /// The words of the format, as legumeyet.h has them, and the code of its currency.
-    pub(crate) fn words(&self) -> ([i32; 6], &'a str) {
+    pub(crate) fn words(&self) -> ([i32; 7], &'a str) {
         let (notation, width) = match self.notation {
             Notation::Standard => (0, 0),
             Notation::Compact(width) => (1, width as i32),
@@ -209,7 +222,7 @@ impl<'a> Format<'a> {
             Unit::Percent => (1, ""),
             Unit::Currency(code) => (2, code),
         };
-        ([notation, width, unit, self.currency_style as i32, self.currency_width as i32, self.grouping as i32], code)
+        ([notation, width, unit, self.currency_style as i32, self.currency_width as i32, self.grouping as i32, 0], code)
     }
 }
 
@@ -312,7 +325,8 @@ pub enum Rounding {
     None = 11,
 }
 
-/// Of what a number is rounded to a multiple, at the position.
+/// Of what a number is rounded to a multiple, in units of the digit at the position. Fraction digits down to the position are shown, where
+/// zeros at the end stay: at -2 by `Fifty` 1.26 is `1.50`. One that ends in zeros has positions from -32767 up, and with its zeros up to 32767.
 #[derive(Clone, Copy, Debug, Default, PartialEq, Eq, Hash)]
 #[non_exhaustive]
 pub enum Increment {
@@ -323,8 +337,30 @@ pub enum Increment {
     Two = 2,
     /// Of five.
     Five = 5,
+    /// Of ten, of which the position is that of the 0.
+    Ten = 10,
+    /// Of 20.
+    Twenty = 20,
     /// Of 25, of which the position is that of the 5.
     TwentyFive = 25,
+    /// Of 50.
+    Fifty = 50,
+    /// Of 100, of which the position is that of the last 0.
+    OneHundred = 100,
+    /// Of 200.
+    TwoHundred = 200,
+    /// Of 250.
+    TwoHundredFifty = 250,
+    /// Of 500.
+    FiveHundred = 500,
+    /// Of 1000.
+    OneThousand = 1000,
+    /// Of 2000.
+    TwoThousand = 2000,
+    /// Of 2500.
+    TwoThousandFiveHundred = 2500,
+    /// Of 5000.
+    FiveThousand = 5000,
 }
 
 /// What becomes of the zeros at the end of the fraction digits.

@@ -65,6 +65,8 @@ extern "C" {
     pub fn legumeyet_formatter_format_parts(formatter: *mut Handle, number: *const u8, number_length: usize, options: *const i32, option_words: usize, out: *mut u8, room: usize, length: *mut usize, intervals: *mut Interval, intervals_room: usize, count: *mut usize) -> i32;
     pub fn legumeyet_formatter_shown(formatter: *mut Handle, number: *const u8, number_length: usize, options: *const i32, option_words: usize, out: *mut u8, room: usize, length: *mut usize) -> i32;
     pub fn legumeyet_formatter_format_exact(formatter: *mut Handle, number: *const u8, number_length: usize, options: *const i32, option_words: usize, out: *mut u8, room: usize, length: *mut usize) -> i32;
+    pub fn legumeyet_formatter_format_range(formatter: *mut Handle, first: *const u8, first_length: usize, second: *const u8, second_length: usize, options: *const i32, option_words: usize, out: *mut u8, room: usize, length: *mut usize) -> i32;
+    pub fn legumeyet_formatter_tell(formatter: *mut Handle, fact: u32, out: *mut u8, room: usize, length: *mut usize) -> i32;
     pub fn legumeyet_formatter_read(formatter: *mut Handle, text: *const u8, text_length: usize, out: *mut u8, room: usize, length: *mut usize) -> i32;
     pub fn legumeyet_formatter_read_lenient(formatter: *mut Handle, text: *const u8, text_length: usize, out: *mut u8, room: usize, length: *mut usize) -> i32;
     pub fn legumeyet_formatter_format_doubles(formatter: *mut Handle, numbers: *const f64, number_count: usize, options: *const i32, option_words: usize, out: *mut u8, room: usize, ends: *mut usize, ends_room: usize, count: *mut usize) -> i32;
@@ -75,6 +77,8 @@ extern "C" {
     pub fn legumeyet_shared_formatter_format_parts(formatter: *const SharedHandle, number: *const u8, number_length: usize, options: *const i32, option_words: usize, out: *mut u8, room: usize, length: *mut usize, intervals: *mut Interval, intervals_room: usize, count: *mut usize) -> i32;
     pub fn legumeyet_shared_formatter_shown(formatter: *const SharedHandle, number: *const u8, number_length: usize, options: *const i32, option_words: usize, out: *mut u8, room: usize, length: *mut usize) -> i32;
     pub fn legumeyet_shared_formatter_format_exact(formatter: *const SharedHandle, number: *const u8, number_length: usize, options: *const i32, option_words: usize, out: *mut u8, room: usize, length: *mut usize) -> i32;
+    pub fn legumeyet_shared_formatter_format_range(formatter: *const SharedHandle, first: *const u8, first_length: usize, second: *const u8, second_length: usize, options: *const i32, option_words: usize, out: *mut u8, room: usize, length: *mut usize) -> i32;
+    pub fn legumeyet_shared_formatter_tell(formatter: *const SharedHandle, fact: u32, out: *mut u8, room: usize, length: *mut usize) -> i32;
     pub fn legumeyet_shared_formatter_read(formatter: *const SharedHandle, text: *const u8, text_length: usize, out: *mut u8, room: usize, length: *mut usize) -> i32;
     pub fn legumeyet_shared_formatter_read_lenient(formatter: *const SharedHandle, text: *const u8, text_length: usize, out: *mut u8, room: usize, length: *mut usize) -> i32;
     pub fn legumeyet_shared_formatter_format_doubles(formatter: *const SharedHandle, numbers: *const f64, number_count: usize, options: *const i32, option_words: usize, out: *mut u8, room: usize, ends: *mut usize, ends_room: usize, count: *mut usize) -> i32;
@@ -92,8 +96,9 @@ pub mod owned {
         legumeyet_formatter_format as format, legumeyet_formatter_format_doubles as format_doubles,
         legumeyet_formatter_format_exact as format_exact, legumeyet_formatter_format_i64 as format_i64,
         legumeyet_formatter_format_integers as format_integers, legumeyet_formatter_format_parts as format_parts,
-        legumeyet_formatter_format_texts as format_texts, legumeyet_formatter_read as read,
-        legumeyet_formatter_read_lenient as read_lenient, legumeyet_formatter_shown as shown,
+        legumeyet_formatter_format_range as format_range, legumeyet_formatter_format_texts as format_texts,
+        legumeyet_formatter_read as read, legumeyet_formatter_read_lenient as read_lenient, legumeyet_formatter_shown as shown,
+        legumeyet_formatter_tell as tell,
     };
 }
 
@@ -103,7 +108,8 @@ pub mod shared {
         legumeyet_shared_formatter_format as format, legumeyet_shared_formatter_format_doubles as format_doubles,
         legumeyet_shared_formatter_format_exact as format_exact, legumeyet_shared_formatter_format_i64 as format_i64,
         legumeyet_shared_formatter_format_integers as format_integers, legumeyet_shared_formatter_format_parts as format_parts,
-        legumeyet_shared_formatter_format_texts as format_texts, legumeyet_shared_formatter_read as read,
-        legumeyet_shared_formatter_read_lenient as read_lenient, legumeyet_shared_formatter_shown as shown,
+        legumeyet_shared_formatter_format_range as format_range, legumeyet_shared_formatter_format_texts as format_texts,
+        legumeyet_shared_formatter_read as read, legumeyet_shared_formatter_read_lenient as read_lenient,
+        legumeyet_shared_formatter_shown as shown, legumeyet_shared_formatter_tell as tell,
     };
 }

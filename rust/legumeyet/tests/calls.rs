@@ -198,12 +198,19 @@ fn newer_options() {
         (1.5, trimmed, "1.5"),
         (1.995, trimmed.minimum_fraction_digits(1), "2.0"),
         (1.23, Options::default().rounded(Rounding::HalfEven, -2).increment(Increment::Five), "1.25"),
+        (1.26, Options::default().rounded(Rounding::HalfEven, -2).increment(Increment::Fifty), "1.50"),
+        (1.26, trimmed.increment(Increment::Fifty), "1.5"),
+        (1234.0, Options::default().rounded(Rounding::HalfEven, 0).increment(Increment::TwoHundredFifty), "1,250"),
+        (2499.0, Options::default().rounded(Rounding::HalfEven, 0).increment(Increment::FiveThousand), "0"),
         (7.0, Options::default().minimum_integer_digits(3), "007"),
     ] {
         assert_eq!(english.format(number, &options).unwrap(), text);
     }
     assert_eq!(english.format(1, &Options::default().minimum_integer_digits(32768)), Err(Error::OPTION));
-    assert_eq!("25".parse(), Ok(Increment::TwentyFive));
+    assert_eq!(english.format(1, &Options::default().rounded(Rounding::HalfEven, i16::MAX).increment(Increment::Ten)), Err(Error::OPTION));
+    assert_eq!(["25", "2500"].map(|it| it.parse::<Increment>().unwrap()), [Increment::TwentyFive, Increment::TwoThousandFiveHundred]);
+    let increments = [1, 2, 5, 10, 20, 25, 50, 100, 200, 250, 500, 1000, 2000, 2500, 5000];
+    assert_eq!(increments.map(|it: i32| it.to_string().parse::<Increment>().unwrap() as i32), increments);
     assert_eq!(TrailingZeros::Trim.to_string(), "trim");
     let by_options = HashMap::from([((Options::default(), CurrencyOptions::default()), 0), ((trimmed, CurrencyOptions::default()), 1)]);
     assert_eq!(by_options[&(trimmed, CurrencyOptions::default())], 1);

@@ -1,0 +1,147 @@
+// NumberFormat and PluralRules in the place of Intl's, with the engine's own for what the library cannot do.
+import assert from "node:assert/strict";
+import { afterEach, test } from "node:test";
+import { DecimalFormatter, NumberFormat } from "legumeyet";
+import { install } from "legumeyet/polyfill";
+
+const { NumberFormat: EngineNumbers, PluralRules: EngineRules } = Intl;
+const isEngine = () => Intl.NumberFormat === EngineNumbers && Intl.PluralRules === EngineRules;
+// Node 18 has no ranges, and of what `polyfill` resolves not each option.
+const hasRanges = "formatRange" in EngineNumbers.prototype;
+let restore = () => {};
+afterEach(() => restore());
+
+test("calls that the engine has not are not there", () => {
+  restore = install();
+  for (const name of ["formatRange", "formatRangeToParts"]) assert.equal(name in Intl.NumberFormat.prototype, hasRanges);
+});
+
+test("nothing is changed without install, nor after restore", () => {
+  assert.ok(isEngine());
+  const described = ["NumberFormat", "PluralRules"].map((it) => Object.getOwnPropertyDescriptor(Intl, it));
+  restore = install();
+  assert.ok(!isEngine() && Intl.NumberFormat !== NumberFormat);
+  for (const [at, name] of ["NumberFormat", "PluralRules"].entries()) {
+    assert.deepEqual({ ...Object.getOwnPropertyDescriptor(Intl, name), value: null }, { ...described[at], value: null });
+    assert.deepEqual([Intl[name].name, Intl[name].length], [name, 0]);
+  }
+  restore();
+  assert.ok(isEngine());
+  restore();
+  assert.ok(isEngine());
+});
+
+test("one of them, and none that there is not", () => {
+  restore = install(["PluralRules"]);
+  assert.ok(Intl.NumberFormat === EngineNumbers && Intl.PluralRules !== EngineRules);
+  restore();
+  restore = install(["NumberFormat"]);
+  assert.ok(Intl.NumberFormat !== EngineNumbers && Intl.PluralRules === EngineRules);
+  restore();
+  for (const wrong of [["x"], ["NumberFormat", "DateTimeFormat"], ["toString"]]) assert.throws(() => install(wrong), RangeError);
+  assert.ok(isEngine());
+});
+
+test("what is put in later stays", () => {
+  const first = install();
+  const Other = class {};
+  Intl.NumberFormat = Other;
+  first();
+  assert.equal(Intl.NumberFormat, Other);
+  Intl.NumberFormat = EngineNumbers;
+  assert.ok(isEngine());
+  const [outer, inner] = [install(), install()];
+  assert.equal(new Intl.NumberFormat("de").format(1.5), "1,5");
+  inner();
+  assert.equal(new Intl.NumberFormat("de").format(1.5), "1,5");
+  outer();
+  assert.ok(isEngine());
+});
+
+// Whether the engine made it: only then its own calls take it.
+function isOfEngine(it, Type = EngineNumbers) {
+  try {
+    return Type.prototype.resolvedOptions.call(it) !== null;
+  } catch {
+    return false;
+  }
+}
+
+test("numbers", { skip: !hasRanges }, () => {
+  restore = install();
+  const rows = [[{}, 1234.5], [{ style: "percent" }, 0.125], [{ style: "currency", currency: "EUR" }, -5], [{ notation: "compact" }, 1234567], [{ maximumSignificantDigits: 2 }, 12345n]];
+  for (const [options, number] of rows) {
+    const [ours, theirs] = [new Intl.NumberFormat("de", options), new EngineNumbers("de", options)];
+    assert.ok(!isOfEngine(ours) && ours instanceof Intl.NumberFormat);
+    assert.equal(ours.format(number), theirs.format(number));
+    assert.deepEqual(ours.formatToParts(number), theirs.formatToParts(number));
+    for (const other of [NaN, Infinity, -Infinity, undefined]) {
+      assert.equal(ours.format(other), theirs.format(other));
+      assert.deepEqual(ours.formatToParts(other), theirs.formatToParts(other));
+    }
+    assert.equal(ours.formatRange(1, 5), theirs.formatRange(1, 5));
+    assert.deepEqual(ours.formatRangeToParts("1", 5n), theirs.formatRangeToParts("1", 5n));
+    assert.throws(() => ours.formatRange(1), TypeError);
+  }
+  assert.equal(Intl.NumberFormat("de").format(1.5), "1,5");
+  assert.equal(new Intl.NumberFormat("en", { useGrouping: false }).format(10n ** 33000n).length, 33001);
+  assert.deepEqual(Intl.NumberFormat.supportedLocalesOf(["de", "xx", "en-GB"]), ["de", "en-GB"]);
+});
+
+test("what the library cannot write the engine writes", { skip: !hasRanges }, () => {
+  restore = install();
+  const rows = [
+    { style: "unit", unit: "kilometer-per-hour" }, { style: "currency", currency: "EUR", currencyDisplay: "name" }, { style: "currency", currency: "USD", currencyDisplay: "narrowSymbol" }, { notation: "scientific" }, { notation: "engineering" },
+    { notation: "compact", style: "currency", currency: "EUR" }, { notation: "compact", maximumFractionDigits: 1 },
+  ];
+  for (const options of rows) {
+    const [it, theirs] = [new Intl.NumberFormat("de", options), new EngineNumbers("de", options)];
+    assert.ok(it instanceof Intl.NumberFormat && isOfEngine(it));
+    assert.equal(Object.getPrototypeOf(it), Intl.NumberFormat.prototype);
+    assert.equal(it.format(12345.678), theirs.format(12345.678));
+    assert.deepEqual([1, 2].map(it.format), [1, 2].map(theirs.format));
+    assert.deepEqual(it.formatToParts(5), theirs.formatToParts(5));
+    assert.deepEqual(it.resolvedOptions(), theirs.resolvedOptions());
+    assert.equal(it.formatRange(1, 2), theirs.formatRange(1, 2));
+    assert.deepEqual(it.formatRangeToParts(1, 2), theirs.formatRangeToParts(1, 2));
+  }
+  class Own extends Intl.NumberFormat {}
+  for (const options of [{}, rows[0]]) assert.ok(new Own("de", options) instanceof Own);
+  for (const [wanted, options] of [[RangeError, { style: "x" }], [TypeError, null], [TypeError, { style: "currency" }], [RangeError, { style: "unit", unit: "x" }]]) assert.throws(() => new Intl.NumberFormat("en", options), wanted);
+  assert.throws(() => new Intl.NumberFormat("de_DE"), RangeError);
+  assert.throws(() => Intl.NumberFormat.prototype.formatToParts.call({}, 5), TypeError);
+  assert.throws(() => Intl.NumberFormat.prototype.format, TypeError);
+  assert.equal(new Intl.NumberFormat("xx").resolvedOptions().locale, new EngineNumbers("xx").resolvedOptions().locale);
+});
+
+test("plural rules", { skip: !hasRanges }, () => {
+  restore = install();
+  for (const options of [{}, { type: "ordinal" }, { minimumFractionDigits: 1 }, { maximumSignificantDigits: 2 }]) {
+    const [ours, theirs] = ["pl", "pl"].map((tag, at) => new (at === 0 ? Intl.PluralRules : EngineRules)(tag, options));
+    assert.ok(!isOfEngine(ours, EngineRules) && ours instanceof Intl.PluralRules);
+    for (const number of [0, 1, 2, 5, 22, 1.5, "2", null, true, NaN, Infinity, undefined, "x"]) assert.equal(ours.select(number), theirs.select(number), String(number));
+    assert.throws(() => ours.select(Symbol("x")), TypeError);
+    assert.equal(ours.selectRange(1, 2), theirs.selectRange(1, 2));
+    assert.throws(() => ours.selectRange(1), TypeError);
+    assert.throws(() => ours.selectRange(NaN, 1), RangeError);
+    const found = ours.resolvedOptions();
+    for (const [name, value] of Object.entries(theirs.resolvedOptions())) assert.deepEqual(name === "pluralCategories" ? [...found[name]].sort() : found[name], name === "pluralCategories" ? [...value].sort() : value, name);
+    assert.deepEqual(Object.keys(found).slice(0, 3), ["locale", "type", "minimumIntegerDigits"]);
+  }
+  assert.equal(new Intl.PluralRules("xx").resolvedOptions().locale, new EngineRules("xx").resolvedOptions().locale);
+  assert.ok(new Intl.PluralRules("xx") instanceof Intl.PluralRules);
+  assert.equal(new Intl.PluralRules("en-u-nu-thai").select(1), "one");
+  assert.throws(() => Intl.PluralRules("en"), TypeError);
+  assert.throws(() => new Intl.PluralRules("en", { type: "x" }), RangeError);
+  assert.throws(() => Intl.PluralRules.prototype.select.call({}, 1), TypeError);
+  assert.deepEqual(Intl.PluralRules.supportedLocalesOf(["en", "xx", "pl-PL"]), ["en", "pl-PL"]);
+  assert.equal(String(new Intl.PluralRules("en")), "[object Intl.PluralRules]");
+});
+
+test("the library's own classes ask the engine for the locale of the machine", () => {
+  restore = install();
+  const machine = new EngineNumbers().resolvedOptions().locale;
+  assert.equal(new DecimalFormatter().resolvedOptions().locale, machine);
+  assert.equal(new Intl.NumberFormat().resolvedOptions().locale, machine);
+  assert.equal(new NumberFormat().resolvedOptions().locale, machine);
+});
