@@ -28,10 +28,11 @@ PG_MODULE_MAGIC;
 
 void _PG_init(void);
 
-/* A tag and a format that a row asks for. They have no NUL at their end. */
+/* A tag and a format that a row asks for. They have no NUL at their end. The format of plural categories is their type. */
 typedef struct {
     const char *tag, *format;
     size_t tag_length, format_length;
+    bool plurals;
 } Asked;
 
 /* A formatter that is kept, with what it was asked for by: the tag and then the format are in `key`. */
@@ -41,6 +42,7 @@ typedef struct {
     legumeyet_formatter formatter;
     uint32 hash;
     uint16 tag_length, format_length;
+    bool plurals;
     char key[KEY_ROOM];
 } KeptFormatter;
 
@@ -118,7 +120,7 @@ need_world(void) {
 static Asked
 asked_of(FunctionCallInfo fcinfo) {
     text *tag = PG_GETARG_TEXT_PP(1), *format = PG_GETARG_TEXT_PP(2);
-    Asked asked = {VARDATA_ANY(tag), VARDATA_ANY(format), VARSIZE_ANY_EXHDR(tag), VARSIZE_ANY_EXHDR(format)};
+    Asked asked = {VARDATA_ANY(tag), VARDATA_ANY(format), VARSIZE_ANY_EXHDR(tag), VARSIZE_ANY_EXHDR(format), false};
     return asked;
 }
 
@@ -178,6 +180,9 @@ refuse_formatter(const Asked *asked, int32_t error, size_t place) {
         ereport(ERROR, (errcode(ERRCODE_INVALID_PARAMETER_VALUE), errmsg("invalid locale tag: \"%s\"", tag),
                         errdetail("A locale tag is a language and what follows it after hyphens, as \"de\", \"de-CH\" or \"zh-Hant-TW\"."),
                         strchr(tag, '_') != NULL ? errhint("Write hyphens for underscores: \"de-DE\" for \"de_DE\".") : 0));
+    if (error == LEGUMEYET_TABLE && asked->plurals)
+        ereport(ERROR, (errcode(ERRCODE_INVALID_PARAMETER_VALUE), errmsg("no plural categories for locale tag \"%s\"", tag),
+                        errdetail("The locale has no data for them.")));
     if (error == LEGUMEYET_TABLE)
         ereport(ERROR, (errcode(ERRCODE_INVALID_PARAMETER_VALUE),
                         errmsg("no number format \"%s\" for locale tag \"%s\"", shown(asked->format, asked->format_length), tag),
@@ -185,14 +190,29 @@ refuse_formatter(const Asked *asked, int32_t error, size_t place) {
     refuse(error);
 }
 
+/* Which plural categories a type is of; or raises that it is none. */
+static int32_t
+plurals_of(const Asked *asked) {
+    if (asked->format_length == 8 && memcmp(asked->format, "cardinal", 8) == 0)
+        return LEGUMEYET_PLURALS_CARDINAL;
+    if (asked->format_length == 7 && memcmp(asked->format, "ordinal", 7) == 0)
+        return LEGUMEYET_PLURALS_ORDINAL;
+    ereport(ERROR, (errcode(ERRCODE_INVALID_PARAMETER_VALUE),
+                    errmsg("invalid type of plural categories: \"%s\"", shown(asked->format, asked->format_length)),
+                    errhint("A type is \"cardinal\" or \"ordinal\".")));
+}
+
 /* Opens a formatter, or raises why not: then what the handle had before is still open. */
 static void
 open_formatter(const Asked *asked, legumeyet_formatter *formatter) {
     const uint8_t *tag = (const uint8_t *)asked->tag, *format = (const uint8_t *)asked->format;
+    legumeyet_format words = {.plurals = asked->plurals ? plurals_of(asked) : LEGUMEYET_PLURALS_NONE};
     size_t place = 0;
     int32_t error;
     need_world();
-    if (is_plain(asked))
+    if (asked->plurals)
+        error = legumeyet_formatter_open(&world, tag, asked->tag_length, LEGUMEYET_WORDS(words), NULL, 0, formatter);
+    else if (is_plain(asked))
         error = legumeyet_formatter_open(&world, tag, asked->tag_length, NULL, 0, NULL, 0, formatter);
     else
         error = legumeyet_formatter_open_skeleton(&world, tag, asked->tag_length, format, asked->format_length, &place, formatter);
@@ -209,7 +229,7 @@ hash_of(const Asked *asked) {
 static bool
 is_of(const KeptFormatter *at, uint32 hash, const Asked *asked) {
     return at->used != 0 && at->hash == hash && at->tag_length == asked->tag_length && at->format_length == asked->format_length &&
-           memcmp(at->key, asked->tag, asked->tag_length) == 0 &&
+           at->plurals == asked->plurals && memcmp(at->key, asked->tag, asked->tag_length) == 0 &&
            memcmp(at->key + asked->tag_length, asked->format, asked->format_length) == 0;
 }
 
@@ -233,6 +253,7 @@ keep_formatter(const Asked *asked, uint32 hash, KeptFormatter *at) {
     at->hash = hash;
     at->tag_length = (uint16)asked->tag_length;
     at->format_length = (uint16)asked->format_length;
+    at->plurals = asked->plurals;
     memcpy(at->key, asked->tag, asked->tag_length);
     memcpy(at->key + asked->tag_length, asked->format, asked->format_length);
 }
@@ -273,14 +294,17 @@ put(legumeyet_formatter *formatter, const Number *number, uint8_t *out, size_t r
     }
 }
 
-/* The text of a number by the tag and the format of a call. */
+/* The text of a number by the tag and the format of a call, or its plural category. */
 static Datum
-write_number(FunctionCallInfo fcinfo, const Number *number) {
+write_number(FunctionCallInfo fcinfo, const Number *number, bool plurals) {
     Asked asked = asked_of(fcinfo);
-    legumeyet_formatter *formatter = formatter_of(&asked);
+    legumeyet_formatter *formatter;
     size_t room = 64 + (number->kind == DIGITS ? 2 * strlen(number->digits) : 0), length = 0;
     text *written = palloc(VARHDRSZ + room);
-    int32_t error = put(formatter, number, (uint8_t *)VARDATA(written), room, &length);
+    int32_t error;
+    asked.plurals = plurals;
+    formatter = formatter_of(&asked);
+    error = put(formatter, number, (uint8_t *)VARDATA(written), room, &length);
     if (error == LEGUMEYET_TOO_SMALL) {
         written = repalloc(written, VARHDRSZ + length);
         error = put(formatter, number, (uint8_t *)VARDATA(written), length, &length);
@@ -294,56 +318,64 @@ write_number(FunctionCallInfo fcinfo, const Number *number) {
     return PointerGetDatum(written);
 }
 
-PG_FUNCTION_INFO_V1(legumeyet_pg_format_numeric);
-Datum
-legumeyet_pg_format_numeric(PG_FUNCTION_ARGS) {
+static Datum
+write_numeric(FunctionCallInfo fcinfo, bool plurals) {
     Number number = {.kind = DIGITS};
     number.digits = DatumGetCString(DirectFunctionCall1(numeric_out, PG_GETARG_DATUM(0)));
     if (number.digits[0] == 'N')
         refuse_number("NaN");
     if (number.digits[0] == 'I' || number.digits[1] == 'I')
         refuse_number("infinity");
-    return write_number(fcinfo, &number);
-}
-
-PG_FUNCTION_INFO_V1(legumeyet_pg_format_integer);
-Datum
-legumeyet_pg_format_integer(PG_FUNCTION_ARGS) {
-    Number number = {.kind = INTEGER, .integer = PG_GETARG_INT32(0)};
-    return write_number(fcinfo, &number);
-}
-
-PG_FUNCTION_INFO_V1(legumeyet_pg_format_bigint);
-Datum
-legumeyet_pg_format_bigint(PG_FUNCTION_ARGS) {
-    Number number = {.kind = INTEGER, .integer = PG_GETARG_INT64(0)};
-    return write_number(fcinfo, &number);
+    return write_number(fcinfo, &number, plurals);
 }
 
 static Datum
-write_real(FunctionCallInfo fcinfo, double real) {
+write_integer(FunctionCallInfo fcinfo, bool plurals) {
+    Number number = {.kind = INTEGER, .integer = PG_GETARG_INT32(0)};
+    return write_number(fcinfo, &number, plurals);
+}
+
+static Datum
+write_bigint(FunctionCallInfo fcinfo, bool plurals) {
+    Number number = {.kind = INTEGER, .integer = PG_GETARG_INT64(0)};
+    return write_number(fcinfo, &number, plurals);
+}
+
+static Datum
+write_finite(FunctionCallInfo fcinfo, double real, bool plurals) {
     Number number = {.kind = REAL, .real = real};
     if (isnan(real))
         refuse_number("NaN");
     if (isinf(real))
         refuse_number("infinity");
-    return write_number(fcinfo, &number);
+    return write_number(fcinfo, &number, plurals);
 }
 
-PG_FUNCTION_INFO_V1(legumeyet_pg_format_double);
-Datum
-legumeyet_pg_format_double(PG_FUNCTION_ARGS) {
-    return write_real(fcinfo, PG_GETARG_FLOAT8(0));
+static Datum
+write_double(FunctionCallInfo fcinfo, bool plurals) {
+    return write_finite(fcinfo, PG_GETARG_FLOAT8(0), plurals);
 }
 
 /* A `real` is written by its own shortest digits, 0.1 as 0.1: the double that they are nearest to has the same. */
-PG_FUNCTION_INFO_V1(legumeyet_pg_format_real);
-Datum
-legumeyet_pg_format_real(PG_FUNCTION_ARGS) {
+static Datum
+write_real(FunctionCallInfo fcinfo, bool plurals) {
     char digits[FLOAT_SHORTEST_DECIMAL_LEN];
     float_to_shortest_decimal_buf(PG_GETARG_FLOAT4(0), digits);
-    return write_real(fcinfo, strtod(digits, NULL));
+    return write_finite(fcinfo, strtod(digits, NULL), plurals);
 }
+
+/* The calls of a type of numbers. */
+#define WRITES(type)                                                                           \
+    PG_FUNCTION_INFO_V1(legumeyet_pg_format_##type);                                           \
+    Datum legumeyet_pg_format_##type(PG_FUNCTION_ARGS) { return write_##type(fcinfo, false); } \
+    PG_FUNCTION_INFO_V1(legumeyet_pg_plural_##type);                                           \
+    Datum legumeyet_pg_plural_##type(PG_FUNCTION_ARGS) { return write_##type(fcinfo, true); }
+
+WRITES(numeric)
+WRITES(integer)
+WRITES(bigint)
+WRITES(double)
+WRITES(real)
 
 PG_FUNCTION_INFO_V1(legumeyet_pg_format_money);
 Datum

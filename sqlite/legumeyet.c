@@ -30,9 +30,10 @@ typedef struct {
     size_t length;
 } Text;
 
-/* A tag and a format that a row asks for. */
+/* A tag and a format that a row asks for. The format of plural categories is their type. */
 typedef struct {
     Text tag, format;
+    int32_t plurals; /* as the library has it */
 } Asked;
 
 /* A formatter that is kept, with what it was asked for by: the tag and then the format are in `key`. */
@@ -40,6 +41,7 @@ typedef struct {
     uint64_t used; /* when it was used last, in uses of all */
     legumeyet_formatter formatter;
     uint32_t hash;
+    int32_t plurals;
     size_t tag_length, format_length;
     uint8_t key[];
 } Kept;
@@ -67,7 +69,7 @@ static Text text_of(sqlite3_value *value) {
 
 /* The tag and the format that the arguments of a call have. */
 static Asked asked_of(int count, sqlite3_value **arguments) {
-    Asked asked = {text_of(arguments[1]), {(const uint8_t *)"", 0}};
+    Asked asked = {text_of(arguments[1]), {(const uint8_t *)"", 0}, LEGUMEYET_PLURALS_NONE};
     if (count == 3)
         asked.format = text_of(arguments[2]);
     return asked;
@@ -150,10 +152,11 @@ static int is_plain(Text format) {
 
 static int32_t open_handle(const Asked *asked, size_t *place, legumeyet_formatter *formatter) {
     Text tag = asked->tag, format = asked->format;
+    legumeyet_format words = {.plurals = asked->plurals};
     int32_t error;
     pthread_mutex_lock(&lock);
-    if (is_plain(format))
-        error = legumeyet_formatter_open(&world, tag.bytes, tag.length, NULL, 0, NULL, 0, formatter);
+    if (asked->plurals != LEGUMEYET_PLURALS_NONE || is_plain(format))
+        error = legumeyet_formatter_open(&world, tag.bytes, tag.length, LEGUMEYET_WORDS(words), NULL, 0, formatter);
     else
         error = legumeyet_formatter_open_skeleton(&world, tag.bytes, tag.length, format.bytes, format.length, place, formatter);
     pthread_mutex_unlock(&lock);
@@ -165,7 +168,7 @@ static void refuse_formatter(sqlite3_context *context, int32_t error, const Aske
     Text format = asked->format, word = {format.bytes + place, format.length - place};
     if (error >= LEGUMEYET_SKELETON_UNKNOWN && error <= LEGUMEYET_SKELETON_UNSUPPORTED)
         refuse_text(context, error, word);
-    else if (error == LEGUMEYET_TABLE && !is_plain(format))
+    else if (error == LEGUMEYET_TABLE && asked->plurals == LEGUMEYET_PLURALS_NONE && !is_plain(format))
         refuse_text(context, error, format);
     else
         refuse_text(context, error, asked->tag);
@@ -201,7 +204,8 @@ static uint32_t hash_after(uint32_t hash, Text text) {
 }
 
 static int is_of(const Kept *kept, uint32_t hash, const Asked *asked) {
-    return kept != NULL && kept->hash == hash && kept->tag_length == asked->tag.length && kept->format_length == asked->format.length &&
+    return kept != NULL && kept->hash == hash && kept->plurals == asked->plurals && kept->tag_length == asked->tag.length &&
+           kept->format_length == asked->format.length &&
            memcmp(kept->key, asked->tag.bytes, kept->tag_length) == 0 &&
            memcmp(kept->key + kept->tag_length, asked->format.bytes, kept->format_length) == 0;
 }
@@ -238,6 +242,7 @@ static Kept *opened(sqlite3_context *context, uint32_t hash, const Asked *asked)
         return NULL;
     }
     kept->hash = hash;
+    kept->plurals = asked->plurals;
     kept->tag_length = asked->tag.length;
     kept->format_length = asked->format.length;
     memcpy(kept->key, asked->tag.bytes, kept->tag_length);
@@ -246,13 +251,12 @@ static Kept *opened(sqlite3_context *context, uint32_t hash, const Asked *asked)
 }
 
 /* The formatter of a call, which is there until the next call; NULL where this one has ended by an error. What had its place is closed. */
-static legumeyet_formatter *formatter_of(sqlite3_context *context, int count, sqlite3_value **arguments) {
+static legumeyet_formatter *formatter_of(sqlite3_context *context, const Asked *asked) {
     Table *table = sqlite3_user_data(context);
-    Asked asked = asked_of(count, arguments);
-    uint32_t hash = hash_after(hash_after(2166136261u, asked.tag), asked.format);
-    Kept **place = place_of(table, hash, &asked);
-    if (!is_of(*place, hash, &asked)) {
-        Kept *kept = opened(context, hash, &asked);
+    uint32_t hash = hash_after(hash_after(2166136261u, asked->tag), asked->format);
+    Kept **place = place_of(table, hash, asked);
+    if (!is_of(*place, hash, asked)) {
+        Kept *kept = opened(context, hash, asked);
         if (kept == NULL)
             return NULL;
         end_kept(*place);
@@ -300,21 +304,48 @@ static void write_number(sqlite3_context *context, legumeyet_formatter *formatte
         sqlite3_free(out);
 }
 
-static void format_call(sqlite3_context *context, int count, sqlite3_value **arguments) {
+/* Writes the number that is the first argument by what is asked for, as the result of a call. */
+static void write_value(sqlite3_context *context, sqlite3_value *number, const Asked *asked) {
     legumeyet_formatter *formatter;
-    if (has_null(count, arguments))
-        return;
-    if (sqlite3_value_type(arguments[0]) == SQLITE_BLOB) {
+    if (sqlite3_value_type(number) == SQLITE_BLOB) {
         refuse(context, "legumeyet: a blob is no number");
         return;
     }
-    if (sqlite3_value_type(arguments[0]) == SQLITE_FLOAT && isinf(sqlite3_value_double(arguments[0]))) {
+    if (sqlite3_value_type(number) == SQLITE_FLOAT && isinf(sqlite3_value_double(number))) {
         refuse(context, "legumeyet: infinity is no number to write");
         return;
     }
-    formatter = formatter_of(context, count, arguments);
+    formatter = formatter_of(context, asked);
     if (formatter != NULL)
-        write_number(context, formatter, arguments[0]);
+        write_number(context, formatter, number);
+}
+
+static void format_call(sqlite3_context *context, int count, sqlite3_value **arguments) {
+    Asked asked;
+    if (has_null(count, arguments))
+        return;
+    asked = asked_of(count, arguments);
+    write_value(context, arguments[0], &asked);
+}
+
+static int is_text(Text text, const char *other) {
+    return text.length == strlen(other) && memcmp(text.bytes, other, text.length) == 0;
+}
+
+/* Writes the plural category of a number: of the type that is the third argument, or a cardinal one. */
+static void plural_call(sqlite3_context *context, int count, sqlite3_value **arguments) {
+    Asked asked;
+    if (has_null(count, arguments))
+        return;
+    asked = asked_of(count, arguments);
+    if (count == 2 || is_text(asked.format, "cardinal"))
+        asked.plurals = LEGUMEYET_PLURALS_CARDINAL;
+    else if (is_text(asked.format, "ordinal"))
+        asked.plurals = LEGUMEYET_PLURALS_ORDINAL;
+    if (asked.plurals == LEGUMEYET_PLURALS_NONE)
+        refuse(context, "legumeyet: a type of plural categories is 'cardinal' or 'ordinal'");
+    else
+        write_value(context, arguments[0], &asked);
 }
 
 /*
@@ -365,6 +396,7 @@ static void read_number(sqlite3_context *context, legumeyet_formatter *formatter
 static void read_value(sqlite3_context *context, int count, sqlite3_value **arguments, int or_null) {
     int type = sqlite3_value_type(arguments[0]);
     legumeyet_formatter *formatter;
+    Asked asked;
     if (has_null(count, arguments))
         return;
     if (type == SQLITE_INTEGER || type == SQLITE_FLOAT)
@@ -373,7 +405,8 @@ static void read_value(sqlite3_context *context, int count, sqlite3_value **argu
         refuse(context, "legumeyet: a blob is no text");
     if (type != SQLITE_TEXT)
         return;
-    formatter = formatter_of(context, count, arguments);
+    asked = asked_of(count, arguments);
+    formatter = formatter_of(context, &asked);
     if (formatter != NULL)
         read_number(context, formatter, text_of(arguments[0]), or_null);
 }
@@ -416,6 +449,8 @@ int sqlite3_legumeyet_init(sqlite3 *connection, char **message, const sqlite3_ap
     } calls[] = {
         {"legumeyet_format", 2, format_call},
         {"legumeyet_format", 3, format_call},
+        {"legumeyet_plural", 2, plural_call},
+        {"legumeyet_plural", 3, plural_call},
         {"legumeyet_read", 2, read_call},
         {"legumeyet_read", 3, read_call},
         {"legumeyet_read_or_null", 2, read_or_null_call},

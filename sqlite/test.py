@@ -42,6 +42,12 @@ READ = [
     ("0.0000000000000000000001", "en", "", 1e-22), ("0.00000000000000000000001", "en", "", "0.00000000000000000000001"),
     ("1.234,5", "es", "group-on-aligned", 1234.5), ("1234,5", "es", "group-on-aligned", 1234.5), ("007", "en", "", 7), ("0.30", "en", "", 0.3), (1234.5, "de", "", 1234.5), (7, "de", "", 7),
 ]
+PLURALS = [
+    # the number, the tag and the type; the word
+    (1, "pl", "cardinal", "one"), (2, "pl", "cardinal", "few"), (5, "pl", "cardinal", "many"), (1.5, "pl", "cardinal", "other"), ("1.0", "en", "cardinal", "other"),
+    (1.0, "en", "cardinal", "one"), (0, "ar", "cardinal", "zero"), (1000000, "fr", "cardinal", "many"), (1, "ja", "cardinal", "other"),
+    (1, "en", "ordinal", "one"), (2, "en", "ordinal", "two"), (3, "en", "ordinal", "few"), (11, "en", "ordinal", "other"), (1, "de", "ordinal", "other"),
+]
 REFUSED = [
     # a call; what the message has
     ("legumeyet_format(1, 'e')", "'e'"), ("legumeyet_format(1, '')", "''"), ("legumeyet_format(1, 'de_DE')", "'de_DE'"),
@@ -53,12 +59,14 @@ REFUSED = [
     ("legumeyet_format('NaN', 'en')", "'NaN'"), ("legumeyet_format('1e40000', 'en')", "'1e40000'"), ("legumeyet_format(1, x'65ff')", "legumeyet: "),
     ("legumeyet_format(1, 'en', cast(x'ff' as text))", "legumeyet: "), ("legumeyet_format(cast(x'31ff' as text), 'en')", "legumeyet: "),
     ("legumeyet_format(cast(x'310032' as text), 'en')", "'1'"), ("legumeyet_format(1, cast(x'656e00' as text))", "'en'"),
+    ("legumeyet_plural(1, 'en', 'ordinals')", "a type of plural categories is"), ("legumeyet_plural(1, 'en', '')", "a type of plural categories is"),
+    ("legumeyet_plural('x', 'en')", "'x'"), ("legumeyet_plural(1, 'xx', 'ordinal')", "'xx'"), ("legumeyet_plural(x'31', 'en')", "a blob is no number"),
     ("legumeyet_read('1,23', 'en')", "'1,23'"), ("legumeyet_read('', 'en')", "''"), ("legumeyet_read(cast(x'31ff' as text), 'en')", "legumeyet: "),
     ("legumeyet_read('1,2M', 'en', 'compact-short')", "'1,2M'"), ("legumeyet_read_or_null('1', 'e')", "'e'"), ("legumeyet_read(x'31', 'en')", "a blob is no text"),
     ("legumeyet_format(1, replace(hex(zeroblob(200)), '0', 'é'))", "é'"), ("legumeyet_format(1)", "wrong number of arguments"),
 ]
 NULLS = [
-    "legumeyet_format(NULL, 'de')", "legumeyet_format(1, NULL)", "legumeyet_format(1, 'de', NULL)", "legumeyet_read(NULL, 'de')", "legumeyet_read_or_null('x', 'de')",
+    "legumeyet_plural(NULL, 'de')", "legumeyet_plural(1, NULL)", "legumeyet_plural(1, 'de', NULL)", "legumeyet_format(NULL, 'de')", "legumeyet_format(1, NULL)", "legumeyet_format(1, 'de', NULL)", "legumeyet_read(NULL, 'de')", "legumeyet_read_or_null('x', 'de')",
     "legumeyet_read_or_null('1,23', 'en')", "legumeyet_read_or_null('', 'en')", "legumeyet_read_or_null(cast(x'ff' as text), 'en')", "legumeyet_read_or_null(x'31', 'en')",
 ]
 
@@ -82,6 +90,13 @@ class Calls(unittest.TestCase):
                 self.assertEqual(self.value("legumeyet_format(?, ?, ?)", number, tag, form), text)
                 if not form.strip():
                     self.assertEqual(self.value("legumeyet_format(?, ?)", number, tag), text)
+
+    def test_plurals(self):
+        for number, tag, kind, word in PLURALS:
+            with self.subTest(number=number, tag=tag, kind=kind):
+                self.assertEqual(self.value("legumeyet_plural(?, ?, ?)", number, tag, kind), word)
+                if kind == "cardinal":
+                    self.assertEqual(self.value("legumeyet_plural(?, ?)", number, tag), word)
 
     def test_read(self):
         for text, tag, form, number in READ:

@@ -36,6 +36,12 @@ SELECT legumeyet.read('1.234,50 €', 'de', 'currency/EUR'), legumeyet.read('12,
 SELECT legumeyet.read('1,234.5', 'ar-EG'), legumeyet.read('١٬٢٣٤٫٥', 'ar-EG');
 SELECT legumeyet.read_or_null('1,23', 'en'), legumeyet.read_or_null('', 'en'), legumeyet.read_or_null('abc', 'en'), legumeyet.read_or_null('1,234', 'en');
 SELECT legumeyet.read_or_null('0.' || repeat('1', 16383), 'en') > 0, legumeyet.read_or_null('0.' || repeat('1', 16384), 'en');
+-- plural categories of numbers as they are shown, cardinal and ordinal
+SELECT legumeyet.plural(1, 'pl'), legumeyet.plural(2, 'pl'), legumeyet.plural(5, 'pl'), legumeyet.plural(22::bigint, 'pl'), legumeyet.plural(1.5, 'pl'), legumeyet.plural(0::smallint, 'pl');
+SELECT legumeyet.plural(1, 'en'), legumeyet.plural(1.0, 'en'), legumeyet.plural(1::real, 'en'), legumeyet.plural(round(0.96, 1), 'en'), legumeyet.plural(-1, 'en'), legumeyet.plural(0.1::real, 'fr');
+SELECT legumeyet.plural(0, 'ar'), legumeyet.plural(2, 'ar'), legumeyet.plural(11, 'ar'), legumeyet.plural(1000000, 'fr'), legumeyet.plural(1e6::double precision, 'fr'), legumeyet.plural(1, 'ja');
+SELECT string_agg(legumeyet.plural(n, 'en', 'ordinal'), ' ' ORDER BY n) FROM (VALUES (1), (2), (3), (4), (11), (21)) AS v (n);
+SELECT legumeyet.plural(2, 'en', 'cardinal'), legumeyet.plural(tag => 'en', number => 2, type => 'ordinal'), legumeyet.format(2, 'en'), legumeyet.plural(NULL::integer, 'en');
 -- null
 SELECT legumeyet.format(NULL::numeric, 'de'), legumeyet.format(1, NULL), legumeyet.format(1, 'de', NULL), legumeyet.read(NULL, 'de');
 -- named arguments, a column of tags and of formats
@@ -66,6 +72,10 @@ SELECT legumeyet.format(1, repeat('é', 60));
 SELECT legumeyet.format(('1' || repeat('0', 32768))::numeric, 'en');
 \echo :SQLSTATE
 SELECT legumeyet.format(repeat('9', 32768)::numeric, 'en', 'compact-short');
+SELECT legumeyet.plural(1, 'en', 'ordinals');
+\echo :SQLSTATE
+SELECT legumeyet.plural('NaN'::numeric, 'en');
+SELECT legumeyet.plural(1, 'xx');
 SELECT legumeyet.read('1,23', 'en');
 \echo :SQLSTATE
 SELECT legumeyet.read('1,2M', 'en', 'compact-short');
@@ -74,6 +84,7 @@ SELECT legumeyet.format('1234.5'::text, 'de');
 -- in an index, a generated column and a constraint
 CREATE TABLE prices (amount numeric(12, 2), label text GENERATED ALWAYS AS (legumeyet.format(amount, 'de', 'currency/EUR')) STORED, typed text CHECK (legumeyet.read_or_null(typed, 'de') IS NOT NULL));
 CREATE INDEX ON prices (legumeyet.read(typed, 'de'));
+CREATE INDEX ON prices (legumeyet.plural(amount, 'pl'));
 INSERT INTO prices (amount, typed) VALUES (1234.5, '1.234,5'), (-0.5, '-0,5');
 INSERT INTO prices (amount, typed) VALUES (1, '1.23.4');
 SELECT label, typed FROM prices WHERE legumeyet.read(typed, 'de') > 0;
