@@ -174,9 +174,10 @@ def read_typed(its, text, grouping="auto"):
     return read_leniently(its, text, grouping)
 
 
-def found_reader(book, locale, system, style, code):
-    """What the texts of a currency in a style, or without one of percents, are read by; None where a table is not found."""
-    form = currency_format(book, locale, system, style, code) if style else percent_format(book, locale, system)
+def found_reader(book, locale, system, style, code, has_own=True):
+    """What the texts of a currency in a style, or without one of percents, are read by; None where a table is not found. The
+    symbols of a currency are its own, where it has these, or without its own those of plain numbers."""
+    form = currency_format(book, locale, system, style, code, has_own=has_own) if style else percent_format(book, locale, system)
     if form is None:
         return None
     along = book.unit_chain(locale)
@@ -185,13 +186,21 @@ def found_reader(book, locale, system, style, code):
     return reader(form, code if style == "code" else book.units.symbol(along, code)[0], code)
 
 
+def plain_reader(book, locale, system, style, code, own):
+    """What the same amounts are read by with the symbols of plain numbers, where their own are others; None of percents."""
+    found = style and found_reader(book, locale, system, style, code, has_own=False)
+    return found if found and found.form.symbols != own.form.symbols else None
+
+
 def readers(book, locale, system, style, code):
-    """What texts are read by: a reader and, where its digits are other ones than those of ASCII, that of `latn`."""
+    """What texts are read by: a reader, and a second one where there is one. Where the digits of the first are other ones than
+    those of ASCII, that is the reader of `latn`, and else of amounts with symbols of their own that with those of plain numbers."""
     found = found_reader(book, locale, system, style, code)
     if found is None:
         return []
-    latin = found_reader(book, locale, "latn", style, code) if found.form.digits != ASCII else None
-    return [found, *([latin] if latin else [])]
+    is_ascii = found.form.digits == ASCII
+    second = plain_reader(book, locale, system, style, code, found) if is_ascii else found_reader(book, locale, "latn", style, code)
+    return [found, *([second] if second else [])]
 
 
 def read_as_it_is(its, text, grouping):

@@ -1,7 +1,8 @@
 """A book's tables and how a line finds them: the rule of docs/books.md, written down once more.
 
 The scripts of this folder go by this model alone; nothing in it is taken from the program. A book with units is a pair
-of a book and of five arrays of units: percents, currencies, accounts, symbols and digits of currencies.
+of a book and of five arrays of units: percents, currencies, accounts, symbols and digits of currencies. One with ordinal
+rules and ranges too is a triple of both and of two arrays more.
 """
 import json
 import re
@@ -186,10 +187,11 @@ def of_code(code):
 
 
 class Book:
-    """The tables of five or six arrays that are a book, by their keys, with units where it has them."""
+    """The tables of five or six arrays that are a book, by their keys, with units and with more where it has them."""
 
-    def __init__(self, arrays, units=None):
+    def __init__(self, arrays, units=None, more=None):
         self.units = None if units is None else Units(units)
+        self.more = None if more is None else more_tables(more)
         symbols, digits, rules, short, long, *sixth = arrays
         self.digits = dict(digits)
         self.entries = {
@@ -208,6 +210,23 @@ class Book:
         """The chain of a locale for units: `und` is at its end where the book has parents."""
         found = self.chain(locale)
         return found if self.parents is None or UND in found else [*found, UND]
+
+    def first_in(self, table, locale):
+        """What a table by locales has for a locale: that of the first of its chain, `und` last, or None."""
+        return next((table[it] for it in self.unit_chain(locale) if it in table), None)
+
+    def cardinal_rules(self, locale):
+        """The plural rules of a locale, or None."""
+        found = self.find("plural rules", self.chain(locale), "")
+        return found and found[0]
+
+    def ordinal_rules(self, locale):
+        """The ordinal rules of a locale, or None."""
+        return self.more and self.first_in(self.more["ordinal rules"], locale)
+
+    def plural_ranges(self, locale):
+        """The categories of the ranges of a locale that are not those of the second end: none where it has no entry."""
+        return (self.more and self.first_in(self.more["plural ranges"], locale)) or []
 
     def find(self, kind, along, system):
         """The table of a kind that a chain of locales finds for a system, or for none, or None."""
@@ -233,33 +252,45 @@ class Book:
         return sorted({locale for table in self.entries.values() for locale, _ in table}, key=text_of)
 
     def standing(self):
-        """The locales that have an entry, of units too, or are the parent of another one, in the order of their tags."""
+        """The locales that have an entry, of units and of more too, or are the parent of another one, in the order of their tags."""
         of_units = self.units.locales() if self.units else []
-        return sorted({*self.locales(), *of_units, *(self.parents or {}).values()}, key=text_of)
+        of_more = [locale for table in (self.more or {}).values() for locale in table]
+        return sorted({*self.locales(), *of_units, *of_more, *(self.parents or {}).values()}, key=text_of)
 
     def systems(self):
         """The systems that the book has digits or an entry for, in order."""
         return sorted({*self.digits, *(system for table in self.entries.values() for _, system in table if system)})
 
 
-def halves_of(value):
-    """The book and the units of a JSON value that is a pair of them, where null is no arrays; the value and None else."""
-    if not isinstance(value, list) or len(value) != 2:
-        return value, None
-    return value[0], [] if value[1] is None else value[1]
+def more_tables(arrays):
+    """The tables of the arrays of more, by their kinds and locales. Faults where there are not two to eight, or one after the
+    second has entries."""
+    if not 2 <= len(arrays) <= 8 or any(arrays[2:]):
+        raise ValueError("more is two arrays, and up to six empty ones")
+    return {kind: {locale_of(tag): its for tag, its in array} for kind, array in zip(MORE_ARRAYS, arrays)}
+
+
+def parts_of(value):
+    """The book, the units and more of a JSON value that is a pair or a triple of them, where null is no arrays, with None for
+    each that is not there; the value and None twice else."""
+    if not isinstance(value, list) or len(value) not in (2, 3):
+        return value, None, None
+    book, *others = value
+    others = [[] if it is None else it for it in others]
+    return (book, *others, None)[:3]
 
 
 def book_of(value):
     """The book that a JSON value is, or None where it has not the form that this model needs."""
-    arrays, units = halves_of(value)
+    arrays, units, more = parts_of(value)
     try:
-        return Book(arrays, units) if parents_fault(arrays[5] if len(arrays) > 5 else []) is None else None
+        return Book(arrays, units, more) if parents_fault(arrays[5] if len(arrays) > 5 else []) is None else None
     except (TypeError, ValueError, LookupError):
         return None
 
 
-def read_book(path, with_units=False):
-    """The book that a file holds, which has units where these are asked for."""
+def read_book(path, with_units=False, with_more=False):
+    """The book that a file holds, which has units, and ordinal rules and ranges, where these are asked for."""
     try:
         with open(path, encoding="utf-8") as given:
             value = json.load(given)
@@ -272,19 +303,9 @@ def read_book(path, with_units=False):
         raise Fault(f"{path} is no book of five or six arrays, with units or without")
     if with_units and book.units is None:
         raise Fault(f"{path} has no units")
+    if with_more and book.more is None:
+        raise Fault(f"{path} has no ordinal rules and ranges")
     return book
-
-
-def more_of(path):
-    """The arrays that a file holds beside a book, as tables by locales."""
-    try:
-        with open(path, encoding="utf-8") as given:
-            arrays = json.load(given)
-        return {kind: {locale_of(tag): rest for tag, rest in array} for kind, array in zip(MORE_ARRAYS, arrays)}
-    except OSError as fault:
-        raise Fault(f"{path} can't be read: {fault.strerror}") from None
-    except (ValueError, TypeError, RecursionError) as fault:
-        raise Fault(f"{path} holds no such arrays: {fault}") from None
 
 
 def differences(full, book):
@@ -320,6 +341,13 @@ def unit_differences(full, book):
         yield "currency digits", UND, code, its.digits_of(code) != other.digits_of(code)
 
 
+def more_differences(full, book):
+    """What each locale of the full book finds otherwise of more in the other book: (array, locale, differs)."""
+    for locale in full.locales():
+        yield "ordinal rules", locale, full.ordinal_rules(locale) != book.ordinal_rules(locale)
+        yield "plural ranges", locale, full.plural_ranges(locale) != book.plural_ranges(locale)
+
+
 def say_differences(full, book, shown):
     """Prints how many triples find the same tables, and the first that do not; answers whether all do."""
     counts, alike, first = dict.fromkeys(FORMS, 0), dict.fromkeys(FORMS, 0), []
@@ -334,6 +362,10 @@ def say_differences(full, book, shown):
         first += say_unit_differences(full, book)
     elif full.units or book.units:
         first.append("one of the books has units, and the other has none")
+    if full.more and book.more:
+        first += say_more_differences(full, book)
+    elif full.more or book.more:
+        first.append("one of the books has ordinal rules and ranges, and the other has none")
     print(*first[:shown], sep="\n", end="\n" if first[:shown] else "")
     return not first
 
@@ -349,3 +381,12 @@ def say_unit_differences(full, book):
     for kind in UNIT_ARRAYS:
         print(f"{kind:<16} {counts[kind]:>8} questions, {alike[kind]} find the same entry")
     return first
+
+
+def say_more_differences(full, book):
+    """Prints how often the same ordinal rules and ranges are found; answers a line for each that is not."""
+    found = list(more_differences(full, book))
+    for kind in MORE_ARRAYS:
+        alike = [not differs for its, _, differs in found if its == kind]
+        print(f"{kind:<16} {len(alike):>8} locales, {sum(alike)} find the same entry")
+    return [f"{kind} of {text_of(locale)}: another entry" for kind, locale, differs in found if differs]

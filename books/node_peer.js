@@ -2,8 +2,9 @@
 // tab and the text. So too the form percent, and of a currency currency-EUR, code-EUR and accounting-EUR; for cash, which
 // Node does not know, the rounding names digits and increment, as in `cash 2 5`. A form may be an object of options in JSON,
 // with the grouping auto, the sign keep and the rounding `-`. The forms plural and ordinal are answered with the category that
-// Intl.PluralRules has for the number, with the digits that it shows, range-plural with that of `1..2`, and plural-categories and
-// ordinal-categories with the categories that it lists; plural-locale with the locale whose rules it takes. The form `locale` is answered with the locale that Node takes for the tag,
+// Intl.PluralRules has for the number, with the digits that it shows, or by the options in JSON that the rounding then is, range-plural
+// with that of `1..2`, and plural-categories and ordinal-categories with the categories that it lists; plural-locale with the locale
+// whose rules it takes. The form `locale` is answered with the locale that Node takes for the tag,
 // `script` with the tag that has its usual script put in, and `whole` with its usual script and region. Any other line is
 // `err`, a tab and a word. The word `version` alone prints the versions of Node and of its data.
 "use strict";
@@ -65,19 +66,26 @@ const PLURALS = {
   "plural-locale": "cardinal",
 };
 
-function rules(tag, type, digits) {
-  const key = `${tag} ${type} ${digits}`;
+function rules(tag, type, options) {
+  const key = `${tag} ${type} ${options}`;
   if (kept.size > 1000) kept.clear();
-  if (!kept.has(key)) kept.set(key, new Intl.PluralRules(tag, { type, minimumFractionDigits: digits }));
+  if (!kept.has(key)) kept.set(key, new Intl.PluralRules(tag, { type, ...JSON.parse(options) }));
   return kept.get(key);
 }
 
+// The options that show the digits that a number is given with, or those of the rounding.
+function pluralOptions(form, rounding, number) {
+  if (rounding !== "-") return rounding;
+  const digits = form === "range-plural" ? "" : (number.split(".")[1] ?? "");
+  return JSON.stringify({ minimumFractionDigits: digits.length });
+}
+
 // The category of a number or a range, those that are listed, or the locale.
-function category(tag, form, number) {
-  if (form === "plural-locale") return rules(tag, PLURALS[form], 0).resolvedOptions().locale;
-  if (form.endsWith("-categories")) return rules(tag, PLURALS[form], 0).resolvedOptions().pluralCategories.join(" ");
-  if (form === "range-plural") return rules(tag, PLURALS[form], 0).selectRange(...number.split("..").map(Number));
-  return rules(tag, PLURALS[form], (number.split(".")[1] ?? "").length).select(Number(number));
+function category(tag, form, rounding, number) {
+  const found = rules(tag, PLURALS[form], pluralOptions(form, rounding, number));
+  if (form === "plural-locale") return found.resolvedOptions().locale;
+  if (form.endsWith("-categories")) return found.resolvedOptions().pluralCategories.join(" ");
+  return form === "range-plural" ? found.selectRange(...number.split("..").map(Number)) : found.select(Number(number));
 }
 
 function withScript(tag) {
@@ -89,7 +97,7 @@ function answered(line) {
   if (form === "locale") return new Intl.NumberFormat(tag).resolvedOptions().locale;
   if (form === "script") return withScript(tag);
   if (form === "whole") return new Intl.Locale(tag).maximize().toString();
-  if (form in PLURALS) return category(tag, form, number);
+  if (form in PLURALS) return category(tag, form, rounding, number);
   const options = grouping in GROUPINGS ? optionsOf(form, sign, rounding) : null;
   return options && formatter(tag, grouping, options).format(options.style === "percent" ? ratio(number) : number);
 }

@@ -5,7 +5,8 @@ from look_up import UND, locale_of, text_of
 
 class PluralEntries:
     """Makes both arrays for the locales of a book: an entry is there only where the chain of the locale, with `und` at its
-    end, would find another one. None is as one without rules, and as one without ranges."""
+    end, would find another one. No ranges are as an entry without them, and no ordinal rules are not: a locale has an entry
+    of them, which may be empty."""
 
     def __init__(self, cldr, book):
         self.cldr, self.book = cldr, book
@@ -15,13 +16,11 @@ class PluralEntries:
         """Adds what these locales need, each after those of its chain."""
         named = [(locale_of(tag_of(name)), name) for name in names if DATA_LOCALE.fullmatch(tag_of(name))]
         for locale, name in sorted(named, key=lambda it: (it[0] != UND, len(self.book.unit_chain(it[0])), it[0])):
-            self.settle(self.ordinals, locale, self.ordinal_rules(name))
-            self.settle(self.ranges, locale, self.plural_ranges(name))
-
-    def settle(self, table, locale, wanted):
-        """Adds an entry where it is needed."""
-        if find(self.book, table, locale) != wanted:
-            table[locale] = wanted
+            rules, ranges = self.ordinal_rules(name), self.plural_ranges(name)
+            if self.book.first_in(self.ordinals, locale) != rules:
+                self.ordinals[locale] = rules
+            if (self.book.first_in(self.ranges, locale) or []) != ranges:
+                self.ranges[locale] = ranges
 
     def ordinal_rules(self, name):
         """The ordinal rules of a locale without `other`, which has no condition."""
@@ -37,8 +36,3 @@ class PluralEntries:
         """Both arrays, each in the order of its keys."""
         in_order = lambda table: [[text_of(locale), table[locale]] for locale in sorted(table, key=text_of)]
         return [in_order(self.ordinals), in_order(self.ranges)]
-
-
-def find(book, table, locale):
-    """What a table by locales has for a locale: that of the first of its chain, `und` last, or nothing."""
-    return next((table[it] for it in book.unit_chain(locale) if it in table), [])

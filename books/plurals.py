@@ -3,6 +3,7 @@ import re
 
 from cldr import CATEGORIES
 from conditions import RUN, cut
+from look_up import locale_of
 
 NUMBER = re.compile(r"[-+]?([0-9]+)(?:\.([0-9]*))?")
 MOST = 18  # digits that are kept on each side of the point
@@ -53,3 +54,18 @@ def categories_of(rules):
 def range_category(ranges, start, end):
     """The category of a range whose ends have these categories: that of the first range for them, or that of the second end."""
     return next((result for first, second, result in ranges if (first, second) == (start, end)), end)
+
+
+def rules_of(book, form, tag):
+    """The rules by which a line of a form is answered for a locale, or None."""
+    return (book.ordinal_rules if form == "ordinal" else book.cardinal_rules)(locale_of(tag))
+
+
+def answer(book, line):
+    """The answer to a line of a form that is a word alone, as `plural`, without a rounding and with the sign `keep`."""
+    tag, form, *_, number = line.split("\t")
+    rules = rules_of(book, form, tag)
+    if rules is None:
+        return "err\ttable"
+    each = [category_of(rules, operands_of(it)) for it in number.split("..")]
+    return f"ok\t{range_category(book.plural_ranges(locale_of(tag)), *each) if len(each) == 2 else each[0]}"

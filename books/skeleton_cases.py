@@ -63,6 +63,7 @@ SKELETONS = [
     "% +? .",
     "% +_ .0",
     "% 000 rounding-mode-floor",
+    "% precision-increment/5",
     # amounts
     "currency/EUR",
     "currency/USD",
@@ -76,6 +77,7 @@ SKELETONS = [
     "currency/EUR .0#",
     "currency/EUR .00/w",
     "currency/EUR @@#",
+    "currency/CHF precision-increment/0.05",
     "currency/USD @@@/w",
     "currency/CHF .00/@@@@r",
     "currency/JPY .00*",
@@ -110,7 +112,9 @@ SKELETONS = [
 # Words beside those of the definition: what it refuses by its first part, short forms, and texts with faults.
 WORDS = """\
 numbering-system/thai numbering-system/foo! scale/100 scale/0.5 scale/x scale/ %x1 %x precision-increment/0.05 precision-increment/0.50
-precision-increment/0.5/w precision-increment/x precision-increment/0 unit/kilometer unit/foo unit/ unit/kilometer-per-hour
+precision-increment/0.5/w precision-increment/x precision-increment/0 precision-increment/ precision-increment/2.5/w precision-increment/25.0
+precision-increment/.5 precision-increment/050 precision-increment/5. precision-increment/0.3 precision-increment/1.2.3 precision-increment/0.5/x
+precision-increment/5e-2 precision-increment decimal-auto unit/kilometer unit/foo unit/ unit/kilometer-per-hour
 measure-unit/length-kilometer measure-unit/foo per-measure-unit/duration-hour usage/road usage/foo scientific/*ee
 scientific/+ee/sign-always engineering/sign-never E+!00 E+?0 EE+!00 E00 EEE0 E E+0 E+! E0x currency/EUR currency/usd currency/EURO currency/E
 currency/ currency currency/US1 currency/ÄÖÜ integer-width/+000 integer-width/*0 integer-width/##00 integer-width/00##

@@ -25,6 +25,7 @@ LEFT_OUT = ("integer-width/*0", "group-auto", "group-min2")
 # What is an unknown word here and none there.
 TAKEN_THERE = {
     "a part behind digits of a fraction without end: unknown words here, taken there": re.compile("(precision-unlimited|[.]0*[*+])/.*").fullmatch,
+    "an increment with a sign or an exponent: unknown words here, taken there": re.compile("precision-increment/([+-].*|.*[Ee].*)").fullmatch,
     "words with a mark of direction between them: one word here, two there": re.compile(".*\\u200e.*").fullmatch,
 }
 

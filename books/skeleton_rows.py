@@ -36,6 +36,11 @@ E+!00 | Later at 0
 E+0 | Unknown at 0
 %x100 | Later at 0
 integer-width/##00 | Unsupported at 0
+decimal-auto precision-increment/00.50/w | precision-increment/0.50/w
+precision-increment/25. | precision-increment/25
+% precision-increment/0.3 | Unsupported at 2
+precision-increment/0 | Unknown at 0
+decimal-auto decimal-auto | Twice at 13
 usage/road | Unsupported at 0""".split("\n")
 ]
 # A skeleton, a number, the digits of the currency, and the line that asks for it by other words.
@@ -57,6 +62,9 @@ base-unit | -1.23456789 | - | plain auto auto - -1.234568
 .00* ,_ | 1.2345 | - | plain never auto - 1.2345
 .0 rounding-mode-half-ceiling | -0.25 | - | plain auto auto - -0.2
 .0 rounding-mode-half-floor | -0.25 | - | plain auto auto - -0.3
+precision-increment/0.05 | 1.23 | - | plain auto auto - 1.25
+precision-increment/0.50/w | 2.8 | - | plain auto auto - 3
+precision-increment/250 | 1400 | - | plain auto auto - 1500
 .+ +- | 1.23456789 | - | plain auto negative - 1.23456789
 % ,? | 1234.5 | - | percent min2 auto - 1234.5
 KK | 1234567.00 | - | long min2 auto - 1234567

@@ -6,7 +6,7 @@ import decimal
 import re
 import typing
 
-KINDS = ("notation", "unit", "precision", "mode", "grouping", "integer", "width", "sign")
+KINDS = ("notation", "unit", "precision", "mode", "grouping", "integer", "width", "sign", "point")
 # Of each kind the words of normal texts, each with its other spellings behind it; the first word of a row without a mark `=` is
 # written, that of one with it is usual.
 ROWS = """\
@@ -45,12 +45,13 @@ sign sign-accounting ()
 sign sign-accounting-always ()!
 sign sign-accounting-except-zero ()?
 sign sign-accounting-negative ()-
+point = decimal-auto
 """
 REFUSED = {
     "System": ("latin", "numbering-system/"),
     "Later": ("permille scientific E0 engineering EE0 unit-width-narrow unit-width-full-name %x100 scale/ "
-              "precision-increment/ unit/ measure-unit/ scientific/ engineering/").split(),
-    "Unsupported": ("decimal-auto decimal-always integer-width-trunc unit-width-hidden unit-width-formal unit-width-variant group-thousands "
+              "unit/ measure-unit/ scientific/ engineering/").split(),
+    "Unsupported": ("decimal-always integer-width-trunc unit-width-hidden unit-width-formal unit-width-variant group-thousands "
                     "rounding-mode-half-odd rounding-mode-unnecessary per-measure-unit/ usage/").split(),
 }
 MOST = 100  # digits of a word
@@ -68,6 +69,7 @@ OLD_DIGITS = [
     (re.compile(r"\.(0*#*)/(@#*)(/w)?"), "s"),
 ]
 PADDED = re.compile(r"integer-width/[*+](0+)|(0+)")
+INCREMENT = re.compile(r"precision-increment/([0-9]*)(?:\.([0-9]*))?(/w)?")
 SCIENTIFIC = re.compile(r"EE?(\+[!?])?0+")
 EXACT = decimal.Context(prec=200)
 MODES = {
@@ -92,6 +94,7 @@ class Skeleton(typing.NamedTuple):
     integer: str = ""
     width: str = ""
     sign: str = ""
+    point: str = ""
 
     def normal_text(self):
         """The normal text."""
@@ -152,6 +155,19 @@ def digits_setting(word):
     return None
 
 
+def increment_setting(word):
+    """The normal text of a word of an increment."""
+    found = INCREMENT.fullmatch(word)
+    front, fraction, whole = found.groups("") if found else ("", "", "")
+    digits = (front + fraction).lstrip("0")
+    if not digits:
+        raise Refused("Unknown")
+    step = digits.rstrip("0")
+    if step not in ("1", "2", "5", "25") or max(len(fraction), len(digits) - len(step)) > MOST:
+        raise Refused("Unsupported")
+    return f"precision-increment/{front.lstrip('0') or '0'}{'.' if fraction else ''}{fraction}{whole}"
+
+
 def setting(word):
     """The kind that a word sets, and the word of the normal text."""
     if word in SPELLINGS:
@@ -164,6 +180,8 @@ def setting(word):
         if not re.fullmatch("[A-Za-z]{3}", code, re.A):
             raise Refused("Code")
         return "unit", f"currency/{code.upper()}"
+    if word.startswith("precision-increment/"):
+        return "precision", increment_setting(word)
     if word.startswith("integer-width/"):
         raise Refused("Unsupported")
     raise Refused(fault_named(word))
@@ -239,6 +257,9 @@ def digits_asked(its, of_currency):
         return Digits(0, 6)
     if word in ("precision-unlimited", "precision-integer"):
         return Digits(0, None if word == "precision-unlimited" else 0)
+    if word == "precision-increment":
+        digits = len(options[0].partition(".")[2])
+        return Digits(digits, digits, int(options[0].replace(".", "")), is_whole)
     if word[0] == "@":
         return Digits(0, 0, 1, is_whole, counted(word, "@"))
     both = next((it for it in options if it[0] == "@"), None)

@@ -1,7 +1,7 @@
 """How people type what a formatter writes of a percent or of an amount of money: without groups, with the characters of a
 usual keyboard, without the unit, with it elsewhere, or with its code."""
-from lenient_text import ASCII, BLANK, FOLDS, read_in_turn, without_unit
-from unit_text import number_of, rounded, text_of
+from lenient_text import ASCII, BLANK, FOLDS, read_as, read_in_turn, without_unit
+from unit_text import GROUPINGS, number_of, rounded, text_of
 
 NUMBERS = [number_of(text) for text in ("-1234.5", "1234567.885", "0.5")]
 SPACES = {ord(it): " " for it in BLANK}
@@ -9,9 +9,9 @@ SIGNS = {at: its for at, its in FOLDS.items() if its in ("", "-", "+")}
 WAYS = (
     "as written", "without groups", "with plain spaces", "without spaces beside the unit", "with the signs of ASCII",
     "with the digits of ASCII", "with all of these", "without the unit", "with the unit before", "with the unit after",
-    "with the code before", "with the code after", "as the same tag with -u-nu-latn is written",
+    "with the code before", "with the code after", "as the same tag with -u-nu-latn is written", "with the symbols of plain numbers",
 )
-OF_LATIN = WAYS[-1]
+OF_LATIN, OF_PLAIN = WAYS[-2:]
 
 
 def close(form):
@@ -35,6 +35,15 @@ def beside(form, number, name, is_before, grouping):
         yield signed(plain, number, joined(text_of(plain, number._replace(sign=""), grouping), space))
 
 
+def of_second(its, number, grouping):
+    """What is written of a number by the second reader's format, with the way in which it is typed so, where there is one and the
+    first one's does not write it."""
+    for other in its[1:]:
+        text = text_of(other.form, number, grouping)
+        if read_as(its[0].form, text, *GROUPINGS) is None:
+            yield OF_PLAIN if its[0].form.digits == ASCII else OF_LATIN, text
+
+
 def texts(its, unit, code, number):
     """What is typed of a number, each with the way in which it is. It is read by these readers."""
     form = its[0].form
@@ -54,7 +63,7 @@ def texts(its, unit, code, number):
         for way, name, is_before in ((8, unit, True), (9, unit, False), (10, code, True), (11, code, False)):
             for it in beside(form, number, name, is_before, grouping):
                 yield from ((WAYS[way], it), (WAYS[way], it.translate(usual)))
-        yield from ((OF_LATIN, text_of(other.form, number, grouping)) for other in its[1:])
+        yield from of_second(its, number, grouping)
 
 
 def shown(form, number):

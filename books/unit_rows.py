@@ -145,6 +145,16 @@ mr | percent | 1234567.5% | 1234567.5
 mr | currency-EUR | EUR 1,234,567.8 | 1234567.8
 mr | currency-EUR | 12,34,567.8 € | not-written
 ar-u-nu-arab | percent | 5% | 5
+de-AT | currency-EUR | € 1.234,50 | 1234.50
+de-AT | currency-EUR | 1.234,50 | 1234.50
+de-AT | currency-EUR | € 1 234,50 | 1234.50
+de-AT | currency-EUR | 1234,5 | 1234.5
+de-AT | currency-EUR | 1,234.5 | not-written
+fr-CH | currency-CHF | 5.50 | 5.50
+fr-CH | currency-CHF | 5,50 CHF | 5.50
+fr-CH | accounting-CHF | -5,50 | -5.50
+pt-CV | currency-CVE | 12$50 | 12.50
+pt-CV | currency-CVE | 12,50 | 12.50
 he | currency-ILS | -5.00 ₪ | -5.00
 eu | currency-EUR | -1.234,50 € | -1234.50
 xx | percent | 5 | table

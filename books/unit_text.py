@@ -156,9 +156,10 @@ def percent_format(book, locale, system):
     return Format(symbols, tables[1], affixes_of(pattern, sign, symbols))
 
 
-def currency_format(book, locale, system, style, code, is_cash=False):
+def currency_format(book, locale, system, style, code, is_cash=False, has_own=True):
     """What amounts of a currency are written by, in a style: `currency` by its symbol, `code` by its code, and
-    `accounting` by its symbol in accounting; None where a table is not found."""
+    `accounting` by its symbol in accounting; None where a table is not found. The symbols are the entry's own, where it has
+    these, or without its own those of plain numbers."""
     tables, units, along = plain_tables(book, locale, system), book.units, book.unit_chain(locale)
     asked = units and (units.accounting if style == "accounting" else units.standard)
     entry = asked(along, system, code) if units else None
@@ -166,7 +167,7 @@ def currency_format(book, locale, system, style, code, is_cash=False):
         return None
     own, pattern, beside_letter = entry
     unit, ends = (code, LETTERS) if style == "code" else units.symbol(along, code)
-    symbols = Symbols(*own) if own else tables[0]
+    symbols = Symbols(*own) if own and has_own else tables[0]
     digits, increment, cash_digits, cash_increment = units.digits_of(code)
     rounding = (cash_digits, cash_increment) if is_cash else (digits, increment)
     return Format(symbols, tables[1], affixes_of(chosen_pattern(pattern, beside_letter, ends), unit, symbols), rounding)

@@ -1,7 +1,7 @@
 // Prints the bytes of each file that a page loads: as it is, by gzip -9, and by brotli -11. `small` is the module of a page of English and German, with
 // their book inside, and `two` that book by itself; `classes` and `field` are the modules as they are, each by itself. Where esbuild is on the PATH,
 // `bundle` is one file of the classes, `page` the module of the page with one file of its classes, and `all` the module of all calls, that book and
-// `bundle`.
+// `bundle`, all without NumberFormat; `intl` is `bundle` with it.
 // usage: node sizes.js PACKAGE
 import { spawnSync } from "node:child_process";
 import { readFileSync } from "node:fs";
@@ -27,9 +27,19 @@ const TAGS = ["en", "de"];
 const two = Buffer.from(smallerBook(String(read("world.json")), TAGS));
 const small = Buffer.from(pageModule(read("page.wasm"), String(read("world.json")), TAGS));
 const rows = { module: [module], small: [small], world: [read("world.json")], two: [two], classes: classes.map(read), field: fields.map(read) };
-const bundleOf = (name) => spawnSync("esbuild", [`${folder}/${name}`, "--bundle", "--minify", "--format=esm"], { maxBuffer: 1e8 });
-const [bundled, ofPage] = [bundleOf("core.js"), bundleOf("page.js")];
-if (bundled.status === 0) Object.assign(rows, { bundle: [bundled.stdout], page: [small, ofPage.stdout], all: [module, two, bundled.stdout] });
+const OF_INTL = "NumberFormat";
+
+// One file of what a module exports, or of all but what is of Intl.
+async function bundleOf(name, isWhole = false) {
+  const names = Object.keys(await import(new URL(name, pathToFileURL(`${folder}/`)))).filter((it) => isWhole || it !== OF_INTL);
+  return spawnSync("esbuild", ["--bundle", "--minify", "--format=esm"], { input: `export { ${names} } from "./${name}";`, cwd: folder, maxBuffer: 1e8 });
+}
+
+const bundled = await bundleOf("core.js");
+if (bundled.status === 0) {
+  const [ofPage, ofIntl] = await Promise.all([bundleOf("page.js"), bundleOf("core.js", true)]);
+  Object.assign(rows, { bundle: [bundled.stdout], page: [small, ofPage.stdout], all: [module, two, bundled.stdout], intl: [ofIntl.stdout] });
+}
 for (const [name, files] of Object.entries(rows)) {
   const sizes = [(it) => it, (it) => gzipSync(it, { level: 9 }), brotliCompressSync].map((packed) => files.reduce((sum, it) => sum + packed(it).length, 0));
   console.log(name.padEnd(8), ...sizes.map((it) => String(it).padStart(8)));

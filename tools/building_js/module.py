@@ -39,14 +39,16 @@ PARTS_OF_PAGE = {
     "units": re.compile(r"js_units"),
     "read": re.compile(r"js_formatter_read\w*"),
     "skeletons": re.compile(r"js_formatter_open_skeleton|js_skeleton_normal|js_place"),
+    "plurals": re.compile(r"js_plurals|js_formatter_range"),
 }
 CHOSEN = [it for it in PARTS_OF_PAGE if it != "opening"]  # what a page may be made without, as js/pages.js has it
 # The functions of the library that only calls for a part come to, though calls of all pages name them: compact numbers, percents and amounts, and
 # formatters with tables of their own, which a page's book never opens. Where a page does without the part they stop, and what only they call goes.
 ONLY_OF = {
-    "opening": re.compile(r"locale_numbers_formatter::own_tables::|own_tables\+\+\w+\+Destruct::drop|::held_formatter::own_of|held_answers|::book::Book::drop\b"),
+    "opening": re.compile(r"locale_numbers_formatter::own_tables::|own_tables\+\+\w+\+Destruct::drop|::held_(?:formatter::own_of|plurals::own_plurals)|held_answers|::book::Book::drop\b"),
     "compact": re.compile(r"icu_decimal::(?:compact_formatter|formatted_compact)::|::find_compact\b"),
     "units": re.compile(r"icu_dimension(?:_affixes|_lenient)?::(?!\w+::drop)|::find_(?:amounts|percents)\b"),
+    "plurals": re.compile(r"legumeyet_c::categories::|::find_plural_rules\b"),
 }
 WHOLE, OF_PAGE = "legumeyet.wasm", "page.wasm"
 KEEPING = """\

@@ -17,6 +17,8 @@ from .common import TOP, Fault, fault_of, read_text, say, write_whole
 from .guard import Guard
 
 PARTS = ("main", "supplemental")
+# What a book may have beside numbers: the first of these for which the data has all.
+MORE = (("--units", "--more"), ("--units",), ("--more",), ())
 
 
 def cache_folder():
@@ -78,15 +80,16 @@ def run_maker(guard, folder, book, *more):
 
 
 def make(folder, cache, state, text):
-    """Makes the book of this data in a room beside its place, with units where the data has them, names it and returns its path. Nothing is
-    kept where it goes wrong."""
+    """Makes the book of this data in a room beside its place, with units, and with ordinal rules and ranges, where the data has them, names
+    it and returns its path. Nothing is kept where it goes wrong."""
     room = f"{cache}/part-{secrets.token_hex(8)}"
     with Guard(room) as guard:
         os.mkdir(room)
         book = f"{room}/book"
-        ran = run_maker(guard, folder, book, "--units")
-        if ran.returncode:
-            ran = run_maker(guard, folder, book)
+        for more in MORE:
+            ran = run_maker(guard, folder, book, *more)
+            if not ran.returncode:
+                break
         if ran.returncode:
             lines = ran.stderr.strip().splitlines() or [f"make-cldr ended with status {ran.returncode}"]
             raise Fault(f"no book was made of {folder}: {lines[-1].removeprefix('make-cldr: ')}")

@@ -1,8 +1,10 @@
 """The words of a call of ./locale_numbers: those of the launcher's own, and those of the programs."""
 import os
+import re
 from dataclasses import dataclass, field
 
 from .common import PROGRAMS, USAGE, Fault
+from .tables import table_of
 
 SWITCHES = ("build", "built", "try", "world", "sample")
 WITH_A_WORD = ("cldr", "jobs")
@@ -10,6 +12,8 @@ WITH_A_WORD = ("cldr", "jobs")
 MOST_JOBS = 1024
 # Formatters that are kept over a book of all locales: with many locales in turn half the time of the program's own 16.
 CAPACITY = "512"
+# A word that asks the command for help or for its version.
+HELP = re.compile(r"--help|--version|-p*[hV].*", re.DOTALL)
 
 
 @dataclass
@@ -24,7 +28,9 @@ class Words:
         return name in self.options
 
     def jobs(self):
-        """How many programs are to answer side by side: of 0 as many as there are processors."""
+        """How many programs are to answer side by side: of 0 as many as there are processors, and for help one."""
+        if any(HELP.fullmatch(word) for word in self.others):
+            return 1
         return int(self.options.get("jobs", "1")) or len(os.sched_getaffinity(0))
 
     def words_for_programs(self, book):
@@ -59,15 +65,15 @@ def check_together(said):
 
 
 def check_jobs(said):
-    """Refuses a count of jobs that is none, and jobs where no lines are answered."""
+    """Refuses a count of jobs that is none, and jobs where neither lines nor a table are answered."""
     count = said.options.get("jobs")
     if count is None:
         return
     if not (count.isascii() and count.isdigit() and len(count) < 5 and int(count) <= MOST_JOBS):
         raise Fault(f"--jobs takes a number from 0 to {MOST_JOBS}", USAGE)
     options = [word for word in said.others if word.startswith("-")]
-    if options and "--lines" not in options:
-        raise Fault("--jobs is for lines: without other options, or with --lines", USAGE)
+    if options and "--lines" not in options and not table_of(said.others):
+        raise Fault("--jobs is for lines and for tables: without other options, with --lines or with --field", USAGE)
 
 
 def read_words(words):

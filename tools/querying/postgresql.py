@@ -265,8 +265,11 @@ def wait_for(ask, seconds=60):
 
 
 def try_update(server):
-    """The extension is updated from the version of the header to a later one, with what uses it."""
-    name, own = server.database("updated"), header_version()
+    """The extension is updated from its first version to that of the header, and from this to a later one, with what uses it."""
+    name, own = server.database("old"), header_version()
+    server.psql("CREATE EXTENSION legumeyet VERSION '2.0'; ALTER EXTENSION legumeyet UPDATE", name)
+    expect("after an update", server.psql("SELECT extversion, legumeyet.plural(5, 'pl') FROM pg_extension WHERE extname = 'legumeyet'", name), f"{own}|many")
+    name = server.database("updated")
     place = server.folder / f"usr/share/postgresql/{server.version}/extension"
     (place / f"{EXTENSION}--{own}--{LATER_VERSION}.sql").write_text(LATER, encoding="ascii")
     before = "CREATE EXTENSION legumeyet; CREATE VIEW german AS SELECT legumeyet.format(1234.5, 'de') AS text;"

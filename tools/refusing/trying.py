@@ -43,6 +43,16 @@ class Exact(typing.NamedTuple):
     end: tuple
 
 
+class Call(typing.NamedTuple):
+    """A call of the command, with its words, standard input, and the whole output, which a call that is refused nothing says."""
+
+    name: str
+    program: str
+    words: list
+    given: bytes
+    whole: bytes
+
+
 class Row(typing.NamedTuple):
     """A line of a program of rows, with its answer."""
 
@@ -142,6 +152,7 @@ def is_kept(case, ended):
 
 WRITE = ends_by(5, b"fault: write\n", is_beginning)
 MEMORY = Refused(("REFUSE_MEMORY",), "memory", ends_by(6, b"fault: memory\n", is_whole_beginning), True)
+OF_COMMAND = Refused(("REFUSE_MEMORY",), "memory", ends_by(6, b"legumeyet: fault: memory\n", is_beginning), True)
 OTHERS = (
     Refused(("REFUSE_READ",), "read", ends_by_read),
     Refused(("REFUSE_WRITE",), "write", WRITE),
@@ -193,6 +204,14 @@ def try_exact(case):
     return Tried(1, 0, [] if is_fine else [f"{case.name}: {ended}, and not {case.end}"])
 
 
+def try_call(case):
+    """A call of the command with memory refused: it ends as ever, or says that it is out of memory, behind a beginning."""
+    free = shim.run_again(case.program, case.words)
+    if (free.status, free.error) != (0, b""):
+        return Tried(1, 0, [f"{case.name}: {free}"])
+    return in_turn(case._replace(whole=free.output), OF_COMMAND, case.words)
+
+
 def try_row(case):
     """A row with memory refused: it is answered as ever, or the program ends without an answer and says why."""
     ended = shim.run_again(case.program, ())
@@ -218,4 +237,4 @@ def tried(case):
     """What comes of a case."""
     with open("given", "wb") as file:
         file.write(case.given)
-    return {Lines: try_lines, Exact: try_exact, Row: try_row, Change: try_change}[type(case)](case)
+    return {Lines: try_lines, Exact: try_exact, Call: try_call, Row: try_row, Change: try_change}[type(case)](case)
