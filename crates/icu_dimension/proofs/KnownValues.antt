@@ -19,6 +19,8 @@ use Rattle.icu_dimension.specs.FoundUnits.{CurrencySettings, found_currency, fou
 use Rattle.icu_dimension.specs.ProvidedUnits.{AmountTexts, PercentTexts, two_digits, usual_fractions}
 use Rattle.icu_dimension.specs.UnitSources.{CurrencySource, DecimalSource}
 use Rattle.icu_dimension.specs.declared.options.CurrencyFormatterOptions.{CurrencyFormatterOptions}
+use Rattle.icu_dimension.specs.declared.options.PercentSign.{PercentSign}
+use Rattle.icu_dimension.specs.declared.options.PercentSign.TheVariants.{Percent, Permille}
 use Rattle.icu_dimension_fractions.specs.declared.CurrencyStyle.{CurrencyStyle}
 use Rattle.icu_dimension_fractions.specs.declared.CurrencyStyle.TheVariants.{Standard, Accounting}
 use Rattle.icu_dimension_fractions.specs.declared.CurrencyWidth.{CurrencyWidth}
@@ -212,21 +214,34 @@ another_error = refl
 
 abbrev percents : Identifier → Result PercentTexts DataError
 percents = table_of (
-    (codes "und/", Ok (record { sign = codes "%"; symbols = None; pattern = alone (record { place = After; first = []; second = []; third = [] }) }))
-    ∷ (codes "de/", Ok (record { sign = codes "%"; symbols = None; pattern = german }))
-    ∷ (codes "und/arab", Ok (record { sign = codes "A"; symbols = None; pattern = german }))
+    (codes "und/", Ok (record { sign = codes "%"; permille = Some (codes "m"); symbols = None; pattern = alone (record { place = After; first = []; second = []; third = [] }) }))
+    ∷ (codes "de/", Ok (record { sign = codes "%"; permille = None; symbols = None; pattern = german }))
+    ∷ (codes "und/arab", Ok (record { sign = codes "A"; permille = Some (codes "M"); symbols = None; pattern = german }))
     ∷ [])
 
+abbrev percent_pair : PercentSign → Preferences → Result AffixPair DataError
+percent_pair sign preferences = result_map_both (λ s. sign_pair s NoSign) (λ e. e)
+    (found_percent (record { decimals = decimals 5; percents = percents }) preferences (record { grouping_strategy = None; sign = sign }))
+
+abbrev in_arab : Preferences
+in_arab = record (of_locale (codes "de") None) { numbering_system = Some (codes "arab") }
+
 -- the system along all locales, and then none
-german_percents : result_map_both (λ s. sign_pair s NoSign) (λ e. e) (found_percent (record { decimals = decimals 5; percents = percents }) (of_locale (codes "de") None) None)
-    ≡ Ok (pair [] (space ++ codes "%"))
+german_percents : percent_pair Percent (of_locale (codes "de") None) ≡ Ok (pair [] (space ++ codes "%"))
 german_percents = refl
 
-english_percents : result_map_both (λ s. sign_pair s NoSign) (λ e. e) (found_percent (record { decimals = decimals 5; percents = percents }) (of_locale (codes "en") None) None)
-    ≡ Ok (pair [] (codes "%"))
+english_percents : percent_pair Percent (of_locale (codes "en") None) ≡ Ok (pair [] (codes "%"))
 english_percents = refl
 
-system_before_locale : result_map_both (λ s. sign_pair s NoSign) (λ e. e)
-    (found_percent (record { decimals = decimals 5; percents = percents }) (record (of_locale (codes "de") None) { numbering_system = Some (codes "arab") }) None)
-    ≡ Ok (pair [] (space ++ codes "A"))
+system_before_locale : percent_pair Percent in_arab ≡ Ok (pair [] (space ++ codes "A"))
 system_before_locale = refl
+
+-- the permille sign is that of the same entry, or none
+english_permille : percent_pair Permille (of_locale (codes "en") None) ≡ Ok (pair [] (codes "m"))
+english_permille = refl
+
+permille_of_system : percent_pair Permille in_arab ≡ Ok (pair [] (space ++ codes "M"))
+permille_of_system = refl
+
+no_permille : percent_pair Permille (of_locale (codes "de") None) ≡ Err IdentifierNotFound
+no_permille = refl

@@ -1,8 +1,9 @@
 -- What a formatter of percents or of amounts writes with: the tables of plain text, and the units that are found.
 -- Defined in docs/units.md, "Choosing units" and "Formatters".
 -- Cited by `try_new_unstable` of both formatters, and by the laws of what equal preferences find.
-use Rattle.std.specs.Prelude.{List, Option, None, Some, Result, Ok, Err}
+use Rattle.std.specs.Prelude.{ℕ, List, Option, None, Some, Result, Ok, Err}
 use Rattle.icu_decimal.specs.Chains.{chain}
+use Rattle.icu_decimal.specs.Choice.{answered}
 use Rattle.icu_decimal.specs.FoundTables.{found_tables}
 use Rattle.icu_decimal.specs.PlainText.{Tables}
 use Rattle.icu_decimal.specs.Symbols.{Symbols}
@@ -18,6 +19,9 @@ use Rattle.icu_dimension.specs.ProvidedUnits.{AmountTexts, PercentTexts, SymbolT
 use Rattle.icu_dimension.specs.UnitChoice.{amounts_found, fractions_found, name_found, percent_found, unit_chain}
 use Rattle.icu_dimension.specs.UnitSources.{CurrencySource, DecimalSource, PercentSource}
 use Rattle.icu_dimension.specs.declared.options.CurrencyFormatterOptions.{CurrencyFormatterOptions}
+use Rattle.icu_dimension.specs.declared.options.PercentFormatterOptions.{PercentFormatterOptions}
+use Rattle.icu_dimension.specs.declared.options.PercentSign.{PercentSign}
+use Rattle.icu_dimension.specs.declared.options.PercentSign.TheVariants as sign
 
 -- what comes of a result, where there is one
 abbrev pub then_found : {A B : Type 0} → Result A DataError → (A → Result B DataError) → Result B DataError
@@ -39,15 +43,21 @@ with_own (Some own) t = record { symbols = own; digits = t.digits; strategy = t.
 
 -- ---- percents
 
-abbrev pub percent_settings : Tables → PercentTexts → UnitSettings
-percent_settings t e =
-    record { tables = with_own e.symbols t; pattern = e.pattern; unit = record { kind = Percent; text = e.sign } }
+-- the text of a sign, where the entry has one
+abbrev pub sign_found : PercentSign → PercentTexts → Result (List ℕ) DataError
+sign_found sign.Percent e = Ok e.sign
+sign_found sign.Permille e = answered e.permille
 
-abbrev pub found_percent : PercentSource → Preferences → Option GroupingStrategy → Result UnitSettings DataError
-found_percent s p option =
-    then_found (decimals_found s.decimals p option) (λ t.
+abbrev pub percent_settings : Tables → PercentTexts → List ℕ → UnitSettings
+percent_settings t e text =
+    record { tables = with_own e.symbols t; pattern = e.pattern; unit = record { kind = Percent; text = text } }
+
+abbrev pub found_percent : PercentSource → Preferences → PercentFormatterOptions → Result UnitSettings DataError
+found_percent s p options =
+    then_found (decimals_found s.decimals p options.grouping_strategy) (λ t.
     then_found (percent_found s.percents (unit_locales s.decimals p) p.numbering_system) (λ e.
-    Ok (percent_settings t e)))
+    then_found (sign_found options.sign e) (λ text.
+    Ok (percent_settings t e text))))
 
 -- ---- amounts
 

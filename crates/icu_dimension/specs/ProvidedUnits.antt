@@ -10,9 +10,10 @@ use Rattle.icu_dimension_fractions.specs.declared.fraction.Fraction.{Fraction}
 use Rattle.icu_dimension_fractions.specs.declared.fraction.FractionInfo.{FractionInfo}
 use Rattle.icu_dimension_fractions.specs.declared.increment.FractionIncrement.TheVariants.{MultiplesOf1}
 
--- the percent sign, symbols of percents' own or none, and the pattern
+-- the percent sign, the permille sign or none, symbols of percents' own or none, and the pattern
 pub record PercentTexts : Type 0 where
   pub sign : List ℕ
+  pub permille : Option (List ℕ)
   pub symbols : Option Symbols
   pub pattern : PatternTexts
 

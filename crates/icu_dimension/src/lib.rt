@@ -32,5 +32,5 @@ pub use icu_dimension_fractions::{
     FractionIncrement, FractionInfo,
 };
 pub use icu_dimension_lenient::LenientUnitReader;
-pub use options::{CurrencyFormatterOptions, PercentFormatterOptions};
+pub use options::{CurrencyFormatterOptions, PercentFormatterOptions, PercentSign};
 pub use percent::PercentFormatter;

@@ -1,13 +1,40 @@
 //! Options: how percents and amounts are written.
 
+ghost use Rattle.std.specs.Prelude.{◌≡◌};
+ghost use Rattle.icu_dimension.specs.HeldFormatters.{typed_sign};
+
 use icu_decimal::options::GroupingStrategy;
 use icu_dimension_fractions::{CurrencyStyle, CurrencyWidth};
 
-/// How percents are written. By default separators are where the locale places them: `1,234%`.
+/// With which sign percents are written, beside the number as it is given.
+#[derive(Clone, Copy, Debug, Default, PartialEq, Eq, Hash)]
+pub enum PercentSign {
+    /// The percent sign: `12%`.
+    #[default]
+    Percent,
+    /// The permille sign: `12‰`.
+    Permille,
+}
+
+impl PercentSign {
+    // What people type for it.
+    pub(crate) fn typed(self) -> &'static str
+        ensures { result.now ≡ typed_sign self }
+    {
+        match self {
+            PercentSign::Percent => "%",
+            PercentSign::Permille => "‰",
+        }
+    }
+}
+
+/// How percents are written. By default with the percent sign, with separators where the locale places them: `1,234%`.
 #[derive(Clone, Copy, Debug, Default, PartialEq, Eq, Hash)]
 pub struct PercentFormatterOptions {
     /// When grouping separators are written; `None` means `Auto`.
     pub grouping_strategy: Option<GroupingStrategy>,
+    /// With which sign.
+    pub sign: PercentSign,
 }
 
 /// How amounts are written. The default is in general, by the symbol, with separators where the locale places them:

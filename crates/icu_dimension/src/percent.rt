@@ -1,6 +1,6 @@
 //! A formatter of percents.
 
-ghost use Rattle.std.specs.Prelude.{◌≡◌, ◌⊎◌, false, true, IfOk, IsErrOf, OnOk, codes, string_bytes};
+ghost use Rattle.std.specs.Prelude.{◌≡◌, ◌⊎◌, false, true, IfOk, IsErrOf, OnOk, string_bytes};
 ghost use Rattle.std.specs.Result.{result_map_both};
 ghost use Rattle.icu_decimal.specs.BorrowedTables.{borrowed_tables};
 ghost use Rattle.icu_dimension_affixes.specs.HeldUnits.{name_of, settings_of};
@@ -8,9 +8,9 @@ ghost use Rattle.icu_dimension_affixes.specs.UnitReading.{AreReaderTexts, HasNoD
 ghost use Rattle.icu_dimension_affixes.specs.UnitText.{unit_decimal_text, unit_formatted};
 ghost use Rattle.icu_dimension_lenient.specs.LenientUnits.{is_leniently_unit_readable_by, lenient_texts};
 ghost use Rattle.icu_dimension.specs.FoundUnits.{found_percent};
-ghost use Rattle.icu_dimension.specs.HeldFormatters.{settings_of_percent};
+ghost use Rattle.icu_dimension.specs.HeldFormatters.{settings_of_percent, sign_of, typed_sign};
 
-use crate::options::PercentFormatterOptions;
+use crate::options::{PercentFormatterOptions, PercentSign};
 use crate::provider::{PercentEssentialsV1, load_decimals, load_percent};
 use crate::reading::read_once;
 use fixed_decimal::Decimal;
@@ -23,22 +23,23 @@ use icu_dimension_affixes::{FormattedUnit, Unit, UnitKind, UnitPattern, UnitRead
 use icu_dimension_lenient::LenientUnitReader;
 use std::alloc::{AllocError, Global};
 
-/// A formatter of percents: the tables of a locale, which it borrows, and when separators are written.
+/// A formatter of percents: the tables of a locale, which it borrows, its sign, and when separators are written.
 ///
-/// That of `en` writes -12.5 as `-12.5%`, that of `tr` as `-%12,5`. After ICU4X's `PercentFormatter`.
+/// That of `en` writes -12.5 as `-12.5%`, that of `tr` as `-%12,5`; with the permille sign `-12.5‰` and `-‰12,5`. After ICU4X's `PercentFormatter`.
 #[derive(Clone, Copy, Debug)]
 pub struct PercentFormatter<'b> {
     decimals: DecimalTables<'b>,
     pattern: &'b UnitPattern,
-    sign: &'b str,
+    sign: PercentSign,
+    text: &'b str,
 }
 
 impl<'b> PercentFormatter<'b> {
     /// The formatter of these preferences and options, with tables of the provider: the symbols and the digits that plain
-    /// text finds, then the percent sign and its pattern.
+    /// text finds, then the pattern of percents and the sign asked for.
     ///
-    /// Preferences of `tr` write 12.5 as `%12,5`. `IdentifierNotFound`: one of these tables is not there; any other error
-    /// is the provider's own, the first in this order. It does not allocate.
+    /// Preferences of `tr` write 12.5 as `%12,5`. `IdentifierNotFound`: one of these tables is not there, or has no such
+    /// sign; any other error is the provider's own, the first in this order. It does not allocate.
     pub fn try_new_unstable<P>(
         provider: &'b P,
         preferences: DecimalFormatterPreferences,
@@ -49,7 +50,8 @@ impl<'b> PercentFormatter<'b> {
             + DataProvider<DecimalDigitsV1>
             + DataProvider<PercentEssentialsV1>
             + ParentProvider,
-        ensures { result_map_both settings_of_percent (λ error. error) result ≡ found_percent
+        ensures sign { IfOk result (λ formatter. sign_of formatter ≡ options.sign) }
+        ensures found { result_map_both settings_of_percent (λ error. error) result ≡ found_percent
             (record {
               decimals = record {
                 next = P.next provider.now;
@@ -58,43 +60,58 @@ impl<'b> PercentFormatter<'b> {
                 digits = λ id. ⟦<P as DataProvider<DecimalDigitsV1>>⟧.table provider.now id;
               };
               percents = λ id. ⟦<P as DataProvider<PercentEssentialsV1>>⟧.table provider.now id;
-            }) preferences options.grouping_strategy }
+            }) preferences options }
     {
         let decimals = load_decimals(provider, &preferences, options.grouping_strategy)?;
         let found = load_percent(provider, &preferences)?;
         Ok(PercentFormatter {
             decimals: decimals.with_own(&found.symbols),
             pattern: &found.pattern,
-            sign: found.sign.as_str(),
+            sign: options.sign,
+            text: found.text_of(options.sign)?,
         })
     }
 
-    /// The formatter of tables that the caller has: what decimals are written with, a pattern and a percent sign.
+    /// The formatter of tables that the caller has: what decimals are written with, a pattern, a sign and its text.
     ///
     /// With the tables of English, `¤` after the number and `%` it writes 12.5 as `12.5%`. It does not allocate.
-    pub fn from_parts(decimals: DecimalTables<'b>, pattern: &'b UnitPattern, sign: &'b str) -> Self
-        ensures { settings_of_percent result
+    pub fn from_parts(
+        decimals: DecimalTables<'b>,
+        pattern: &'b UnitPattern,
+        sign: PercentSign,
+        text: &'b str,
+    ) -> Self
+        ensures sign { sign_of result ≡ sign }
+        ensures value { settings_of_percent result
             ≡ record {
               tables = borrowed_tables decimals.entry;
               pattern = pattern.now;
-              unit = record { kind = UnitKind.Percent; text = sign.now };
+              unit = record { kind = UnitKind.Percent; text = text.now };
             } }
     {
         PercentFormatter {
             decimals,
             pattern,
             sign,
+            text,
         }
     }
 
-    // The percent sign, as a unit.
+    // The text of the sign, as a unit.
     fn unit(&self) -> Unit<'b>
         ensures { name_of result ≡ (settings_of_percent self.now).unit }
     {
         Unit {
             kind: UnitKind::Percent,
-            text: self.sign,
+            text: self.text,
         }
+    }
+
+    /// Its sign: of a formatter with the default options the percent sign. It does not allocate.
+    pub fn sign(&self) -> PercentSign
+        ensures { result ≡ sign_of self.now }
+    {
+        self.sign
     }
 
     /// What its decimals are written with: of the formatter of `en` those of English. It does not allocate.
@@ -142,20 +159,21 @@ impl<'b> PercentFormatter<'b> {
     }
 
     /// The reader of what people type of percents: that of `en` reads `12.5%`, `12.5 %` and `12.5` as 12.5. As that of
-    /// `reader`, it can be kept beside the formatter.
+    /// `reader`, it can be kept beside the formatter. With the permille sign `‰` is typed.
     ///
     /// `Unreadable`: texts can't be read back, or not once they are folded. `Memory`: out of memory. It allocates for each
     /// affix, and for each folded text.
     pub fn lenient_reader(&self, alloc: Global) -> Result<LenientUnitReader<'b>, ReadError>
         ensures unreadable { IsErrOf result ReadError.Unreadable
-            → is_leniently_unit_readable_by (lenient_texts (settings_of_percent self.now) (codes "%")) ≡ false }
+            → is_leniently_unit_readable_by (lenient_texts (settings_of_percent self.now) (typed_sign (sign_of self.now))) ≡ false }
         ensures not_written { ¬ (IsErrOf result ReadError.NotWritten) }
         ensures texts { OnOk result (AreReaderTexts (reader_texts (settings_of_percent self.now))) }
         ensures readable { OnOk result
-            (is_leniently_unit_readable_by (lenient_texts (settings_of_percent self.now) (codes "%")) ≡ true) }
-        ensures value { IfOk result (λ reader. reader ≡ lenient_texts (settings_of_percent self.now) (codes "%")) }
+            (is_leniently_unit_readable_by (lenient_texts (settings_of_percent self.now) (typed_sign (sign_of self.now))) ≡ true) }
+        ensures value { IfOk result (λ reader. reader ≡ lenient_texts (settings_of_percent self.now) (typed_sign (sign_of self.now))) }
     {
-        LenientUnitReader::of_parts(alloc, &self.decimals, self.pattern, self.unit(), "%")
+        let typed = self.sign.typed();
+        LenientUnitReader::of_parts(alloc, &self.decimals, self.pattern, self.unit(), typed)
     }
 
     /// Whether texts can be read back: in English they can.

@@ -5,7 +5,7 @@ ghost use Rattle.std.specs.Str.{is_utf8};
 ghost use Rattle.icu_decimal.specs.HeldTables.{tables_of};
 ghost use Rattle.icu_decimal_direct.specs.TextDigits.{number_spelled};
 ghost use Rattle.icu_decimal_direct.specs.TextTables.{text_tables};
-ghost use Rattle.icu_dimension.specs.HeldFormatters.{code_of, currency_settings_of, settings_of_percent};
+ghost use Rattle.icu_dimension.specs.HeldFormatters.{code_of, currency_settings_of, settings_of_percent, sign_of};
 ghost use Rattle.locale_numbers_lines.specs.Growth.{Grows};
 ghost use Rattle.locale_numbers_formatter.specs.FormatReading.{reader_of};
 ghost use Rattle.locale_numbers_formatter.specs.FormatText.{plain_tables, unit_tables};
@@ -68,13 +68,14 @@ fn write_percents(
     out: &mut String,
 ) -> Result<(), AllocError>
     requires { IfSome reader (λ reader. reader.now
-        ≡ reader_of (unit_tables (percent_format (settings_of_percent formatter.now)))) }
+        ≡ reader_of (unit_tables (percent_format (sign_of formatter.now) (settings_of_percent formatter.now)))) }
     ensures text { OnOk result (string_bytes out.new
         ≡ string_bytes out.old ++ number_answer
-        (unit_tables (percent_format (settings_of_percent formatter.now))) value.now) }
+        (unit_tables (percent_format (sign_of formatter.now) (settings_of_percent formatter.now))) value.now) }
     ensures err { OnErr result (Grows (string_bytes out.old) (string_bytes out.new)) }
     ensures room { HasRoom out.old
-        (number_answer (unit_tables (percent_format (settings_of_percent formatter.now))) value.now) → IsOk result }
+        (number_answer (unit_tables (percent_format (sign_of formatter.now) (settings_of_percent formatter.now)))
+        value.now) → IsOk result }
 {
     written_reads_back();
     unit_is_layered();

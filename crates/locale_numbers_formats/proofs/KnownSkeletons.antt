@@ -27,7 +27,7 @@ use Rattle.locale_numbers_formats.specs.declared.skeleton_error.SkeletonError.Th
 use Rattle.locale_numbers_formats.specs.declared.stems.Precision.TheVariants as precision
 use Rattle.locale_numbers_formats.specs.declared.stems.Precision.TheVariants.{Unlimited, Fraction, AtLeast, Whole, Significant, SignificantAtLeast, Either, Increment, WholeCurrency}
 use Rattle.locale_numbers_formats.specs.declared.stems.SkeletonGrouping.TheVariants as grouping
-use Rattle.locale_numbers_formats.specs.declared.stems.SkeletonUnit.TheVariants.{Percent, Currency}
+use Rattle.locale_numbers_formats.specs.declared.stems.SkeletonUnit.TheVariants.{Percent, Permille, Currency}
 use Rattle.locale_numbers_formats.specs.declared.stems.WholeZeros.TheVariants.{Shown, Hidden}
 
 -- what no word asks for
@@ -41,6 +41,9 @@ is_nothing = refl
 
 is_spaced : skeleton_of (codes " percent  .00 ") ≡ Ok (record plain { unit = Percent; precision = Fraction 2 0 })
 is_spaced = refl
+
+is_permille : skeleton_of (codes "permille .0") ≡ Ok (record plain { unit = Permille; precision = Fraction 1 0 })
+is_permille = refl
 
 is_franc : skeleton_of (codes "currency/CHF precision-currency-cash") ≡ Ok (record plain { unit = Currency (codes "CHF"); precision = precision.Currency Cash })
 is_franc = refl
@@ -192,6 +195,9 @@ is_no_exponent = refl
 is_percents : skeleton_of (codes "percent percent") ≡ Err (Twice 8)
 is_percents = refl
 
+is_two_signs : skeleton_of (codes "percent permille") ≡ Err (Twice 8)
+is_two_signs = refl
+
 is_units : skeleton_of (codes "percent currency/EUR") ≡ Err (Twice 8)
 is_units = refl
 
@@ -254,9 +260,6 @@ is_engineering = refl
 
 is_exponent_without_digits : skeleton_of (codes "E+!") ≡ Err (Unknown 0)
 is_exponent_without_digits = refl
-
-is_permille : skeleton_of (codes "permille") ≡ Err (Later 0)
-is_permille = refl
 
 is_no_signs : skeleton_of (codes "@#@") ≡ Err (Unknown 0)
 is_no_signs = refl
@@ -331,6 +334,9 @@ amount_format : format_of (record plain { unit = Currency (codes "EUR") }) ≡ r
 }
 amount_format = refl
 
+permille_shape : (format_of (record plain { unit = Permille })).shape.unit ≡ beside.Permille
+permille_shape = refl
+
 -- `.00##`: four digits after the point at most, and two at least
 digits_rounding : (format_of (record plain { precision = Fraction 2 2 })).options.rounding ≡ rounding.At (negsuc 3) (Unsigned HalfEven) MultiplesOf1
 digits_rounding = refl
@@ -377,7 +383,10 @@ aligned_grouping = refl
 compact_rounding : (format_of (record plain { notation = Compact Short })).options.rounding ≡ rounding.AsGiven
 compact_rounding = refl
 
--- ---- normal texts of increments
+-- ---- normal texts
+
+permille_text : skeleton_text (record plain { unit = Permille }) ≡ codes "permille"
+permille_text = refl
 
 increment_text : skeleton_text (record plain { precision = Increment MultiplesOf5 1 2 Hidden }) ≡ codes "precision-increment/0.50/w"
 increment_text = refl

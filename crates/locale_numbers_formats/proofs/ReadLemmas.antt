@@ -41,6 +41,7 @@ use Rattle.locale_numbers_formats.specs.declared.stems.WholeZeros.TheVariants.{S
 abbrev is_unit : SkeletonUnit → Bool
 is_unit unit.None = true
 is_unit unit.Percent = true
+is_unit unit.Permille = true
 is_unit (unit.Currency code) = is_currency_code code
 
 abbrev is_precision : Precision → Bool
@@ -422,6 +423,7 @@ unit_has : (o : Option SkeletonUnit) → ((x : SkeletonUnit) → o ≡ Some x �
 unit_has None is = tt
 unit_has (Some unit.None) is = tt
 unit_has (Some unit.Percent) is = tt
+unit_has (Some unit.Permille) is = tt
 unit_has (Some (unit.Currency code)) is = is (unit.Currency code) refl
 
 some_from : (least most : ℕ) → (nat_lt 0 least && nat_le most 100) ≡ true → (0 < least) × (most ≤ 100)

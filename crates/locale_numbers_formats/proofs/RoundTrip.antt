@@ -155,6 +155,7 @@ clear_notation (notation.Compact Long) = refl
 clear_unit : (u : SkeletonUnit) → HasCode u → is_clear_option (unit_word u) ≡ true
 clear_unit unit.None has = refl
 clear_unit unit.Percent has = refl
+clear_unit unit.Permille has = refl
 clear_unit (unit.Currency code) has = clear_capitals code (and_parts (length code == 3) (list_all is_ascii_uppercase code) has).1
 
 clear_precision : (p : Precision) → is_clear_option (precision_word p) ≡ true
@@ -429,6 +430,7 @@ asked_notation (notation.Compact p) = Some (notation.Compact p)
 abbrev asked_unit : SkeletonUnit → Option SkeletonUnit
 asked_unit unit.None = None
 asked_unit unit.Percent = Some unit.Percent
+asked_unit unit.Permille = Some unit.Permille
 asked_unit (unit.Currency code) = Some (unit.Currency code)
 
 abbrev asked_precision : Precision → Option Precision
@@ -509,6 +511,7 @@ step_unit : (place : ℕ) (n : Option Notation) (u : SkeletonUnit) (rest : List 
     → read_words place (present (unit_word u ∷ rest)) (asked n None None None None None None None) ≡ read_words (after place (unit_word u)) (present rest) (asked n (asked_unit u) None None None None None None)
 step_unit place n unit.None rest has = refl
 step_unit place n unit.Percent rest has = refl
+step_unit place n unit.Permille rest has = refl
 step_unit place n (unit.Currency code) rest has =
     read_known place 99 (codes "urrency/" ++ code) (present rest) (asked n None None None None None None None) (OfUnit (unit.Currency code)) (code_named code has)
 
@@ -614,6 +617,7 @@ notation_back (notation.Compact p) = refl
 unit_back : (u : SkeletonUnit) → unwrap_or (asked_unit u) unit.None ≡ u
 unit_back unit.None = refl
 unit_back unit.Percent = refl
+unit_back unit.Permille = refl
 unit_back (unit.Currency code) = refl
 
 precision_back : (p : Precision) → unwrap_or (asked_precision p) precision.Usual ≡ p

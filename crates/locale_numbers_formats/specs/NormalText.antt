@@ -44,6 +44,7 @@ notation_word (notation.Compact Long) = Some (codes "compact-long")
 abbrev pub unit_word : SkeletonUnit → Option (List ℕ)
 unit_word unit.None = None
 unit_word unit.Percent = Some (codes "percent")
+unit_word unit.Permille = Some (codes "permille")
 unit_word (unit.Currency code) = Some (codes "currency/" ++ code)
 
 -- a mark, so many times

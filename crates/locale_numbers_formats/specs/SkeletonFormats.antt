@@ -103,6 +103,7 @@ digits_of (WholeCurrency usage) = 0
 abbrev pub unit_by : SkeletonUnit → Skeleton → NumberUnit
 unit_by unit.None s = beside.None
 unit_by unit.Percent s = beside.Percent
+unit_by unit.Permille s = beside.Permille
 unit_by (unit.Currency code) s = beside.Currency (record { code = code; style = s.sign.style; width = s.width })
 
 abbrev pub unit_of : Skeleton → NumberUnit

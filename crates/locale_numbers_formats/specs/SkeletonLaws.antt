@@ -17,6 +17,7 @@ use Rattle.locale_numbers_formats.specs.declared.stems.SkeletonUnit.TheVariants 
 abbrev pub HasCode : SkeletonUnit → Type 0
 HasCode unit.None = Unit {0}
 HasCode unit.Percent = Unit {0}
+HasCode unit.Permille = Unit {0}
 HasCode (unit.Currency code) = is_currency_code code ≡ true
 
 -- as many digits as a word may have, and one significant one at least

@@ -107,6 +107,7 @@ is_compact (notation.Compact pattern) = true
 abbrev pub is_currency : SkeletonUnit → Bool
 is_currency unit.None = false
 is_currency unit.Percent = false
+is_currency unit.Permille = false
 is_currency (unit.Currency code) = true
 
 abbrev pub has_currency_digits : Precision → Bool

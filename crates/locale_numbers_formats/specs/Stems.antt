@@ -27,7 +27,7 @@ use Rattle.locale_numbers_formats.specs.declared.stems.Setting.{Setting}
 use Rattle.locale_numbers_formats.specs.declared.stems.Setting.TheVariants.{OfNotation, OfUnit, OfPrecision, OfMode, OfGrouping, OfWidth, OfSign, OfPoint, Refused}
 use Rattle.locale_numbers_formats.specs.declared.stems.SkeletonGrouping.TheVariants as grouping
 use Rattle.locale_numbers_formats.specs.declared.stems.SkeletonUnit.TheVariants as beside
-use Rattle.locale_numbers_formats.specs.declared.stems.SkeletonUnit.TheVariants.{Percent, Currency}
+use Rattle.locale_numbers_formats.specs.declared.stems.SkeletonUnit.TheVariants.{Percent, Permille, Currency}
 
 -- the words, and their short forms, but for those with digits or a part after a slash
 abbrev pub stems : List (List ℕ × Setting)
@@ -39,6 +39,7 @@ stems =
     ∷ (codes "notation-simple", OfNotation notation.Standard)
     ∷ (codes "percent", OfUnit Percent)
     ∷ (codes "%", OfUnit Percent)
+    ∷ (codes "permille", OfUnit Permille)
     ∷ (codes "base-unit", OfUnit beside.None)
     ∷ (codes "precision-integer", OfPrecision (Fraction 0 0))
     ∷ (codes ".", OfPrecision (Fraction 0 0))
@@ -85,7 +86,6 @@ stems =
     ∷ (codes "()?", OfSign (record { display = display.ExceptZero; style = style.Accounting }))
     ∷ (codes "sign-accounting-negative", OfSign (record { display = display.Negative; style = style.Accounting }))
     ∷ (codes "()-", OfSign (record { display = display.Negative; style = style.Accounting }))
-    ∷ (codes "permille", Refused fault.Later)
     ∷ (codes "scientific", Refused fault.Later)
     ∷ (codes "engineering", Refused fault.Later)
     ∷ (codes "unit-width-narrow", Refused fault.Later)

@@ -92,6 +92,7 @@ fn unit_word(unit: &SkeletonUnit) -> Option<NormalWord<'_>>
     match unit {
         SkeletonUnit::None => None,
         SkeletonUnit::Percent => Some(fixed("percent")),
+        SkeletonUnit::Permille => Some(fixed("permille")),
         SkeletonUnit::Currency(code) => Some(NormalWord {
             front: "currency/",
             behind: code.as_str(),

@@ -43,6 +43,8 @@ pub enum NumberUnit {
     None,
     /// The percent sign, beside the number as it is: `12%`.
     Percent,
+    /// The permille sign, beside the number as it is: `12‰`.
+    Permille,
     /// A currency: `€12.00`.
     Currency(CurrencyUnit),
 }

@@ -222,7 +222,7 @@ fn is_currency(unit: SkeletonUnit) -> bool
     ensures { result ≡ is_currency unit }
 {
     match unit {
-        SkeletonUnit::None | SkeletonUnit::Percent => false,
+        SkeletonUnit::None | SkeletonUnit::Percent | SkeletonUnit::Permille => false,
         SkeletonUnit::Currency(_) => true,
     }
 }
@@ -367,7 +367,7 @@ impl Skeleton {
     /// `Unknown`: a word is none, as `foo`. `Twice`: a word sets what another one has set, as the second of `percent
     /// currency/EUR`. `Code`: what follows `currency/` is no code, as `EURO`. `Pair`: a word is for amounts, and there is
     /// no currency, as `sign-accounting` alone. `System`: a word names a numbering system. `Later`: a word, or what goes
-    /// with it, is not written yet, as `permille`. `Unsupported`: a word asks for what is not written here, as
+    /// with it, is not written yet, as `scientific`. `Unsupported`: a word asks for what is not written here, as
     /// `decimal-always`. Each has the place of the word in bytes, 8 of `percent foo`; the first such word is told, and one
     /// that does not go with another only where all are known and none sets twice.
     pub fn try_from_utf8(code_units: &[u8]) -> Result<Skeleton, SkeletonError>
@@ -474,6 +474,7 @@ impl Skeleton {
         match self.unit {
             SkeletonUnit::None => NumberUnit::None,
             SkeletonUnit::Percent => NumberUnit::Percent,
+            SkeletonUnit::Permille => NumberUnit::Permille,
             SkeletonUnit::Currency(code) => NumberUnit::Currency(CurrencyUnit {
                 code,
                 style: self.sign.style,

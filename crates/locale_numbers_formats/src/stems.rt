@@ -21,6 +21,8 @@ pub enum SkeletonUnit {
     None,
     /// The percent sign: `percent`.
     Percent,
+    /// The permille sign: `permille`.
+    Permille,
     /// A currency: `currency/EUR`.
     Currency(CurrencyCode),
 }
@@ -131,6 +133,7 @@ const STEMS: [(&[u8], Setting); 68] = [
     (b"notation-simple", Setting::OfNotation(Notation::Standard)),
     (b"percent", Setting::OfUnit(SkeletonUnit::Percent)),
     (b"%", Setting::OfUnit(SkeletonUnit::Percent)),
+    (b"permille", Setting::OfUnit(SkeletonUnit::Permille)),
     (b"base-unit", Setting::OfUnit(SkeletonUnit::None)),
     (
         b"precision-integer",
@@ -330,7 +333,6 @@ const STEMS: [(&[u8], Setting); 68] = [
             style: CurrencyStyle::Accounting,
         }),
     ),
-    (b"permille", Setting::Refused(WordFault::Later)),
     (b"scientific", Setting::Refused(WordFault::Later)),
     (b"engineering", Setting::Refused(WordFault::Later)),
     (b"unit-width-narrow", Setting::Refused(WordFault::Later)),

@@ -12,7 +12,7 @@ use Rattle.icu_decimal.proofs.WritingLemmas.{shown_value_is}
 use Rattle.icu_decimal.specs.HeldTables.{tables_of}
 use Rattle.icu_decimal.specs.PlainText.{Tables}
 use Rattle.icu_decimal.specs.declared.formatter.DecimalFormatter.{DecimalFormatter}
-use Rattle.icu_dimension.specs.HeldFormatters.{code_of, currency_settings_of, settings_of_percent}
+use Rattle.icu_dimension.specs.HeldFormatters.{code_of, currency_settings_of, settings_of_percent, sign_of}
 use Rattle.icu_dimension.specs.declared.currency.CurrencyFormatter.{CurrencyFormatter}
 use Rattle.icu_dimension.specs.declared.percent.PercentFormatter.{PercentFormatter}
 use Rattle.locale_numbers_formatter.specs.FormatText.{FormatTables, UnitFormat, compact_tables, format_value, plain_tables, unit_tables}
@@ -65,5 +65,5 @@ unit_shows u = record { operands = λ d. refl; value = λ d. refl }
 -- as that of each formatter but a compact one
 pub kind_shows : (k : FormatterKind) → ((x : DecimalFormatter) × (k ≡ kind.Plain x)) ⊎ (((x : PercentFormatter) × (k ≡ kind.Percent x)) ⊎ ((x : CurrencyFormatter) × (k ≡ kind.Currency x))) → ShowsAsItIs (format_of k)
 kind_shows k (inl is) = subst (λ k. ShowsAsItIs (format_of k)) (sym is.1) (plain_shows (tables_of is.0))
-kind_shows k (inr (inl is)) = subst (λ k. ShowsAsItIs (format_of k)) (sym is.1) (unit_shows (percent_format (settings_of_percent is.0)))
+kind_shows k (inr (inl is)) = subst (λ k. ShowsAsItIs (format_of k)) (sym is.1) (unit_shows (percent_format (sign_of is.0) (settings_of_percent is.0)))
 kind_shows k (inr (inr is)) = subst (λ k. ShowsAsItIs (format_of k)) (sym is.1) (unit_shows (currency_format (code_of is.0) (currency_settings_of is.0)))

@@ -11,11 +11,11 @@ use Rattle.locale_numbers_formatter.specs.declared.own_tables.OwnTables.TheVaria
 abbrev pub format_owned : OwnTables → FormatTables
 format_owned (own.Plain tables) = plain_tables tables
 format_owned (own.Compact tables) = compact_tables tables
-format_owned (own.Percent tables) = unit_tables (percent_format tables)
+format_owned (own.Percent tables sign) = unit_tables (percent_format sign tables)
 format_owned (own.Currency tables code fractions) = unit_tables (currency_format code (record { unit = tables; fractions = fractions }))
 
 abbrev pub IsOfKind : OwnTables → Type 0
 IsOfKind (own.Plain tables) = Unit {0}
 IsOfKind (own.Compact tables) = Unit {0}
-IsOfKind (own.Percent tables) = tables.unit.kind ≡ unit_kind.Percent
+IsOfKind (own.Percent tables sign) = tables.unit.kind ≡ unit_kind.Percent
 IsOfKind (own.Currency tables code fractions) = tables.unit.kind ≡ unit_kind.Currency

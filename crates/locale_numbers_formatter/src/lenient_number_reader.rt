@@ -3,7 +3,7 @@
 ghost use Rattle.std.specs.Prelude.{◌≡◌, codes, IfOk, IsErrOf, option_map};
 ghost use Rattle.icu_decimal.specs.HeldTables.{tables_of};
 ghost use Rattle.icu_decimal.specs.PlainReading.{IsAnswered};
-ghost use Rattle.icu_dimension.specs.HeldFormatters.{code_of, currency_settings_of, settings_of_percent};
+ghost use Rattle.icu_dimension.specs.HeldFormatters.{code_of, currency_settings_of, settings_of_percent, sign_of};
 ghost use Rattle.locale_numbers_formatter.specs.FormatText.{plain_tables, unit_tables};
 ghost use Rattle.locale_numbers_formatter.specs.FormatTyped.{TypedAllocates, nothing_typed, plain_in, reading_by_typed, typed_of, typed_unit, unit_in};
 ghost use Rattle.locale_numbers_formatter.specs.HeldFormats.{currency_format, percent_format};
@@ -67,7 +67,8 @@ fn typed_percents<'a>(
     alloc: Global,
     formatter: &PercentFormatter<'a>,
 ) -> Result<KnownLenientReader<'a>, AllocError>
-    ensures { IfOk result (λ reader. reader ≡ typed_unit (percent_format (settings_of_percent formatter.now))) }
+    ensures { IfOk result (λ reader. reader
+        ≡ typed_unit (percent_format (sign_of formatter.now) (settings_of_percent formatter.now))) }
 {
     match formatter.lenient_reader(alloc) {
         Ok(reader) => Ok(KnownLenientReader::leniently(reader)),
@@ -159,7 +160,7 @@ impl<'a> LenientNumberReader<'a> {
         second: Option<&NumberFormatter<'a>>,
     ) -> Result<Self, AllocError>
         ensures { IfOk result (λ reader. reader
-            ≡ typed_of (unit_tables (percent_format (settings_of_percent formatter.now)))
+            ≡ typed_of (unit_tables (percent_format (sign_of formatter.now) (settings_of_percent formatter.now)))
             (option_map (λ f. f.now) second.entry)) }
     {
         let second = second_unit(alloc, second)?;

@@ -5,7 +5,7 @@ ghost use Rattle.fixed_decimal.specs.Range.{IsLong};
 ghost use Rattle.writeable.specs.AnnotatedText.{text_of};
 ghost use Rattle.icu_decimal.specs.HeldCompact.{compact_tables_of};
 ghost use Rattle.icu_decimal.specs.HeldTables.{tables_of};
-ghost use Rattle.icu_dimension.specs.HeldFormatters.{code_of, currency_settings_of, settings_of_percent};
+ghost use Rattle.icu_dimension.specs.HeldFormatters.{code_of, currency_settings_of, settings_of_percent, sign_of};
 ghost use Rattle.locale_numbers_formatter.specs.ExactForms.{IsFormInRange, exact_shown};
 ghost use Rattle.locale_numbers_formatter.specs.FormatParts.{exact_format_events, format_events};
 ghost use Rattle.locale_numbers_formatter.specs.FormatReading.{reader_of};
@@ -32,7 +32,7 @@ pub enum FormatterKind<'a> {
     Plain(DecimalFormatter<'a>),
     /// Of compact numbers: `1.2K`.
     Compact(CompactDecimalFormatter<'a>),
-    /// Of percents: `12.5%`.
+    /// Of percents: `12.5%`, `12.5‰`.
     Percent(PercentFormatter<'a>),
     /// Of amounts in one currency: `€1.50`.
     Currency(CurrencyFormatter<'a>),
@@ -82,7 +82,8 @@ impl<'a> From<CompactDecimalFormatter<'a>> for NumberFormatter<'a> {
 
 /// The formatter of percents: that of `en` writes -12.5 as `-12.5%`. It does not allocate.
 impl<'a> From<PercentFormatter<'a>> for NumberFormatter<'a> {
-    ghost from_gives = { λ formatter made. made ≡ unit_tables (percent_format (settings_of_percent formatter)) };
+    ghost from_gives = { λ formatter made.
+        made ≡ unit_tables (percent_format (sign_of formatter) (settings_of_percent formatter)) };
 
     fn from(formatter: PercentFormatter<'a>) -> Self {
         NumberFormatter {
@@ -122,7 +123,8 @@ fn format_percent<'l>(
     value: &'l Decimal,
 ) -> FormattedNumber<'l>
     ensures { formatted_events result
-        ≡ format_events (unit_tables (percent_format (settings_of_percent formatter.now))) value.now }
+        ≡ format_events (unit_tables (percent_format (sign_of formatter.now) (settings_of_percent formatter.now)))
+        value.now }
 {
     unit_is_layered();
     FormattedNumber::Unit(formatter.format(value))
@@ -217,7 +219,7 @@ fn read_percents<'a>(
     formatter: &PercentFormatter<'a>,
 ) -> Result<NumberReader<'a>, AllocError>
     ensures { IfOk result (λ reader. reader
-        ≡ reader_of (unit_tables (percent_format (settings_of_percent formatter.now)))) }
+        ≡ reader_of (unit_tables (percent_format (sign_of formatter.now) (settings_of_percent formatter.now)))) }
 {
     match formatter.reader(alloc) {
         Ok(reader) => Ok(NumberReader::of_unit(*formatter.decimals(), reader)),

@@ -3,7 +3,7 @@
 ghost use Rattle.std.specs.Prelude.{◌≡◌, IfOk, IsOk};
 ghost use Rattle.icu_decimal.specs.HeldCompact.{compact_tables_of};
 ghost use Rattle.icu_decimal.specs.HeldTables.{tables_of};
-ghost use Rattle.icu_dimension.specs.HeldFormatters.{code_of, currency_settings_of, settings_of_percent};
+ghost use Rattle.icu_dimension.specs.HeldFormatters.{code_of, currency_settings_of, settings_of_percent, sign_of};
 ghost use Rattle.icu_dimension.specs.HeldUnits.{settings_of};
 ghost use Rattle.locale_numbers_formatter.specs.FormatText.{compact_tables, plain_tables, unit_tables};
 ghost use Rattle.locale_numbers_formatter.specs.HeldFormats.{currency_format, percent_format};
@@ -16,8 +16,8 @@ use icu_decimal::provider::CompactPatterns;
 use icu_decimal::{CompactDecimalFormatter, DecimalFormatter, OwnedDecimalTables};
 use icu_dimension::provider::CurrencySymbol;
 use icu_dimension::{
-    CurrencyCode, CurrencyFormatter, FractionInfo, LetterEnds, PercentFormatter, UnitKind,
-    UnitPattern, UnitTables,
+    CurrencyCode, CurrencyFormatter, FractionInfo, LetterEnds, PercentFormatter, PercentSign,
+    UnitKind, UnitPattern, UnitTables,
 };
 use std::alloc::{AllocError, Global};
 use std::marker::Model;
@@ -67,8 +67,8 @@ pub(crate) enum OwnTables {
     Plain(OwnedDecimalTables),
     // Of compact numbers.
     Compact(OwnCompactTables),
-    // Of percents.
-    Percent(OwnUnitTables),
+    // Of percents, with their sign.
+    Percent(OwnUnitTables, PercentSign),
     // Of amounts, with the code of their currency and its digits.
     Currency(OwnUnitTables, CurrencyCode, FractionInfo),
 }
@@ -137,12 +137,13 @@ impl OwnUnitTables {
     }
 
     // The formatter of percents that writes with them.
-    fn percents(&self) -> PercentFormatter<'_>
+    fn percents(&self, sign: PercentSign) -> PercentFormatter<'_>
         requires { self.now.unit.kind ≡ UnitKind.Percent }
-        ensures { settings_of_percent result ≡ self.now }
+        ensures sign { sign_of result ≡ sign }
+        ensures value { settings_of_percent result ≡ self.now }
     {
-        let sign = self.symbol.text.as_str();
-        PercentFormatter::from_parts(self.decimals.tables(), &self.pattern, sign)
+        let text = self.symbol.text.as_str();
+        PercentFormatter::from_parts(self.decimals.tables(), &self.pattern, sign, text)
     }
 
     // The formatter of amounts that writes with them.
@@ -216,11 +217,12 @@ impl OwnNumberTables {
         strategy: GroupingStrategy,
     ) -> Result<OwnNumberTables, AllocError>
         ensures { IfOk result (λ own. own
-            ≡ unit_tables (percent_format (unit_regrouped strategy (settings_of_percent formatter.now)))) }
+            ≡ unit_tables
+            (percent_format (sign_of formatter.now) (unit_regrouped strategy (settings_of_percent formatter.now)))) }
     {
         let tables = OwnUnitTables::of(alloc, &formatter.tables(), strategy)?;
         Ok(OwnNumberTables {
-            tables: OwnTables::Percent(tables),
+            tables: OwnTables::Percent(tables, formatter.sign()),
         })
     }
 
@@ -276,7 +278,7 @@ impl OwnNumberTables {
                 FormatterKind::Plain(DecimalFormatter::from(tables.tables()))
             }
             OwnTables::Compact(tables) => FormatterKind::Compact(tables.formatter()),
-            OwnTables::Percent(tables) => FormatterKind::Percent(tables.percents()),
+            OwnTables::Percent(tables, sign) => FormatterKind::Percent(tables.percents(*sign)),
             OwnTables::Currency(tables, code, fractions) => {
                 FormatterKind::Currency(tables.amounts(*code, *fractions))
             }

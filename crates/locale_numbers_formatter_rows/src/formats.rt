@@ -10,7 +10,7 @@ use icu_decimal::{CompactDecimalFormatter, DecimalFormatter, DecimalTables};
 use icu_dimension::provider::CurrencySymbol;
 use icu_dimension::{
     CurrencyCode, CurrencyFormatter, Fraction, FractionIncrement, FractionInfo, LetterEnds,
-    PercentFormatter, UnitAffixes, UnitPattern, UnitPatternError,
+    PercentFormatter, PercentSign, UnitAffixes, UnitPattern, UnitPatternError,
 };
 use locale_numbers_formatter::NumberFormatter;
 use rows::Stop;
@@ -88,7 +88,7 @@ fn by_compact(
 // The answer of a call of percents.
 fn by_percent(decimals: DecimalTables<'_>, call: Call<'_>, out: &mut String) -> Result<(), Stop> {
     let pattern = UnitPattern::new(affixes_of(*out.allocator(), "", "¤")?, None, None);
-    let formatter = PercentFormatter::from_parts(decimals, &pattern, "%");
+    let formatter = PercentFormatter::from_parts(decimals, &pattern, PercentSign::Percent, "%");
     let answered = answers::answer(&NumberFormatter::from(formatter), call, out);
     drop(pattern);
     answered

@@ -49,6 +49,7 @@ of_code (Some word) code = by (is_currency_code code) refl
 of_unit : (unit : SkeletonUnit) (s : Skeleton) → skeletons.HasCode unit → HasCode (unit_by unit s)
 of_unit asked.None s has = tt
 of_unit asked.Percent s has = tt
+of_unit asked.Permille s has = tt
 of_unit (asked.Currency code) s has = has
 
 of_task : (task : Task) (f : NumberFormat) → HasCode f.shape.unit → HasCodes (form_for task f)
@@ -96,9 +97,12 @@ of_list word =
     (listed (bytes_eq word (codes "percent")) _ _ tt
     (listed (bytes_eq word (codes "read-percent")) _ _ tt
     (listed (bytes_eq word (codes "read-lenient-percent")) _ _ tt
+    (listed (bytes_eq word (codes "permille")) _ _ tt
+    (listed (bytes_eq word (codes "read-permille")) _ _ tt
+    (listed (bytes_eq word (codes "read-lenient-permille")) _ _ tt
     (listed (bytes_eq word (codes "plural")) _ _ tt
     (listed (bytes_eq word (codes "ordinal")) _ _ tt
-    (listed (bytes_eq word (codes "range-plural")) _ _ tt tt))))))))))))
+    (listed (bytes_eq word (codes "range-plural")) _ _ tt tt)))))))))))))))
 
 either : (first second : Option FormAsked) → HasCodes first → HasCodes second → HasCodes (first_of first second)
 either (Some form) second has other = has

@@ -18,7 +18,7 @@ use Rattle.locale_numbers_formats.specs.declared.NumberFormat.{NumberFormat}
 use Rattle.locale_numbers_formats.specs.declared.NumberOptions.{NumberOptions}
 use Rattle.locale_numbers_formats.specs.declared.NumberUnit.{NumberUnit}
 use Rattle.locale_numbers_formats.specs.declared.NumberUnit.TheVariants as unit
-use Rattle.locale_numbers_formats.specs.declared.NumberUnit.TheVariants.{Percent, Currency}
+use Rattle.locale_numbers_formats.specs.declared.NumberUnit.TheVariants.{Percent, Permille, Currency}
 use Rattle.locale_numbers_formats.specs.declared.Rounding.{Rounding}
 use Rattle.locale_numbers_formats.specs.declared.Rounding.TheVariants.{Usual, Cash, AsGiven, At, Significant, Either}
 use Rattle.locale_numbers_formats.specs.declared.RoundingPriority.TheVariants.{MorePrecision, LessPrecision}
@@ -133,6 +133,15 @@ read_amount_word = refl
 typed_percent_word : form_named (codes "read-lenient-percent") ≡ Some (OfWord ReadLenient Standard Percent)
 typed_percent_word = refl
 
+permille_word : form_named (codes "permille") ≡ Some (OfWord Write Standard Permille)
+permille_word = refl
+
+read_permille_word : form_named (codes "read-permille") ≡ Some (OfWord Read Standard Permille)
+read_permille_word = refl
+
+typed_permille_word : form_named (codes "read-lenient-permille") ≡ Some (OfWord ReadLenient Standard Permille)
+typed_permille_word = refl
+
 typed_amount_word : form_named (codes "read-lenient-currency-EUR") ≡ Some (OfWord ReadLenient Standard (Currency (record { code = codes "EUR"; style = style.Standard; width = Short })))
 typed_amount_word = refl
 
@@ -185,6 +194,9 @@ typed_amount_with_a_rounding = refl
 
 percent_in_cash : request_in (codes "en" ∷ codes "percent" ∷ codes "auto" ∷ codes "keep" ∷ codes "cash" ∷ codes "1" ∷ []) ≡ None
 percent_in_cash = refl
+
+permille_in_cash : request_in (codes "en" ∷ codes "permille" ∷ codes "auto" ∷ codes "keep" ∷ codes "cash" ∷ codes "1" ∷ []) ≡ None
+permille_in_cash = refl
 
 plain_in_cash : request_in (codes "en" ∷ codes "plain" ∷ codes "auto" ∷ codes "keep" ∷ codes "cash" ∷ codes "1" ∷ []) ≡ None
 plain_in_cash = refl
@@ -586,6 +598,9 @@ zero_of_tenths = refl
 
 percent_was_none : old_form_named (codes "percent") ≡ None
 percent_was_none = refl
+
+permille_was_none : old_form_named (codes "permille") ≡ None
+permille_was_none = refl
 
 plain_was_itself : old_form_named (codes "plain") ≡ Some (OfWord Write Standard unit.None)
 plain_was_itself = refl

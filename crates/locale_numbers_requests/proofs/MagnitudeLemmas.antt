@@ -340,9 +340,12 @@ of_list word =
     (listed (bytes_eq word (codes "percent")) _ _ tt
     (listed (bytes_eq word (codes "read-percent")) _ _ tt
     (listed (bytes_eq word (codes "read-lenient-percent")) _ _ tt
+    (listed (bytes_eq word (codes "permille")) _ _ tt
+    (listed (bytes_eq word (codes "read-permille")) _ _ tt
+    (listed (bytes_eq word (codes "read-lenient-permille")) _ _ tt
     (listed (bytes_eq word (codes "plural")) _ _ tt
     (listed (bytes_eq word (codes "ordinal")) _ _ tt
-    (listed (bytes_eq word (codes "range-plural")) _ _ tt tt))))))))))))
+    (listed (bytes_eq word (codes "range-plural")) _ _ tt tt)))))))))))))))
 
 either : (first second : Option FormAsked) → FitForms first → FitForms second → FitForms (first_of first second)
 either (Some form) second fits other = fits

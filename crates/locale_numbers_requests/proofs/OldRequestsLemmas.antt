@@ -141,9 +141,12 @@ of_list word =
     (listed_new (bytes_eq word (codes "percent")) _ _ refl
     (listed_new (bytes_eq word (codes "read-percent")) _ _ refl
     (listed_new (bytes_eq word (codes "read-lenient-percent")) _ _ refl
+    (listed_new (bytes_eq word (codes "permille")) _ _ refl
+    (listed_new (bytes_eq word (codes "read-permille")) _ _ refl
+    (listed_new (bytes_eq word (codes "read-lenient-permille")) _ _ refl
     (listed_new (bytes_eq word (codes "plural")) _ _ refl
     (listed_new (bytes_eq word (codes "ordinal")) _ _ refl
-    (listed_new (bytes_eq word (codes "range-plural")) _ _ refl (no_form refl refl)))))))))))))
+    (listed_new (bytes_eq word (codes "range-plural")) _ _ refl (no_form refl refl))))))))))))))))
 
 -- a form, or another that was added
 either : (now before other : Option FormAsked) → StaysForm now before → StaysForm other None → StaysForm (first_of now other) before
@@ -389,6 +392,7 @@ rounding_stays word = by (bytes_eq word (codes "-")) (bytes_eq word (codes "cash
 takes_so : (task : Task) (unit : NumberUnit) (sign : SignAsked) (rounding : Rounding) → is_added_task task unit ≡ false → is_cash rounding ≡ false → takes task unit sign rounding ≡ old_takes task sign rounding
 takes_so Write unit.None sign rounding old is = rw is refl
 takes_so Write unit.Percent sign rounding old is = absurd (cc)
+takes_so Write unit.Permille sign rounding old is = absurd (cc)
 takes_so Write (unit.Currency currency) sign rounding old is = absurd (cc)
 takes_so WriteExact unit sign rounding old is = refl
 takes_so Read unit.None sign Usual old is = refl
@@ -398,6 +402,7 @@ takes_so Read unit.None sign (At position mode increment) old is = refl
 takes_so Read unit.None sign (Significant digits mode) old is = refl
 takes_so Read unit.None sign (Either priority position digits mode) old is = refl
 takes_so Read unit.Percent sign rounding old is = absurd (cc)
+takes_so Read unit.Permille sign rounding old is = absurd (cc)
 takes_so Read (unit.Currency currency) sign rounding old is = absurd (cc)
 takes_so ReadLenient unit sign rounding old is = absurd (cc)
 takes_so (Category rule_type) unit sign rounding old is = absurd (cc)
@@ -407,11 +412,13 @@ takes_so RangeCategory unit sign rounding old is = absurd (cc)
 takes_no_cash : (task : Task) (unit : NumberUnit) (sign : SignAsked) → is_added_task task unit ≡ false → takes task unit sign Cash ≡ false
 takes_no_cash Write unit.None sign old = refl
 takes_no_cash Write unit.Percent sign old = absurd (cc)
+takes_no_cash Write unit.Permille sign old = absurd (cc)
 takes_no_cash Write (unit.Currency currency) sign old = absurd (cc)
 takes_no_cash WriteExact unit sign old = refl
 takes_no_cash Read unit.None Keep old = refl
 takes_no_cash Read unit.None (Show display) old = refl
 takes_no_cash Read unit.Percent sign old = absurd (cc)
+takes_no_cash Read unit.Permille sign old = absurd (cc)
 takes_no_cash Read (unit.Currency currency) sign old = absurd (cc)
 takes_no_cash ReadLenient unit sign old = absurd (cc)
 takes_no_cash (Category rule_type) unit sign old = absurd (cc)

@@ -15,6 +15,7 @@ use Rattle.locale_numbers_requests.specs.Request.{Asked, request_of}
 abbrev pub HasCode : NumberUnit → Type 0
 HasCode unit.None = Unit {0}
 HasCode unit.Percent = Unit {0}
+HasCode unit.Permille = Unit {0}
 HasCode (unit.Currency currency) = is_currency_code currency.code ≡ true
 
 -- what a line asks has such a unit

@@ -105,10 +105,12 @@ old_request_of line = if is_utf8 line then old_request_in (fields line) else Non
 abbrev pub is_added_task : Task → NumberUnit → Bool
 is_added_task Write unit.None = false
 is_added_task Write unit.Percent = true
+is_added_task Write unit.Permille = true
 is_added_task Write (unit.Currency currency) = true
 is_added_task WriteExact unit = false
 is_added_task Read unit.None = false
 is_added_task Read unit.Percent = true
+is_added_task Read unit.Permille = true
 is_added_task Read (unit.Currency currency) = true
 is_added_task ReadLenient unit = true
 is_added_task (Category rule_type) unit = true

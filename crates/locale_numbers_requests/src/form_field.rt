@@ -52,7 +52,7 @@ const CARDINAL: Task = Task::Category(PluralRuleType::Cardinal);
 const ORDINAL: Task = Task::Category(PluralRuleType::Ordinal);
 
 // The words of forms, but for those with the code of a currency.
-const FORMS: [(&[u8], FormAsked); 13] = [
+const FORMS: [(&[u8], FormAsked); 16] = [
     (
         b"plain",
         FormAsked::OfWord(Task::Write, Notation::Standard, NumberUnit::None),
@@ -92,6 +92,18 @@ const FORMS: [(&[u8], FormAsked); 13] = [
     (
         b"read-lenient-percent",
         FormAsked::OfWord(Task::ReadLenient, Notation::Standard, NumberUnit::Percent),
+    ),
+    (
+        b"permille",
+        FormAsked::OfWord(Task::Write, Notation::Standard, NumberUnit::Permille),
+    ),
+    (
+        b"read-permille",
+        FormAsked::OfWord(Task::Read, Notation::Standard, NumberUnit::Permille),
+    ),
+    (
+        b"read-lenient-permille",
+        FormAsked::OfWord(Task::ReadLenient, Notation::Standard, NumberUnit::Permille),
     ),
     (
         b"plural",

@@ -41,6 +41,9 @@ two before after = list (text before ∷ text after ∷ [])
 abbrev percents : List ℕ → List ℕ → List ℕ → Data → Data → Data
 percents locale system sign own pattern = list (text locale ∷ text system ∷ text sign ∷ own ∷ pattern ∷ [])
 
+abbrev with_permille : List ℕ → Data → List ℕ → Data
+with_permille locale pattern permille = list (text locale ∷ text [] ∷ text (codes "%") ∷ null ∷ pattern ∷ text permille ∷ [])
+
 abbrev amounts : List ℕ → List ℕ → Data → Data → Data → Data
 amounts locale attribute own pattern beside = list (text locale ∷ text attribute ∷ own ∷ pattern ∷ beside ∷ [])
 
@@ -53,9 +56,19 @@ no_sign unsigned = record { unsigned = unsigned; minus = None; plus = None }
 -- ---- what they say
 
 -- in Turkish the percent sign is before the number
-turkish : percents_said (percents (codes "tr") [] (codes "%") null (two place [])) ≡ Some (record { sign = codes "%"; symbols = None; pattern = no_sign (affixes_before []) })
+turkish : percents_said (percents (codes "tr") [] (codes "%") null (two place []))
+    ≡ Some (record { sign = codes "%"; permille = None; symbols = None; pattern = no_sign (affixes_before []) })
 unfolding chars is_utf8 encode_utf8
 turkish = refl
+
+-- and so is the permille sign
+abbrev permille : List ℕ
+permille = 226 ∷ 128 ∷ 176 ∷ []
+
+turkish_permille : percents_said (with_permille (codes "tr") (two place []) permille)
+    ≡ Some (record { sign = codes "%"; permille = Some permille; symbols = None; pattern = no_sign (affixes_before []) })
+unfolding chars is_utf8 encode_utf8
+turkish_permille = refl
 
 -- in English a unit that ends with a letter has a space after it
 english : amounts_said (amounts (codes "en") [] null (two place []) (two (194 ∷ 164 ∷ space) []))
@@ -161,6 +174,17 @@ code_of_currencies = refl
 tab_as_sign : percents_faults (percents (codes "en") [] (9 ∷ []) null (two [] place) ∷ []) ≡ Some Text
 unfolding data_locale_of tag_of whole_after headed_after body_after with_piece chars is_utf8 encode_utf8
 tab_as_sign = refl
+
+tab_as_permille : percents_faults (with_permille (codes "en") (two [] place) (9 ∷ []) ∷ []) ≡ Some Text
+unfolding data_locale_of tag_of whole_after headed_after body_after with_piece chars is_utf8 encode_utf8
+tab_as_permille = refl
+
+six_fields : percents_faults (with_permille (codes "en") (two [] place) permille ∷ []) ≡ None
+unfolding data_locale_of tag_of whole_after headed_after body_after with_piece chars is_utf8 encode_utf8
+six_fields = refl
+
+permille_null : percents_faults (list (text (codes "en") ∷ text [] ∷ text (codes "%") ∷ null ∷ two [] place ∷ null ∷ []) ∷ []) ≡ Some Shape
+permille_null = refl
 
 no_place : percents_faults (english_percents (two [] []) ∷ []) ≡ Some Unit
 unfolding data_locale_of tag_of whole_after headed_after body_after with_piece chars is_utf8 encode_utf8

@@ -14,14 +14,14 @@ use Rattle.icu_dimension.specs.ProvidedUnits.{AmountTexts, PercentTexts, SymbolT
 use Rattle.icu_dimension.specs.UnitPatterns.{AffixesText, PatternChoice, PatternTexts}
 use Rattle.icu_dimension.specs.declared.LetterEnds.{LetterEnds}
 use Rattle.icu_locale_core.specs.Subtags.{Text as Subtag}
-use Rattle.locale_numbers_tables.specs.Entries.{count_of_items, field_at, grouping_sizes_of, has_count, symbol_texts, text_or_empty}
+use Rattle.locale_numbers_tables.specs.Entries.{count_of_items, field_at, grouping_sizes_of, has_count, is_text_at, symbol_texts, text_or_empty}
 use Rattle.locale_numbers_tables.specs.Fields.{is_plain, plain_text, plain_text_in}
 use Rattle.locale_numbers_units.specs.Amounts.{amounts_said, patterns_of}
 use Rattle.locale_numbers_units.specs.CurrencySymbols.{symbols_said}
 use Rattle.locale_numbers_units.specs.Fields.{ends_in, has_at}
 use Rattle.locale_numbers_units.specs.OwnSymbols.{as_entry, is_null, own_in, system_or_empty}
 use Rattle.locale_numbers_units.specs.Patterns.{affixes_at, affixes_of, is_plain_at, is_plain_pattern, or_null, pattern_in, pattern_or_null_in, six_texts_in, two_texts_in}
-use Rattle.locale_numbers_units.specs.Percents.{percents_said}
+use Rattle.locale_numbers_units.specs.Percents.{percents_said, permille_said}
 use Rattle.locale_numbers_units.specs.UnitTexts.{AreAffixTexts, AreAmountTexts, ArePatternTexts, ArePercentTexts, AreSymbolTexts}
 use Rattle.locale_numbers_units.proofs.CutLemmas.{affixes_texts}
 
@@ -206,18 +206,23 @@ beside_field (Some pattern) beside plain is =
 
 -- ---- entries
 
-percents_by : (o : Option (Option Symbols)) (p : Option PatternTexts) (sign : List ℕ) (percents : PercentTexts) → IsUtf8 sign
+where_said : (said : Bool) (text : List ℕ) → IsUtf8 text → IfSome (if said then Some text else None) IsUtf8
+where_said true text utf8 = utf8
+where_said false text utf8 = tt
+
+percents_by : (o : Option (Option Symbols)) (p : Option PatternTexts) (sign : List ℕ) (permille : Option (List ℕ)) (percents : PercentTexts) → IsUtf8 sign → IfSome permille IsUtf8
     → ((own : Option Symbols) → o ≡ Some own → OwnTexts own) → ((texts : PatternTexts) → p ≡ Some texts → ArePatternTexts texts)
-    → option_and_then (λ own. option_map (λ pattern. record { sign = sign; symbols = own; pattern = pattern }) p) o ≡ Some percents → ArePercentTexts percents
-percents_by (Some own) (Some pattern) sign percents utf8 symbols texts is =
-    let one : ◌≡◌ {A = PercentTexts} (record { sign = sign; symbols = own; pattern = pattern }) percents = cc in
-    subst ArePercentTexts one (record { sign = utf8; symbols = symbols own refl; pattern = texts pattern refl })
-percents_by (Some own) None sign percents utf8 symbols texts is = absurd (cc)
-percents_by None p sign percents utf8 symbols texts is = absurd (cc)
+    → option_and_then (λ own. option_map (λ pattern. record { sign = sign; permille = permille; symbols = own; pattern = pattern }) p) o ≡ Some percents → ArePercentTexts percents
+percents_by (Some own) (Some pattern) sign permille percents utf8 other symbols texts is =
+    let one : ◌≡◌ {A = PercentTexts} (record { sign = sign; permille = permille; symbols = own; pattern = pattern }) percents = cc in
+    subst ArePercentTexts one (record { sign = utf8; permille = other; symbols = symbols own refl; pattern = texts pattern refl })
+percents_by (Some own) None sign permille percents utf8 other symbols texts is = absurd (cc)
+percents_by None p sign permille percents utf8 other symbols texts is = absurd (cc)
 
 pub percents_texts : (entry : Data) (percents : PercentTexts) → has_at is_plain_pattern 4 entry ≡ true → percents_said entry ≡ Some percents → ArePercentTexts percents
 percents_texts entry percents plain is =
-    percents_by (field_at own_in 3 entry) (field_at pattern_in 4 entry) (text_or_empty 2 entry) percents (entry_utf8 2 entry)
+    percents_by (field_at own_in 3 entry) (field_at pattern_in 4 entry) (text_or_empty 2 entry) (permille_said entry) percents (entry_utf8 2 entry)
+    (where_said (is_text_at 5 entry) (text_or_empty 5 entry) (entry_utf8 5 entry))
     (λ own same. own_field (at 3 entry) own same) (λ texts same. pattern_field (at 4 entry) texts plain same) is
 
 -- two patterns

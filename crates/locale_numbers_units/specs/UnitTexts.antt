@@ -38,6 +38,7 @@ pub record AreSymbolTexts (strings : SymbolStrings) : Type 0 where
 
 pub record ArePercentTexts (percents : PercentTexts) : Type 0 where
   pub sign : IsUtf8 percents.sign
+  pub permille : IfSome percents.permille IsUtf8
   pub symbols : IfSome percents.symbols (λ own. AreSymbolTexts own.strings)
   pub pattern : ArePatternTexts percents.pattern
 

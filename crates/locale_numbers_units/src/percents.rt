@@ -1,8 +1,9 @@
 //! Percents.
 
-ghost use Rattle.std.specs.Prelude.{◌≡◌};
+ghost use Rattle.std.specs.Prelude.{◌≡◌, IfOk, option_map, string_bytes};
 ghost use Rattle.serde_json.specs.View.{view};
-ghost use Rattle.locale_numbers_units.specs.Percents.{has_percents_shape, has_percents_systems, has_percents_texts};
+ghost use Rattle.locale_numbers_tables.specs.Entries.{text_or_empty};
+ghost use Rattle.locale_numbers_units.specs.Percents.{has_percents_shape, has_percents_systems, has_percents_texts, permille_said};
 
 use crate::array::UnitArray;
 use crate::own_symbols::{has_own_shape, has_own_system, has_own_texts, own_symbols};
@@ -14,12 +15,12 @@ use locale_numbers_tables::fields::{
     has_count, has_text, is_text_at, locale, symbol, system_or_none,
 };
 use serde_json::Value;
-use std::alloc::Global;
+use std::alloc::{AllocError, Global};
 
 fn has_percents_shape(entry: &Value) -> bool
     ensures { result ≡ has_percents_shape (view entry.now) }
 {
-    has_count(entry, 5)
+    (has_count(entry, 5) || has_count(entry, 6) && is_text_at(entry, 5))
         && is_text_at(entry, 0)
         && is_text_at(entry, 1)
         && is_text_at(entry, 2)
@@ -30,10 +31,29 @@ fn has_percents_shape(entry: &Value) -> bool
 fn has_percents_texts(entry: &Value) -> bool
     ensures { result ≡ has_percents_texts (view entry.now) }
 {
-    has_text(entry, 2) && has_own_texts(entry, 3) && is_plain_pattern(entry, 4)
+    has_text(entry, 2)
+        && (has_count(entry, 5) || has_text(entry, 5))
+        && has_own_texts(entry, 3)
+        && is_plain_pattern(entry, 4)
 }
 
-/// The array of percents: `["tr","","%",null,["¤",""]]` says that in Turkish the percent sign is before the number.
+// The percent sign and the permille sign, where there is one.
+fn signs(alloc: Global, entry: &Value) -> Result<(String, Option<String>), AllocError>
+    ensures sign { IfOk result (λ signs. string_bytes signs.0 ≡ text_or_empty 2 (view entry.now)) }
+    ensures permille { IfOk result (λ signs. option_map string_bytes signs.1 ≡ permille_said (view entry.now)) }
+{
+    let sign = symbol(alloc, entry, 2)?;
+    if !is_text_at(entry, 5) {
+        return Ok((sign, None));
+    }
+    match symbol(alloc, entry, 5) {
+        Ok(permille) => Ok((sign, Some(permille))),
+        Err(refused) => Err(refused),
+    }
+}
+
+/// The array of percents: `["tr","","%",null,["¤",""],"‰"]` says that in Turkish the percent sign is before the number, as
+/// is the permille sign.
 pub struct Percents;
 
 impl UnitArray for Percents {
@@ -91,9 +111,10 @@ impl UnitArray for Percents {
         let Some(pattern) = found else {
             return Err(BookError::Unit);
         };
-        match symbol(alloc, entry, 2) {
-            Ok(sign) => Ok(PercentPattern {
+        match signs(alloc, entry) {
+            Ok((sign, permille)) => Ok(PercentPattern {
                 sign,
+                permille,
                 symbols,
                 pattern,
             }),
