@@ -1,4 +1,4 @@
-// Answers request lines by ICU4C's number formatter: forms plain, short, long and percent, and of a currency
+// Answers request lines by ICU4C's number formatter: forms plain, short, long, percent and permille, and of a currency
 // currency-EUR, code-EUR and accounting-EUR; rounding `-`, and of a currency `cash` too; each as `ok`, a tab
 // and the text. So too a number skeleton behind two colons, as `::percent`, with grouping auto, sign keep and
 // rounding `-`; the form skeleton takes one for a text, and answers its normal text, or `err` and the place of its
@@ -41,12 +41,12 @@ static UNumberSignDisplay in_accounting(UNumberSignDisplay sign) {
     }
 }
 
-// A formatter for percents or for a currency; false where form and rounding are none of theirs.
+// A formatter for percents, for permilles or for a currency; false where form and rounding are none of theirs.
 static bool make_of_unit(const std::vector<std::string_view>& field, UNumberSignDisplay sign, LocalizedNumberFormatter& made) {
     const bool cash = field[4] == "cash";
     if (!cash && field[4] != "-") return false;
-    if (field[1] == "percent") {
-        made = made.unit(icu::NoUnit::percent()).precision(icu::number::Precision::unlimited());
+    if (field[1] == "percent" || field[1] == "permille") {
+        made = made.unit(field[1] == "percent" ? icu::NoUnit::percent() : icu::NoUnit::permille()).precision(icu::number::Precision::unlimited());
         return !cash;
     }
     const size_t dash = field[1].find('-');
@@ -107,7 +107,7 @@ static bool make(const std::vector<std::string_view>& field, LocalizedNumberForm
     const icu::Locale locale = icu::Locale::forLanguageTag({field[0].data(), int32_t(field[0].size())}, code);
     if (field[1].substr(0, 2) == "::") return U_SUCCESS(code) && make_of_skeleton(field, locale, made);
     const auto base = icu::number::NumberFormatter::withLocale(locale).grouping(grouping->second).sign(sign->second);
-    if (field[1] == "percent" || field[1].find('-') != std::string_view::npos) {
+    if (field[1] == "percent" || field[1] == "permille" || field[1].find('-') != std::string_view::npos) {
         made = base;
         return U_SUCCESS(code) && make_of_unit(field, sign->second, made);
     }

@@ -71,7 +71,7 @@ static std::string symbols(const Table& system) {
     Table table = below(system, "symbols");
     std::string found;
     for (const char* name :
-         {"decimal", "group", "plusSign", "minusSign", "percentSign", "currencyDecimal", "currencyGroup"})
+         {"decimal", "group", "plusSign", "minusSign", "percentSign", "perMille", "currencyDecimal", "currencyGroup"})
         found += element(name, text(below(table, name)));
     return found;
 }

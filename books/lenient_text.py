@@ -9,9 +9,10 @@ import unicodedata
 
 import unit_text
 from look_up import locale_of
-from unit_text import GROUPINGS, Format, Symbols, currency_format, is_readable, numbers_written, percent_format
+from unit_text import GROUPINGS, SIGN_PLACES, Format, Symbols, currency_format, is_readable, numbers_written, percent_format
 
-FORM = re.compile("read-lenient-(?:percent|(currency|code|accounting)-([A-Z]{3}))", re.A)
+FORM = re.compile("read-lenient-(?:(percent|permille)|(currency|code|accounting)-([A-Z]{3}))", re.A)
+TYPED = {"percent": "%", "permille": "\N{PER MILLE SIGN}"}  # what people type for them
 ASCII = "0123456789"
 # The zeros of Arabic digits, and their decimal separator and the one between groups.
 ARABIC, ARABIC_SEPARATORS = (0x660, 0x6F0), "\u066b\u066c"
@@ -175,20 +176,23 @@ def read_typed(its, text, grouping="auto"):
 
 
 def found_reader(book, locale, system, style, code, has_own=True):
-    """What the texts of a currency in a style, or without one of percents, are read by; None where a table is not found. The
-    symbols of a currency are its own, where it has these, or without its own those of plain numbers."""
-    form = currency_format(book, locale, system, style, code, has_own=has_own) if style else percent_format(book, locale, system)
+    """What the texts of a currency in a style, or without one of percents or `permille`, are read by; None where a table is not
+    found. The symbols of a currency are its own, where it has these, or without its own those of plain numbers."""
+    if code:
+        form = currency_format(book, locale, system, style, code, has_own=has_own)
+    else:
+        form = percent_format(book, locale, system, style)
     if form is None:
         return None
     along = book.unit_chain(locale)
-    if style is None:
-        return reader(form, book.units.percent(along, system)[0], "%")
+    if code is None:
+        return reader(form, book.units.percent(along, system)[SIGN_PLACES[style]], TYPED[style])
     return reader(form, code if style == "code" else book.units.symbol(along, code)[0], code)
 
 
 def plain_reader(book, locale, system, style, code, own):
     """What the same amounts are read by with the symbols of plain numbers, where their own are others; None of percents."""
-    found = style and found_reader(book, locale, system, style, code, has_own=False)
+    found = code and found_reader(book, locale, system, style, code, has_own=False)
     return found if found and found.form.symbols != own.form.symbols else None
 
 
@@ -249,13 +253,13 @@ def answer(book, line):
     if asked is None:
         return unit_text.answer(book, line)
     tag, _, grouping, display, rounding, text = fields
-    if grouping not in GROUPINGS or display != "keep" or rounding not in unit_text.ROUNDINGS[: 2 if asked[1] else 1]:
+    if grouping not in GROUPINGS or display != "keep" or rounding not in unit_text.ROUNDINGS[: 2 if asked[2] else 1]:
         return "err\tshape"
     name, _, system = tag.partition("-u-nu-")
     locale = locale_of(name)
     if locale is None:
         return "err\ttag"
-    its = readers(book, locale, system, asked[1], asked[2])
+    its = readers(book, locale, system, asked[1] or asked[2], asked[3])
     if not its:
         return "err\ttable"
     found = read_in_turn(its, text, grouping)

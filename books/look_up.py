@@ -138,7 +138,8 @@ class Units:
         return None
 
     def percent(self, along, system):
-        """The sign, the symbols of its own or None, and the pattern of percents under a system or none; or None."""
+        """The percent sign, the symbols of its own or None, the pattern and, where it has one, the permille sign, under a system
+        or none; or None."""
         return self.find(along, *under("percents", system))
 
     def standard(self, along, system, code):

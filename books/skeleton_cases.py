@@ -64,6 +64,8 @@ SKELETONS = [
     "% +_ .0",
     "% 000 rounding-mode-floor",
     "% precision-increment/5",
+    "permille",
+    "permille .0# +!",
     # amounts
     "currency/EUR",
     "currency/USD",

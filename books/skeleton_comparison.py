@@ -9,7 +9,7 @@ from comparison import LIKELY, NEGATIVE, answers, causes_of, locale_and_system, 
 from look_up import locale_of, read_book
 from peers import NODE, NOT_IN_ICU, NOT_IN_NODE, VERSION, book_of_peer, known, with_tags_cut
 from skeleton_cases import NUMBERS, SKELETONS, WORDS
-from skeletons import REFUSED, SPELLINGS, Refused, Skeleton, is_amount, line_of, options_of, read_skeleton
+from skeletons import REFUSED, SPELLINGS, Refused, Skeleton, is_amount, is_of_intl, line_of, options_of, read_skeleton
 from unit_comparison import cause_of
 from unit_text import Symbols
 
@@ -323,6 +323,6 @@ def compare(book, words, icu, tags):
     ours, its = [words.program, words.book, CAPACITY], [(skeleton, read_skeleton(skeleton)) for skeleton in SKELETONS]
     found = asked(ours, [Found(tag, *skeleton, number) for tag in tags for skeleton in its for number in NUMBERS])
     print("beside Node")
-    is_known = compare_with_node(book, ours, found, words.shown)
+    is_known = compare_with_node(book, ours, [it for it in found if is_of_intl(it.its)], words.shown)
     print("beside ICU4C")
     return compare_with_icu(book, words.program, icu, found, words.shown) and is_known

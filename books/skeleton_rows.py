@@ -6,6 +6,7 @@ NORMAL = [
     for row in """\
 notation-simple sign-auto % group-auto | percent
  percent  .00  | percent .00
+permille +! | permille sign-always
 currency/usd K | compact-short currency/USD
 +! 000 ,_ rounding-mode-up .00+ % | percent .00* rounding-mode-up group-off integer-width/*000 sign-always
 unit-width-iso-code () currency/CHF precision-currency-cash | currency/CHF precision-currency-cash unit-width-iso-code sign-accounting
@@ -17,6 +18,7 @@ percent foo | Unknown at 8
 currency | Unknown at 0
 percent currency/EUR | Twice at 8
 base-unit percent | Twice at 10
+percent permille | Twice at 8
 .00 .0 | Twice at 4
 K currency/EURO | Code at 2
 .00 unit-width-iso-code percent | Pair at 4
@@ -67,6 +69,7 @@ precision-increment/0.50/w | 2.8 | - | plain auto auto - 3
 precision-increment/250 | 1400 | - | plain auto auto - 1500
 .+ +- | 1.23456789 | - | plain auto negative - 1.23456789
 % ,? | 1234.5 | - | percent min2 auto - 1234.5
+permille . | 1234.5 | - | permille auto auto - 1234
 KK | 1234567.00 | - | long min2 auto - 1234567
 K group-auto +_ | 1234 | - | short auto never - 1234
 currency/JPY | 2.5 | 0 1 0 1 | currency-JPY auto auto 0,half-even,1 2

@@ -15,6 +15,7 @@ notation compact-short K
 notation compact-long KK
 unit = base-unit
 unit percent %
+unit permille
 precision precision-integer .
 precision precision-unlimited .+ .*
 precision precision-currency-standard
@@ -49,7 +50,7 @@ point = decimal-auto
 """
 REFUSED = {
     "System": ("latin", "numbering-system/"),
-    "Later": ("permille scientific E0 engineering EE0 unit-width-narrow unit-width-full-name %x100 scale/ "
+    "Later": ("scientific E0 engineering EE0 unit-width-narrow unit-width-full-name %x100 scale/ "
               "unit/ measure-unit/ scientific/ engineering/").split(),
     "Unsupported": ("decimal-always integer-width-trunc unit-width-hidden unit-width-formal unit-width-variant group-thousands "
                     "rounding-mode-half-odd rounding-mode-unnecessary per-measure-unit/ usage/").split(),
@@ -351,6 +352,11 @@ def line_of(its, tag, number, of_currency=None):
     form, number = form_of(its), shown(its, number, of_currency)
     rounding = f"{-len(number.partition('.')[2])},half-even,1" if is_amount(its) else "-"
     return form and "\t".join((tag, form, grouping_of(its), sign_of(its), rounding, number))
+
+
+def is_of_intl(its):
+    """Whether Intl.NumberFormat has the unit of a skeleton."""
+    return its.unit != "permille"
 
 
 def options_of(its, of_currency=None):

@@ -122,7 +122,7 @@ def with_givers_separators(book, along, symbols, codes):
 def formats_there(book, line):
     """What another formatter may write a currency's line by, each with its causes."""
     fields = line.split("\t")
-    _, style, code = FORM.fullmatch(fields[1]).groups()
+    *_, style, code = FORM.fullmatch(fields[1]).groups()
     name, _, system = fields[0].partition("-u-nu-")
     locale, units = locale_of(name), book.units
     along, (symbols, digits) = book.unit_chain(locale), plain_tables(book, locale, system)

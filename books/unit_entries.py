@@ -157,7 +157,7 @@ class UnitEntries:
         if kind != "percent":
             separators = [own["decimal"] if "decimal" in own else table.get("currencyDecimal", separators[0]),
                           own["group"] if "group" in own else table.get("currencyGroup", separators[1])]
-        texts = [*separators, *(text for pair in pairs for text in pair), table.get("percentSign", "")]
+        texts = [*separators, *(text for pair in pairs for text in pair), table.get("percentSign", ""), table.get("perMille", "")]
         if len(number) > MOST or any(char in text for text in texts for char in "\t\n"):
             return self.without(f"{kind} patterns that a book can't hold", tag)
         own_symbols = [system, *symbols[:4], *separators, *sizes_of(number), symbols[8]]
@@ -167,7 +167,7 @@ class UnitEntries:
         if kind == "percent":
             if "percentSign" not in table:
                 return self.without("percents without a sign", tag)
-            return [table["percentSign"], *rest]
+            return [table["percentSign"], *rest, *([table["perMille"]] if "perMille" in table else ())]
         beside = self.beside_letter(tag, values, signs, found)
         beside = short_form([apart(pair) for pair in beside], symbols)
         return [*rest, None if beside == rest[1] else beside]

@@ -45,7 +45,7 @@ def is_ends(value):
 
 AMOUNT = (is_text, is_text, is_symbols, is_pattern, is_pattern_or_null)
 SHAPES = {
-    "percents": (is_text, is_text, is_text, is_symbols, is_pattern),
+    "percents": (is_text, is_text, is_text, is_symbols, is_pattern, is_text),
     "currencies": AMOUNT,
     "accounts": AMOUNT,
     "currency symbols": (is_text, is_text, is_text, is_ends),
@@ -54,14 +54,15 @@ SHAPES = {
 
 
 def has_shape(kind, entry):
-    """Whether an entry has the fields of its array."""
+    """Whether an entry has the fields of its array: percents may be without the last one."""
     fields = SHAPES[kind]
-    return isinstance(entry, list) and len(entry) == len(fields) and all(it(value) for it, value in zip(fields, entry))
+    counts = (len(fields) - 1, len(fields)) if kind == "percents" else (len(fields),)
+    return isinstance(entry, list) and len(entry) in counts and all(it(value) for it, value in zip(fields, entry))
 
 
 def patterns_of(kind, entry):
     """The patterns that an entry has."""
-    fields = {"percents": entry[4:], "currencies": entry[3:], "accounts": entry[3:]}.get(kind, [])
+    fields = {"percents": entry[4:5], "currencies": entry[3:], "accounts": entry[3:]}.get(kind, [])
     return [it for it in fields if it is not None]
 
 
@@ -72,7 +73,7 @@ def symbols_of(kind, entry):
 
 def texts_of(kind, entry):
     """The texts of an entry that are written: signs and symbols of units, own symbols, patterns."""
-    unit = [entry[2]] if kind in ("percents", "currency symbols") else []
+    unit = {"percents": [entry[2], *entry[5:]], "currency symbols": [entry[2]]}.get(kind, [])
     return [*unit, *symbols_of(kind, entry)[1:7], *(text for pattern in patterns_of(kind, entry) for text in pattern)]
 
 

@@ -14,6 +14,9 @@ mr | percent | keep | - | 1234567.5 | १,२३४,५६७.५%
 mr | percent | always | - | -1 | -१%
 he | percent | keep | - | -5 | \u200e-5%
 ar-u-nu-arab | percent | keep | - | 5 | ٥٪\u061c
+tr | permille | keep | - | -12.5 | -‰12,5
+tr | permille | always | - | 5 | +‰5
+en-AU | permille | keep | - | 5 | 50/00
 en | currency-EUR | keep | - | 1234.5 | €1,234.50
 en | currency-CHF | keep | - | -1234.5 | -CHF~1,234.50
 en | currency-JPY | keep | - | 2.5 | ¥2
@@ -80,6 +83,9 @@ en | currency-CZK | keep | cash | 2.5 | CZK~2
 en | currency-CZK | keep | - | 2.5 | CZK~2.50
 ar-u-nu-arab | currency-EUR | keep | - | 5 | \u200f٥٫٠٠~€
 en | read-percent | keep | - | -12.50% | -12.50
+tr | read-permille | keep | - | -‰12,50 | -12.50
+tr | read-permille | keep | - | -%12,50 | err not-written
+en-AU | read-permille | keep | - | 50/00 | err unreadable
 en | read-currency-EUR | keep | - | €1,234.50 | 1234.50
 en | read-accounting-USD | keep | - | ($5.00) | -5.00
 nl | read-currency-USD | keep | - | US$~-5,00 | -5.00
@@ -95,9 +101,11 @@ en | currency-EURO | keep | - | 1 | err shape
 en | currency-eur | keep | - | 1 | err shape
 en | percent | keep | cash | 1 | err shape
 en | percent | some | - | 1 | err shape
+en | permille | keep | cash | 1 | err shape
 en | code-EUR | keep | 2 | 1 | err shape
 en_US | percent | keep | - | 1 | err tag
 xx | percent | keep | - | 1 | err table
+en | permille | keep | - | 1 | err table
 en | percent | keep | - | 1,5 | err number
 """.splitlines()
 ]
@@ -145,6 +153,9 @@ mr | percent | 1234567.5% | 1234567.5
 mr | currency-EUR | EUR 1,234,567.8 | 1234567.8
 mr | currency-EUR | 12,34,567.8 € | not-written
 ar-u-nu-arab | percent | 5% | 5
+tr | permille | 12,5 ‰ | 12.5
+tr | permille | 12,5% | not-written
+en-AU | permille | 5 | unreadable
 de-AT | currency-EUR | € 1.234,50 | 1234.50
 de-AT | currency-EUR | 1.234,50 | 1234.50
 de-AT | currency-EUR | € 1 234,50 | 1234.50
@@ -189,6 +200,9 @@ FAULTS = [
     (0, [["en", "", "¤", None, ["", " ¤"]]], None),
     (0, [["en", "", "%", None, ["", "¤", ""]]], (0, "shape")),
     (0, [["en", "", "%", None, ["", "¤"], None]], (0, "shape")),
+    (0, [["en", "", "%", None, ["", "¤"], "‰"], ["de", "", "%", None, ["", "¤"]]], None),
+    (0, [["en", "", "%", None, ["", "¤"], "‰", ""]], (0, "shape")),
+    (0, [["en", "", "%", None, ["", ""], "\n"]], (0, "text")),
     (0, [["en", "", "%", OWN[1:], ["", "¤"]]], (0, "shape")),
     (0, [["en", "", "%", [*OWN[:9], 256], ["", "¤"]]], (0, "shape")),
     (0, [["e", "", "%", None, ["", ""]]], (0, "tag")),

@@ -8,7 +8,8 @@ import typing
 
 from look_up import LETTERS, PLACEHOLDER, locale_of
 
-FORM = re.compile("(read-)?(?:percent|(currency|code|accounting)-([A-Z]{3}))", re.A)
+FORM = re.compile("(read-)?(?:(percent|permille)|(currency|code|accounting)-([A-Z]{3}))", re.A)
+SIGN_PLACES = {"percent": 0, "permille": 3}  # in what an entry of percents has after its key
 GROUPINGS = ("auto", "never", "always", "min2", "on-aligned")
 SIGNS = ("keep", "auto", "never", "always", "except-zero", "negative")
 ROUNDINGS = ("-", "cash")
@@ -145,15 +146,16 @@ def plain_tables(book, locale, system):
     return (Symbols(*found["symbols"]), found["digits"]) if found["symbols"] and found["digits"] else None
 
 
-def percent_format(book, locale, system):
-    """What percents of a locale are written by; None where a table is not found. A percent is not rounded."""
+def percent_format(book, locale, system, style="percent"):
+    """What percents of a locale are written by, or `permille`; None where a table or the sign is not found. Neither is rounded."""
     tables = plain_tables(book, locale, system)
     entry = book.units and book.units.percent(book.unit_chain(locale), system)
-    if tables is None or entry is None:
+    place = SIGN_PLACES[style]
+    if tables is None or entry is None or place >= len(entry):
         return None
-    sign, own, pattern = entry
+    own, pattern = entry[1:3]
     symbols = Symbols(*own) if own else tables[0]
-    return Format(symbols, tables[1], affixes_of(pattern, sign, symbols))
+    return Format(symbols, tables[1], affixes_of(pattern, entry[place], symbols))
 
 
 def currency_format(book, locale, system, style, code, is_cash=False, has_own=True):
@@ -208,25 +210,27 @@ def read(form, text, grouping="auto"):
 
 
 def answer(book, line):
-    """The answer to a request line of the forms `percent`, `currency-EUR`, `code-EUR`, `accounting-EUR`, or of one of these
-    with `read-` before it: `ok` and a text, or `err` and a word."""
+    """The answer to a request line of the forms `percent`, `permille`, `currency-EUR`, `code-EUR`, `accounting-EUR`, or of one
+    of these with `read-` before it: `ok` and a text, or `err` and a word."""
     fields = line.split("\t")
     asked = FORM.fullmatch(fields[1]) if len(fields) == 6 else None
     if asked is None:
         return "err\tshape"
     tag, _, grouping, display, rounding, text = fields
-    if grouping not in GROUPINGS or display not in SIGNS or rounding not in ROUNDINGS[: 2 if asked[3] else 1]:
+    if grouping not in GROUPINGS or display not in SIGNS or rounding not in ROUNDINGS[: 2 if asked[4] else 1]:
         return "err\tshape"
     name, _, system = tag.partition("-u-nu-")
     locale = locale_of(name)
     if locale is None:
         return "err\ttag"
-    if asked[3] is None:
-        form = percent_format(book, locale, system)
+    if asked[2]:
+        form = percent_format(book, locale, system, asked[2])
     else:
-        form = currency_format(book, locale, system, asked[2], asked[3], rounding == "cash")
+        form = currency_format(book, locale, system, asked[3], asked[4], rounding == "cash")
     if form is None:
         return "err\ttable"
+    if asked[1] and not is_readable(form):
+        return "err\tunreadable"
     if asked[1]:
         number = read(form, text, grouping)
         return f"ok\t{number.text()}" if number else "err\tnot-written"

@@ -8,15 +8,17 @@ use Rattle.icu_decimal.specs.PlainText.{Tables}
 use Rattle.icu_decimal.specs.Symbols.{Symbols}
 use Rattle.icu_decimal.specs.declared.error.DataError.{DataError}
 use Rattle.icu_decimal.specs.declared.options.GroupingStrategy.{GroupingStrategy}
-use Rattle.icu_dimension.specs.FoundUnits.{CurrencySettings, amount_settings, decimals_found, percent_settings, then_found}
+use Rattle.icu_dimension.specs.FoundUnits.{CurrencySettings, amount_settings, decimals_found, percent_settings, sign_found, then_found}
 use Rattle.icu_dimension.specs.UnitChoice.{amounts_found, fractions_found, name_found, percent_found, unit_chain}
 use Rattle.icu_dimension.specs.UnitSources.{CurrencySource, PercentSource}
 use Rattle.icu_dimension.specs.UnitText.{UnitSettings}
 use Rattle.icu_dimension.specs.declared.CurrencyFormatterOptions.{CurrencyFormatterOptions}
+use Rattle.icu_dimension.specs.declared.PercentSign.{PercentSign}
+use Rattle.icu_dimension.specs.declared.PercentSign.TheVariants.{Percent, Permille}
 use Rattle.icu_locale_core.specs.Subtags.{Text}
 use Rattle.icu_locale_core.specs.TagPreferences.{DataLocaleMeaning, Preferences, language_priority}
 use Rattle.locale_numbers_book.specs.Book.{BookTables}
-use Rattle.locale_numbers_book.specs.FoundFormats.{amount_options, found_for, mapped, notation_found}
+use Rattle.locale_numbers_book.specs.FoundFormats.{amount_options, found_for, mapped, notation_found, percent_options, percents_with}
 use Rattle.locale_numbers_book.specs.TagFormatters.{currencies_in, currency_found_in, found_beside, found_plain, patterns_under, percent_found_in, percents_in}
 use Rattle.locale_numbers_book.specs.Tables.{chain_in, digits_under, parent_under, rules_under, steps_in, symbols_under}
 use Rattle.locale_numbers_formats.specs.declared.CompactWidth.{CompactWidth}
@@ -30,11 +32,12 @@ use Rattle.locale_numbers_formatter.specs.HeldFormats.{currency_format, percent_
 
 -- ---- what is found, by the tables of plain text, the locales and the system
 
-abbrev percents_by : PercentSource → Result Tables DataError → List DataLocaleMeaning → Option Text → Result UnitSettings DataError
-percents_by s tables locales system =
+abbrev percents_by : PercentSource → PercentSign → Result Tables DataError → List DataLocaleMeaning → Option Text → Result UnitSettings DataError
+percents_by s sign tables locales system =
     then_found tables (λ t.
     then_found (percent_found s.percents locales system) (λ e.
-    Ok (percent_settings t e)))
+    then_found (sign_found sign e) (λ text.
+    Ok (percent_settings t e text))))
 
 abbrev amounts_by : CurrencySource → Text → CurrencyFormatterOptions → Result Tables DataError → List DataLocaleMeaning → Option Text → Result CurrencySettings DataError
 amounts_by s code options tables locales system =
@@ -69,11 +72,11 @@ module _ (book : BookTables) (p q : Preferences) (locales : language_priority p.
   abbrev along : DataLocaleMeaning → List DataLocaleMeaning
   along locale = unit_chain (parent_under book) (steps_in book.parents) locale
 
-  pub percents_alike : percent_found_in book p (Some grouping) ≡ percent_found_in book q (Some grouping)
-  percents_alike =
-      ap (λ tables. percents_by (percents_in book) tables (along (language_priority p.locale)) p.numbering_system) plain_alike
-      ∙ ap (λ locale. percents_by (percents_in book) (decimals_found (percents_in book).decimals q (Some grouping)) (along locale) p.numbering_system) locales
-      ∙ ap (percents_by (percents_in book) (decimals_found (percents_in book).decimals q (Some grouping)) (along (language_priority q.locale))) systems
+  pub percents_alike : (sign : PercentSign) → percent_found_in book p (percent_options sign grouping) ≡ percent_found_in book q (percent_options sign grouping)
+  percents_alike sign =
+      ap (λ tables. percents_by (percents_in book) sign tables (along (language_priority p.locale)) p.numbering_system) plain_alike
+      ∙ ap (λ locale. percents_by (percents_in book) sign (decimals_found (percents_in book).decimals q (Some grouping)) (along locale) p.numbering_system) locales
+      ∙ ap (percents_by (percents_in book) sign (decimals_found (percents_in book).decimals q (Some grouping)) (along (language_priority q.locale))) systems
 
   pub amounts_alike : (code : Text) (options : CurrencyFormatterOptions) → options.grouping_strategy ≡ Some grouping → currency_found_in book p code options ≡ currency_found_in book q code options
   amounts_alike code options is =
@@ -83,13 +86,18 @@ module _ (book : BookTables) (p q : Preferences) (locales : language_priority p.
       ∙ ap (λ locale. amounts_by (currencies_in book) code options (decimals_found (currencies_in book).decimals q options.grouping_strategy) (along locale) p.numbering_system) locales
       ∙ ap (amounts_by (currencies_in book) code options (decimals_found (currencies_in book).decimals q options.grouping_strategy) (along (language_priority q.locale))) systems
 
+  with_sign_alike : (sign : PercentSign) → percents_with sign book p grouping ≡ percents_with sign book q grouping
+  with_sign_alike sign = ap (mapped (λ settings. unit_tables (percent_format sign settings))) (percents_alike sign)
+
   notation_alike : (notation : Notation) (beside : NumberUnit) → notation_found notation beside book p grouping ≡ notation_found notation beside book q grouping
   notation_alike Standard unit.None = ap (mapped plain_tables) plain_alike
-  notation_alike Standard unit.Percent = ap (mapped (λ settings. unit_tables (percent_format settings))) percents_alike
+  notation_alike Standard unit.Percent = with_sign_alike Percent
+  notation_alike Standard unit.Permille = with_sign_alike Permille
   notation_alike Standard (unit.Currency currency) =
       ap (mapped (λ settings. unit_tables (currency_format currency.code settings))) (amounts_alike currency.code (amount_options currency grouping) refl)
   notation_alike (Compact width) unit.None = ap (mapped compact_tables) (compact_alike width)
   notation_alike (Compact width) unit.Percent = refl
+  notation_alike (Compact width) unit.Permille = refl
   notation_alike (Compact width) (unit.Currency currency) = refl
 
 -- what is found for a shape

@@ -14,14 +14,14 @@ use Rattle.serde_json.specs.Data.{Data}
 use Rattle.fixed_decimal.specs.declared.Sign.{Sign}
 use Rattle.fixed_decimal.specs.declared.Sign.TheVariants.{None as NoSign, Negative, Positive}
 use Rattle.icu_decimal.specs.Affixes.{AffixTexts, affixes_of}
-use Rattle.icu_decimal.specs.Choice.{first_found}
+use Rattle.icu_decimal.specs.Choice.{answered, first_found}
 use Rattle.icu_decimal.specs.Identifiers.{Identifier, identifiers_along, under_each}
 use Rattle.icu_decimal.specs.PlainText.{Tables}
 use Rattle.icu_decimal.specs.ReadingLaws.{AreTables}
 use Rattle.icu_decimal.specs.Symbols.{Symbols}
 use Rattle.icu_decimal.specs.declared.error.DataError.{DataError}
 use Rattle.icu_dimension.specs.CurrencyCodes.{is_currency_code}
-use Rattle.icu_dimension.specs.FoundUnits.{CurrencySettings, amount_settings, percent_settings, then_found, unit_locales, with_own}
+use Rattle.icu_dimension.specs.FoundUnits.{CurrencySettings, amount_settings, percent_settings, sign_found, then_found, unit_locales, with_own}
 use Rattle.icu_dimension.specs.ProvidedUnits.{AmountTexts, PercentTexts, SymbolText, written_as}
 use Rattle.icu_dimension.specs.UnitChoice.{amounts_found, fractions_found, name_found, percent_found, usual_amounts}
 use Rattle.icu_dimension.specs.UnitPatterns.{AffixPair, AffixesText, PatternTexts, chosen_from, is_letter_next, pair_with}
@@ -32,6 +32,8 @@ use Rattle.icu_dimension.specs.declared.CurrencyStyle.TheVariants.{Standard, Acc
 use Rattle.icu_dimension.specs.declared.CurrencyWidth.{CurrencyWidth}
 use Rattle.icu_dimension.specs.declared.CurrencyWidth.TheVariants.{Short, IsoCode}
 use Rattle.icu_dimension.specs.declared.FractionInfo.{FractionInfo}
+use Rattle.icu_dimension.specs.declared.PercentSign.{PercentSign}
+use Rattle.icu_dimension.specs.declared.PercentSign.TheVariants.{Percent, Permille}
 use Rattle.icu_dimension.specs.declared.UnitPlace.{UnitPlace}
 use Rattle.icu_dimension.specs.declared.UnitPlace.TheVariants.{Before, After}
 use Rattle.icu_locale_core.specs.Subtags.{Text}
@@ -118,8 +120,17 @@ own_tables (Some own) t tables texts = record {
   group = texts.group;
 }
 
-percent_texts : (t : Tables) (e : PercentTexts) → AreTables t → ArePercentTexts e → AreReaderTexts (reader_texts (percent_settings t e))
-percent_texts t e tables texts = settings_texts (percent_settings t e) (own_tables e.symbols t tables texts.symbols) texts.pattern texts.sign
+percent_texts : (t : Tables) (e : PercentTexts) (text : List ℕ) → AreTables t → ArePercentTexts e → IsUtf8 text → AreReaderTexts (reader_texts (percent_settings t e text))
+percent_texts t e text tables texts utf8 = settings_texts (percent_settings t e text) (own_tables e.symbols t tables texts.symbols) texts.pattern utf8
+
+-- each sign that is there
+percent_sign_texts : (sign : PercentSign) (e : PercentTexts) (text : List ℕ) → ArePercentTexts e → sign_found sign e ≡ Ok text → IsUtf8 text
+percent_sign_texts Percent e text texts is = let one : e.sign ≡ text = cc in subst IsUtf8 one texts.sign
+percent_sign_texts Permille e text texts is = permille_text e.permille text texts.permille is
+  where
+    permille_text : (o : Option (List ℕ)) (text : List ℕ) → IfSome o IsUtf8 → answered o ≡ Ok text → IsUtf8 text
+    permille_text (Some other) text utf8 is = let one : other ≡ text = cc in subst IsUtf8 one utf8
+    permille_text None text utf8 is = absurd (cc)
 
 -- the pattern beside a letter, or the other
 chosen_texts : (standard : PatternTexts) (beside : Option PatternTexts) (b : Bool) → ArePatternTexts standard → IfSome beside ArePatternTexts → ArePatternTexts (chosen_from standard beside b)
@@ -227,21 +238,27 @@ code_utf8 code is = IsUtf8-from_ascii code (capitals_ascii code (and_parts (leng
 
 -- ---- the laws
 
-percent_by : (d : Result Tables DataError) (p : Result PercentTexts DataError) (settings : UnitSettings)
+sign_by : (t : Tables) (e : PercentTexts) (s : Result (List ℕ) DataError) (settings : UnitSettings) → AreTables t → ArePercentTexts e
+    → ((text : List ℕ) → s ≡ Ok text → IsUtf8 text) → then_found s (λ text. Ok (percent_settings t e text)) ≡ Ok settings → AreReaderTexts (reader_texts settings)
+sign_by t e (Ok text) settings tables texts utf8 is =
+    let one : percent_settings t e text ≡ settings = cc in
+    subst (λ (s : UnitSettings). AreReaderTexts (reader_texts s)) one (percent_texts t e text tables texts (utf8 text refl))
+sign_by t e (Err error) settings tables texts utf8 is = absurd (cc)
+
+percent_by : (sign : PercentSign) (d : Result Tables DataError) (p : Result PercentTexts DataError) (settings : UnitSettings)
     → ((t : Tables) → d ≡ Ok t → AreTables t) → ((e : PercentTexts) → p ≡ Ok e → ArePercentTexts e)
-    → then_found d (λ t. then_found p (λ e. Ok (percent_settings t e))) ≡ Ok settings → AreReaderTexts (reader_texts settings)
-percent_by (Ok t) (Ok e) settings tables texts is =
-    let one : percent_settings t e ≡ settings = cc in
-    subst (λ (s : UnitSettings). AreReaderTexts (reader_texts s)) one (percent_texts t e (tables t refl) (texts e refl))
-percent_by (Ok t) (Err error) settings tables texts is = absurd (cc)
-percent_by (Err error) p settings tables texts is = absurd (cc)
+    → then_found d (λ t. then_found p (λ e. then_found (sign_found sign e) (λ text. Ok (percent_settings t e text)))) ≡ Ok settings → AreReaderTexts (reader_texts settings)
+percent_by sign (Ok t) (Ok e) settings tables texts is =
+    sign_by t e (sign_found sign e) settings (tables t refl) (texts e refl) (λ text there. percent_sign_texts sign e text (texts e refl) there) is
+percent_by sign (Ok t) (Err error) settings tables texts is = absurd (cc)
+percent_by sign (Err error) p settings tables texts is = absurd (cc)
 
 pub percents_texts : FoundPercentsAreTexts
-percents_texts value book is preferences grouping settings found =
+percents_texts value book is preferences options settings found =
     let units = units_are (units_part value) book.units is.units in
     let locales = unit_locales (decimals_in book) preferences in
-    percent_by (found_plain book preferences grouping) (percent_found (percents_under book) locales preferences.numbering_system) settings
-    (λ t there. plain_texts value book is preferences grouping t there)
+    percent_by options.sign (found_plain book preferences options.grouping_strategy) (percent_found (percents_under book) locales preferences.numbering_system) settings
+    (λ t there. plain_texts value book is preferences options.grouping_strategy t there)
     (λ e there. percents_found book units locales preferences.numbering_system e there) found
 
 amount_by : (d : Result Tables DataError) (a : Result AmountTexts DataError) (n : Result SymbolText DataError) (f : Result FractionInfo DataError) (found : CurrencySettings)

@@ -22,6 +22,8 @@ pub mod SampleUnitsLemmas
 pub mod TextTables
 pub mod FoundTexts
 pub mod FoundUnitTexts
+pub mod FoundLocaleLemmas
+pub mod KnownLocales
 pub mod ChainLemmas
 pub mod KnownLines
 pub mod SmallBookLemmas

@@ -18,6 +18,7 @@ use Rattle.icu_dimension.specs.UnitSources.{CurrencySource, DecimalSource, Perce
 use Rattle.icu_dimension.specs.UnitText.{UnitSettings}
 use Rattle.icu_dimension.specs.declared.CurrencyFormatterOptions.{CurrencyFormatterOptions}
 use Rattle.icu_dimension.specs.declared.FractionInfo.{FractionInfo}
+use Rattle.icu_dimension.specs.declared.PercentFormatterOptions.{PercentFormatterOptions}
 use Rattle.icu_locale_core.specs.Subtags.{Text}
 use Rattle.icu_locale_core.specs.TagPreferences.{DataLocaleMeaning, Preferences}
 use Rattle.locale_numbers_book.specs.Book.{BookTables}
@@ -78,14 +79,14 @@ module _ (next : DataLocaleMeaning → Option DataLocaleMeaning) (limit : ℕ) (
     digits = λ id. digits_agree id i;
   }
 
-  pub percents_found_by : (percents : Identifier → Result PercentTexts DataError) (p : Preferences) (grouping : GroupingStrategy) (found : Result UnitSettings DataError)
+  pub percents_found_by : (percents : Identifier → Result PercentTexts DataError) (p : Preferences) (options : PercentFormatterOptions) (found : Result UnitSettings DataError)
       → ((id : Identifier) → percents id ≡ percents_under book id)
-      → found ≡ found_percent (record { decimals = record { next = next; limit = limit; symbols = symbols; digits = digits }; percents = percents }) p (Some grouping)
-      → found ≡ percent_found_in book p (Some grouping)
-  percents_found_by percents p grouping found percents_agree is =
+      → found ≡ found_percent (record { decimals = record { next = next; limit = limit; symbols = symbols; digits = digits }; percents = percents }) p options
+      → found ≡ percent_found_in book p options
+  percents_found_by percents p options found percents_agree is =
       let same : ◌≡◌ {A = PercentSource} (record { decimals = record { next = next; limit = limit; symbols = symbols; digits = digits }; percents = percents }) (percents_in book) =
       λ i. record { decimals = decimals_are i; percents = λ id. percents_agree id i } in
-      is ∙ ap (λ s. found_percent s p (Some grouping)) same
+      is ∙ ap (λ s. found_percent s p options) same
 
   pub amounts_found_by : (currencies accounts : Identifier → Result AmountTexts DataError) (names : Identifier → Result SymbolText DataError) (fractions : Identifier → Result FractionInfo DataError)
       (p : Preferences) (code : Text) (options wanted : CurrencyFormatterOptions) (found : Result CurrencySettings DataError)

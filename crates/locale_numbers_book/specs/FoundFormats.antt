@@ -14,6 +14,9 @@ use Rattle.icu_decimal.specs.declared.error.DataError.{DataError}
 use Rattle.icu_decimal.specs.declared.options.GroupingStrategy.{GroupingStrategy}
 use Rattle.icu_dimension.specs.declared.CurrencyFormatterOptions.{CurrencyFormatterOptions}
 use Rattle.icu_dimension.specs.declared.FractionInfo.{FractionInfo}
+use Rattle.icu_dimension.specs.declared.PercentFormatterOptions.{PercentFormatterOptions}
+use Rattle.icu_dimension.specs.declared.PercentSign.{PercentSign}
+use Rattle.icu_dimension.specs.declared.PercentSign.TheVariants.{Percent, Permille}
 use Rattle.icu_locale_core.specs.Subtags.{Text}
 use Rattle.icu_locale_core.specs.TagPreferences.{Preferences}
 use Rattle.locale_numbers_book.specs.Book.{BookTables}
@@ -37,16 +40,24 @@ abbrev pub mapped : {A B : Type 0} → (A → B) → Result A DataError → Resu
 mapped f (Ok found) = Ok (f found)
 mapped f (Err error) = Err error
 
+-- percents with a sign
+abbrev pub percent_options : PercentSign → GroupingStrategy → PercentFormatterOptions
+percent_options sign grouping = record { grouping_strategy = Some grouping; sign = sign }
+
+abbrev pub percents_with : PercentSign → BookTables → Preferences → GroupingStrategy → Result FormatTables DataError
+percents_with sign book preferences grouping =
+    mapped (λ settings. unit_tables (percent_format sign settings)) (percent_found_in book preferences (percent_options sign grouping))
+
 -- amounts of a currency, written as its unit says
 abbrev pub amount_options : CurrencyUnit → GroupingStrategy → CurrencyFormatterOptions
 amount_options currency grouping =
     record { style = currency.style; width = currency.width; grouping_strategy = Some grouping }
 
--- with all digits: plain numbers, percents and amounts
+-- with all digits: plain numbers, percents, permille and amounts
 abbrev pub standard_found : NumberUnit → BookTables → Preferences → GroupingStrategy → Result FormatTables DataError
 standard_found unit.None book preferences grouping = mapped plain_tables (found_plain book preferences (Some grouping))
-standard_found unit.Percent book preferences grouping =
-    mapped (λ settings. unit_tables (percent_format settings)) (percent_found_in book preferences (Some grouping))
+standard_found unit.Percent book preferences grouping = percents_with Percent book preferences grouping
+standard_found unit.Permille book preferences grouping = percents_with Permille book preferences grouping
 standard_found (unit.Currency currency) book preferences grouping =
     mapped (λ settings. unit_tables (currency_format currency.code settings))
     (currency_found_in book preferences currency.code (amount_options currency grouping))
@@ -56,6 +67,7 @@ abbrev pub compact_found : CompactWidth → NumberUnit → BookTables → Prefer
 compact_found width unit.None book preferences grouping =
     mapped compact_tables (found_beside (patterns_under width book) book preferences (Some grouping))
 compact_found width unit.Percent book preferences grouping = Err DataError.IdentifierNotFound
+compact_found width unit.Permille book preferences grouping = Err DataError.IdentifierNotFound
 compact_found width (unit.Currency currency) book preferences grouping = Err DataError.IdentifierNotFound
 
 abbrev pub notation_found : Notation → NumberUnit → BookTables → Preferences → GroupingStrategy → Result FormatTables DataError

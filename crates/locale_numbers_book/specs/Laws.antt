@@ -25,6 +25,7 @@ use Rattle.icu_dimension.specs.FoundUnits.{CurrencySettings}
 use Rattle.icu_dimension.specs.UnitReading.{AreReaderTexts, reader_texts}
 use Rattle.icu_dimension.specs.UnitText.{UnitSettings}
 use Rattle.icu_dimension.specs.declared.CurrencyFormatterOptions.{CurrencyFormatterOptions}
+use Rattle.icu_dimension.specs.declared.PercentFormatterOptions.{PercentFormatterOptions}
 use Rattle.locale_numbers_book.specs.Book.{BookTables, HasTables, HasUnits, IsBook}
 use Rattle.locale_numbers_book.specs.BookAllocation.{alone_may_grow, book_may_grow, five_may_grow}
 use Rattle.locale_numbers_book.specs.Form.{alone_fault, book_fault, five_fault, has_form, has_units_form}
@@ -118,8 +119,8 @@ BookTablesAreTexts = (value : Data) (book : BookTables) → IsBook value book �
 
 -- what percents are written with is made of texts
 abbrev pub FoundPercentsAreTexts : Type 0
-FoundPercentsAreTexts = (value : Data) (book : BookTables) → IsBook value book → (preferences : Preferences) (grouping : Option GroupingStrategy) (settings : UnitSettings)
-    → percent_found_in book preferences grouping ≡ Ok settings → AreReaderTexts (reader_texts settings)
+FoundPercentsAreTexts = (value : Data) (book : BookTables) → IsBook value book → (preferences : Preferences) (options : PercentFormatterOptions) (settings : UnitSettings)
+    → percent_found_in book preferences options ≡ Ok settings → AreReaderTexts (reader_texts settings)
 
 -- and so is what the amounts of a currency are written with, of which the code is three capitals
 abbrev pub FoundAmountsAreTexts : Type 0

@@ -93,7 +93,7 @@ signed unsigned minus plus = record { unsigned = unsigned; minus = Some minus; p
 
 -- without symbols of their own
 abbrev pub percent : PatternTexts → PercentTexts
-percent pattern = record { sign = codes "%"; symbols = None; pattern = pattern }
+percent pattern = record { sign = codes "%"; permille = None; symbols = None; pattern = pattern }
 
 abbrev pub amounts : PatternTexts → Option PatternTexts → AmountTexts
 amounts standard beside = record { symbols = None; patterns = record { standard = standard; alpha_next_to_number = beside } }

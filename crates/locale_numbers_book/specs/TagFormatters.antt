@@ -68,8 +68,8 @@ currencies_in book = record {
 }
 
 -- what percents are written with
-abbrev pub percent_found_in : BookTables → Preferences → Option GroupingStrategy → Result UnitSettings DataError
-percent_found_in book preferences grouping = found_percent (percents_in book) preferences grouping
+abbrev pub percent_found_in : BookTables → Preferences → PercentFormatterOptions → Result UnitSettings DataError
+percent_found_in book preferences options = found_percent (percents_in book) preferences options
 
 -- what amounts of a currency are written with
 abbrev pub currency_found_in : BookTables → Preferences → Text → CurrencyFormatterOptions → Result CurrencySettings DataError
@@ -107,7 +107,7 @@ long_for book tag = compact_grouped CompactWidth.Long book tag (Some GroupingStr
 
 -- percents
 abbrev pub percent_for : BookTables → Text → PercentFormatterOptions → Result UnitSettings FormatterError
-percent_for book tag options = found_by (λ preferences. percent_found_in book preferences options.grouping_strategy) (wanted_of tag)
+percent_for book tag options = found_by (λ preferences. percent_found_in book preferences options) (wanted_of tag)
 
 -- amounts of a currency, which a text of three capitals names
 abbrev pub currency_for : BookTables → Text → Text → CurrencyFormatterOptions → Result CurrencySettings FormatterError

@@ -5,8 +5,8 @@ ghost use Rattle.std.specs.Option.{option_and_then};
 ghost use Rattle.std.specs.Result.{result_map_both, result_ok};
 ghost use Rattle.icu_decimal.specs.HeldCompact.{compact_tables_of};
 ghost use Rattle.icu_decimal.specs.HeldTables.{tables_of};
-ghost use Rattle.icu_dimension.specs.HeldFormatters.{code_of, currency_settings_of, settings_of_percent};
-ghost use Rattle.locale_numbers_book.specs.FoundFormats.{amount_options, amounts_by, both_found, compact_found, found_for, in_ascii, in_latin, second_for, standard_found};
+ghost use Rattle.icu_dimension.specs.HeldFormatters.{code_of, currency_settings_of, settings_of_percent, sign_of};
+ghost use Rattle.locale_numbers_book.specs.FoundFormats.{amount_options, amounts_by, both_found, compact_found, found_for, in_ascii, in_latin, percent_options, percents_with, second_for, standard_found};
 ghost use Rattle.locale_numbers_book.specs.TagFormatters.{currency_found_in, found_beside, found_plain, patterns_under, percent_found_in};
 ghost use Rattle.locale_numbers_formatter.specs.FormatText.{unit_tables};
 ghost use Rattle.locale_numbers_formatter.specs.HeldFormats.{currency_format};
@@ -19,6 +19,7 @@ use icu_decimal::provider::DataError;
 use icu_decimal::{CompactDecimalFormatter, DecimalFormatter, DecimalFormatterPreferences};
 use icu_dimension::{
     CurrencyFormatter, CurrencyFormatterOptions, PercentFormatter, PercentFormatterOptions,
+    PercentSign,
 };
 use icu_locale_core::preferences::extensions::unicode::keywords::NumberingSystem;
 use icu_locale_core::subtags::Subtag;
@@ -58,22 +59,40 @@ fn find_compact<'a, T: Tables>(
     }
 }
 
-// The formatter of percents.
+// The formatter of percents with a sign.
 fn find_percents<'a, T: Tables>(
     tables: &'a T,
     preferences: DecimalFormatterPreferences,
+    sign: PercentSign,
     grouping: GroupingStrategy,
 ) -> Result<PercentFormatter<'a>, DataError>
-    ensures { result_map_both settings_of_percent (λ error. error) result
-        ≡ percent_found_in (T.book tables.now) preferences (Some grouping) }
+    ensures found { result_map_both settings_of_percent (λ error. error) result
+        ≡ percent_found_in (T.book tables.now) preferences (percent_options sign grouping) }
+    ensures sign { IfOk result (λ formatter. sign_of formatter ≡ sign) }
 {
     PercentFormatter::try_new_unstable(
         tables,
         preferences,
         PercentFormatterOptions {
             grouping_strategy: Some(grouping),
+            sign,
         },
     )
+}
+
+// The same, as a formatter of numbers.
+fn find_with_sign<'a, T: Tables>(
+    tables: &'a T,
+    preferences: DecimalFormatterPreferences,
+    sign: PercentSign,
+    grouping: GroupingStrategy,
+) -> Result<NumberFormatter<'a>, DataError>
+    ensures { result ≡ percents_with sign (T.book tables.now) preferences grouping }
+{
+    match find_percents(tables, preferences, sign, grouping) {
+        Ok(formatter) => Ok(NumberFormatter::from(formatter)),
+        Err(error) => Err(error),
+    }
 }
 
 // How amounts are written, as their unit says.
@@ -122,10 +141,13 @@ fn find_standard<'a, T: Tables>(
             Ok(formatter) => Ok(NumberFormatter::from(formatter)),
             Err(error) => Err(error),
         },
-        NumberUnit::Percent => match find_percents(tables, preferences, grouping) {
-            Ok(formatter) => Ok(NumberFormatter::from(formatter)),
-            Err(error) => Err(error),
-        },
+        NumberUnit::Percent => find_with_sign(tables, preferences, PercentSign::Percent, grouping),
+        NumberUnit::Permille => find_with_sign(
+            tables,
+            preferences,
+            PercentSign::Permille,
+            grouping,
+        ),
         NumberUnit::Currency(currency) => {
             match find_amounts(tables, preferences, currency, grouping) {
                 Ok(formatter) => Ok(NumberFormatter::of_amounts(&formatter)),
@@ -151,7 +173,9 @@ fn find_short_or_long<'a, T: Tables>(
             Ok(formatter) => Ok(NumberFormatter::from(formatter)),
             Err(error) => Err(error),
         },
-        NumberUnit::Percent | NumberUnit::Currency(_) => Err(DataError::IdentifierNotFound),
+        NumberUnit::Percent | NumberUnit::Permille | NumberUnit::Currency(_) => {
+            Err(DataError::IdentifierNotFound)
+        }
     }
 }
 

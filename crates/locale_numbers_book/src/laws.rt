@@ -1,6 +1,7 @@
 //! Laws of the definitions, each the contract of a function that does nothing.
 
 ghost use Rattle.locale_numbers_book.specs.Laws.{TagsAreRead, DataLocalesAreRead, KeysAreOneWhereEqual, TablesAreMade, IsOneBook, AloneStays, PairsStay, BookTablesAreSound, BookTablesAreTexts, FoundPercentsAreTexts, FoundAmountsAreTexts, BookChainsEnd, SampleBookIsKnown, SampleUnitsBookIsKnown};
+ghost use Rattle.locale_numbers_book.specs.FoundLocale.{SymbolsAreOfFoundLocales};
 
 pub use locale_numbers_parents::laws::cycles_are_met;
 
@@ -60,6 +61,12 @@ pub fn tables_are_texts()
 pub fn units_are_texts()
     ensures percents { FoundPercentsAreTexts }
     ensures amounts { FoundAmountsAreTexts }
+{}
+
+/// What plain numbers are written with has the symbols of an entry of the locale that is found, which is one of the chain: in
+/// `SAMPLE_UNITS_BOOK` with `de-AT` those of `de`.
+pub fn symbols_are_of_found_locales()
+    ensures { SymbolsAreOfFoundLocales }
 {}
 
 /// The bound on the steps from a locale to its parents cuts no chain of a book: `en-AU`, `en-001`, `en` under

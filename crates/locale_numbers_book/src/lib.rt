@@ -9,6 +9,7 @@
 mod book;
 mod format_finding;
 mod formatter_error;
+mod found_locale;
 mod json;
 pub mod laws;
 mod locales;

@@ -2,7 +2,7 @@
 
 ghost use Rattle.std.specs.Prelude.{◌≡◌, ◌⊎◌, Ok, Err, false, IfOk, IfErr};
 ghost use Rattle.std.specs.Result.{IsErrOf};
-ghost use Rattle.icu_dimension.specs.HeldFormatters.{currency_settings_of, settings_of_percent};
+ghost use Rattle.icu_dimension.specs.HeldFormatters.{currency_settings_of, settings_of_percent, sign_of};
 ghost use Rattle.icu_locale_core.specs.Pieces.{pieces};
 ghost use Rattle.icu_locale_core.specs.SingleVariant.{SingleMeaning, MeansSingle};
 ghost use Rattle.icu_locale_core.specs.TagAllocation.{tag_may_grow};
@@ -51,7 +51,7 @@ impl Book {
     /// Its tables are borrowed from the book.
     ///
     /// - Tag: the text is no locale tag, as `e`.
-    /// - Table: the book has no symbols, no digits or no percents for it, as `SAMPLE_BOOK`, which has no units.
+    /// - Table: the book has no symbols, no digits, no percents or no such sign for it, as `SAMPLE_BOOK`, which has no units.
     /// - Memory: out of memory. A tag of at most one variant and one keyword does not allocate, nor does one of language, script
     ///   and region only.
     pub fn percent_formatter(
@@ -62,6 +62,7 @@ impl Book {
     ) -> Result<PercentFormatter<'_>, FormatterError>
         ensures value { IfOk result
             (λ formatter. percent_for self.now tag.now options ≡ Ok (settings_of_percent formatter)) }
+        ensures sign { IfOk result (λ formatter. sign_of formatter ≡ options.sign) }
         ensures fault { IfErr result
             (λ fault. (fault ≡ FormatterError.Memory) ⊎ (percent_for self.now tag.now options ≡ Err fault)) }
         ensures room { tag_may_grow (pieces tag.now) ≡ false → ¬ (IsErrOf result FormatterError.Memory) }

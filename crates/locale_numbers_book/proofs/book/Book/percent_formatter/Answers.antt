@@ -9,7 +9,7 @@ returns-in_err-preferences-clause-single c = λ m means.
     search rules
 
 pub returns-in-Err-clause-fault : goal.returns-in-Err-clause-fault
-returns-in-Err-clause-fault c = inr (rw c.in_ok-preferences.ensures.value (ap or_no_table (sym c.in-Err.ensures)))
+returns-in-Err-clause-fault c = inr (rw c.in_ok-preferences.ensures.value (ap or_no_table (sym c.in-Err.ensures.found)))
 
 pub returns-in-Ok-clause-value : goal.returns-in-Ok-clause-value
-returns-in-Ok-clause-value c = rw c.in_ok-preferences.ensures.value (ap or_no_table (sym c.in-Ok.ensures))
+returns-in-Ok-clause-value c = rw c.in_ok-preferences.ensures.value (ap or_no_table (sym c.in-Ok.ensures.found))
