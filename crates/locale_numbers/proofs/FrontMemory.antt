@@ -19,7 +19,7 @@ use Rattle.locale_numbers_requests.specs.declared.Task.TheVariants.{Write, Write
 use Rattle.locale_numbers.specs.Answer.{found_for, plural_rules_for, refused, second_for}
 use Rattle.locale_numbers.specs.FormatterKeys.{key_in, purpose_of, rules_for}
 use Rattle.locale_numbers.specs.Front.{FitsKey, HasKeyThat, MayTakeAfter, MayTakeIn, MayTakeKeyed, answer_after, answer_keyed, format_after, if_text, key_after, key_if_text, key_keyed}
-use Rattle.locale_numbers.specs.KeptFormatters.{rules_found}
+use Rattle.locale_numbers.specs.KeptFormatters.{Kept, rules_found}
 use Rattle.locale_numbers.specs.declared.formatter_key.FormatterKey.{FormatterKey}
 use Rattle.locale_numbers.specs.declared.formatter_key.Purpose.TheVariants.{ReadsTyped}
 use Rattle.locale_numbers.specs.declared.front.Front.{Front}
@@ -60,11 +60,11 @@ module _ (book : BookTables) (asked : Option Front) (front : Front) (key : Forma
 
   -- ---- the memory
 
-  pub may_take : (task : Task) (value : SignedValue Number) → front.task ≡ task
-      → MayTakeIn task front.options.rounding (found_for key.shape book key.preferences) (second_for key.shape book key.preferences) text value → MayTakeAfter book asked text value
-  may_take task value done wants =
-      subst (λ a. MayTakeAfter book a text value) (sym is) (subst (λ k. MayTakeKeyed book front k text value) (sym keyed)
-      (subst (λ t. MayTakeIn t front.options.rounding (found_for key.shape book key.preferences) (second_for key.shape book key.preferences) text value) (sym done) wants))
+  pub may_take : (kept_for : FormatterKey → Option Kept) (task : Task) (value : SignedValue Number) → front.task ≡ task
+      → MayTakeIn task (kept_for key) front.options.rounding (found_for key.shape book key.preferences) (second_for key.shape book key.preferences) text value → MayTakeAfter book kept_for asked text value
+  may_take kept_for task value done wants =
+      subst (λ a. MayTakeAfter book kept_for a text value) (sym is) (subst (λ k. MayTakeKeyed book kept_for front k text value) (sym keyed)
+      (subst (λ t. MayTakeIn t (kept_for key) front.options.rounding (found_for key.shape book key.preferences) (second_for key.shape book key.preferences) text value) (sym done) wants))
 
   -- ---- what the formatter is for
 

@@ -1,5 +1,5 @@
 -- The groupings `auto` and `always` have one answer: `specs/Laws.antt`.
-use Rattle.std.proofs.Common.{◌≡◌, ◌==◌, ℕ, Bool, true, false, codes, List, Option, Some, None, Result, Ok, Err, refl, ap, ◌∙◌}
+use Rattle.std.proofs.Common.{◌≡◌, ◌==◌, ℕ, Bool, true, false, List, Option, Some, None, Result, Ok, Err, refl, ap, ◌∙◌}
 use Rattle.std.specs.Prelude.{if◌then◌else◌, option_and_then, option_map}
 use Rattle.std.specs.Result.{result_ok}
 use Rattle.std.specs.Str.{bytes_eq}
@@ -22,12 +22,15 @@ use Rattle.icu_decimal.specs.Rules.{Rules}
 use Rattle.icu_decimal.specs.ShownChoice.{exact_entry}
 use Rattle.icu_decimal.specs.SameSymbols.{same_symbols}
 use Rattle.icu_decimal.specs.Symbols.{Symbols}
-use Rattle.icu_dimension.specs.FoundUnits.{amount_settings, percent_settings, then_found, unit_locales, with_own}
+use Rattle.icu_dimension.specs.FoundUnits.{amount_settings, percent_settings, sign_found, then_found, unit_locales, with_own}
+use Rattle.icu_dimension.specs.HeldFormatters.{typed_sign}
 use Rattle.icu_dimension.specs.ProvidedUnits.{AmountTexts, PercentTexts, SymbolText}
 use Rattle.icu_dimension.specs.UnitChoice.{amounts_found, fractions_found, name_found, percent_found}
 use Rattle.icu_dimension.specs.UnitPatterns.{PatternTexts, chosen}
 use Rattle.icu_dimension.specs.UnitText.{UnitName}
 use Rattle.icu_dimension.specs.declared.FractionInfo.{FractionInfo}
+use Rattle.icu_dimension.specs.declared.PercentSign.{PercentSign}
+use Rattle.icu_dimension.specs.declared.PercentSign.TheVariants as sign
 use Rattle.icu_dimension.specs.declared.UnitKind.TheVariants as kind
 use Rattle.icu_locale_core.specs.TagPreferences.{Preferences}
 use Rattle.icu_plurals.specs.declared.PluralRange.{PluralRange}
@@ -40,7 +43,7 @@ use Rattle.locale_numbers_answers.specs.NumberAnswer.{exact_written, is_form_in_
 use Rattle.locale_numbers_answers.specs.NumberReading.{Reading, beyond, nothing, number, reading_of}
 use Rattle.locale_numbers_answers.specs.ReadAnswer.{read_answer}
 use Rattle.locale_numbers_book.specs.Book.{BookTables}
-use Rattle.locale_numbers_book.specs.FoundFormats.{amounts_by, in_latin, mapped, notation_found, second_for, with_symbols_of}
+use Rattle.locale_numbers_book.specs.FoundFormats.{amounts_by, in_latin, mapped, notation_found, percents_with, second_for, with_symbols_of}
 use Rattle.locale_numbers_book.specs.Tables.{chain_in, digits_under, rules_under, symbols_under}
 use Rattle.locale_numbers_book.specs.TagFormatters.{currencies_in, found_plain, patterns_under, percents_in}
 use Rattle.locale_numbers_book.specs.Wanted.{wanted_of}
@@ -122,13 +125,29 @@ own_twins : (own : Option Symbols) (symbols : Symbols) (digits : List ℕ) (patt
 own_twins None symbols digits pattern name code fractions = unit_found symbols digits pattern name code fractions
 own_twins (Some own) symbols digits pattern name code fractions = unit_found own digits pattern name code fractions
 
-percent_twins : (one two : Result Tables DataError) → AreTwins one two → (percents : Result PercentTexts DataError)
+-- what is found of a text of the sign
+abbrev found_with : PercentSign → Tables → PercentTexts → Result (List ℕ) DataError → Result FormatTables DataError
+found_with of t e text = mapped (λ settings. unit_tables (percent_format of settings)) (then_found text (λ text. Ok (percent_settings t e text)))
+
+sign_twins : (of : PercentSign) (symbols : Symbols) (digits : List ℕ) (e : PercentTexts) (text : Result (List ℕ) DataError)
     → AreFormatTwins
-    (mapped (λ settings. unit_tables (percent_format settings)) (then_found one (λ t. then_found percents (λ e. Ok (percent_settings t e)))))
-    (mapped (λ settings. unit_tables (percent_format settings)) (then_found two (λ t. then_found percents (λ e. Ok (percent_settings t e)))))
-percent_twins one two (found symbols digits) (Ok e) = own_twins e.symbols symbols digits e.pattern (record { kind = kind.Percent; text = e.sign }) (codes "%") None
-percent_twins one two (found symbols digits) (Err error) = none_found error
-percent_twins one two (failed error) percents = none_found error
+    (found_with of (record { symbols = symbols; digits = digits; strategy = Auto }) e text)
+    (found_with of (record { symbols = symbols; digits = digits; strategy = Always }) e text)
+sign_twins of symbols digits e (Ok text) = own_twins e.symbols symbols digits e.pattern (record { kind = kind.Percent; text = text }) (typed_sign of) None
+sign_twins of symbols digits e (Err error) = none_found error
+
+percent_twins : (of : PercentSign) (one two : Result Tables DataError) → AreTwins one two → (percents : Result PercentTexts DataError)
+    → AreFormatTwins
+    (mapped (λ settings. unit_tables (percent_format of settings)) (then_found one (λ t. then_found percents (λ e. then_found (sign_found of e) (λ text. Ok (percent_settings t e text))))))
+    (mapped (λ settings. unit_tables (percent_format of settings)) (then_found two (λ t. then_found percents (λ e. then_found (sign_found of e) (λ text. Ok (percent_settings t e text))))))
+percent_twins of one two (found symbols digits) (Ok e) = sign_twins of symbols digits e (sign_found of e)
+percent_twins of one two (found symbols digits) (Err error) = none_found error
+percent_twins of one two (failed error) percents = none_found error
+
+signed_twins : (of : PercentSign) (book : BookTables) (p : Preferences) → AreFormatTwins (percents_with of book p Auto) (percents_with of book p Always)
+signed_twins of book p =
+    percent_twins of (found_plain book p (Some Auto)) (found_plain book p (Some Always)) (twins_of book p)
+    (percent_found (percents_in book).percents (unit_locales (percents_in book).decimals p) p.numbering_system)
 
 amount_twins : (code : List ℕ) (one two : Result Tables DataError) → AreTwins one two → (amounts : Result AmountTexts DataError) (name : Result SymbolText DataError) (fractions : Result FractionInfo DataError)
     → AreFormatTwins
@@ -142,9 +161,8 @@ amount_twins code one two (failed error) amounts name fractions = none_found err
 
 format_twins : (notation : Notation) (of : NumberUnit) (book : BookTables) (p : Preferences) → AreFormatTwins (notation_found notation of book p Auto) (notation_found notation of book p Always)
 format_twins Standard unit.None book p = plain_twins (found_plain book p (Some Auto)) (found_plain book p (Some Always)) (twins_of book p)
-format_twins Standard unit.Percent book p =
-    percent_twins (found_plain book p (Some Auto)) (found_plain book p (Some Always)) (twins_of book p)
-    (percent_found (percents_in book).percents (unit_locales (percents_in book).decimals p) p.numbering_system)
+format_twins Standard unit.Percent book p = signed_twins sign.Percent book p
+format_twins Standard unit.Permille book p = signed_twins sign.Permille book p
 format_twins Standard (unit.Currency currency) book p =
     amount_twins currency.code (found_plain book p (Some Auto)) (found_plain book p (Some Always)) (twins_of book p)
     (amounts_found currency.style (currencies_in book).currencies (currencies_in book).accounts (unit_locales (currencies_in book).decimals p) p.numbering_system currency.code)
@@ -154,6 +172,7 @@ format_twins (Compact width) unit.None book p =
     compact_twins (found_plain book p (Some Auto)) (found_plain book p (Some Always)) (twins_of book p)
     (first_found (rules_under book) (rules_identifiers (chain_in book) p)) (first_found (patterns_under width book) (patterns_identifiers (chain_in book) p))
 format_twins (Compact width) unit.Percent book p = none_found DataError.IdentifierNotFound
+format_twins (Compact width) unit.Permille book p = none_found DataError.IdentifierNotFound
 format_twins (Compact width) (unit.Currency currency) book p = none_found DataError.IdentifierNotFound
 
 -- numbers with a unit, by a grouping

@@ -1,5 +1,5 @@
 -- What the formatter of a key answers is what is found for it, and where nothing is found, or a rule is missing, the word `table`.
-use Rattle.std.proofs.Common.{◌≡◌, ℕ, Bool, List, [], ◌∷◌, Option, Some, None, Result, Ok, Err, is_ok, is_some, true, false, true≢false, refl, ap, ap₂, ◌∙◌, slice_get, sym, subst}
+use Rattle.std.proofs.Common.{◌≡◌, ◌⊎◌, inl, inr, ℕ, Bool, List, [], ◌∷◌, Option, Some, None, Result, Ok, Err, is_ok, is_some, true, false, true≢false, refl, ap, ap₂, ◌∙◌, slice_get, sym, subst}
 use Rattle.std.specs.Map.{keys_of}
 use Rattle.std.specs.Prelude.{option_map, ◌&&◌, IfSome, MatchOption}
 use Rattle.fixed_decimal.specs.CompactText.{CompactValue}
@@ -25,8 +25,8 @@ use Rattle.locale_numbers_formatter.specs.FormatTyped.{format_typed_reading, rea
 use Rattle.locale_numbers_requests.specs.declared.Refusal.TheVariants as refusal
 use Rattle.locale_numbers.specs.Answer.{found_for, plural_rules_for, refused, second_for}
 use Rattle.locale_numbers.specs.FormatterKeys.{finds, finds_rules, rules_for}
-use Rattle.locale_numbers.specs.Front.{FindsUnits, is_as_it_is}
-use Rattle.locale_numbers.specs.KeptFormatters.{IsMadeFor, IsSameFormatter, Kept, rules_found}
+use Rattle.locale_numbers.specs.Front.{PutsTogether, is_as_it_is}
+use Rattle.locale_numbers.specs.KeptFormatters.{IsMadeFor, IsSameFormatter, Kept, reader_is_kept, rules_found, typed_is_kept}
 use Rattle.locale_numbers.specs.declared.formatter_key.FormatterKey.{FormatterKey}
 use Rattle.locale_numbers.specs.declared.formatter_key.Purpose.TheVariants.{ReadsTyped, Writes}
 use Rattle.locale_numbers.proofs.TextDigitsLemmas.{leaves_so}
@@ -215,8 +215,26 @@ digits_by book key kept made options plain text value reads =
     written_by book key kept made options value
     ∙ leaves_so (record { shape = key.shape; options = options }) plain book key.preferences kept.formatter made.found value text reads
 
--- a format without a unit, where what is found has none
-pub no_unit : (found : Result FormatTables DataError) (format : FormatTables) → found ≡ Ok format → ¬ (FindsUnits found) → HasNoUnit format
-no_unit found (plain_tables t) is none = tt
-no_unit found (compact_tables t) is none = tt
-no_unit found (unit_tables u) is none = absurd (none (subst FindsUnits (sym is) tt))
+-- ---- what reads is kept, or it takes no memory to put it together
+
+no_unit_or : (format : FormatTables) (held keeps : Bool) → (held ≡ true → keeps ≡ true) → ¬ (PutsTogether held (Ok format)) → HasNoUnit format ⊎ (keeps ≡ true)
+no_unit_or (plain_tables t) held keeps same none = inl tt
+no_unit_or (compact_tables t) held keeps same none = inl tt
+no_unit_or (unit_tables u) true keeps same none = inr (same refl)
+no_unit_or (unit_tables u) false keeps same none = absurd (none (refl, tt))
+
+-- what was kept for the key before is the formatter that is found
+reads_kept : (before : Option Kept) (kept : Kept) → ((held : Kept) → before ≡ Some held → held ≡ kept) → reader_is_kept before ≡ true → kept.keeps_reader ≡ true
+reads_kept None kept same is = absurd (cc)
+reads_kept (Some held) kept same is = sym (ap (λ (k : Kept). k.keeps_reader) (same held refl)) ∙ is
+
+reads_typed_kept : (before : Option Kept) (kept : Kept) → ((held : Kept) → before ≡ Some held → held ≡ kept) → typed_is_kept before ≡ true → kept.keeps_typed ≡ true
+reads_typed_kept None kept same is = absurd (cc)
+reads_typed_kept (Some held) kept same is = sym (ap (λ (k : Kept). k.keeps_typed) (same held refl)) ∙ is
+
+module _ (found : Result FormatTables DataError) (before : Option Kept) (kept : Kept) (is : found ≡ Ok kept.formatter) (same : (held : Kept) → before ≡ Some held → held ≡ kept) where
+  pub no_unit : ¬ (PutsTogether (reader_is_kept before) found) → HasNoUnit kept.formatter ⊎ (kept.keeps_reader ≡ true)
+  no_unit none = no_unit_or kept.formatter (reader_is_kept before) kept.keeps_reader (reads_kept before kept same) (subst (λ f. ¬ (PutsTogether (reader_is_kept before) f)) is none)
+
+  pub no_typed_unit : ¬ (PutsTogether (typed_is_kept before) found) → HasNoUnit kept.formatter ⊎ (kept.keeps_typed ≡ true)
+  no_typed_unit none = no_unit_or kept.formatter (typed_is_kept before) kept.keeps_typed (reads_typed_kept before kept same) (subst (λ f. ¬ (PutsTogether (typed_is_kept before) f)) is none)

@@ -154,6 +154,9 @@ two_codes = refl
 two_units : same_unit unit.Percent unit.None ≡ false
 two_units = refl
 
+two_signs : same_unit unit.Percent unit.Permille ≡ false
+two_signs = refl
+
 -- what is read back has the formatter of what is written, and what was typed one of its own; a range has that of cardinal categories
 one_formatter : purpose_of Read ≡ purpose_of Write
 one_formatter = refl

@@ -10,6 +10,7 @@ use Rattle.icu_locale_core.specs.TagAllocation.{tag_may_grow}
 use Rattle.locale_numbers_book.specs.Book.{BookTables}
 use Rattle.locale_numbers_requests.specs.Request.{Asked, request_of, with_text}
 use Rattle.locale_numbers.specs.Front.{HasKeyThat, MayTakeAfter, asked_text, front_asked, front_of}
+use Rattle.locale_numbers.specs.KeptFormatters.{Kept}
 use Rattle.locale_numbers.specs.LineMemory.{MayTakeTag, front_before}
 use Rattle.locale_numbers.specs.declared.formatter_key.FormatterKey.{FormatterKey}
 use Rattle.locale_numbers.specs.declared.front.Front.{Front}
@@ -59,7 +60,7 @@ pub formatter_after : (takes : FormatterKey → Type 0) (read : Option Front) (f
     → HasKeyThat (λ key. ¬ (takes key)) (front_asked (Some asked)) → HasKeyThat (λ key. ¬ (takes key)) read
 formatter_after takes read front text asked is whole quiet = subst (HasKeyThat (λ key. ¬ (takes key))) (sym (is ∙ whole.fronts)) quiet
 
-pub text_after : (book : BookTables) (before : SignedValue Number) (read : Option Front) (front text : List ℕ) (asked : Asked) → read ≡ front_of front → IsFrontOf front text asked
-    → ¬ (MayTakeAfter book (front_asked (Some asked)) asked.text before) → ¬ (MayTakeAfter book read text before)
-text_after book before read front text asked is whole none = λ wants.
-    none (subst (λ t. MayTakeAfter book (front_asked (Some asked)) t before) whole.texts (subst (λ f. MayTakeAfter book f text before) (is ∙ whole.fronts) wants))
+pub text_after : (book : BookTables) (kept_for : FormatterKey → Option Kept) (before : SignedValue Number) (read : Option Front) (front text : List ℕ) (asked : Asked) → read ≡ front_of front → IsFrontOf front text asked
+    → ¬ (MayTakeAfter book kept_for (front_asked (Some asked)) asked.text before) → ¬ (MayTakeAfter book kept_for read text before)
+text_after book kept_for before read front text asked is whole none = λ wants.
+    none (subst (λ t. MayTakeAfter book kept_for (front_asked (Some asked)) t before) whole.texts (subst (λ f. MayTakeAfter book kept_for f text before) (is ∙ whole.fronts) wants))

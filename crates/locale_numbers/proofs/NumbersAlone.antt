@@ -51,6 +51,7 @@ module _ (book : BookTables) where
   found_alone (Compact Short) unit.None p grouping h = refl
   found_alone (Compact Long) unit.None p grouping h = refl
   found_alone notation unit.Percent p grouping h = absurd (cc)
+  found_alone notation unit.Permille p grouping h = absurd (cc)
   found_alone notation (unit.Currency currency) p grouping h = absurd (cc)
 
   abbrev rules_of : BookTables → Preferences → PluralRuleType → Ruled

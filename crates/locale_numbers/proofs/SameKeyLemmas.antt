@@ -59,16 +59,24 @@ abbrev currency_or : CurrencyUnit → NumberUnit → CurrencyUnit
 currency_or other (unit.Currency currency) = currency
 currency_or other unit.None = other
 currency_or other unit.Percent = other
+currency_or other unit.Permille = other
 
 units_decide : (a b : NumberUnit) → Decides (same_unit a b) (a ≡ b)
 units_decide unit.None unit.None = (λ e. refl, λ e. refl)
 units_decide unit.None unit.Percent = (λ e. cc, λ e. cc)
+units_decide unit.None unit.Permille = (λ e. cc, λ e. cc)
 units_decide unit.None (unit.Currency d) = (λ e. cc, λ e. cc)
 units_decide unit.Percent unit.None = (λ e. cc, λ e. cc)
 units_decide unit.Percent unit.Percent = (λ e. refl, λ e. refl)
+units_decide unit.Percent unit.Permille = (λ e. cc, λ e. cc)
 units_decide unit.Percent (unit.Currency d) = (λ e. cc, λ e. cc)
+units_decide unit.Permille unit.None = (λ e. cc, λ e. cc)
+units_decide unit.Permille unit.Percent = (λ e. cc, λ e. cc)
+units_decide unit.Permille unit.Permille = (λ e. refl, λ e. refl)
+units_decide unit.Permille (unit.Currency d) = (λ e. cc, λ e. cc)
 units_decide (unit.Currency c) unit.None = (λ e. cc, λ e. cc)
 units_decide (unit.Currency c) unit.Percent = (λ e. cc, λ e. cc)
+units_decide (unit.Currency c) unit.Permille = (λ e. cc, λ e. cc)
 units_decide (unit.Currency c) (unit.Currency d) =
     (λ e. ap unit.Currency ((currencies_decide c d).0 e), λ e. (currencies_decide c d).1 (ap (currency_or c) e))
 

@@ -23,8 +23,10 @@ use Rattle.icu_locale_core.specs.TagPreferences.{DataLocaleMeaning, Preferences,
 use Rattle.locale_numbers.specs.Answer.{answer_of}
 use Rattle.locale_numbers_book.specs.Book.{BookTables, IsBook}
 use Rattle.locale_numbers_book.specs.FoundFormats.{in_latin}
+use Rattle.locale_numbers_book.specs.FoundLocale.{found_locale, locale_for}
 use Rattle.locale_numbers_book.specs.FoundRules.{chain_with_unknown}
 use Rattle.locale_numbers_book.specs.Tables.{chain_in, digits_under, fractions_under, ordinals_there, ranges_there, rules_under, step_in, steps_in, symbols_under}
+use Rattle.locale_numbers_book.specs.TagFormatters.{found_by, or_no_table}
 use Rattle.locale_numbers_book.specs.Wanted.{wanted_of}
 use Rattle.locale_numbers_book.proofs.BookChains.{chains_end}
 use Rattle.locale_numbers_book.specs.Parents.{Entry, IsParents, leads_to, listed_parent, most_steps, parent_step}
@@ -36,7 +38,7 @@ use Rattle.locale_numbers_book.specs.Units.{UnitsTables}
 use Rattle.locale_numbers_plurals.specs.Plurals.{PluralTables}
 use Rattle.locale_numbers.specs.Serving.{Agree, Serves, unit_locales_in}
 use Rattle.locale_numbers.specs.Selection.{SelectedParentsAreParents, is_among, is_asked, is_text_among, kept_named, kept_of, named_by, own_step, selected, selected_plurals, selected_units, steps_along, systems_of}
-use Rattle.locale_numbers.proofs.ServingLemmas.{agreed, answered_alike}
+use Rattle.locale_numbers.proofs.ServingLemmas.{agreed, answered_alike, located}
 
 -- ---- what a selection finds
 
@@ -410,3 +412,11 @@ selected_alike value whole is line asked p requested wants =
     let f = chains_end value whole is (language_priority p.locale) in
     answered_alike (selected whole p) whole line asked p requested wants
     (serving whole p p.numbering_system (own_asked p.numbering_system) f) (serving whole p (in_latin p).numbering_system (latin_asked p.numbering_system) f)
+
+pub located_alike : (value : Data) (whole : BookTables) → IsBook value whole → (tag : Text) (p : Preferences)
+    → wanted_of tag ≡ Some p → locale_for (selected whole p) tag ≡ locale_for whole tag
+located_alike value whole is tag p wants =
+    let serves = serving whole p p.numbering_system (own_asked p.numbering_system) (chains_end value whole is (language_priority p.locale)) in
+    ap (found_by (found_locale (selected whole p))) wants
+    ∙ ap or_no_table (located (selected whole p) whole p serves)
+    ∙ sym (ap (found_by (found_locale whole)) wants)

@@ -11,8 +11,8 @@ use Rattle.icu_decimal.specs.Rules.{Rules}
 use Rattle.icu_decimal.specs.Symbols.{Symbols}
 use Rattle.icu_decimal.specs.declared.error.DataError.{DataError}
 use Rattle.icu_decimal.specs.declared.options.GroupingStrategy.{GroupingStrategy}
-use Rattle.icu_dimension.specs.FoundUnits.{CurrencySettings, amount_settings, percent_settings, then_found}
-use Rattle.icu_dimension.specs.ProvidedUnits.{AmountTexts, SymbolText, usual_fractions, written_as}
+use Rattle.icu_dimension.specs.FoundUnits.{CurrencySettings, amount_settings, percent_settings, sign_found, then_found}
+use Rattle.icu_dimension.specs.ProvidedUnits.{AmountTexts, PercentTexts, SymbolText, usual_fractions, written_as}
 use Rattle.icu_dimension.specs.UnitChoice.{amounts_found, fractions_found, name_found, or_usual, percent_found, usual_amounts}
 use Rattle.icu_dimension.specs.declared.CurrencyFormatterOptions.{CurrencyFormatterOptions}
 use Rattle.icu_dimension.specs.declared.CurrencyStyle.{CurrencyStyle}
@@ -20,6 +20,9 @@ use Rattle.icu_dimension.specs.declared.CurrencyStyle.TheVariants as way
 use Rattle.icu_dimension.specs.declared.CurrencyWidth.{CurrencyWidth}
 use Rattle.icu_dimension.specs.declared.CurrencyWidth.TheVariants as width
 use Rattle.icu_dimension.specs.declared.FractionInfo.{FractionInfo}
+use Rattle.icu_dimension.specs.declared.PercentSign.{PercentSign}
+use Rattle.icu_dimension.specs.declared.PercentSign.TheVariants as sign
+use Rattle.icu_dimension.specs.UnitText.{UnitSettings}
 use Rattle.icu_locale_core.specs.DataLocales.{unknown_data}
 use Rattle.icu_locale_core.specs.Subtags.{Text}
 use Rattle.icu_locale_core.specs.TagPreferences.{Preferences, language_priority}
@@ -28,7 +31,8 @@ use Rattle.icu_plurals.specs.declared.PluralRuleType.{PluralRuleType}
 use Rattle.icu_plurals.specs.declared.PluralRuleType.TheVariants.{Cardinal, Ordinal}
 use Rattle.locale_numbers_answers.specs.Answers.{answer_by}
 use Rattle.locale_numbers_book.specs.Book.{BookTables}
-use Rattle.locale_numbers_book.specs.FoundFormats.{amount_options, compact_found, found_for, in_latin, mapped, notation_found, standard_found}
+use Rattle.locale_numbers_book.specs.FoundFormats.{amount_options, compact_found, found_for, in_latin, mapped, notation_found, percent_options, standard_found}
+use Rattle.locale_numbers_book.specs.FoundLocale.{found_locale, locale_under}
 use Rattle.locale_numbers_book.specs.FoundRules.{chain_with_unknown}
 use Rattle.locale_numbers_book.specs.TagFormatters.{currency_found_in, found_beside, found_plain, patterns_under, percent_found_in}
 use Rattle.locale_numbers_book.specs.Tables.{accounts_under, chain_in, currencies_under, currency_symbols_under, digits_under, fractions_under, long_under, ordinals_under, percents_under, ranges_under, rules_under, short_under, symbols_under}
@@ -57,6 +61,17 @@ pub agreed : {T : Type 0} (small whole : Identifier → Result T DataError) (ids
 agreed small whole ids h = agreed_or small whole DataError.InvalidRequest ids h
 
 module _ (small whole : BookTables) (p : Preferences) (serves : Serves small whole p) where
+  -- ---- the locale
+
+  located_each : (ids : List Identifier) → Agree (symbols_under small) (symbols_under whole) ids → Agree (locale_under small) (locale_under whole) ids
+  located_each [] h = tt
+  located_each (id ∷ ids) h = (ap (mapped (λ (symbols : Symbols). id.locale)) h.0, located_each ids h.1)
+
+  pub located : found_locale small p ≡ found_locale whole p
+  located =
+      ap (λ locales. first_found (locale_under small) (identifiers_along p.numbering_system locales)) serves.chains
+      ∙ agreed (locale_under small) (locale_under whole) (symbols_identifiers (chain_in whole) p) (located_each (symbols_identifiers (chain_in whole) p) serves.symbols)
+
   -- ---- numbers
 
   symbols_ids : symbols_identifiers (chain_in small) p ≡ symbols_identifiers (chain_in whole) p
@@ -95,10 +110,13 @@ module _ (small whole : BookTables) (p : Preferences) (serves : Serves small who
   locales_same : unit_locales_in small p ≡ unit_locales_in whole p
   locales_same = ap₂ (λ along last. along ++ last) serves.chains serves.rooted
 
-  percents_same : (grouping : GroupingStrategy) → percent_found_in small p (Some grouping) ≡ percent_found_in whole p (Some grouping)
-  percents_same grouping =
-      ap₂ (λ tables locales. then_found tables (λ t. then_found (percent_found (percents_under small) locales p.numbering_system) (λ e. Ok (percent_settings t e)))) (plain_same grouping) locales_same
-      ∙ ap (λ found. then_found (found_plain whole p (Some grouping)) (λ t. then_found found (λ e. Ok (percent_settings t e))))
+  abbrev put_percents : PercentSign → Result Tables DataError → Result PercentTexts DataError → Result UnitSettings DataError
+  put_percents of tables texts = then_found tables (λ t. then_found texts (λ e. then_found (sign_found of e) (λ text. Ok (percent_settings t e text))))
+
+  percents_same : (of : PercentSign) (grouping : GroupingStrategy) → percent_found_in small p (percent_options of grouping) ≡ percent_found_in whole p (percent_options of grouping)
+  percents_same of grouping =
+      ap₂ (λ tables locales. put_percents of tables (percent_found (percents_under small) locales p.numbering_system)) (plain_same grouping) locales_same
+      ∙ ap (put_percents of (found_plain whole p (Some grouping)))
       (agreed (percents_under small) (percents_under whole) (identifiers_along p.numbering_system (unit_locales_in whole p)) serves.percents)
 
   usual_same : (style : CurrencyStyle) → usual_amounts style (currencies_under small) (accounts_under small) (unit_locales_in whole p) p.numbering_system
@@ -136,13 +154,15 @@ module _ (small whole : BookTables) (p : Preferences) (serves : Serves small who
 
   standard_same : (of : NumberUnit) (grouping : GroupingStrategy) → standard_found of small p grouping ≡ standard_found of whole p grouping
   standard_same unit.None grouping = ap (mapped plain_tables) (plain_same grouping)
-  standard_same unit.Percent grouping = ap (mapped (λ settings. unit_tables (percent_format settings))) (percents_same grouping)
+  standard_same unit.Percent grouping = ap (mapped (λ settings. unit_tables (percent_format sign.Percent settings))) (percents_same sign.Percent grouping)
+  standard_same unit.Permille grouping = ap (mapped (λ settings. unit_tables (percent_format sign.Permille settings))) (percents_same sign.Permille grouping)
   standard_same (unit.Currency currency) grouping =
       ap (mapped (λ settings. unit_tables (currency_format currency.code settings))) (currency_same currency.code (amount_options currency grouping) grouping refl)
 
   compact_found_same : (wide : CompactWidth) (of : NumberUnit) (grouping : GroupingStrategy) → compact_found wide of small p grouping ≡ compact_found wide of whole p grouping
   compact_found_same wide unit.None grouping = ap (mapped compact_tables) (compact_same wide grouping)
   compact_found_same wide unit.Percent grouping = refl
+  compact_found_same wide unit.Permille grouping = refl
   compact_found_same wide (unit.Currency currency) grouping = refl
 
   notation_same : (notation : Notation) (of : NumberUnit) (grouping : GroupingStrategy) → notation_found notation of small p grouping ≡ notation_found notation of whole p grouping

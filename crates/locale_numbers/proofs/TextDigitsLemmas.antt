@@ -168,6 +168,7 @@ finds_plain : (notation : Notation) (of : NumberUnit) (book : BookTables) (p : P
     → notation_found notation of book p format.shape.grouping ≡ mapped plain_tables (found_plain book p (Some format.shape.grouping))
 finds_plain Standard unit.None book p format h = refl
 finds_plain Standard unit.Percent book p format h = absurd (cc)
+finds_plain Standard unit.Permille book p format h = absurd (cc)
 finds_plain Standard (unit.Currency currency) book p format h = absurd (cc)
 finds_plain (Compact width) of book p format h = absurd (cc)
 

@@ -13,11 +13,14 @@ use Rattle.icu_decimal.specs.PlainReading.{PlainReading, decimal, not_written, u
 use Rattle.icu_decimal.specs.PlainText.{unsigned_text}
 use Rattle.icu_decimal.specs.ReadingLaws.{TextsAreUtf8}
 use Rattle.icu_decimal.specs.declared.error.DataError.{DataError}
+use Rattle.icu_decimal.specs.declared.options.GroupingStrategy.{GroupingStrategy}
 use Rattle.icu_dimension.specs.NativeUnitLaws.{HasOneExactReading}
 use Rattle.icu_dimension.specs.UnitReading.{AreReaderTexts, IsUnitText, is_unit_readable_by, pair_for, reader_texts}
 use Rattle.icu_dimension.specs.UnitReadingLaws.{ReadersReadWhatIsWritten}
 use Rattle.icu_dimension.specs.UnitReadings.{unit_reading}
 use Rattle.icu_dimension.specs.UnitText.{UnitSettings, unit_decimal_text}
+use Rattle.icu_dimension.specs.declared.PercentSign.{PercentSign}
+use Rattle.icu_dimension.specs.declared.PercentSign.TheVariants as sign
 use Rattle.icu_locale_core.specs.TagPreferences.{Preferences}
 use Rattle.locale_numbers_answers.specs.Answers.{answer_by, read_found, written_found, written_to}
 use Rattle.locale_numbers_answers.specs.Laws.{ChoosesNone, FitDecimals, IsAtMagnitude}
@@ -27,7 +30,7 @@ use Rattle.locale_numbers_answers.proofs.NumberBounds.{changed_is_decimal, readi
 use Rattle.locale_numbers_answers.proofs.NumberReadingLemmas.{signed_number}
 use Rattle.locale_numbers_answers.proofs.UnitLemmas.{own_of_changed, own_parts, own_stays}
 use Rattle.locale_numbers_book.specs.Book.{BookTables}
-use Rattle.locale_numbers_book.specs.FoundFormats.{found_for, mapped}
+use Rattle.locale_numbers_book.specs.FoundFormats.{found_for, mapped, percent_options}
 use Rattle.locale_numbers_book.specs.TagFormatters.{percent_found_in}
 use Rattle.locale_numbers_formats.specs.Changed.{changed}
 use Rattle.locale_numbers_formats.specs.declared.NumberUnit.{NumberUnit}
@@ -43,7 +46,7 @@ use Rattle.locale_numbers_requests.specs.declared.Refusal.TheVariants as refusal
 use Rattle.locale_numbers_requests.specs.declared.Task.TheVariants.{Write}
 use Rattle.locale_numbers.specs.Answer.{answer_asked, answer_tagged, plural_rules_for, second_for, written}
 use Rattle.locale_numbers.specs.AskedFormats.{grouping_in, options_of, shape_with}
-use Rattle.locale_numbers.specs.UnitLaws.{AreFoundTexts, FindsUnit, FoundUnitsAreTexts, known, loaded, ReadUnitIsWrittenAgain, TakesRounding, WrittenPercentReadsBack, WrittenUnitIsUtf8, WrittenUnitReadsBack, unit_reading_request, unit_request}
+use Rattle.locale_numbers.specs.UnitLaws.{AreFoundTexts, FindsUnit, FoundUnitsAreTexts, HasSign, known, loaded, ReadUnitIsWrittenAgain, TakesRounding, WrittenPercentReadsBack, WrittenUnitIsUtf8, WrittenUnitReadsBack, unit_reading_request, unit_request}
 use Rattle.locale_numbers.proofs.ReadingTrips.{one_text, plain_options, refused_no}
 
 -- ---- the rounding that a reading form takes
@@ -53,15 +56,19 @@ usual of Usual takes = refl
 usual of Cash takes = refl
 usual unit.None AsGiven takes = absurd (cc)
 usual unit.Percent AsGiven takes = absurd (cc)
+usual unit.Permille AsGiven takes = absurd (cc)
 usual (unit.Currency currency) AsGiven takes = absurd (cc)
 usual unit.None (At position mode increment) takes = absurd (cc)
 usual unit.Percent (At position mode increment) takes = absurd (cc)
+usual unit.Permille (At position mode increment) takes = absurd (cc)
 usual (unit.Currency currency) (At position mode increment) takes = absurd (cc)
 usual unit.None (Significant digits mode) takes = absurd (cc)
 usual unit.Percent (Significant digits mode) takes = absurd (cc)
+usual unit.Permille (Significant digits mode) takes = absurd (cc)
 usual (unit.Currency currency) (Significant digits mode) takes = absurd (cc)
 usual unit.None (Either priority position digits mode) takes = absurd (cc)
 usual unit.Percent (Either priority position digits mode) takes = absurd (cc)
+usual unit.Permille (Either priority position digits mode) takes = absurd (cc)
 usual (unit.Currency currency) (Either priority position digits mode) takes = absurd (cc)
 
 at_magnitude : (rounding : Rounding) → (keeps_digits rounding || is_cash rounding) ≡ true → IsAtMagnitude rounding
@@ -176,17 +183,24 @@ unit_reads_back all one readers book asked of found value text task shape nothin
     reads_back_under all one readers book asked of found value text asked.format.options.rounding task shape fits finds readable reads same
     (own_of_changed asked.format.options found.fractions value nothing fits (reading_is_decimal asked.text value reads))
 
--- percents have no digits of a currency
-no_digits : (settings : Result UnitSettings DataError) (found : UnitFormat) → mapped (λ s. unit_tables (percent_format s)) settings ≡ Ok (unit_tables found) → found.fractions ≡ None
-no_digits (Ok settings) found is =
-    let one : percent_format settings ≡ found = cc in
+-- a sign has no digits of a currency
+no_digits : (of : PercentSign) (settings : Result UnitSettings DataError) (found : UnitFormat) → mapped (λ s. unit_tables (percent_format of s)) settings ≡ Ok (unit_tables found) → found.fractions ≡ None
+no_digits of (Ok settings) found is =
+    let one : percent_format of settings ≡ found = cc in
     ap (λ (f : UnitFormat). f.fractions) (sym one)
-no_digits (Err error) found is = absurd (cc)
+no_digits of (Err error) found is = absurd (cc)
+
+signs_have_none : (of : NumberUnit) → HasSign of → (book : BookTables) (p : Preferences) (grouping : GroupingStrategy) (found : UnitFormat) → found_for (shape_with of grouping) book p ≡ Ok (unit_tables found)
+    → found.fractions ≡ None
+signs_have_none unit.None signed book p grouping found is = absurd signed
+signs_have_none unit.Percent signed book p grouping found is = no_digits sign.Percent (percent_found_in book p (percent_options sign.Percent grouping)) found is
+signs_have_none unit.Permille signed book p grouping found is = no_digits sign.Permille (percent_found_in book p (percent_options sign.Permille grouping)) found is
+signs_have_none (unit.Currency currency) signed book p grouping found is = absurd signed
 
 pub percent_reads_back : FoundUnitsAreTexts → HasOneExactReading → ReadersReadWhatIsWritten → WrittenPercentReadsBack
-percent_reads_back all one readers book asked found value text task shape fits finds readable reads same =
-    let none : found.fractions ≡ None = no_digits (percent_found_in book finds.preferences (Some (grouping_in asked))) found finds.found in
-    reads_back_under all one readers book asked unit.Percent found value text Usual task shape fits finds readable reads same
+percent_reads_back all one readers book asked of found value text signed task shape fits finds readable reads same =
+    let none : found.fractions ≡ None = signs_have_none of signed book finds.preferences (grouping_in asked) found finds.found in
+    reads_back_under all one readers book asked of found value text Usual task shape fits finds readable reads same
     (ap (λ fractions. is_own_rounding (fraction_asked fractions Usual) (changed asked.format.options found.fractions value)) none)
 
 unsigned_is_utf8 : TextsAreUtf8 → (found : UnitFormat) → AreReaderTexts (reader_texts found.settings) → (value : SignedValue Number) → IsDecimal value

@@ -143,6 +143,7 @@ same_currency one other = bytes_eq one.code other.code && (same_style one.style 
 abbrev pub same_unit : NumberUnit → NumberUnit → Bool
 same_unit unit.None unit.None = true
 same_unit unit.Percent unit.Percent = true
+same_unit unit.Permille unit.Permille = true
 same_unit (unit.Currency one) (unit.Currency other) = same_currency one other
 same_unit _ _ = false
 

@@ -30,6 +30,7 @@ use Rattle.locale_numbers_requests.specs.declared.Task.{Task}
 use Rattle.locale_numbers_requests.specs.declared.Task.TheVariants.{Write, WriteExact, Read, ReadLenient, Category, RangeCategory}
 use Rattle.locale_numbers.specs.Answer.{found_for, plural_rules_for, refused, second_for}
 use Rattle.locale_numbers.specs.FormatterKeys.{key_in, key_with, purpose_of}
+use Rattle.locale_numbers.specs.KeptFormatters.{Kept, reader_is_kept, typed_is_kept}
 use Rattle.locale_numbers.specs.declared.formatter_key.FormatterKey.{FormatterKey}
 use Rattle.locale_numbers.specs.declared.front.Front.{Front}
 
@@ -42,6 +43,7 @@ asked_text text asked = if is_utf8 text then with_text text asked else None
 abbrev pub is_plain : Notation → NumberUnit → Bool
 is_plain Standard unit.None = true
 is_plain Standard unit.Percent = false
+is_plain Standard unit.Permille = false
 is_plain Standard (unit.Currency currency) = false
 is_plain (Compact width) unit = false
 
@@ -150,24 +152,29 @@ FindsUnits (Ok (plain_tables t)) = ⊥
 FindsUnits (Ok (compact_tables t)) = ⊥
 FindsUnits (Ok (unit_tables u)) = Unit {0}
 
--- a text that may want memory, beside its answer and its formatter, by the task: one for which the answer may; and of a unit any that is
--- read, since what it is read with may be put together for it
-abbrev pub MayTakeIn : Task → Rounding → Result FormatTables DataError → (FormatTables → Option FormatTables) → List ℕ → SignedValue Number → Type 0
-MayTakeIn Write rounding found second text value = AnswerAllocates Write rounding found second text value
-MayTakeIn WriteExact rounding found second text value = AnswerAllocates WriteExact rounding found second text value
-MayTakeIn Read rounding found second text value = (is_utf8 text ≡ true) × (AnswerAllocates Read rounding found second text value ⊎ FindsUnits found)
-MayTakeIn ReadLenient rounding found second text value =
-    (is_utf8 text ≡ true) × (AnswerAllocates ReadLenient rounding found second text value ⊎ FindsUnits found)
-MayTakeIn (Category rule_type) rounding found second text value = AnswerAllocates (Category rule_type) rounding found second text value
-MayTakeIn RangeCategory rounding found second text value = (is_utf8 text ≡ true) × AnswerAllocates RangeCategory rounding found second text value
+-- what reads texts with a unit is put together for each: it is not kept
+abbrev pub PutsTogether : Bool → Result FormatTables DataError → Type 0
+PutsTogether is_kept found = (is_kept ≡ false) × FindsUnits found
+
+-- a text that may want memory, beside its answer and its formatter, by the task and what is kept for its key: one for which the answer may;
+-- and of a unit any that is read, where what reads it is put together for it
+abbrev pub MayTakeIn : Task → Option Kept → Rounding → Result FormatTables DataError → (FormatTables → Option FormatTables) → List ℕ → SignedValue Number → Type 0
+MayTakeIn Write kept rounding found second text value = AnswerAllocates Write rounding found second text value
+MayTakeIn WriteExact kept rounding found second text value = AnswerAllocates WriteExact rounding found second text value
+MayTakeIn Read kept rounding found second text value =
+    (is_utf8 text ≡ true) × (AnswerAllocates Read rounding found second text value ⊎ PutsTogether (reader_is_kept kept) found)
+MayTakeIn ReadLenient kept rounding found second text value =
+    (is_utf8 text ≡ true) × (AnswerAllocates ReadLenient rounding found second text value ⊎ PutsTogether (typed_is_kept kept) found)
+MayTakeIn (Category rule_type) kept rounding found second text value = AnswerAllocates (Category rule_type) rounding found second text value
+MayTakeIn RangeCategory kept rounding found second text value = (is_utf8 text ≡ true) × AnswerAllocates RangeCategory rounding found second text value
 
 -- the same after a front, by its key: where its tag is not one, no text wants memory
-abbrev pub MayTakeKeyed : BookTables → Front → Option FormatterKey → List ℕ → SignedValue Number → Type 0
-MayTakeKeyed book front None text value = ⊥
-MayTakeKeyed book front (Some key) text value =
-    MayTakeIn front.task front.options.rounding (found_for key.shape book key.preferences) (second_for key.shape book key.preferences) text value
+abbrev pub MayTakeKeyed : BookTables → (FormatterKey → Option Kept) → Front → Option FormatterKey → List ℕ → SignedValue Number → Type 0
+MayTakeKeyed book kept_for front None text value = ⊥
+MayTakeKeyed book kept_for front (Some key) text value =
+    MayTakeIn front.task (kept_for key) front.options.rounding (found_for key.shape book key.preferences) (second_for key.shape book key.preferences) text value
 
 -- nor after a front that asks nothing
-abbrev pub MayTakeAfter : BookTables → Option Front → List ℕ → SignedValue Number → Type 0
-MayTakeAfter book None text value = ⊥
-MayTakeAfter book (Some front) text value = MayTakeKeyed book front front.key text value
+abbrev pub MayTakeAfter : BookTables → (FormatterKey → Option Kept) → Option Front → List ℕ → SignedValue Number → Type 0
+MayTakeAfter book kept_for None text value = ⊥
+MayTakeAfter book kept_for (Some front) text value = MayTakeKeyed book kept_for front front.key text value

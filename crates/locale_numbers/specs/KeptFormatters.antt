@@ -1,7 +1,7 @@
 -- Which formatter is the one of a key, and what it knows to put texts with, to read with and to tell categories by.
 -- Defined in docs/requests.md, "What a cache keeps".
 -- Cited by the private steps of `answer` and `run`.
-use Rattle.std.specs.Prelude.{◌≡◌, Bool, true, List, Option, None, Some, IfSome, Ok}
+use Rattle.std.specs.Prelude.{◌≡◌, Bool, true, false, List, Option, None, Some, IfSome, Ok}
 use Rattle.icu_decimal.specs.Rules.{Rules}
 use Rattle.icu_decimal_direct.specs.TextTables.{text_tables}
 use Rattle.icu_decimal_direct.specs.declared.text_tables.TextTables.{TextTables}
@@ -14,7 +14,6 @@ use Rattle.locale_numbers_book.specs.FoundFormats.{found_for, second_for}
 use Rattle.locale_numbers_book.specs.FoundRules.{plural_rules_for}
 use Rattle.locale_numbers_formatter.specs.FormatReading.{reader_of}
 use Rattle.locale_numbers_formatter.specs.FormatText.{FormatTables, plain_tables}
-use Rattle.locale_numbers_formatter.specs.FormatTyped.{TypedTables, typed_of}
 use Rattle.locale_numbers.specs.FormatterKeys.{finds_rules, rules_for}
 use Rattle.locale_numbers.specs.declared.formatter_key.FormatterKey.{FormatterKey}
 use Rattle.locale_numbers.specs.declared.formatter_key.Purpose.TheVariants.{ReadsTyped}
@@ -28,6 +27,16 @@ pub record Kept : Type 0 where
   pub keeps_reader : Bool
   pub keeps_typed : Bool
 
+-- of what is kept for a key, whether what reads texts back is kept with it
+abbrev pub reader_is_kept : Option Kept → Bool
+reader_is_kept None = false
+reader_is_kept (Some kept) = kept.keeps_reader
+
+-- and whether what reads typed texts is
+abbrev pub typed_is_kept : Option Kept → Bool
+typed_is_kept None = false
+typed_is_kept (Some kept) = kept.keeps_typed
+
 -- what texts are put with, where that is known, are the tables of plain numbers
 abbrev pub KnowsTexts : FormatTables → Option TextTables → Type 0
 KnowsTexts format texts = IfSome texts (λ known. format ≡ plain_tables (text_tables known))
@@ -35,10 +44,6 @@ KnowsTexts format texts = IfSome texts (λ known. format ≡ plain_tables (text_
 -- what reads, where that is known, reads what is written
 abbrev pub KnowsReader : FormatTables → Option (Option ReaderTexts) → Type 0
 KnowsReader format reader = IfSome reader (λ known. known ≡ reader_of format)
-
--- what reads typed texts, where that is known, reads by these in turn
-abbrev pub KnowsTyped : FormatTables → Option FormatTables → Option TypedTables → Type 0
-KnowsTyped format second reader = IfSome reader (λ known. known ≡ typed_of format second)
 
 -- the rules that a book has, where some are needed
 abbrev pub rules_found : BookTables → Preferences → Option PluralRuleType → Option (Rules × List PluralRange)

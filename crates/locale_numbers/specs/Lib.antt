@@ -35,6 +35,7 @@ pub use Rattle.locale_numbers_book.specs.Faults as BookFaults
 pub use Rattle.locale_numbers_book.specs.Fields as BookFields
 pub use Rattle.locale_numbers_book.specs.Form as BookForm
 pub use Rattle.locale_numbers_book.specs.FoundFormats
+pub use Rattle.locale_numbers_book.specs.FoundLocale
 pub use Rattle.locale_numbers_book.specs.FoundRules
 pub use Rattle.locale_numbers_book.specs.Json
 pub use Rattle.locale_numbers_book.specs.Keys as BookKeys

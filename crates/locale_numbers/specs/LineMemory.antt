@@ -1,5 +1,5 @@
 -- Where the answer to a line takes no memory beside the room for its text: its tag takes none or its front was read lately, its
--- formatter is kept, and its text takes none.
+-- formatter is kept, with what reads a unit where it reads one, and its text takes none.
 -- Defined in docs/requests.md, "What a cache keeps".
 -- Cited by the private steps of an answer.
 use Rattle.std.specs.Prelude.{◌≡◌, ◌≤◌, ◌-◌, ℕ, true, List, Option, None, Some, IfSome, length, slice_get, take}
@@ -13,6 +13,7 @@ use Rattle.locale_numbers_book.specs.Book.{BookTables}
 use Rattle.locale_numbers_cache.specs.LastRead.{Remembered, either_remembers, pair_at}
 use Rattle.locale_numbers_requests.specs.Request.{Asked}
 use Rattle.locale_numbers.specs.Front.{HasKeyThat, MayTakeAfter, front_asked}
+use Rattle.locale_numbers.specs.KeptFormatters.{Kept}
 use Rattle.locale_numbers.specs.declared.formatter_key.FormatterKey.{FormatterKey}
 use Rattle.locale_numbers.specs.declared.front.Front.{Front}
 
@@ -21,10 +22,11 @@ abbrev pub MayTakeTag : Option Asked → Type 0
 MayTakeTag None = ⊥
 MayTakeTag (Some asked) = tag_may_grow (pieces asked.tag) ≡ true
 
--- neither the formatter of a request, by what is known of keys, nor its text takes memory, after a number that was read before
-pub record TakesNone (book : BookTables) (takes : FormatterKey → Type 0) (before : SignedValue Number) (asked : Asked) : Type 0 where
+-- neither the formatter of a request, by what is known of keys and kept for them, nor its text takes memory, after a number that was
+-- read before
+pub record TakesNone (book : BookTables) (takes : FormatterKey → Type 0) (kept_for : FormatterKey → Option Kept) (before : SignedValue Number) (asked : Asked) : Type 0 where
   pub formatter : HasKeyThat (λ key. ¬ (takes key)) (front_asked (Some asked))
-  pub text : ¬ (MayTakeAfter book (front_asked (Some asked)) asked.text before)
+  pub text : ¬ (MayTakeAfter book kept_for (front_asked (Some asked)) asked.text before)
 
 -- the number before the first line
 abbrev pub no_number : SignedValue Number

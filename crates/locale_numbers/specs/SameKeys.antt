@@ -106,12 +106,19 @@ currency_is a b h =
 unit_is : (a b : NumberUnit) → units.ghosts.eq a b ≡ true → a ≡ b
 unit_is unit.None unit.None h = refl
 unit_is unit.None unit.Percent h = cc
+unit_is unit.None unit.Permille h = cc
 unit_is unit.None (unit.Currency d) h = cc
 unit_is unit.Percent unit.None h = cc
 unit_is unit.Percent unit.Percent h = refl
+unit_is unit.Percent unit.Permille h = cc
 unit_is unit.Percent (unit.Currency d) h = cc
+unit_is unit.Permille unit.None h = cc
+unit_is unit.Permille unit.Percent h = cc
+unit_is unit.Permille unit.Permille h = refl
+unit_is unit.Permille (unit.Currency d) h = cc
 unit_is (unit.Currency c) unit.None h = cc
 unit_is (unit.Currency c) unit.Percent h = cc
+unit_is (unit.Currency c) unit.Permille h = cc
 unit_is (unit.Currency c) (unit.Currency d) h = ap unit.Currency (currency_is c d h)
 
 module _ (notations : Notation → Notation → Bool) (groupings : GroupingStrategy → GroupingStrategy → Bool) (purposes : Purpose → Purpose → Bool)

@@ -1,7 +1,7 @@
 -- The small book of preferences: the entries of the locales of a chain and of the systems asked for, and the parents along it; of plurals
 -- those of `und` too.
 -- Defined in docs/books.md, "The small book of a tag".
--- Cited by `laws::selected_books_answer_alike`, `laws::selected_parents_are_parents` and `laws::numbers_need_no_units`.
+-- Cited by `laws::selected_books_answer_alike`, `laws::selected_books_find_alike`, `laws::selected_parents_are_parents` and `laws::numbers_need_no_units`.
 -- It picks entries of each table of a book, and imports the types of all.
 use Rattle.std.specs.Prelude.{◌≡◌, ℕ, Bool, true, false, ◌&&◌, List, [], ◌∷◌, ◌++◌, codes, filter, map, Option, None, Some, IfSome, option_map, option_to_list}
 use Rattle.std.specs.List.{list_any}
@@ -14,6 +14,7 @@ use Rattle.icu_locale_core.specs.TagPreferences.{DataLocaleMeaning, Preferences,
 use Rattle.icu_plurals.specs.declared.PluralRuleType.TheVariants as rule
 use Rattle.locale_numbers.specs.Answer.{answer_of}
 use Rattle.locale_numbers_book.specs.Book.{BookTables, IsBook}
+use Rattle.locale_numbers_book.specs.FoundLocale.{locale_for}
 use Rattle.locale_numbers_book.specs.Tables.{chain_in}
 use Rattle.locale_numbers_book.specs.Wanted.{wanted_of}
 use Rattle.locale_numbers_book.specs.Parents.{Entry, IsParents, listed_parent}
@@ -101,6 +102,10 @@ abbrev pub SelectedBooksAnswerAlike : Type 0
 SelectedBooksAnswerAlike = (value : Data) (whole : BookTables) → IsBook value whole → (line : List ℕ) (asked : Asked) (p : Preferences)
     → request_of line ≡ Some asked → wanted_of asked.tag ≡ Some p → answer_of (selected whole p) line ≡ answer_of whole line
 
+abbrev pub SelectedBooksFindAlike : Type 0
+SelectedBooksFindAlike = (value : Data) (whole : BookTables) → IsBook value whole → (tag : Text) (p : Preferences)
+    → wanted_of tag ≡ Some p → locale_for (selected whole p) tag ≡ locale_for whole tag
+
 -- the parents along the chain, from its end to its front, are parents: none is twice, and none closes a cycle
 abbrev pub SelectedParentsAreParents : Type 0
 SelectedParentsAreParents = (value : Data) (whole : BookTables) → IsBook value whole → (p : Preferences) → IfSome (selected whole p).parents IsParents
@@ -111,6 +116,7 @@ SelectedParentsAreParents = (value : Data) (whole : BookTables) → IsBook value
 abbrev pub asks_units : NumberUnit → Bool
 asks_units unit.None = false
 asks_units unit.Percent = true
+asks_units unit.Permille = true
 asks_units (unit.Currency currency) = true
 
 -- whether a task asks for what a book has of plurals beside cardinal rules

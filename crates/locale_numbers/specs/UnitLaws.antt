@@ -42,7 +42,15 @@ unit_reading_request asked unit rounding text = request_like asked Read (shape_w
 abbrev pub HasUnit : NumberUnit → Type 0
 HasUnit unit.None = ⊥
 HasUnit unit.Percent = Unit {0}
+HasUnit unit.Permille = Unit {0}
 HasUnit (unit.Currency currency) = Unit {0}
+
+-- it is a sign
+abbrev pub HasSign : NumberUnit → Type 0
+HasSign unit.None = ⊥
+HasSign unit.Percent = Unit {0}
+HasSign unit.Permille = Unit {0}
+HasSign (unit.Currency currency) = ⊥
 
 -- the word that reads it takes this rounding: none, or of amounts that of cash
 abbrev pub TakesRounding : NumberUnit → Rounding → Type 0
@@ -88,12 +96,12 @@ WrittenUnitReadsBack = (book : BookTables) (asked : Asked) (unit : NumberUnit) (
     → answer_asked book (Some (unit_reading_request asked unit asked.format.options.rounding text))
     ≡ written (signed_text_of (changed asked.format.options found.fractions value))
 
--- where texts can be read, what a line writes of a percent reads back under no rounding as that number, whatever the rounding of the line
+-- where texts can be read, what a line writes of a percent or a permille reads back under no rounding as that number, whatever the rounding of the line
 abbrev pub WrittenPercentReadsBack : Type 0
-WrittenPercentReadsBack = (book : BookTables) (asked : Asked) (found : UnitFormat) (value : SignedValue Number) (text : List ℕ)
-    → asked.task ≡ Write → asked.format.shape ≡ shape_with unit.Percent (grouping_in asked) → FitDecimals asked.format.options
-    → FindsUnit book asked unit.Percent found
+WrittenPercentReadsBack = (book : BookTables) (asked : Asked) (unit : NumberUnit) (found : UnitFormat) (value : SignedValue Number) (text : List ℕ)
+    → HasSign unit → asked.task ≡ Write → asked.format.shape ≡ shape_with unit (grouping_in asked) → FitDecimals asked.format.options
+    → FindsUnit book asked unit found
     → is_unit_readable_by (reader_texts found.settings) ≡ true → reading_of asked.text ≡ number value
     → answer_asked book (Some asked) ≡ written text
-    → answer_asked book (Some (unit_reading_request asked unit.Percent Usual text))
+    → answer_asked book (Some (unit_reading_request asked unit Usual text))
     ≡ written (signed_text_of (changed asked.format.options found.fractions value))

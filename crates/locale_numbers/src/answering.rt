@@ -48,7 +48,7 @@ pub(crate) fn answer_after_front<'a, F: Formatters<'a>>(
     // rounding to multiples of 25 that may lengthen one of sixteen.
     ensures room { HasRoom out.old (answer_after (F.book formatters.old) front.now text.now)
         → HasKeyThat (λ key. ¬ (F.may_take_memory formatters.old key)) front.now
-        → ¬ (MayTakeAfter (F.book formatters.old) front.now text.now value.old)
+        → ¬ (MayTakeAfter (F.book formatters.old) (F.kept_for formatters.old) front.now text.now value.old)
         → IsOk result }
     ensures counted { OnOk result ((more : List (Option FormatterKey)) →
         F.counted_over formatters.old (key_after front.now text.now ∷ more) ≡ F.counted_over formatters.new more) }
@@ -109,7 +109,7 @@ fn answer_whole_line<'a, F: Formatters<'a>>(
     ensures room { (asked : Asked) → request_of line.now ≡ Some asked
         → HasRoom out.old (answer_of (F.book formatters.old) line.now)
         → ¬ (MayTakeTag (Some asked))
-        → TakesNone (F.book formatters.old) (F.may_take_memory formatters.old) no_number asked
+        → TakesNone (F.book formatters.old) (F.may_take_memory formatters.old) (F.kept_for formatters.old) no_number asked
         → IsOk result }
 {
     let (front, text) = cut_text(line);

@@ -1,7 +1,7 @@
 //! Formatters that are kept from line to line.
 
 ghost use Rattle.std.specs.Prelude.{◌≡◌, Bool, Some, option_map, slice_get, IsSome};
-ghost use Rattle.locale_numbers_cache.specs.Cached.{ChangesNothing, IsFirst};
+ghost use Rattle.locale_numbers_cache.specs.Cached.{ChangesNothing, IsFirst, kept_for};
 
 use crate::formatter_key::FormatterKey;
 use crate::formatters::Formatters;
@@ -25,6 +25,7 @@ pub(crate) struct CachedFormatters<'a, T: Tables> {
 fn latest_of<K: CacheKey, F: Drop>(formatters: &FormatterCache<K, F>) -> &F
     requires { IsSome (slice_get formatters.now.entries 0) }
     ensures value { Some result.now ≡ option_map (λ entry. entry.1) (slice_get formatters.now.entries 0) }
+    ensures held { (key : K) → IsFirst key formatters.now → kept_for K.eq key formatters.now ≡ Some result.now }
     ensures again { (finds : K → Bool) (key : K) → IsFirst key formatters.now
         → ChangesNothing K.eq finds key formatters.now }
 {
@@ -36,7 +37,7 @@ fn latest_of<K: CacheKey, F: Drop>(formatters: &FormatterCache<K, F>) -> &F
 
 impl<'a, T: Tables> Formatters<'a> for CachedFormatters<'a, T> {
     ghost use Rattle.std.specs.Prelude.{IsTrue, refl};
-    ghost use Rattle.locale_numbers_cache.specs.Cached.{IsLatest, IsSound, made_over, recent_of};
+    ghost use Rattle.locale_numbers_cache.specs.Cached.{IsLatest, IsSound, kept_for, made_over, recent_of};
     ghost use Rattle.locale_numbers_cache.specs.Recent.{has};
     ghost use Rattle.locale_numbers.specs.FormatterKeys.{finds};
     ghost use Rattle.locale_numbers.specs.KeptFormatters.{IsMadeFor};
@@ -51,6 +52,8 @@ impl<'a, T: Tables> Formatters<'a> for CachedFormatters<'a, T> {
 
     // Only of a key that is not kept.
     ghost may_take_memory = { λ s key. ¬ (IsTrue (has ⟦<FormatterKey as PartialEq>⟧.eq key (recent_of s.formatters))) };
+
+    ghost kept_for = { λ s key. kept_for ⟦<FormatterKey as PartialEq>⟧.eq key s.formatters };
 
     ghost holds = { λ s key. IsLatest (IsMadeFor (T.book s.maker.tables.now)) key s.formatters };
 

@@ -3,7 +3,7 @@
 ghost use Rattle.std.specs.Prelude.{◌≡◌, ◌∷◌, ℕ, List, Option, Some, None, IfOk, IsTrue, OnOk, OnErr};
 ghost use Rattle.locale_numbers_book.specs.Book.{BookTables};
 ghost use Rattle.locale_numbers.specs.FormatterKeys.{finds};
-ghost use Rattle.locale_numbers.specs.KeptFormatters.{IsMadeFor};
+ghost use Rattle.locale_numbers.specs.KeptFormatters.{IsMadeFor, Kept};
 ghost use Rattle.locale_numbers.specs.declared.formatter_key.FormatterKey.{FormatterKey};
 
 use crate::formatter_key::FormatterKey;
@@ -26,6 +26,9 @@ pub(crate) trait Formatters<'a> {
     // Finding the formatter of a key may allocate.
     ghost may_take_memory: { Self → FormatterKey → Type 0 };
 
+    // What is kept for a key, where anything is.
+    ghost kept_for: { Self → FormatterKey → Option Kept };
+
     // The formatter that was found last is that of the key.
     ghost holds: { Self → FormatterKey → Type 0 };
 
@@ -41,6 +44,9 @@ pub(crate) trait Formatters<'a> {
         requires right { is_right_for self.old key.now }
         ensures value { IfOk result (λ found. found ≡ finds (book self.old) key.now) }
         ensures formatter { IfOk result (λ found. IsTrue found → holds self.new key.now) }
+        // What is kept for the key is what was kept for it.
+        ensures held { IfOk result (λ found. IsTrue found → (kept : Kept) →
+            kept_for self.old key.now ≡ Some kept → kept_for self.new key.now ≡ Some kept) }
         ensures counted { OnOk result ((more : List (Option FormatterKey)) →
             counted_over self.old (Some key.now ∷ more) ≡ counted_over self.new more) }
         ensures same { book self.new ≡ book self.old }
@@ -52,6 +58,7 @@ pub(crate) trait Formatters<'a> {
     fn found(&self, key: &Hashed<FormatterKey>) -> &KeptFormatter<'a>
         requires { holds self.now key.now }
         ensures made { IsMadeFor (book self.now) key.now result.now }
+        ensures held { (kept : Kept) → kept_for self.now key.now ≡ Some kept → kept ≡ result.now }
         // To find it again would count nothing.
         ensures again { (more : List (Option FormatterKey)) → counted_over self.now (Some key.now ∷ more)
             ≡ counted_over self.now more };

@@ -2,8 +2,9 @@
 
 ghost use Rattle.std.specs.Prelude.{◌≡◌, false, None, Some, IfSome, MatchOption, Ok};
 ghost use Rattle.locale_numbers_book.specs.FoundFormats.{found_for};
+ghost use Rattle.locale_numbers_formatter.specs.FormatTyped.{typed_of};
 ghost use Rattle.locale_numbers.specs.FormatterKeys.{finds, finds_rules, rules_for};
-ghost use Rattle.locale_numbers.specs.KeptFormatters.{IsMadeFor, IsSameFormatter, KnowsReader, KnowsTexts, KnowsTyped};
+ghost use Rattle.locale_numbers.specs.KeptFormatters.{IsMadeFor, IsSameFormatter, KnowsReader, KnowsTexts};
 ghost use Rattle.locale_numbers.specs.declared.formatter_key.Purpose.{Purpose};
 
 use crate::formatter_key::{FormatterKey, Purpose};
@@ -27,16 +28,18 @@ pub(crate) struct KeptFormatter<'a> {
     pub reader: Option<NumberReader<'a>>,
     /// What people's texts are read by too, where they are read and there is such a thing.
     pub second: Option<NumberFormatter<'a>>,
-    /// What reads what people type; `None` where it is put together for each text.
-    pub lenient: Option<LenientNumberReader<'a>>,
+    /// What reads what people type; `None` where it is put together for each text. It is larger than all the rest, and in
+    /// a box, so that a formatter takes little room on the stack.
+    pub lenient: Option<Box<LenientNumberReader<'a>>>,
     /// The rules, where categories are told.
     pub rules: Option<PluralRulesWithRanges<'a>>,
 }
 
 impl<'a> Model for KeptFormatter<'a> {
-    ghost use Rattle.std.specs.Prelude.{is_some, option_map};
+    ghost use Rattle.std.specs.Prelude.{◌≡◌, IfSome, is_some, option_map};
     ghost use Rattle.locale_numbers_book.specs.FoundRules.{rules_held};
-    ghost use Rattle.locale_numbers.specs.KeptFormatters.{Kept, KnowsReader, KnowsTexts, KnowsTyped};
+    ghost use Rattle.locale_numbers_formatter.specs.FormatTyped.{typed_of};
+    ghost use Rattle.locale_numbers.specs.KeptFormatters.{Kept, KnowsReader, KnowsTexts};
 
     ghost Value = { Kept };
 
@@ -50,7 +53,7 @@ impl<'a> Model for KeptFormatter<'a> {
 
     ghost invariant = { λ k. KnowsTexts k.formatter k.texts
         × KnowsReader k.formatter k.reader
-        × KnowsTyped k.formatter k.second k.lenient };
+        × IfSome k.lenient (λ reader. reader.value ≡ typed_of k.formatter k.second) };
 }
 
 // What texts are put with directly by a formatter of plain numbers.
@@ -76,16 +79,28 @@ fn kept_reader<'a>(alloc: Global, formatter: &NumberFormatter<'a>) -> Option<Num
     }
 }
 
+// A value in a box, where memory is not refused. It is apart, so that no second value is on the stack while the first is
+// put together.
+#[inline(never)]
+fn boxed<T: Drop>(alloc: Global, value: T) -> Option<Box<T>>
+    ensures { IfSome result (λ kept. kept.value ≡ value) }
+{
+    match Box::new(alloc, value) {
+        Ok(kept) => Some(kept),
+        Err(_) => None,
+    }
+}
+
 // What reads what people type, put together and folded now; where memory is refused, for each text.
 fn kept_lenient_reader<'a>(
     alloc: Global,
     formatter: &NumberFormatter<'a>,
     second: &Option<NumberFormatter<'a>>,
-) -> Option<LenientNumberReader<'a>>
-    ensures { KnowsTyped formatter.now second.now result }
+) -> Option<Box<LenientNumberReader<'a>>>
+    ensures { IfSome result (λ reader. reader.value ≡ typed_of formatter.now second.now) }
 {
     match formatter.lenient_reader(alloc, second.as_ref()) {
-        Ok(reader) => Some(reader),
+        Ok(reader) => boxed(alloc, reader),
         Err(_) => None,
     }
 }

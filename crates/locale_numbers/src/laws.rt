@@ -8,7 +8,7 @@ ghost use Rattle.locale_numbers.specs.FormatterKeys.{same_keys};
 ghost use Rattle.locale_numbers.specs.Laws.{AlikeTagsAreAnsweredAlike, NormalTextIsAnsweredAlike, AutoIsAnsweredAsAlways, AreTexts, EachGroupingIsReadLeniently, FoundTablesAreTexts, LinesAskTheirFields, ReadIsReadLeniently, ReadIsWrittenAgain, RoundedIsWrittenAgain, TellsKeys, WrittenIsUtf8, WrittenReadsBack};
 ghost use Rattle.locale_numbers.specs.OldLines.{OldLinesStay};
 ghost use Rattle.locale_numbers.specs.PrintedLaws.{FoundTablesAreSound, IsSoundWhereFound, PrintedIsAnswered, PrintedIsNear, PrintedIsWrittenAgain, PrintedKeepsOrder, PrintedPrintsItself, ZeroIsPrintedForZero};
-ghost use Rattle.locale_numbers.specs.Selection.{NumbersNeedNoUnits, SelectedBooksAnswerAlike, SelectedParentsAreParents};
+ghost use Rattle.locale_numbers.specs.Selection.{NumbersNeedNoUnits, SelectedBooksAnswerAlike, SelectedBooksFindAlike, SelectedParentsAreParents};
 ghost use Rattle.locale_numbers.specs.Serving.{ServedBooksAnswerAlike};
 ghost use Rattle.locale_numbers.specs.LenientUnitLaws.{EachUnitGroupingIsReadLeniently, ReadUnitIsReadLeniently};
 ghost use Rattle.locale_numbers.specs.UnitLaws.{FoundUnitsAreTexts, ReadUnitIsWrittenAgain, WrittenPercentReadsBack, WrittenUnitIsUtf8, WrittenUnitReadsBack};
@@ -31,7 +31,7 @@ pub use locale_numbers_answers::laws::{
 use locale_numbers_book::laws::{tables_are_sound, units_are_texts};
 pub use locale_numbers_book::laws::{
     chains_end, cycles_are_met, data_locales_are_read, is_one_book, old_books_stay,
-    sample_book_is_known, sample_units_book_is_known, tags_are_read,
+    sample_book_is_known, sample_units_book_is_known, symbols_are_of_found_locales, tags_are_read,
 };
 use locale_numbers_book::{Tables, find_formatter};
 pub use locale_numbers_cache::laws::{last_used_are_kept, unused_keys_miss};
@@ -87,6 +87,12 @@ pub fn served_books_answer_alike()
 /// symbols name, and the parents along the chain. That of `de-AT` has the symbols of `de-AT` and of `de`.
 pub fn selected_books_answer_alike()
     ensures { SelectedBooksAnswerAlike }
+{}
+
+/// The small book of a tag finds the same locale for it as the whole book: that of `de-AT-1996` finds `de-AT`, where the whole
+/// book has symbols of this.
+pub fn selected_books_find_alike()
+    ensures { SelectedBooksFindAlike }
 {}
 
 /// The parents along a chain, from its end to its front, are parents of a book: no locale is twice, and none closes a cycle.
@@ -251,9 +257,9 @@ pub fn written_unit_reads_back()
     unit_texts_have_one_decimal();
 }
 
-/// Where texts with a percent sign can be read, what a line writes is read back under the rounding `-`, whatever rounding
-/// wrote it: under `en` `percent` with `0,half-even,1` and `12.4` writes `12%`, and `read-percent` with `-` reads this as
-/// 12.
+/// Where texts with a percent or a permille sign can be read, what a line writes is read back under the rounding `-`,
+/// whatever rounding wrote it: under `en` `percent` with `0,half-even,1` and `12.4` writes `12%`, and `read-percent` with
+/// `-` reads this as 12.
 pub fn written_percent_reads_back()
     ensures { WrittenPercentReadsBack }
 {

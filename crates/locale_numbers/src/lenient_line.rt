@@ -9,7 +9,8 @@ ghost use Rattle.locale_numbers_answers.specs.ReadAnswer.{read_answer};
 ghost use Rattle.locale_numbers_book.specs.FoundFormats.{found_for, second_for};
 ghost use Rattle.locale_numbers_formatter.specs.FormatText.{HasNoUnit};
 ghost use Rattle.locale_numbers_formatter.specs.FormatTyped.{TypedAllocates, format_typed_reading, typed_of};
-ghost use Rattle.locale_numbers.specs.Front.{FindsUnits};
+ghost use Rattle.locale_numbers.specs.Front.{PutsTogether};
+ghost use Rattle.locale_numbers.specs.KeptFormatters.{typed_is_kept};
 ghost use Rattle.locale_numbers.specs.declared.formatter_key.FormatterKey.{FormatterKey};
 ghost use Rattle.locale_numbers.specs.declared.formatter_key.Purpose.{Purpose};
 
@@ -41,7 +42,7 @@ fn read_typed_by_formatter(
         → ¬ (TypedAllocates (typed_of kept.now.formatter kept.now.second) text.now) → IsOk result }
 {
     if let Some(reader) = &kept.lenient {
-        return write_lenient_answer(alloc, reader, text, out);
+        return write_lenient_answer(alloc, &**reader, text, out);
     }
     match kept.formatter.lenient_reader(alloc, kept.second.as_ref()) {
         Ok(reader) => {
@@ -73,14 +74,16 @@ pub(crate) fn answer_lenient<'a, F: Formatters<'a>>(
     ensures err { OnErr result (Grows (string_bytes out.old) (string_bytes out.new)) }
 
     // Where there is room for the answer, and handing out the formatter of the key takes none, only a text that is
-    // folded, or one of more than sixteen digits, may be out of memory, and what is put together of a unit.
+    // folded, or one of more than sixteen digits, may be out of memory, and what is put together of a unit where nothing
+    // is kept.
     ensures room { HasRoom out.old
         (typed_found (found_for key.now.shape (F.book formatters.old) key.now.preferences)
         (second_for key.now.shape (F.book formatters.old) key.now.preferences) text.now)
         → ¬ (F.may_take_memory formatters.old key.now)
         → ¬ (TypedFoundAllocates (found_for key.now.shape (F.book formatters.old) key.now.preferences)
         (second_for key.now.shape (F.book formatters.old) key.now.preferences) text.now)
-        → ¬ (FindsUnits (found_for key.now.shape (F.book formatters.old) key.now.preferences))
+        → ¬ (PutsTogether (typed_is_kept (F.kept_for formatters.old key.now))
+        (found_for key.now.shape (F.book formatters.old) key.now.preferences))
         → IsOk result }
     ensures counted { OnOk result ((more : List (Option FormatterKey)) →
         F.counted_over formatters.old (Some key.now ∷ more) ≡ F.counted_over formatters.new more) }

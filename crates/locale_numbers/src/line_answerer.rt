@@ -2,7 +2,7 @@
 
 ghost use Rattle.std.specs.Prelude.{◌≡◌, ◌++◌, ◌∷◌, ℕ, List, Some, IsOk, IsTrue, OnErr, OnOk, map, string_bytes};
 ghost use Rattle.locale_numbers_answers.specs.AnswerSink.{HasRoom};
-ghost use Rattle.locale_numbers_cache.specs.Cached.{made_over, recent_of};
+ghost use Rattle.locale_numbers_cache.specs.Cached.{kept_for, made_over, recent_of};
 ghost use Rattle.locale_numbers_cache.specs.Recent.{has};
 ghost use Rattle.locale_numbers_lines.specs.Growth.{Grows};
 ghost use Rattle.locale_numbers_requests.specs.Request.{Asked, request_of};
@@ -51,13 +51,14 @@ impl<'a, T: Tables> LineAnswerer<'a, T> {
             self.new.kept.is_held }
         ensures err { OnErr result (Grows (string_bytes out.old) (string_bytes out.new)) }
 
-        // A request whose front was read lately, whose formatter is kept and whose text takes no memory, after the number
-        // that was read before, takes none where there is room for its answer.
+        // A request whose front was read lately, whose formatter is kept, with what reads a unit where it reads one, and
+        // whose text takes no memory, after the number that was read before, takes none where there is room for its answer.
         ensures room { (asked : Asked) → request_of line.now ≡ Some asked
             → HasRoom out.old (answer_of (T.book self.old.kept.maker.tables.now) line.now)
             → IsRemembered (front_before line.now asked.text) self.old.read
             → TakesNone (T.book self.old.kept.maker.tables.now)
             (λ key. ¬ (IsTrue (has ⟦<FormatterKey as PartialEq>⟧.eq key (recent_of self.old.kept.formatters))))
+            (λ key. kept_for ⟦<FormatterKey as PartialEq>⟧.eq key self.old.kept.formatters)
             self.old.value asked
             → IsOk result }
     {

@@ -29,6 +29,8 @@ impl<'a, T: Tables> Formatters<'a> for OneFormatter<'a, T> {
 
     ghost may_take_memory = { λ s key. ⊥ };
 
+    ghost kept_for = { λ s key. s.made };
+
     ghost holds = { λ s key. MatchOption s.made ⊥ (λ made. IsMadeFor (T.book s.tables.now) key made) };
 
     ghost is_right_for = { λ s key. IfSome s.made (λ made. IsMadeFor (T.book s.tables.now) key made) };

@@ -14,7 +14,7 @@ pub use icu_decimal::{
 pub use icu_dimension::parts::{CURRENCY, PERCENT_SIGN};
 pub use icu_dimension::{
     CurrencyCode, CurrencyFormatter, CurrencyFormatterOptions, CurrencyStyle, CurrencyUsage,
-    CurrencyWidth, PercentFormatter, PercentFormatterOptions,
+    CurrencyWidth, PercentFormatter, PercentFormatterOptions, PercentSign,
 };
 pub use icu_locale_core::Locale;
 pub use icu_plurals::{

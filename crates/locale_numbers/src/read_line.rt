@@ -9,7 +9,8 @@ ghost use Rattle.locale_numbers_book.specs.FoundFormats.{found_for};
 ghost use Rattle.locale_numbers_formatter.specs.FormatReading.{ReaderAllocates, reader_of};
 ghost use Rattle.locale_numbers_formatter.specs.FormatText.{HasNoUnit};
 ghost use Rattle.locale_numbers.specs.FormatterKeys.{rules_for};
-ghost use Rattle.locale_numbers.specs.Front.{FindsUnits};
+ghost use Rattle.locale_numbers.specs.Front.{PutsTogether};
+ghost use Rattle.locale_numbers.specs.KeptFormatters.{reader_is_kept};
 ghost use Rattle.locale_numbers.specs.declared.formatter_key.FormatterKey.{FormatterKey};
 
 use crate::formatter_key::FormatterKey;
@@ -70,12 +71,13 @@ pub(crate) fn answer_read<'a, F: Formatters<'a>>(
     ensures err { OnErr result (Grows (string_bytes out.old) (string_bytes out.new)) }
 
     // Where there is room for the answer, and handing out the formatter of the key takes none, only a text of more than
-    // sixteen digits may be out of memory, and the affixes of a unit that are put together.
+    // sixteen digits may be out of memory, and the affixes of a unit that are put together where none are kept.
     ensures room { HasRoom out.old
         (read_found (found_for key.now.shape (F.book formatters.old) key.now.preferences) rounding text.now)
         → ¬ (F.may_take_memory formatters.old key.now)
         → ¬ (ReadAllocates (found_for key.now.shape (F.book formatters.old) key.now.preferences) text.now)
-        → ¬ (FindsUnits (found_for key.now.shape (F.book formatters.old) key.now.preferences))
+        → ¬ (PutsTogether (reader_is_kept (F.kept_for formatters.old key.now))
+        (found_for key.now.shape (F.book formatters.old) key.now.preferences))
         → IsOk result }
     ensures counted { OnOk result ((more : List (Option FormatterKey)) →
         F.counted_over formatters.old (Some key.now ∷ more) ≡ F.counted_over formatters.new more) }

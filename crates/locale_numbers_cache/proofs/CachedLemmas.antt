@@ -7,7 +7,8 @@ use Rattle.std.proofs.lemmas.List.{length-take, take-map}
 use Rattle.lru.specs.LruCache.{LruCache, lru_cache, promoted, put_entries}
 use Rattle.lru.proofs.CallerLemmas.{Contains-promoted, Contains-put_entries, Contains-lookup_entry}
 use Rattle.locale_numbers_cache.specs.Recent.{has, without, recent_after, misses}
-use Rattle.locale_numbers_cache.specs.Cached.{Cached, cached, most, recent_of, recent_with, made_over, used, ChangesNothing, IsFirst, IsSound, IsLatest}
+use Rattle.locale_numbers_cache.specs.Cached.{Cached, cached, most, recent_of, recent_with, made_over, used, ChangesNothing, IsFirst, IsSound, IsLatest, StillKept}
+use Rattle.locale_numbers_cache.proofs.KeptForLemmas.{kept_promoted, kept_put}
 use Rattle.locale_numbers_cache.proofs.RecentLemmas.{keys_of-remove_entry, has-entry, has-none, entry_of, no_entry_of, recent_after-hit, recent_after-miss}
 
 module _ {K F : Type 0} (same : K → K → Bool) (finds : K → Bool) (is_made : K → F → Type 0) where
@@ -19,6 +20,7 @@ module _ {K F : Type 0} (same : K → K → Bool) (finds : K → Bool) (is_made 
     pub count : new.made ≡ made_over same finds old (Some key ∷ [])
     pub ahead : (more : List (Option K)) → made_over same finds old (Some key ∷ more) ≡ made_over same finds new more
     pub sound : IsSound finds is_made new
+    pub held : StillKept same old new
     pub bounds : (length new.entries ≤ new.capacity) × (0 < new.capacity)
 
   -- of the counts and keys alone
@@ -69,6 +71,7 @@ module _ {K F : Type 0} (same : K → K → Bool) (finds : K → Bool) (is_made 
           count = sym stays ∙ counted_now key entries capacity made 0 right.1 little none;
           ahead = λ more. subst (λ n. made_over same finds (cached entries capacity made) (Some key ∷ more) ≡ made_over same finds (cached (promoted (same key) entries) capacity n) more) stays (counted key entries (promoted (same key) entries) capacity made 0 right.1 little none keys more);
           sound = λ k kept c. sound k kept (Contains-promoted (same key) entries (k, kept) c);
+          held = λ k kept was there. kept_promoted same exact key entries entry h k ∙ was;
           bounds = (fits_of key entries (promoted (same key) entries) capacity keys, room);
         }
 
@@ -94,6 +97,7 @@ module _ {K F : Type 0} (same : K → K → Bool) (finds : K → Bool) (is_made 
               | inr was ↦ new_right key k kept f (sym (exact key k was.2)) is.0 found right
             ]
           ];
+          held = λ k f was there. kept_put same exact key entries capacity kept h k f was there;
           bounds = (fits_of key entries (put_entries same (lru_cache entries capacity) key kept) capacity keys, room);
         }
 

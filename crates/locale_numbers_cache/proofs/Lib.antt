@@ -1,4 +1,5 @@
 pub mod CachedLemmas
+pub mod KeptForLemmas
 pub mod KnownValues
 pub mod LastReadLemmas
 pub mod LawsLemmas

@@ -3,8 +3,8 @@
 -- Cited by `FormatterCache`: `new`, `keep`, `latest`, `made`.
 use Rattle.std.specs.Prelude.{false, ℕ, ◌≡◌, ◌+◌, ◌-◌, ◌^◌, Bool, true, List, [], ◌∷◌, min, Option, None, Some, slice_get, Contains, refl, if◌then◌else◌}
 use Rattle.std.specs.Coded.{Coded, code_by, coded×, coded_list, coded_ℕ}
-use Rattle.std.specs.Map.{keys_of}
-use Rattle.locale_numbers_cache.specs.Recent.{recent_after, misses}
+use Rattle.std.specs.Map.{keys_of, lookup}
+use Rattle.locale_numbers_cache.specs.Recent.{has, recent_after, misses}
 
 -- keys and what is kept for them, the last used first, how many there may be, and how many things were made
 pub record Cached (K F : Type 0) : Type 0 where
@@ -33,6 +33,14 @@ module _ {K F : Type 0} where
   -- the keys, the last used first
   abbrev pub recent_of : Cached K F → List K
   recent_of cache = keys_of cache.entries
+
+  -- what is kept for a key, by a test of keys
+  abbrev pub kept_for : (K → K → Bool) → K → Cached K F → Option F
+  kept_for same key cache = lookup (same key) cache.entries
+
+  -- what is still kept for a key is what was kept for it
+  abbrev pub StillKept : (K → K → Bool) → Cached K F → Cached K F → Type 0
+  StillKept same old new = (key : K) (kept : F) → kept_for same key old ≡ Some kept → has same key (recent_of new) ≡ true → kept_for same key new ≡ Some kept
 
   -- what is kept for each key is what would be made for it now
   abbrev pub IsSound : (K → Bool) → (K → F → Type 0) → Cached K F → Type 0

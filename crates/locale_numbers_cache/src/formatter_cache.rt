@@ -2,7 +2,7 @@
 
 ghost use Rattle.std.specs.Prelude.{◌≡◌, ◌≤◌, Bool, List, ◌∷◌, [], Option, option_map, option_copied, slice_get, false, IfOk, OnOk, OnErr, IsOk, IsTrue};
 ghost use Rattle.locale_numbers_cache.specs.Recent.{has};
-ghost use Rattle.locale_numbers_cache.specs.Cached.{cached, most, ChangesNothing, IsFirst, IsSound, IsLatest, recent_of, recent_with, made_over};
+ghost use Rattle.locale_numbers_cache.specs.Cached.{cached, most, ChangesNothing, IsFirst, IsSound, IsLatest, StillKept, kept_for, recent_of, recent_with, made_over};
 
 use crate::cache_key::CacheKey;
 use crate::maker::Maker;
@@ -59,12 +59,15 @@ impl<K: CacheKey, F: Drop> FormatterCache<K, F> {
         ensures succeeds { M.finds maker.now key.now ≡ false → IsOk result }
         ensures value { IfOk result (λ found. found ≡ M.finds maker.now key.now) }
         ensures latest { IfOk result (λ found. IsTrue found → IsLatest (M.is_made maker.now) key.now self.new) }
+        ensures there { IfOk result (λ found. IsTrue found → IsTrue (has K.eq key.now (recent_of self.new))) }
         ensures recent { OnOk result (recent_of self.new ≡ recent_with K.eq (M.finds maker.now) self.old key.now) }
         ensures count { OnOk result (self.new.made ≡ made_over K.eq (M.finds maker.now) self.old (Some key.now ∷ [])) }
         ensures ahead { OnOk result ((more : List (Option K)) →
             made_over K.eq (M.finds maker.now) self.old (Some key.now ∷ more)
             ≡ made_over K.eq (M.finds maker.now) self.new more) }
         ensures sound { IsSound (M.finds maker.now) (M.is_made maker.now) self.new }
+        // So a thing that stays is never made again.
+        ensures held { StillKept K.eq self.old self.new }
         ensures capacity { self.new.capacity ≡ self.old.capacity }
         ensures same { IfOk result (λ found. found ≡ false → self.new ≡ self.old) }
         ensures err { OnErr result (self.new ≡ self.old) }
@@ -93,6 +96,8 @@ impl<K: CacheKey, F: Drop> FormatterCache<K, F> {
     /// key again would change nothing. It does not allocate.
     pub fn latest(&self) -> Option<&F>
         ensures value { option_copied result ≡ option_map (λ entry. entry.1) (slice_get self.now.entries 0) }
+        ensures held { (key : K) → IsFirst key self.now
+            → kept_for K.eq key self.now ≡ option_map (λ entry. entry.1) (slice_get self.now.entries 0) }
         // Whichever keys things are found for.
         ensures again { (finds : K → Bool) (key : K) → IsFirst key self.now → ChangesNothing K.eq finds key self.now }
     {

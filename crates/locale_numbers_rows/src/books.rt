@@ -119,6 +119,15 @@ const TYPED: &str = r#"[[[["en","","latn","-","","+","",".",",",3,3,1],
   ["hi","INR","₹",0],
   ["ar-EG","EGP","ج.م.\u200f",3]],[]]]"#;
 
+// Entries of three locales, from CLDR: Turkish without its permille sign.
+const PERMILLE: &str = r#"[[[["en","","latn","-","","+","",".",",",3,3,1],
+  ["de","","latn","-","","+","",",",".",3,3,1],
+  ["tr","","latn","-","","+","",",",".",3,3,1]],
+ [["latn","0123456789"]],[],[],[]],
+ [[["en","","%",null,["","¤"],"‰"],
+  ["de","","%",null,["","\u00a0¤"],"‰"],
+  ["tr","","%",null,["¤",""]]],[],[],[],[]]]"#;
+
 // Entries of English, French and German, from CLDR, with amounts of euros, ordinal rules and the categories of ranges.
 // Austria has other separators in amounts than in numbers.
 const PLURALS: &str = r#"[[[["en","","latn","-","","+","",".",",",3,3,1],
@@ -165,6 +174,7 @@ pub fn book_named(name: &str) -> Option<&'static str> {
         "no-rules" => Some(NO_RULES),
         "thai-behind" => Some(THAI_BEHIND),
         "typed" => Some(TYPED),
+        "permille" => Some(PERMILLE),
         "plurals" => Some(PLURALS),
         _ => None,
     }

@@ -14,8 +14,8 @@ returns-in-Write-clause-room g c = λ room quiet small.
     c.answer_number.ensures.room
     (subst (λ answer. HasRoom c.args.out.now answer) (answer_done book c.args.front.now c.in-Some.front c.in-Some-key.key c.args.text.now c.in-Some.is c.in-Some-key.is Write c.in-Write.is) room)
     (of_key book c.args.front.now c.in-Some.front c.in-Some-key.key c.args.text.now c.in-Some.is c.in-Some-key.is (λ key. g.F.Formatters.may_take_memory c.args.formatters.now key → ⊥) quiet)
-    (λ more. small (may_take book c.args.front.now c.in-Some.front c.in-Some-key.key c.args.text.now c.in-Some.is c.in-Some-key.is Write c.args.value.now c.in-Write.is (inl more)))
-    (λ grows. small (may_take book c.args.front.now c.in-Some.front c.in-Some-key.key c.args.text.now c.in-Some.is c.in-Some-key.is Write c.args.value.now c.in-Write.is (inr grows)))
+    (λ more. small (may_take book c.args.front.now c.in-Some.front c.in-Some-key.key c.args.text.now c.in-Some.is c.in-Some-key.is (g.F.Formatters.kept_for c.args.formatters.now) Write c.args.value.now c.in-Write.is (inl more)))
+    (λ grows. small (may_take book c.args.front.now c.in-Some.front c.in-Some-key.key c.args.text.now c.in-Some.is c.in-Some-key.is (g.F.Formatters.kept_for c.args.formatters.now) Write c.args.value.now c.in-Write.is (inr grows)))
 
 pub returns-in-WriteExact-clause-room : goal.returns-in-WriteExact-clause-room
 returns-in-WriteExact-clause-room g c = λ room quiet small.
@@ -23,7 +23,7 @@ returns-in-WriteExact-clause-room g c = λ room quiet small.
     c.answer_exact.ensures.room
     (subst (λ answer. HasRoom c.args.out.now answer) (answer_shown book c.args.front.now c.in-Some.front c.in-Some-key.key c.args.text.now c.in-Some.is c.in-Some-key.is WriteExact c.in-Some-as_text.text.now c.in-WriteExact.is c.in-Some-as_text.ensures.0 c.in-Some-as_text.ensures.1) room)
     (of_key book c.args.front.now c.in-Some.front c.in-Some-key.key c.args.text.now c.in-Some.is c.in-Some-key.is (λ key. g.F.Formatters.may_take_memory c.args.formatters.now key → ⊥) quiet)
-    (λ long. small (may_take book c.args.front.now c.in-Some.front c.in-Some-key.key c.args.text.now c.in-Some.is c.in-Some-key.is WriteExact c.args.value.now c.in-WriteExact.is (subst ReadsLongCompact c.in-Some-as_text.ensures.1 long)))
+    (λ long. small (may_take book c.args.front.now c.in-Some.front c.in-Some-key.key c.args.text.now c.in-Some.is c.in-Some-key.is (g.F.Formatters.kept_for c.args.formatters.now) WriteExact c.args.value.now c.in-WriteExact.is (subst ReadsLongCompact c.in-Some-as_text.ensures.1 long)))
 
 pub returns-in-Read-clause-room : goal.returns-in-Read-clause-room
 returns-in-Read-clause-room g c = λ room quiet small.
@@ -32,9 +32,9 @@ returns-in-Read-clause-room g c = λ room quiet small.
     c.answer_read.ensures.room
     (subst (λ answer. HasRoom c.args.out.now answer) (answer_shown book c.args.front.now c.in-Some.front c.in-Some-key.key c.args.text.now c.in-Some.is c.in-Some-key.is Read c.in-Some-as_text.text.now c.in-Read.is c.in-Some-as_text.ensures.0 c.in-Some-as_text.ensures.1) room)
     (of_key book c.args.front.now c.in-Some.front c.in-Some-key.key c.args.text.now c.in-Some.is c.in-Some-key.is (λ key. g.F.Formatters.may_take_memory c.args.formatters.now key → ⊥) quiet)
-    (λ many. small (may_take book c.args.front.now c.in-Some.front c.in-Some-key.key c.args.text.now c.in-Some.is c.in-Some-key.is Read c.args.value.now c.in-Read.is
+    (λ many. small (may_take book c.args.front.now c.in-Some.front c.in-Some-key.key c.args.text.now c.in-Some.is c.in-Some-key.is (g.F.Formatters.kept_for c.args.formatters.now) Read c.args.value.now c.in-Read.is
     (c.in-Some-as_text.ensures.0, inl (subst (ReadAllocates (found_for key.shape book key.preferences)) c.in-Some-as_text.ensures.1 many))))
-    (λ units. small (may_take book c.args.front.now c.in-Some.front c.in-Some-key.key c.args.text.now c.in-Some.is c.in-Some-key.is Read c.args.value.now c.in-Read.is (c.in-Some-as_text.ensures.0, inr units)))
+    (λ units. small (may_take book c.args.front.now c.in-Some.front c.in-Some-key.key c.args.text.now c.in-Some.is c.in-Some-key.is (g.F.Formatters.kept_for c.args.formatters.now) Read c.args.value.now c.in-Read.is (c.in-Some-as_text.ensures.0, inr units)))
 
 pub returns-in-ReadLenient-clause-room : goal.returns-in-ReadLenient-clause-room
 returns-in-ReadLenient-clause-room g c = λ room quiet small.
@@ -43,9 +43,9 @@ returns-in-ReadLenient-clause-room g c = λ room quiet small.
     c.answer_lenient.ensures.room
     (subst (λ answer. HasRoom c.args.out.now answer) (answer_shown book c.args.front.now c.in-Some.front c.in-Some-key.key c.args.text.now c.in-Some.is c.in-Some-key.is ReadLenient c.in-Some-as_text.text.now c.in-ReadLenient.is c.in-Some-as_text.ensures.0 c.in-Some-as_text.ensures.1) room)
     (of_key book c.args.front.now c.in-Some.front c.in-Some-key.key c.args.text.now c.in-Some.is c.in-Some-key.is (λ key. g.F.Formatters.may_take_memory c.args.formatters.now key → ⊥) quiet)
-    (λ many. small (may_take book c.args.front.now c.in-Some.front c.in-Some-key.key c.args.text.now c.in-Some.is c.in-Some-key.is ReadLenient c.args.value.now c.in-ReadLenient.is
+    (λ many. small (may_take book c.args.front.now c.in-Some.front c.in-Some-key.key c.args.text.now c.in-Some.is c.in-Some-key.is (g.F.Formatters.kept_for c.args.formatters.now) ReadLenient c.args.value.now c.in-ReadLenient.is
     (c.in-Some-as_text.ensures.0, inl (subst (TypedFoundAllocates (found_for key.shape book key.preferences) (second_for key.shape book key.preferences)) c.in-Some-as_text.ensures.1 many))))
-    (λ units. small (may_take book c.args.front.now c.in-Some.front c.in-Some-key.key c.args.text.now c.in-Some.is c.in-Some-key.is ReadLenient c.args.value.now c.in-ReadLenient.is (c.in-Some-as_text.ensures.0, inr units)))
+    (λ units. small (may_take book c.args.front.now c.in-Some.front c.in-Some-key.key c.args.text.now c.in-Some.is c.in-Some-key.is (g.F.Formatters.kept_for c.args.formatters.now) ReadLenient c.args.value.now c.in-ReadLenient.is (c.in-Some-as_text.ensures.0, inr units)))
 
 pub returns-in-Category-clause-room : goal.returns-in-Category-clause-room
 returns-in-Category-clause-room g c = λ room quiet small.
@@ -54,8 +54,8 @@ returns-in-Category-clause-room g c = λ room quiet small.
     c.answer_category.ensures.room
     (subst (λ answer. HasRoom c.args.out.now answer) (category_done book c.args.front.now c.in-Some.front c.in-Some-key.key c.args.text.now c.in-Some.is c.in-Some-key.is c.requires.fits c.in-Category.field-0 c.in-Category.is) room)
     (of_key book c.args.front.now c.in-Some.front c.in-Some-key.key c.args.text.now c.in-Some.is c.in-Some-key.is (λ key. g.F.Formatters.may_take_memory c.args.formatters.now key → ⊥) quiet)
-    (λ more. small (may_take book c.args.front.now c.in-Some.front c.in-Some-key.key c.args.text.now c.in-Some.is c.in-Some-key.is task c.args.value.now c.in-Category.is (inl more)))
-    (λ grows. small (may_take book c.args.front.now c.in-Some.front c.in-Some-key.key c.args.text.now c.in-Some.is c.in-Some-key.is task c.args.value.now c.in-Category.is (inr grows)))
+    (λ more. small (may_take book c.args.front.now c.in-Some.front c.in-Some-key.key c.args.text.now c.in-Some.is c.in-Some-key.is (g.F.Formatters.kept_for c.args.formatters.now) task c.args.value.now c.in-Category.is (inl more)))
+    (λ grows. small (may_take book c.args.front.now c.in-Some.front c.in-Some-key.key c.args.text.now c.in-Some.is c.in-Some-key.is (g.F.Formatters.kept_for c.args.formatters.now) task c.args.value.now c.in-Category.is (inr grows)))
 
 pub returns-in-RangeCategory-clause-room : goal.returns-in-RangeCategory-clause-room
 returns-in-RangeCategory-clause-room g c = λ room quiet small.
@@ -64,5 +64,5 @@ returns-in-RangeCategory-clause-room g c = λ room quiet small.
     c.answer_range.ensures.room
     (subst (λ answer. HasRoom c.args.out.now answer) (range_shown book c.args.front.now c.in-Some.front c.in-Some-key.key c.args.text.now c.in-Some.is c.in-Some-key.is c.requires.fits c.in-Some-as_text.text.now c.in-RangeCategory.is c.in-Some-as_text.ensures.0 c.in-Some-as_text.ensures.1) room)
     (of_key book c.args.front.now c.in-Some.front c.in-Some-key.key c.args.text.now c.in-Some.is c.in-Some-key.is (λ key. g.F.Formatters.may_take_memory c.args.formatters.now key → ⊥) quiet)
-    (λ many. small (may_take book c.args.front.now c.in-Some.front c.in-Some-key.key c.args.text.now c.in-Some.is c.in-Some-key.is RangeCategory c.args.value.now c.in-RangeCategory.is
+    (λ many. small (may_take book c.args.front.now c.in-Some.front c.in-Some-key.key c.args.text.now c.in-Some.is c.in-Some-key.is (g.F.Formatters.kept_for c.args.formatters.now) RangeCategory c.args.value.now c.in-RangeCategory.is
     (c.in-Some-as_text.ensures.0, subst (λ shown. RangeAllocates (found_for key.shape book key.preferences) c.in-Some.front.options.rounding (range_ends shown) c.args.value.now) c.in-Some-as_text.ensures.1 many)))

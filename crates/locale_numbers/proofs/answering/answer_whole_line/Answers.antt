@@ -34,5 +34,5 @@ returns-clause-room g c = λ asked is room tag takes.
     (answer_of_line c.args.line.now c.cut_text.result.0.now c.cut_text.result.1.now c.cut_text.ensures.asks book
     ∙ ap (λ front. answer_after book front c.cut_text.result.1.now) (sym c.in_ok-front.ensures.value)) room)
     (formatter_after (g.F.Formatters.may_take_memory c.args.formatters.now) c.in_ok-front.front c.cut_text.result.0.now c.cut_text.result.1.now asked c.in_ok-front.ensures.value whole takes.formatter)
-    (text_after book c.zero-value.result c.in_ok-front.front c.cut_text.result.0.now c.cut_text.result.1.now asked c.in_ok-front.ensures.value whole
-    (subst (λ before. ¬ (MayTakeAfter book (front_asked (Some asked)) asked.text before)) (sym c.zero-value.ensures) takes.text))
+    (text_after book (g.F.Formatters.kept_for c.args.formatters.now) c.zero-value.result c.in_ok-front.front c.cut_text.result.0.now c.cut_text.result.1.now asked c.in_ok-front.ensures.value whole
+    (subst (λ before. ¬ (MayTakeAfter book (g.F.Formatters.kept_for c.args.formatters.now) (front_asked (Some asked)) asked.text before)) (sym c.zero-value.ensures) takes.text))

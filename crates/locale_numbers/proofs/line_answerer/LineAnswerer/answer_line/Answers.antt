@@ -2,7 +2,7 @@ use Rattle.std.proofs.Common.{◌≡◌, map, refl, sym, ap, ◌∙◌, subst}
 use Rattle.std.specs.Prelude.{IsTrue, string_bytes}
 use Rattle.std.proofs.lemmas.Bool.{false≢true}
 use Rattle.locale_numbers_answers.specs.AnswerSink.{HasRoom}
-use Rattle.locale_numbers_cache.specs.Cached.{IsLatest, recent_of}
+use Rattle.locale_numbers_cache.specs.Cached.{IsLatest, kept_for, recent_of}
 use Rattle.locale_numbers_cache.specs.Recent.{has}
 use Rattle.locale_numbers.specs.FormatterKeys.{key_of}
 use Rattle.locale_numbers.specs.KeptFormatters.{IsMadeFor}
@@ -64,4 +64,4 @@ returns-clause-room g c = λ asked is room remembered takes.
     (answer_of_line c.args.line.now c.cut_text.result.0.now c.cut_text.result.1.now c.cut_text.ensures.asks book
     ∙ ap (λ front. answer_after book front c.cut_text.result.1.now) (sym read)) room)
     (formatter_after (λ key. ¬ (IsTrue (has keys.ghosts.eq key (recent_of c.args.self.now.kept.formatters)))) c.latest.result.now c.cut_text.result.0.now c.cut_text.result.1.now asked read whole takes.formatter)
-    (text_after book c.args.self.now.value c.latest.result.now c.cut_text.result.0.now c.cut_text.result.1.now asked read whole takes.text)
+    (text_after book (λ key. kept_for keys.ghosts.eq key c.args.self.now.kept.formatters) c.args.self.now.value c.latest.result.now c.cut_text.result.0.now c.cut_text.result.1.now asked read whole takes.text)

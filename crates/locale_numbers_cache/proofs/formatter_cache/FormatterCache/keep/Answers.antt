@@ -1,6 +1,7 @@
 use Rattle.std.proofs.Common.{◌≤◌, sym, ap, subst, ◌∙◌, true≢false, arith, Result, Ok, Err, OnErr}
 use Rattle.locale_numbers_cache.specs.Cached.{cached, most, recent_of, made_over, IsSound}
 use Rattle.locale_numbers_cache.proofs.CachedLemmas.{Uses, hit, miss, not_kept, nothing_put}
+use Rattle.locale_numbers_cache.proofs.KeptForLemmas.{all_kept, first_is_there}
 use Rattle.locale_numbers_cache.proofs.formatter_cache.FormatterCache.keep.Given as given
 use Rattle.locale_numbers_cache.proofs.formatter_cache.FormatterCache.keep.Goals as goal
 
@@ -18,6 +19,9 @@ returns-then-promote-clause-value g c = sym (found_here g c).found
 pub returns-then-promote-clause-latest : goal.returns-then-promote-clause-latest
 returns-then-promote-clause-latest g c = λ _. (found_here g c).latest
 
+pub returns-then-promote-clause-there : goal.returns-then-promote-clause-there
+returns-then-promote-clause-there g c = λ _. let latest = (found_here g c).latest in first_is_there g.K.PartialEq.eq c.args.key.now (g.met.K.Eq.laws.refl c.args.key.now) (cached c.promote.new.kept.entries c.promote.new.kept.cap c.self.inside.made) latest.kept latest.first
+
 pub returns-then-promote-clause-recent : goal.returns-then-promote-clause-recent
 returns-then-promote-clause-recent g c = (found_here g c).recent
 
@@ -29,6 +33,9 @@ returns-then-promote-clause-ahead g c = (found_here g c).ahead
 
 pub returns-then-promote-clause-sound : goal.returns-then-promote-clause-sound
 returns-then-promote-clause-sound g c = (found_here g c).sound
+
+pub returns-then-promote-clause-held : goal.returns-then-promote-clause-held
+returns-then-promote-clause-held g c = (found_here g c).held
 
 -- the maker found nothing
 
@@ -56,6 +63,12 @@ returns-then-not-branch-clause-sound g c =
     c.self.view_is c.promote.ensures.entries c.promote.ensures.value c.if-promote.false (c.in_ok-put_made.ensures.same c.if-not-branch.true) in
     subst (IsSound (g.M.Maker.finds c.args.maker.now) (g.M.Maker.is_made c.args.maker.now)) (sym none.1) c.requires
 
+pub returns-then-not-branch-clause-held : goal.returns-then-not-branch-clause-held
+returns-then-not-branch-clause-held g c =
+    let none = nothing_put g.K.PartialEq.eq c.args.key.now c.self.inside.kept c.promote.new.kept c.put_made.new.kept c.self.inside.made c.args.self.now c.promote.result
+    c.self.view_is c.promote.ensures.entries c.promote.ensures.value c.if-promote.false (c.in_ok-put_made.ensures.same c.if-not-branch.true) in
+    all_kept g.K.PartialEq.eq c.args.self.now (cached c.put_made.new.kept.entries c.put_made.new.kept.cap c.self.inside.made) none.1
+
 pub returns-then-not-branch-clause-same : goal.returns-then-not-branch-clause-same
 returns-then-not-branch-clause-same g c = λ _.
     let none = nothing_put g.K.PartialEq.eq c.args.key.now c.self.inside.kept c.promote.new.kept c.put_made.new.kept c.self.inside.made c.args.self.now c.promote.result
@@ -79,6 +92,12 @@ returns-in_err-put_made-clause-sound g c =
     let none = nothing_put g.K.PartialEq.eq c.args.key.now c.self.inside.kept c.promote.new.kept c.put_made.new.kept c.self.inside.made c.args.self.now c.promote.result
     c.self.view_is c.promote.ensures.entries c.promote.ensures.value c.if-promote.false (c.in_err-put_made.ensures.err) in
     subst (IsSound (g.M.Maker.finds c.args.maker.now) (g.M.Maker.is_made c.args.maker.now)) (sym none.1) c.requires
+
+pub returns-in_err-put_made-clause-held : goal.returns-in_err-put_made-clause-held
+returns-in_err-put_made-clause-held g c =
+    let none = nothing_put g.K.PartialEq.eq c.args.key.now c.self.inside.kept c.promote.new.kept c.put_made.new.kept c.self.inside.made c.args.self.now c.promote.result
+    c.self.view_is c.promote.ensures.entries c.promote.ensures.value c.if-promote.false (c.in_err-put_made.ensures.err) in
+    all_kept g.K.PartialEq.eq c.args.self.now (cached c.put_made.new.kept.entries c.put_made.new.kept.cap c.self.inside.made) none.1
 
 pub returns-in_err-put_made-clause-err : goal.returns-in_err-put_made-clause-err
 returns-in_err-put_made-clause-err g c =
@@ -107,6 +126,9 @@ invariant_of-self-2 g c = (made_here g c).bounds
 pub returns-clause-latest : goal.returns-clause-latest
 returns-clause-latest g c = λ _. (made_here g c).latest
 
+pub returns-clause-there : goal.returns-clause-there
+returns-clause-there g c = λ _. let latest = (made_here g c).latest in first_is_there g.K.PartialEq.eq c.args.key.now (g.met.K.Eq.laws.refl c.args.key.now) (cached c.put_made.new.kept.entries c.put_made.new.kept.cap c.saturating_add-self-inside.result) latest.kept latest.first
+
 pub returns-clause-recent : goal.returns-clause-recent
 returns-clause-recent g c = (made_here g c).recent
 
@@ -118,3 +140,6 @@ returns-clause-ahead g c = (made_here g c).ahead
 
 pub returns-clause-sound : goal.returns-clause-sound
 returns-clause-sound g c = (made_here g c).sound
+
+pub returns-clause-held : goal.returns-clause-held
+returns-clause-held g c = (made_here g c).held

@@ -3,6 +3,7 @@ use Rattle.std.proofs.lemmas.Map.Entries.{length-keys_of}
 use Rattle.lru.specs.LruCache.{LruCache}
 use Rattle.locale_numbers_cache.specs.Cached.{Cached, ChangesNothing, IsFirst, cached}
 use Rattle.locale_numbers_cache.proofs.CachedLemmas.{used_again}
+use Rattle.locale_numbers_cache.proofs.KeptForLemmas.{first_is_kept}
 use Rattle.locale_numbers_cache.proofs.formatter_cache.FormatterCache.latest.Goals as goal
 
 still : {K F : Type 0} (same : K → K → Bool) (itself : (key : K) → same key key ≡ true) (kept : LruCache K F) (made : _) (cache : Cached K F) → cached kept.entries kept.cap made ≡ cache → length kept.entries ≤ kept.cap
@@ -16,3 +17,9 @@ returns-in-Some-clause-again g c = still g.K.PartialEq.eq g.met.K.Eq.laws.refl c
 
 pub returns-in-None-clause-again : goal.returns-in-None-clause-again
 returns-in-None-clause-again g c = still g.K.PartialEq.eq g.met.K.Eq.laws.refl c.self.inside.kept c.self.inside.made c.args.self.now c.self.view_is c.self.invariant.0
+
+pub returns-in-Some-clause-held : goal.returns-in-Some-clause-held
+returns-in-Some-clause-held g c = λ key. first_is_kept g.K.PartialEq.eq key (g.met.K.Eq.laws.refl key) c.args.self.now
+
+pub returns-in-None-clause-held : goal.returns-in-None-clause-held
+returns-in-None-clause-held g c = λ key. first_is_kept g.K.PartialEq.eq key (g.met.K.Eq.laws.refl key) c.args.self.now
