@@ -106,6 +106,7 @@ static const struct {
     {"short", {.notation = LEGUMEYET_NOTATION_COMPACT}},
     {"long", {.notation = LEGUMEYET_NOTATION_COMPACT, .width = LEGUMEYET_WIDTH_LONG}},
     {"percent", {.unit = LEGUMEYET_UNIT_PERCENT}},
+    {"permille", {.unit = LEGUMEYET_UNIT_PERMILLE}},
     {"currency-", {.unit = LEGUMEYET_UNIT_CURRENCY}},
     {"accounting-", {.unit = LEGUMEYET_UNIT_CURRENCY, .currency_style = LEGUMEYET_STYLE_ACCOUNTING}},
     {"code-", {.unit = LEGUMEYET_UNIT_CURRENCY, .currency_width = LEGUMEYET_CURRENCY_CODE}},

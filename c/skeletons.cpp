@@ -53,7 +53,7 @@ static const struct {
     {"currency/EURO", Code::SkeletonCode, 0},
     {"percent sign-accounting", Code::SkeletonPair, 8},
     {"percent latin", Code::SkeletonSystem, 8},
-    {"sign-always permille", Code::SkeletonLater, 12},
+    {"sign-always scientific", Code::SkeletonLater, 12},
     {"compact-short .00", Code::SkeletonLater, 14},
     {"percent .00/@##", Code::SkeletonLater, 8},
     {"percent .0#/@@", Code::SkeletonUnknown, 8},
@@ -109,6 +109,8 @@ static void skeletons(Book &book) {
     expect(euros.format(1234.5) + ' ' + percents.format("12.34567") + ' ' + compact.format(-1172700) + ' ' + plain.format(1234),
            "€1,234.50 12,3457\u00a0% -1.2M +1234");
     expect(plain.format("007.50") + ' ' + plain.format("007.50", {}) + ' ' + plain.format("7.50", Options::own()), "+7.5 007.50 +7.5");
+    const Format permilles = {{}, {}, Unit::Permille};
+    expect(NumberFormatter("de", permilles).format(5) + NumberFormatter::skeleton("en", "permille").format(12.5), "5\u00a0‰12.5‰");
     expect(plain.format(7, 0, Options().with_sign(Sign::Never).with_minimum_fraction_digits(1)), "7.0");
     expect(NumberFormatter::skeleton("es", "@@# ,!").format(1234.5) + ' ' + NumberFormatter::skeleton("es", "@@#").format(5), "1.230 5,0");
     expect(*plain.try_format(5) + *plain.try_format(5, Options()) + plain.format(500, -2), "+55+5");
@@ -159,7 +161,7 @@ static void formats(Book &book) {
     expect_error(message(Code::Code) + ": `usd`", [&] { NumberFormatter("e", money); });
     expect_error(message(Code::Code) + ": ``", [] { NumberFormatter("e", Format{{}, {}, Unit::Currency}); });
     expect_error(message(Code::Code) + ": `EUR`", [] { NumberFormatter("e", Format{{}, {}, Unit::Percent, "EUR"}); });
-    for (const Format &it : {Format{Notation{2}}, Format{{}, Width{2}}, Format{{}, {}, Unit{3}}, Format{{}, {}, {}, {}, CurrencyStyle{2}},
+    for (const Format &it : {Format{Notation{2}}, Format{{}, Width{2}}, Format{{}, {}, Unit{4}}, Format{{}, {}, {}, {}, CurrencyStyle{2}},
                              Format{{}, {}, {}, {}, {}, CurrencyWidth{2}}, Format{{}, {}, {}, {}, {}, {}, Grouping{5}}, Format{{}, {}, {}, {}, {}, {}, Grouping{-1}}})
         expect_code(NumberFormatter::try_open("e", it).error(), Code::Option);
     expect_error(message(Code::Table), [] { NumberFormatter("en", Format{Notation::Compact, {}, Unit::Percent}); });

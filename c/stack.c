@@ -12,7 +12,7 @@
 #include <stdlib.h>
 #include <string.h>
 
-enum { STACK = 1 << 20, PROMISED = 72 << 10, PROMISED_DEEP = 168 << 10, MARK = 0xa5, DEEP = 100000, LONG = 32767, PARTS = 1 << 15, STEP = 7 };
+enum { STACK = 1 << 20, PROMISED = 48 << 10, PROMISED_DEEP = 168 << 10, MARK = 0xa5, DEEP = 100000, LONG = 32767, PARTS = 1 << 15, STEP = 7 };
 
 /* Ends the work of a thread where a call returns another number. */
 #define EXPECT(wanted, call) \
@@ -46,6 +46,7 @@ static void *books(void *given) {
     WELL(legumeyet_book_open_file(path, &book));
     WELL(legumeyet_book_locale_count(&book, &count));
     WELL(legumeyet_book_locale(&book, count - 1, out, sizeof out, &length));
+    WELL(legumeyet_book_found_locale(&book, (const uint8_t *)"de-XX", 5, out, sizeof out, &length));
     WELL(legumeyet_book_close(&book));
     WELL(legumeyet_error_text(LEGUMEYET_BOOK_CYCLE, out, sizeof out, &length));
     WELL(legumeyet_tag_of_locale_name("de_DE.UTF-8", out, sizeof out, &length));
@@ -156,7 +157,7 @@ static void *formatters(void *given) { return formatters_of(&world, given); }
 /* Skeletons with a word of each kind, and with faults. */
 static void *skeletons(void *given) {
     static const char *const TEXTS[] = {"currency/CHF precision-currency-cash sign-accounting-except-zero unit-width-iso-code group-min2 integer-width/*000",
-                                        "percent .00##", "KK ,_ +! 000", ".00 rounding-mode-half-ceiling", "", "foo", "percent percent", "permille"};
+                                        "percent .00##", "KK ,_ +! 000", ".00 rounding-mode-half-ceiling", "", "foo", "percent percent", "scientific"};
     static uint8_t wide[STACK];
     legumeyet_formatter it = {0};
     size_t row, place = 0;

@@ -70,6 +70,12 @@ static void locales(void) {
     for (at = 0; at < COUNT(TAGS); at++) expect_text("a locale", legumeyet_book_locale(&book, at, out, ROOM, &length), TAGS[at]);
     expect_error("no more", legumeyet_book_locale(&book, count, out, ROOM, &length), LEGUMEYET_OPTION);
     expect_error("no more", legumeyet_book_locale(&book, SIZE_MAX, out, ROOM, &length), LEGUMEYET_OPTION);
+    expect_error("a closed book", legumeyet_book_found_locale(&closed_book, TEXT("e"), out, ROOM, &length), LEGUMEYET_CLOSED);
+    expect_text("a locale found", legumeyet_book_found_locale(&book, TEXT("DE-ch-u-nu-thai"), out, ROOM, &length), "de-CH");
+    expect_error("no tag", legumeyet_book_found_locale(&book, TEXT("e"), out, ROOM, &length), LEGUMEYET_TAG);
+    expect_error("no tag", legumeyet_book_found_locale(&book, NOTHING, out, ROOM, &length), LEGUMEYET_TAG);
+    expect_error("no UTF-8", legumeyet_book_found_locale(&book, TEXT("en-\xff"), out, ROOM, &length), LEGUMEYET_TAG);
+    expect_error("no tables", legumeyet_book_found_locale(&book, TEXT("fr"), out, ROOM, &length), LEGUMEYET_TABLE);
 }
 
 /* Formats that are refused: the words before the code, that before the tag, and that before the tables. */
@@ -93,11 +99,12 @@ static const struct {
     {LEGUMEYET_CODE, {"e", {.unit = LEGUMEYET_UNIT_CURRENCY}, "", NULL}},
     {LEGUMEYET_CODE, {"e", {0}, "EUR", NULL}},
     {LEGUMEYET_CODE, {"e", {.unit = LEGUMEYET_UNIT_PERCENT}, "EUR", NULL}},
+    {LEGUMEYET_CODE, {"e", {.unit = LEGUMEYET_UNIT_PERMILLE}, "EUR", NULL}},
     {LEGUMEYET_CODE, {"e", {.notation = LEGUMEYET_NOTATION_COMPACT, .unit = LEGUMEYET_UNIT_CURRENCY}, "eur", NULL}},
     {LEGUMEYET_OPTION, {"e", {.notation = 2}, "EUR", NULL}},
     {LEGUMEYET_OPTION, {"e", {.notation = -1}, "", NULL}},
     {LEGUMEYET_OPTION, {"e", {.width = 2}, "", NULL}},
-    {LEGUMEYET_OPTION, {"e", {.unit = 3}, "EUR", NULL}},
+    {LEGUMEYET_OPTION, {"e", {.unit = 4}, "EUR", NULL}},
     {LEGUMEYET_OPTION, {"e", {.currency_style = 2}, "", NULL}},
     {LEGUMEYET_OPTION, {"e", {.unit = LEGUMEYET_UNIT_CURRENCY, .currency_style = 2}, "eur", NULL}},
     {LEGUMEYET_OPTION, {"e", {.currency_width = 2}, "", NULL}},
@@ -769,6 +776,7 @@ static void nulls(void) {
     expect_needed("an exact form", CALL(by[SHORT], format_exact, TEXT("-1.60c3"), NOTHING, NOTHING, &length), 6);
     expect_needed("a line", legumeyet_book_answer(&book, TEXT("en\tplain\tauto\tkeep\t-\t-1234.5"), NOTHING, &length), 11);
     expect_needed("a locale", legumeyet_book_locale(&book, 0, NOTHING, &length), 2);
+    expect_needed("a locale found", legumeyet_book_found_locale(&book, TEXT("de-CH"), NOTHING, &length), 5);
     expect_needed("a text of an error", legumeyet_error_text(LEGUMEYET_TAG, NOTHING, &length), 13);
 }
 

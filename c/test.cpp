@@ -543,6 +543,8 @@ static void locales(Book &book) {
     for (const std::string &it : book.locales()) found += it + ' ';
     expect(found, "en bad ");
     expect(std::to_string(none.locales().size()), "0");
+    expect(world.found_locale("de-XX") + ' ' + world.found_locale("de-AT") + ' ' + world.found_locale("en-u-nu-thai"), "de de-AT und");
+    expect_error(LEGUMEYET_TABLE, [&] { none.found_locale("de"); });
     const auto all = world.locales();
     expect(std::find(all.begin(), all.end(), "de-AT") != all.end() ? "there" : "not there", "there");
     Book moved = std::move(none);

@@ -101,6 +101,7 @@ static void units() {
     expect_code(book->try_keep(), Code::Ok);
     expect_code(CurrencyFormatter::try_open(*book, "en", "USD").error(), Code::Table);
     expect(std::to_string(book->try_locales()->size()), "0");
+    expect_code(book->try_found_locale("en").error(), Code::Table);
 }
 
 static void skeletons() {

@@ -139,11 +139,18 @@ static int is_listed(const char *tag, size_t count) {
 }
 
 static void locales(void) {
-    size_t count = 0;
+    static const char *const FOUND[][2] = {{"de-XX", "de"}, {"de-AT", "de-AT"}, {"de-AT-1996", "de-AT"}, {"en-u-nu-thai", "und"}, {"en-US", "und"}};
+    size_t count = 0, row;
     expect("the count", legumeyet_book_locale_count(&world, &count), LEGUMEYET_OK);
     expect("de", is_listed("de", count), 1);
     expect("de-AT", is_listed("de-AT", count), 1);
     expect("xx", is_listed("xx", count), 0);
+    for (row = 0; row < sizeof FOUND / sizeof *FOUND; row++) {
+        const char *tag = FOUND[row][0], *its = FOUND[row][1];
+        expect(tag, legumeyet_book_found_locale(&world, (const uint8_t *)tag, strlen(tag), out, ROOM, &length), LEGUMEYET_OK);
+        expect(its, length == strlen(its) && memcmp(out, its, length) == 0, 1);
+    }
+    expect("xx", legumeyet_book_found_locale(&world, (const uint8_t *)"xx", 2, out, ROOM, &length), LEGUMEYET_TABLE);
 }
 
 int main(void) {

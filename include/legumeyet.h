@@ -35,7 +35,7 @@
  * or join, or a sequentially consistent atomic. Two handles may be used at once, also two formatters of one book; to open a formatter is a
  * call on its book. No call is made in a signal handler, or in a forked child of a process with threads.
  *
- * A call takes at most 72 KiB of stack, and 168 KiB where it opens a book of a JSON that is nested far deeper than a book.
+ * A call takes at most 48 KiB of stack, and 168 KiB where it opens a book of a JSON that is nested far deeper than a book.
  */
 #ifndef LEGUMEYET_H
 #define LEGUMEYET_H
@@ -100,7 +100,7 @@ enum {
     LEGUMEYET_SKELETON_CODE = 203,       /* what follows `currency/` is no code of a currency, as in `currency/EURO` */
     LEGUMEYET_SKELETON_PAIR = 204,       /* a word is for amounts, and there is no currency, as `sign-accounting` alone */
     LEGUMEYET_SKELETON_SYSTEM = 205,     /* a word names a numbering system, which the tag has, as `latin` */
-    LEGUMEYET_SKELETON_LATER = 206,      /* a word, or what it says beside another one, is not written yet, as `permille` */
+    LEGUMEYET_SKELETON_LATER = 206,      /* a word, or what it says beside another one, is not written yet, as `scientific` */
     LEGUMEYET_SKELETON_UNSUPPORTED = 207 /* a word asks for what is not written here, as `decimal-always` */
 };
 
@@ -118,9 +118,10 @@ enum {
 
 /* What is written beside the digits. */
 enum {
-    LEGUMEYET_UNIT_NONE = 0,    /* nothing */
-    LEGUMEYET_UNIT_PERCENT = 1, /* the percent sign: 12.5 as `12.5%`; a ratio is multiplied by 100 first */
-    LEGUMEYET_UNIT_CURRENCY = 2 /* a currency: 5 dollars as `$5.00` */
+    LEGUMEYET_UNIT_NONE = 0,     /* nothing */
+    LEGUMEYET_UNIT_PERCENT = 1,  /* the percent sign: 12.5 as `12.5%`; a ratio is multiplied by 100 first */
+    LEGUMEYET_UNIT_CURRENCY = 2, /* a currency: 5 dollars as `$5.00` */
+    LEGUMEYET_UNIT_PERMILLE = 3  /* the permille sign: 12.5 as `12.5‰` */
 };
 
 /* For whom an amount is written. */
@@ -317,6 +318,13 @@ int32_t legumeyet_book_locale_count(legumeyet_book *book, size_t *count);
  * Returns 0; LEGUMEYET_CLOSED; LEGUMEYET_OPTION, where `index` is not below the count; LEGUMEYET_TOO_SMALL.
  */
 int32_t legumeyet_book_locale(legumeyet_book *book, size_t index, uint8_t *out, size_t room, size_t *length);
+
+/*
+ * Writes the tag of the locale whose symbols numbers of a tag are written with: of the world's book `de` for `de-XX`, which falls back to it,
+ * `de-AT` for `de-AT`, and `und` for `en-US`, as English has the symbols of the root. It is what ICU calls the actual locale.
+ * Returns 0; LEGUMEYET_CLOSED; LEGUMEYET_TAG; LEGUMEYET_TABLE; LEGUMEYET_MEMORY; LEGUMEYET_TOO_SMALL.
+ */
+int32_t legumeyet_book_found_locale(legumeyet_book *book, const uint8_t *tag, size_t tag_length, uint8_t *out, size_t room, size_t *length);
 
 /*
  * Answers a request line, without its line feed: `en`, `plain`, `auto`, `keep`, `-`, `-987654.321` with tabs between by `ok`, a tab and

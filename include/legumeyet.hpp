@@ -91,7 +91,9 @@ enum class Notation : int32_t { Standard = LEGUMEYET_NOTATION_STANDARD, Compact 
 // In which patterns compact numbers are written: LEGUMEYET_WIDTH.
 enum class Width : int32_t { Short = LEGUMEYET_WIDTH_SHORT, Long = LEGUMEYET_WIDTH_LONG };
 // What is written beside the digits: LEGUMEYET_UNIT.
-enum class Unit : int32_t { None = LEGUMEYET_UNIT_NONE, Percent = LEGUMEYET_UNIT_PERCENT, Currency = LEGUMEYET_UNIT_CURRENCY };
+enum class Unit : int32_t {
+    None = LEGUMEYET_UNIT_NONE, Percent = LEGUMEYET_UNIT_PERCENT, Currency = LEGUMEYET_UNIT_CURRENCY, Permille = LEGUMEYET_UNIT_PERMILLE
+};
 // How a negative amount of money is written: LEGUMEYET_STYLE.
 enum class CurrencyStyle : int32_t { Standard = LEGUMEYET_STYLE_STANDARD, Accounting = LEGUMEYET_STYLE_ACCOUNTING };
 // What a currency is written as: LEGUMEYET_CURRENCY.
@@ -946,6 +948,10 @@ class Book : inner::Owned<legumeyet_book, legumeyet_book_close> {
     Result<std::string> try_answer(inner::Text line) {
         return inner::text_of([&](auto... out) { return legumeyet_book_answer(&handle, line.bytes(), line.size(), out...); });
     }
+    // The tag of the locale whose symbols the book has for a tag: of the world's book `de` for `de-XX`, and `de-AT` for `de-AT`.
+    Result<std::string> try_found_locale(inner::Text tag) {
+        return inner::text_of([&](auto... out) { return legumeyet_book_found_locale(&handle, tag.bytes(), tag.size(), out...); });
+    }
     // The tags of the locales that the book has symbols of, in its order; world_locales lists those of the world's book.
     Result<std::vector<std::string>> try_locales() {
         std::vector<std::string> found;
@@ -971,6 +977,7 @@ class Book : inner::Owned<legumeyet_book, legumeyet_book_close> {
     }
     void keep() { inner::expect_well(try_keep()); }
     std::string answer(inner::Text line) { return try_answer(line).value(); }
+    std::string found_locale(inner::Text tag) { return try_found_locale(tag).value(); }
     std::vector<std::string> locales() { return try_locales().value(); }
 #endif
 };

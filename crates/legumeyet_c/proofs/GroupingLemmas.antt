@@ -19,16 +19,18 @@ use Rattle.icu_decimal.specs.SameSymbols.{same_symbols}
 use Rattle.icu_decimal.specs.Symbols.{Symbols}
 use Rattle.icu_decimal.specs.declared.error.DataError.{DataError}
 use Rattle.icu_decimal.specs.declared.options.GroupingStrategy.{GroupingStrategy}
-use Rattle.icu_dimension.specs.FoundUnits.{CurrencySettings, amount_settings, decimals_found, found_currency, found_percent, percent_settings, then_found, unit_locales, with_own}
+use Rattle.icu_dimension.specs.FoundUnits.{CurrencySettings, amount_settings, decimals_found, found_currency, found_percent, percent_settings, sign_found, then_found, unit_locales, with_own}
 use Rattle.icu_dimension.specs.ProvidedUnits.{AmountTexts, PercentTexts, SymbolText}
 use Rattle.icu_dimension.specs.UnitChoice.{amounts_found, fractions_found, name_found, percent_found}
 use Rattle.icu_dimension.specs.UnitSources.{CurrencySource, DecimalSource, PercentSource}
 use Rattle.icu_dimension.specs.UnitText.{UnitSettings}
 use Rattle.icu_dimension.specs.declared.CurrencyFormatterOptions.{CurrencyFormatterOptions}
 use Rattle.icu_dimension.specs.declared.FractionInfo.{FractionInfo}
+use Rattle.icu_dimension.specs.declared.PercentSign.{PercentSign}
+use Rattle.icu_dimension.specs.declared.PercentSign.TheVariants as sign
 use Rattle.icu_locale_core.specs.TagPreferences.{DataLocaleMeaning, Preferences}
 use Rattle.locale_numbers.specs.Book.{BookTables}
-use Rattle.locale_numbers.specs.FoundFormats.{amount_options, amounts_by, beside_second, both_found, compact_found, formats_for, found_for, in_ascii, in_latin, mapped, notation_found, plainly_written, second_for, standard_found, with_symbols_of}
+use Rattle.locale_numbers.specs.FoundFormats.{amount_options, amounts_by, beside_second, both_found, compact_found, formats_for, found_for, in_ascii, in_latin, mapped, notation_found, percent_options, percents_with, plainly_written, second_for, standard_found, with_symbols_of}
 use Rattle.locale_numbers.specs.Tables.{chain_in, digits_under, rules_under, symbols_under}
 use Rattle.locale_numbers.specs.TagFormatters.{currencies_in, currency_found_in, found_beside, found_by, found_plain, or_no_table, patterns_under, percent_found_in, percents_in}
 use Rattle.locale_numbers.specs.Wanted.{wanted_of}
@@ -99,12 +101,13 @@ decimals_have strategy (Err error) next P has each = tt
 source_has : (s : DecimalSource) (p : Preferences) (option : Option GroupingStrategy) → IfOk (decimals_found s p option) (λ (t : Tables). t.strategy ≡ strategy_in option)
 source_has s p option = tables_have (chain s.next s.limit) s.symbols s.digits p option
 
-percents_have : (s : PercentSource) (p : Preferences) (strategy : GroupingStrategy) → IfOk (found_percent s p (Some strategy)) (λ (u : UnitSettings). u.tables.strategy ≡ strategy)
-percents_have s p strategy =
+percents_have : (s : PercentSource) (p : Preferences) (of : PercentSign) (strategy : GroupingStrategy) → IfOk (found_percent s p (percent_options of strategy)) (λ (u : UnitSettings). u.tables.strategy ≡ strategy)
+percents_have s p of strategy =
     let has : UnitSettings → Type 0 = λ u. u.tables.strategy ≡ strategy in
     let percents : Result PercentTexts DataError = percent_found s.percents (unit_locales s.decimals p) p.numbering_system in
-    decimals_have strategy (decimals_found s.decimals p (Some strategy)) (λ t. then_found percents (λ e. Ok (percent_settings t e))) has (source_has s.decimals p (Some strategy))
-    (λ t of_t. then_have percents (λ e. Ok (percent_settings t e)) has (λ e. own_have e.symbols t strategy of_t))
+    let ended : Tables → PercentTexts → Result UnitSettings DataError = λ t e. then_found (sign_found of e) (λ text. Ok (percent_settings t e text)) in
+    decimals_have strategy (decimals_found s.decimals p (Some strategy)) (λ t. then_found percents (ended t)) has (source_has s.decimals p (Some strategy))
+    (λ t of_t. then_have percents (ended t) has (λ e. then_have (sign_found of e) (λ text. Ok (percent_settings t e text)) has (λ text. own_have e.symbols t strategy of_t)))
 
 amounts_have : (s : CurrencySource) (p : Preferences) (code : List ℕ) (options : CurrencyFormatterOptions)
     → IfOk (found_currency s p code options) (λ (u : CurrencySettings). u.unit.tables.strategy ≡ strategy_in options.grouping_strategy)
@@ -130,13 +133,17 @@ mapped_have : {A B : Type 0} (f : A → B) (found : Result A DataError) (P : A �
 mapped_have f (Ok a) P Q each has = each a has
 mapped_have f (Err error) P Q each has = tt
 
+signed_has : (of : PercentSign) (book : BookTables) (p : Preferences) (strategy : GroupingStrategy) → IfOk (percents_with of book p strategy) (HasStrategy strategy)
+signed_has of book p strategy =
+    mapped_have (λ settings. unit_tables (percent_format of settings)) (percent_found_in book p (percent_options of strategy)) (λ (u : UnitSettings). u.tables.strategy ≡ strategy) (HasStrategy strategy)
+    (λ u has. has) (percents_have (percents_in book) p of strategy)
+
 standard_has : (beside : NumberUnit) (book : BookTables) (p : Preferences) (strategy : GroupingStrategy) → IfOk (standard_found beside book p strategy) (HasStrategy strategy)
 standard_has unit.None book p strategy =
     mapped_have plain_tables (found_plain book p (Some strategy)) (λ (t : Tables). t.strategy ≡ strategy) (HasStrategy strategy) (λ t has. has)
     (tables_have (chain_in book) (symbols_under book) (digits_under book) p (Some strategy))
-standard_has unit.Percent book p strategy =
-    mapped_have (λ settings. unit_tables (percent_format settings)) (percent_found_in book p (Some strategy)) (λ (u : UnitSettings). u.tables.strategy ≡ strategy) (HasStrategy strategy)
-    (λ u has. has) (percents_have (percents_in book) p strategy)
+standard_has unit.Percent book p strategy = signed_has sign.Percent book p strategy
+standard_has unit.Permille book p strategy = signed_has sign.Permille book p strategy
 standard_has (unit.Currency currency) book p strategy =
     mapped_have (λ settings. unit_tables (currency_format currency.code settings)) (currency_found_in book p currency.code (amount_options currency strategy))
     (λ (u : CurrencySettings). u.unit.tables.strategy ≡ strategy) (HasStrategy strategy) (λ u has. has)
@@ -149,6 +156,7 @@ compact_has width unit.None book p strategy =
     (first_found (rules_under book) (rules_identifiers (chain_in book) p)) (first_found (patterns_under width book) (patterns_identifiers (chain_in book) p))
     (tables_have (chain_in book) (symbols_under book) (digits_under book) p (Some strategy)))
 compact_has width unit.Percent book p strategy = tt
+compact_has width unit.Permille book p strategy = tt
 compact_has width (unit.Currency currency) book p strategy = tt
 
 notation_has : (notation : Notation) (beside : NumberUnit) (book : BookTables) (p : Preferences) (strategy : GroupingStrategy) → IfOk (notation_found notation beside book p strategy) (HasStrategy strategy)

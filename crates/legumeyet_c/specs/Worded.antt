@@ -4,9 +4,10 @@
 use Rattle.std.specs.Prelude.{◌≡◌, ℕ, List, [], Option, Some, None, option_map}
 use Rattle.fixed_decimal.specs.CompactText.{CompactValue}
 use Rattle.fixed_decimal.specs.Number.{Number}
+use Rattle.fixed_decimal.specs.SignedText.{ReadsSigned}
 use Rattle.fixed_decimal.specs.SignedValue.{SignedValue}
 use Rattle.icu_plurals.specs.Categories.{word}
-use Rattle.icu_plurals.specs.Operands.{Operands}
+use Rattle.icu_plurals.specs.Operands.{Operands, operands_of}
 use Rattle.icu_plurals.specs.Ranges.{range_category}
 use Rattle.icu_plurals.specs.Rules.{Rules, category_of}
 use Rattle.locale_numbers_formatter.specs.ExactForms.{IsFormInRange, exact_shown}
@@ -23,6 +24,12 @@ use Rattle.legumeyet_c.specs.HeldFormats.{Plurals, Wording}
 -- that of the category of a number as it is shown, where that is a decimal
 abbrev pub category_word : Rules → FormatTables → SignedValue Number → Option (List ℕ)
 category_word rules f value = option_map (λ operands. word (category_of rules operands)) (shown_operands f value)
+
+-- that of the number that a text spells, where it is shown as it is given
+pub record IsSpelledWord (rules : Rules) (spelled text : List ℕ) : Type 0 where
+  pub number : SignedValue Number
+  pub reads : ReadsSigned spelled number
+  pub is : text ≡ word (category_of rules (operands_of number.absolute 0))
 
 -- that of an exact form, where numbers of its magnitude have its exponent
 abbrev pub form_word : Rules → FormatTables → CompactValue → Option (List ℕ)

@@ -1,17 +1,21 @@
 -- What the formatter of a handle writes for a number, for an exact form, or for a range, changed as options say, or why it writes nothing.
 -- Defined in include/legumeyet.h.
--- Cited by the exports that write numbers; Worded.antt has what is written of a changed number.
-use Rattle.std.specs.Prelude.{◌≡◌, ◌⊎◌, ℕ, ℤ, List, Option, Some, None, Result, Ok, Err}
+-- Cited by the exports that write numbers, and by the model of `HeldFormatter`; Worded.antt has what is written of a changed number.
+use Rattle.std.specs.Prelude.{◌≡◌, ◌⊎◌, ◌&&◌, Bool, true, false, is_none, ℕ, ℤ, List, Option, Some, None, Result, Ok, Err}
 use Rattle.fixed_decimal.specs.CompactText.{CompactValue}
 use Rattle.fixed_decimal.specs.Number.{Number}
 use Rattle.fixed_decimal.specs.SignedValue.{SignedValue}
+use Rattle.icu_decimal.specs.PlainText.{Tables}
+use Rattle.icu_plurals.specs.Rules.{Rules}
+use Rattle.icu_plurals.specs.declared.PluralRange.{PluralRange}
 use Rattle.locale_numbers_formats.specs.declared.NumberOptions.{NumberOptions}
-use Rattle.locale_numbers_formatter.specs.FormatText.{fractions_in}
+use Rattle.locale_numbers_formatter.specs.FormatText.{FormatTables, compact_tables, fractions_in, plain_tables, unit_tables}
 use Rattle.legumeyet_c_values.specs.Numbers.{Given, Gives, GivesCompact, IsChangeFault, IsCompactChangeFault, IsGiven, IsGivenFault}
-use Rattle.legumeyet_c_values.specs.Words.{options_of}
+use Rattle.legumeyet_c_values.specs.UsualOptions.{is_usual}
+use Rattle.legumeyet_c_values.specs.Words.{options_of, usual}
 use Rattle.legumeyet_c_values.specs.declared.CallError.{CallError}
 use Rattle.legumeyet_c_values.specs.declared.CallError.TheVariants.{Closed, UnknownOption}
-use Rattle.legumeyet_c.specs.HeldFormats.{HeldFormat, Plurals, Wording}
+use Rattle.legumeyet_c.specs.HeldFormats.{HeldFormat, Plurals, Wording, in_numbers}
 use Rattle.legumeyet_c.specs.Worded.{Ends, IsForm, IsFormFault, IsRange, IsRangeFault}
 
 -- ---- what is asked
@@ -32,6 +36,29 @@ asked_by wording (Some options) = Ok (asked_for wording options)
 abbrev pub asked_of : Option HeldFormat → List ℤ → Result Asked CallError
 asked_of None words = Err Closed
 asked_of (Some held) words = asked_by held.wording (options_of words held.options)
+
+-- ---- numbers that are written as they are given
+
+-- plain numbers, with the options of no words
+abbrev pub asked_plainly : Tables → Asked
+asked_plainly tables = asked_for (in_numbers (plain_tables tables)) usual
+
+-- with these options numbers are shown as they are given: all but compact ones and amounts
+abbrev pub shows_as_given : FormatTables → Bool
+shows_as_given (plain_tables t) = true
+shows_as_given (compact_tables t) = false
+shows_as_given (unit_tables u) = is_none u.fractions
+
+abbrev pub is_as_given : Asked → Bool
+is_as_given asked = is_usual asked.options && shows_as_given asked.wording.tables
+
+-- the words of these rules are asked for, of numbers as they are given
+pub record AreWordsAsked (rules : Rules) (asking : Result Asked CallError) : Type 0 where
+  pub asked : Asked
+  pub is : Ok asked ≡ asking
+  pub ranges : List PluralRange
+  pub plurals : Some (rules, ranges) ≡ asked.wording.plurals
+  pub as_given : is_as_given asked ≡ true
 
 -- ---- a value that is given
 

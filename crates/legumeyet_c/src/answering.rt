@@ -9,7 +9,7 @@ ghost use Rattle.legumeyet_c.specs.Views.{book_content, book_open};
 
 use crate::content::{Content, ContentKind};
 use crate::handles::BookHandle;
-use legumeyet_c_values::{CallError, answer, put_bytes};
+use legumeyet_c_values::{CallError, put_bytes, status_of};
 use locale_numbers::Book;
 use std::alloc::Global;
 
@@ -60,7 +60,7 @@ pub extern "C" fn legumeyet_book_answer(
         length.old length.new) result }
 {
     match answer_opened(alloc, book.handle.content(), line) {
-        Ok(text) => answer(put_bytes(text.as_slice(), out, length)),
+        Ok(text) => status_of(put_bytes(text.as_slice(), out, length)),
         Err(error) => error.number(),
     }
 }

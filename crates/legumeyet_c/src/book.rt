@@ -8,7 +8,7 @@ ghost use Rattle.legumeyet_c.specs.Views.{book_content, book_open};
 
 use crate::handles::BookHandle;
 use crate::opening::{close, put_after};
-use legumeyet_c_values::{CallError, answer};
+use legumeyet_c_values::{CallError, status_of};
 use locale_numbers::{Book, BookError};
 use std::alloc::Global;
 
@@ -24,7 +24,7 @@ pub extern "C" fn legumeyet_book_open(alloc: Global, json: &[u8], book: &mut Boo
     match Book::from_json(alloc, json) {
         Ok(found) => {
             let fault = CallError::Book(BookError::Memory);
-            answer(put_after(alloc, &mut book.handle, found, fault))
+            status_of(put_after(alloc, &mut book.handle, found, fault))
         }
         Err(error) => CallError::Book(error).number(),
     }
@@ -40,5 +40,5 @@ pub extern "C" fn legumeyet_book_close(alloc: Global, book: &mut BookHandle) -> 
     ensures same { book_open book.old ≡ None → book_content book.new ≡ book_content book.old }
     ensures told { Answers (IsClosing (book_open book.old)) result }
 {
-    answer(close::<Book>(alloc, &mut book.handle))
+    status_of(close::<Book>(alloc, &mut book.handle))
 }

@@ -2,16 +2,17 @@
 
 ghost use Rattle.std.specs.Prelude.{◌≡◌, Some, None, IfOk, IfErr};
 ghost use Rattle.icu_plurals.specs.Categories.{word};
+ghost use Rattle.legumeyet_c_values.specs.Numbers.{IsNumberFault};
 ghost use Rattle.locale_numbers.specs.FoundRules.{rules_held};
 ghost use Rattle.legumeyet_c_values.specs.Parts.{held_text};
 ghost use Rattle.legumeyet_c_values.specs.Putting.{IsPut};
 ghost use Rattle.locale_numbers_formatter.specs.ShownOperands.{value_operands};
 ghost use Rattle.legumeyet_c.specs.Formatted.{IsExactFault};
-ghost use Rattle.legumeyet_c.specs.Worded.{IsFormWord, IsRangeWordFault, IsWordFault, IsWordInParts, IsWordPartsFault, category_word, range_word};
+ghost use Rattle.legumeyet_c.specs.Worded.{IsFormWord, IsRangeWordFault, IsSpelledWord, IsWordFault, IsWordInParts, IsWordPartsFault, category_word, range_word};
 
 use fixed_decimal::{CompactDecimal, Decimal};
 use icu_plurals::{PluralCategory, PluralOperands, PluralRules, PluralRulesWithRanges};
-use legumeyet_c_values::{CallError, put_bytes};
+use legumeyet_c_values::{CallError, assign_text, put_bytes};
 use locale_numbers_formatter::{ExactError, NumberFormatter};
 use std::alloc::Global;
 use writeable::{PartsSink, Writeable};
@@ -21,6 +22,27 @@ fn put_word(category: PluralCategory, out: &mut [u8], length: &mut usize) -> Res
     ensures { IsPut (λ text. text ≡ word category) (λ error. ⊥) out.old out.new length.old length.new result }
 {
     put_bytes(category.as_str().as_bytes(), out, length)
+}
+
+// Writes the word of the category of the number that a text spells, which is shown as it is given.
+pub(crate) fn put_spelled_category(
+    alloc: Global,
+    rules: &PluralRules,
+    text: &[u8],
+    out: &mut [u8],
+    length: &mut usize,
+) -> Result<(), CallError>
+    ensures { IsPut (IsSpelledWord rules.now text.now) (IsNumberFault text.now) out.old out.new length.old length.new
+        result }
+{
+    let mut number = Decimal::zero(alloc);
+    match assign_text(&mut number, text) {
+        Ok(()) => {
+            let operands = PluralOperands::from_significand_and_exponent(&number.absolute, 0);
+            put_word(rules.category_for(&operands), out, length)
+        }
+        Err(error) => Err(error),
+    }
 }
 
 // Writes the word of the category of a number as it is shown. `Range`: what is shown would be no decimal.

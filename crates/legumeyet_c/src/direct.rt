@@ -1,16 +1,19 @@
-//! Texts of numbers that are put directly, with no number in between.
+//! Numbers that are written as they are given: texts that are put directly, with no number in between.
 
-ghost use Rattle.std.specs.Prelude.{◌≡◌, None, IfSome};
+ghost use Rattle.std.specs.Prelude.{◌≡◌, ◌&&◌, IfSome, option_map};
 ghost use Rattle.icu_decimal_direct.specs.TextDigits.{number_spelled};
 ghost use Rattle.icu_decimal_direct.specs.TextTables.{text_tables};
-ghost use Rattle.legumeyet_c_values.specs.Numbers.{Gives, IsGiven, given_of, spelled};
 ghost use Rattle.legumeyet_c_values.specs.Putting.{IsPut};
+ghost use Rattle.legumeyet_c_values.specs.UsualOptions.{is_usual};
+ghost use Rattle.locale_numbers.specs.FoundRules.{rules_held};
 ghost use Rattle.locale_numbers_formatter.specs.FormatText.{plain_tables};
 ghost use Rattle.legumeyet_c.specs.HeldFormats.{in_numbers};
 ghost use Rattle.legumeyet_c.specs.Worded.{IsText, IsTextFault};
+ghost use Rattle.legumeyet_c.specs.Writing.{asked_for, asked_plainly, shows_as_given};
 
 use icu_decimal_direct::{TextDigits, TextTables};
-use legumeyet_c_values::{CallError, GivenNumber, is_usual, put_bytes};
+use icu_plurals::PluralRulesWithRanges;
+use legumeyet_c_values::{CallError, is_usual, put_bytes};
 use locale_numbers_formats::NumberOptions;
 use locale_numbers_formatter::laws::plain_is_layered;
 use locale_numbers_formatter::{FormatterKind, NumberFormatter};
@@ -18,9 +21,8 @@ use locale_numbers_formatter::{FormatterKind, NumberFormatter};
 // The most bytes of a text that is put directly.
 const ROOM: usize = 108;
 
-// What texts are put with directly by a formatter, where it writes plain numbers in the digits of ASCII. It does not
-// allocate.
-pub(crate) fn texts_of<'a>(formatter: &NumberFormatter<'a>) -> Option<TextTables<'a>>
+// What texts are put with directly by a formatter, where it writes plain numbers in the digits of ASCII.
+fn texts_of<'a>(formatter: &NumberFormatter<'a>) -> Option<TextTables<'a>>
     ensures { IfSome result (λ texts. plain_tables (text_tables texts) ≡ formatter.now) }
 {
     match formatter.kind() {
@@ -32,34 +34,54 @@ pub(crate) fn texts_of<'a>(formatter: &NumberFormatter<'a>) -> Option<TextTables
     }
 }
 
-// The digits of a text, where options leave its number as it is. `None`: they may change it, or it is not made of few
-// digits.
-pub(crate) fn text_digits<'t>(options: &NumberOptions, text: &'t [u8]) -> Option<TextDigits<'t>>
-    ensures { IfSome result (λ digits. Gives options.now None (IsGiven (spelled text.now)) (number_spelled digits)) }
+// The same, where the options are those of no words.
+fn plain_texts<'a>(
+    formatter: &NumberFormatter<'a>,
+    options: &NumberOptions,
+) -> Option<TextTables<'a>>
+    ensures { IfSome result
+        (λ texts. asked_plainly (text_tables texts) ≡ asked_for (in_numbers formatter.now) options.now) }
 {
     if !is_usual(options) {
         return None;
     }
-    match TextDigits::of(text) {
-        Some(digits) => Some(digits),
+    match texts_of(formatter) {
+        Some(texts) => Some(texts),
         None => None,
     }
 }
 
-// The same of a number that is given as a text.
-pub(crate) fn digits_given<'t>(
+// The same, where numbers are written and no words. It does not allocate.
+pub(crate) fn texts_with<'a>(
+    formatter: &NumberFormatter<'a>,
+    plurals: Option<PluralRulesWithRanges<'_>>,
     options: &NumberOptions,
-    number: GivenNumber<'t>,
-) -> Option<TextDigits<'t>>
+) -> Option<TextTables<'a>>
     ensures { IfSome result
-        (λ digits. Gives options.now None (IsGiven (given_of number.entry)) (number_spelled digits)) }
+        (λ texts. asked_plainly (text_tables texts)
+        ≡ asked_for (record { tables = formatter.now; plurals = option_map rules_held plurals.entry }) options.now) }
 {
-    match number {
-        GivenNumber::Text(text) => text_digits(options, text),
-        GivenNumber::Scaled(_, _) | GivenNumber::ScaledUnsigned(_, _) | GivenNumber::Double(_) => {
-            None
-        }
+    match plurals {
+        Some(_) => None,
+        None => plain_texts(formatter, options),
     }
+}
+
+// Whether a formatter shows numbers as they are given, where the options are those of no words.
+fn shows_as_given(formatter: &NumberFormatter<'_>) -> bool
+    ensures { result ≡ shows_as_given formatter.now }
+{
+    match formatter.kind() {
+        FormatterKind::Plain(_) | FormatterKind::Percent(_) => true,
+        FormatterKind::Compact(_) | FormatterKind::Currency(_) => false,
+    }
+}
+
+// Whether numbers are shown as they are given, with these options.
+pub(crate) fn is_as_given(formatter: &NumberFormatter<'_>, options: &NumberOptions) -> bool
+    ensures { result ≡ (is_usual options.now && shows_as_given formatter.now) }
+{
+    is_usual(options) && shows_as_given(formatter)
 }
 
 // Writes the number that digits spell.

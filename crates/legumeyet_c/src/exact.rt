@@ -14,7 +14,7 @@ use crate::content::Content;
 use crate::formatting::{put_form, put_shown};
 use crate::handles::FormatterHandle;
 use fixed_decimal::Decimal;
-use legumeyet_c_values::{CallError, GivenNumber, answer, compact_of_text};
+use legumeyet_c_values::{CallError, GivenNumber, compact_of_text, status_of};
 use std::alloc::Global;
 
 // Writes an exact form as is asked.
@@ -71,7 +71,7 @@ pub(crate) fn answer_form(
         length.new) result }
 {
     match asked(content, words) {
-        Ok(asked) => answer(write_form(alloc, &asked, number, out, length)),
+        Ok(asked) => status_of(write_form(alloc, &asked, number, out, length)),
         Err(error) => error.number(),
     }
 }
@@ -91,7 +91,7 @@ pub(crate) fn answer_shown(
         out.new length.old length.new) result }
 {
     match asked(content, words) {
-        Ok(asked) => answer(write_shown(alloc, &asked, GivenNumber::Text(number), out, length)),
+        Ok(asked) => status_of(write_shown(alloc, &asked, GivenNumber::Text(number), out, length)),
         Err(error) => error.number(),
     }
 }

@@ -14,7 +14,7 @@ use crate::handles::{BookHandle, FormatterHandle};
 use crate::held_formatter::HeldFormatter;
 use crate::opening::close;
 use crate::skeletons::tell_place;
-use legumeyet_c_values::answer;
+use legumeyet_c_values::status_of;
 use std::alloc::Global;
 
 /// Opens the formatter of a format in words for a locale tag: without a word that of plain numbers, which for `en` writes
@@ -41,7 +41,7 @@ pub extern "C" fn legumeyet_formatter_open(
         (format_content formatter.old) (format_content formatter.new)) result }
 {
     let asked = format_by_words(format, unit);
-    answer(open(alloc, &mut book.handle, &asked, tag, &mut formatter.handle))
+    status_of(open(alloc, &mut book.handle, &asked, tag, &mut formatter.handle))
 }
 
 /// Opens the formatter of a skeleton for a locale tag: that of `currency/EUR` for `de` writes -1234.5 as `-1.234,50 €`. It
@@ -70,7 +70,7 @@ pub extern "C" fn legumeyet_formatter_open_skeleton(
     let asked = format_by_skeleton(skeleton);
     let outcome = open(alloc, &mut book.handle, &asked, tag, &mut formatter.handle);
     tell_place(&outcome, place);
-    answer(outcome)
+    status_of(outcome)
 }
 
 /// Closes a formatter, and frees its memory.
@@ -83,5 +83,5 @@ pub extern "C" fn legumeyet_formatter_close(alloc: Global, formatter: &mut Forma
     ensures same { format_open formatter.old ≡ None → format_content formatter.new ≡ format_content formatter.old }
     ensures told { Answers (IsClosing (format_open formatter.old)) result }
 {
-    answer(close::<HeldFormatter>(alloc, &mut formatter.handle))
+    status_of(close::<HeldFormatter>(alloc, &mut formatter.handle))
 }

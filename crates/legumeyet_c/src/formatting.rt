@@ -34,25 +34,6 @@ fn put_plain(
 }
 
 // Writes the text of a number of any format.
-fn put_formatted(
-    formatter: &NumberFormatter<'_>,
-    value: &Decimal,
-    out: &mut [u8],
-    length: &mut usize,
-) -> Result<(), CallError>
-    ensures { IsPut (IsFormatText formatter.now value.now) (IsFormatFault formatter.now value.now) out.old out.new
-        length.old length.new result }
-{
-    if !formatter.can_format(value) {
-        return Err(CallError::Range);
-    }
-    match formatter.format(value) {
-        Ok(text) => put(&text, out, length),
-        Err(_) => Err(CallError::Memory),
-    }
-}
-
-// Writes the text of a number.
 fn put_number(
     formatter: &NumberFormatter<'_>,
     value: &Decimal,
@@ -62,11 +43,15 @@ fn put_number(
     ensures { IsPut (IsFormatText formatter.now value.now) (IsFormatFault formatter.now value.now) out.old out.new
         length.old length.new result }
 {
-    match formatter.kind() {
-        FormatterKind::Plain(plain) => put_plain(plain, value, out, length),
-        FormatterKind::Compact(_) | FormatterKind::Percent(_) | FormatterKind::Currency(_) => {
-            put_formatted(formatter, value, out, length)
-        }
+    if let FormatterKind::Plain(plain) = formatter.kind() {
+        return put_plain(plain, value, out, length);
+    }
+    if !formatter.can_format(value) {
+        return Err(CallError::Range);
+    }
+    match formatter.format(value) {
+        Ok(text) => put(&text, out, length),
+        Err(_) => Err(CallError::Memory),
     }
 }
 

@@ -1,24 +1,24 @@
 //! What a handle writes numbers with: tables of its own, or those of a book that is kept.
 
-ghost use Rattle.std.specs.Prelude.{◌≡◌, IfOk, IfSome, IsErrOf, option_map};
+ghost use Rattle.std.specs.Prelude.{◌≡◌, Ok, IfOk, IfSome, IsErrOf, option_map};
 ghost use Rattle.icu_decimal.specs.PlainReading.{IsAnswered};
 ghost use Rattle.icu_decimal_direct.specs.TextTables.{text_tables};
 ghost use Rattle.locale_numbers.specs.FoundRules.{rules_held};
 ghost use Rattle.locale_numbers_formatter.specs.FormatReading.{format_reading, reader_of};
-ghost use Rattle.locale_numbers_formatter.specs.FormatText.{plain_tables};
 ghost use Rattle.locale_numbers_formatter.specs.FormatTyped.{format_typed_reading, typed_of};
 ghost use Rattle.locale_numbers_formatter.specs.Regrouped.{regrouped};
-ghost use Rattle.legumeyet_c.specs.HeldFormats.{ReadAllocates, TypedReadAllocates, held_format, in_numbers, plurals_at, second_at, tables_at};
+ghost use Rattle.legumeyet_c.specs.HeldFormats.{ReadAllocates, TypedReadAllocates, held_format, plurals_at, second_at, tables_at};
 ghost use Rattle.legumeyet_c.specs.Reading.{exact_reading, typed_reading};
+ghost use Rattle.legumeyet_c.specs.Writing.{AreWordsAsked, asked_for, asked_plainly};
 
-use crate::direct::texts_of;
+use crate::direct::{is_as_given, texts_with};
 use crate::held_plurals::{PluralsPlace, kept_plurals_of, own_plurals_of};
 use crate::lent_formatter::{LentFormatter, copied};
 use fixed_decimal::Decimal;
 use icu_decimal::error::ReadError;
 use icu_decimal::options::GroupingStrategy;
 use icu_decimal_direct::TextTables;
-use icu_plurals::PluralRulesWithRanges;
+use icu_plurals::{PluralRules, PluralRulesWithRanges};
 use locale_numbers_formats::{NumberFormat, NumberOptions};
 use locale_numbers_formatter::{
     LenientNumberReader, NumberFormatter, NumberReader, OwnNumberTables,
@@ -35,14 +35,16 @@ pub(crate) enum FormatPlace {
     Kept(NumberFormatter<'static>, Option<NumberFormatter<'static>>),
 }
 
-/// What a handle writes numbers with, and where it is of a kept book what their texts are put with directly, the reader of
-/// them, and that of what people type, each reader from the first text on that is read so. With rules it writes the words
-/// of plural categories. A contract sees both tables, the rules and the options.
+/// What a handle writes numbers with, and whether its own options show them as they are given. Where it is of a kept book
+/// it has what their texts are then put with directly, the reader of them, and that of what people type, each reader from
+/// the first text on that is read so. With rules it writes the words of plural categories. A contract sees both tables,
+/// the rules and the options.
 #[derive(Drop)]
 pub struct HeldFormatter {
     place: FormatPlace,
     plurals: Option<PluralsPlace>,
     options: NumberOptions,
+    as_given: bool,
     texts: Option<TextTables<'static>>,
     exact: Option<Box<NumberReader<'static>>>,
     typed: Option<Box<LenientNumberReader<'static>>>,
@@ -52,16 +54,17 @@ impl Model for HeldFormatter {
     ghost use Rattle.std.specs.Prelude.{◌≡◌, IfSome};
     ghost use Rattle.icu_decimal_direct.specs.TextTables.{text_tables};
     ghost use Rattle.locale_numbers_formatter.specs.FormatReading.{reader_of};
-    ghost use Rattle.locale_numbers_formatter.specs.FormatText.{plain_tables};
     ghost use Rattle.locale_numbers_formatter.specs.FormatTyped.{typed_of};
-    ghost use Rattle.legumeyet_c.specs.HeldFormats.{HeldFormat, held_at, in_numbers, second_at, tables_at};
+    ghost use Rattle.legumeyet_c.specs.HeldFormats.{HeldFormat, held_at, second_at, tables_at};
+    ghost use Rattle.legumeyet_c.specs.Writing.{asked_for, asked_plainly, is_as_given};
 
     ghost Value = { HeldFormat };
 
     ghost view = { λ h. held_at h.place h.plurals h.options };
 
     ghost invariant = { λ h.
-        IfSome h.texts (λ texts. in_numbers (plain_tables (text_tables texts)) ≡ (held_at h.place h.plurals h.options).wording)
+        (h.as_given ≡ is_as_given (asked_for (held_at h.place h.plurals h.options).wording h.options))
+        × IfSome h.texts (λ texts. asked_plainly (text_tables texts) ≡ asked_for (held_at h.place h.plurals h.options).wording h.options)
         × IfSome h.exact (λ reader. reader.value ≡ reader_of (tables_at h.place))
         × IfSome h.typed (λ reader. reader.value ≡ typed_of (tables_at h.place) (second_at h.place)) };
 }
@@ -110,6 +113,16 @@ fn boxed<T: Drop>(alloc: Global, value: T) -> Option<Box<T>>
 }
 
 impl FormatPlace {
+    // What numbers are written with by the tables, borrowed for a call. It does not allocate.
+    fn lent(&self) -> NumberFormatter<'_>
+        ensures { result ≡ tables_at self.now }
+    {
+        match self {
+            FormatPlace::Own(own, _) => own.lent(),
+            FormatPlace::Kept(formatter, _) => copied(formatter),
+        }
+    }
+
     // The reader of what is written, to be kept. `None`: out of memory, or the tables are its own.
     fn exact_reader(&self, alloc: Global) -> Option<Box<NumberReader<'static>>>
         ensures { IfSome result (λ reader. reader.value ≡ reader_of (tables_at self.now)) }
@@ -165,14 +178,14 @@ impl HeldFormatter {
     ) -> HeldFormatter
         ensures { result ≡ held_format formatter.entry (option_map rules_held plurals.entry) second.entry options }
     {
-        let texts = match plurals {
-            Some(_) => None,
-            None => texts_of(&formatter),
-        };
+        let texts = texts_with(&formatter, plurals, &options);
+        let place = FormatPlace::Kept(formatter, second);
+        let as_given = is_as_given(&place.lent(), &options);
         HeldFormatter {
-            place: FormatPlace::Kept(formatter, second),
+            place,
             plurals: kept_plurals_of(plurals),
             options,
+            as_given,
             texts,
             exact: None,
             typed: None,
@@ -193,11 +206,13 @@ impl HeldFormatter {
             format.now.options) }
     {
         let place = FormatPlace::own(alloc, formatter, second, format.shape.grouping)?;
+        let as_given = is_as_given(&place.lent(), &format.options);
         match own_plurals_of(alloc, plurals) {
             Ok(plurals) => Ok(HeldFormatter {
                 place,
                 plurals,
                 options: format.options,
+                as_given,
                 texts: None,
                 exact: None,
                 typed: None,
@@ -213,9 +228,10 @@ impl HeldFormatter {
         &self.options
     }
 
-    // What texts are put with directly, where that is known. It does not allocate.
+    // What texts are put with directly with its own options, where that is known. It does not allocate.
     pub(crate) fn texts(&self) -> Option<&TextTables<'static>>
-        ensures { IfSome result (λ texts. in_numbers (plain_tables (text_tables texts.now)) ≡ self.now.wording) }
+        ensures { IfSome result
+            (λ texts. asked_plainly (text_tables texts.now) ≡ asked_for self.now.wording self.now.options) }
     {
         self.texts.as_ref()
     }
@@ -230,14 +246,25 @@ impl HeldFormatter {
         }
     }
 
+    // The rules, where the words of numbers as they are given are written with its own options. It does not allocate.
+    pub(crate) fn rules(&self) -> Option<&PluralRules>
+        ensures { IfSome result
+            (λ rules. AreWordsAsked rules.now (Ok (asked_for self.now.wording self.now.options))) }
+    {
+        if !self.as_given {
+            return None;
+        }
+        match self.lent_plurals() {
+            Some(plurals) => Some(plurals.rules),
+            None => None,
+        }
+    }
+
     // What numbers are written with by the tables, borrowed for a call. It does not allocate.
     fn lent_tables(&self) -> NumberFormatter<'_>
         ensures { result ≡ self.now.wording.tables }
     {
-        match &self.place {
-            FormatPlace::Own(own, _) => own.lent(),
-            FormatPlace::Kept(formatter, _) => copied(formatter),
-        }
+        self.place.lent()
     }
 
     // What writes with the tables and the rules, borrowed for a call. It does not allocate.

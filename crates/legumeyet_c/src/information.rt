@@ -4,7 +4,7 @@ ghost use Rattle.std.specs.Prelude.{◌≡◌};
 ghost use Rattle.legumeyet_c_values.specs.Information.{IsInformationFault, SaysError};
 ghost use Rattle.legumeyet_c_values.specs.Putting.{Answers, IsPut};
 
-use legumeyet_c_values::{CallError, answer, error_of, put};
+use legumeyet_c_values::{CallError, error_of, put, status_of};
 
 /// The version of the header: another one would break programs, while calls and numbers that are added leave it.
 pub const VERSION: u32 = 2;
@@ -21,7 +21,7 @@ pub extern "C" fn legumeyet_error_text(error: i32, out: &mut [u8], length: &mut 
         result }
 {
     match error_of(error) {
-        Some(error) => answer(put(&error.text(), out, length)),
+        Some(error) => status_of(put(&error.text(), out, length)),
         None => CallError::UnknownOption.number(),
     }
 }

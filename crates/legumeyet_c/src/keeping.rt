@@ -9,7 +9,7 @@ ghost use Rattle.legumeyet_c.specs.Views.{book_content, book_open};
 use crate::content::{Content, ContentKind};
 use crate::handle::Handle;
 use crate::handles::BookHandle;
-use legumeyet_c_values::{CallError, answer};
+use legumeyet_c_values::{CallError, status_of};
 use locale_numbers::Book;
 use std::alloc::Global;
 
@@ -60,5 +60,5 @@ pub extern "C" fn legumeyet_book_keep(alloc: Global, book: &mut BookHandle) -> i
     ensures same { book_open book.new ≡ book_open book.old }
     ensures told { Answers (IsKeeping (book_content book.old) (book_content book.new)) result }
 {
-    answer(keep_after(alloc, &mut book.handle))
+    status_of(keep_after(alloc, &mut book.handle))
 }

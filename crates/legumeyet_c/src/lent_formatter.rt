@@ -3,13 +3,14 @@
 ghost use Rattle.std.specs.Prelude.{◌≡◌, None, IfSome, option_map};
 ghost use Rattle.icu_decimal_direct.specs.TextTables.{text_tables};
 ghost use Rattle.locale_numbers.specs.FoundRules.{rules_held};
-ghost use Rattle.locale_numbers_formatter.specs.FormatText.{fractions_in, plain_tables};
-ghost use Rattle.legumeyet_c.specs.HeldFormats.{in_numbers};
+ghost use Rattle.locale_numbers_formatter.specs.FormatText.{fractions_in};
+ghost use Rattle.legumeyet_c.specs.Writing.{asked_for, asked_plainly};
 
-use crate::direct::texts_of;
+use crate::direct::texts_with;
 use icu_decimal_direct::TextTables;
 use icu_dimension_fractions::FractionInfo;
 use icu_plurals::{PluralRules, PluralRulesWithRanges};
+use locale_numbers_formats::NumberOptions;
 use locale_numbers_formatter::{FormatterKind, NumberFormatter};
 use std::marker::Model;
 
@@ -74,13 +75,11 @@ impl<'a> LentFormatter<'a> {
         self.formatter.fractions()
     }
 
-    // What texts are put with directly, where that can be. It does not allocate.
-    pub(crate) fn texts(&self) -> Option<TextTables<'a>>
-        ensures { IfSome result (λ texts. in_numbers (plain_tables (text_tables texts)) ≡ self.now) }
+    // What texts are put with directly with these options, where that can be. It does not allocate.
+    pub(crate) fn texts(&self, options: &NumberOptions) -> Option<TextTables<'a>>
+        ensures { IfSome result
+            (λ texts. asked_plainly (text_tables texts) ≡ asked_for self.now options.now) }
     {
-        if self.plurals.is_some() {
-            return None;
-        }
-        texts_of(&self.formatter)
+        texts_with(&self.formatter, self.plurals, options)
     }
 }

@@ -22,6 +22,7 @@ pub mod crossing;
 mod direct;
 pub mod exact;
 mod format_opening;
+mod format_writer;
 pub mod formatter;
 mod formatting;
 mod handle;

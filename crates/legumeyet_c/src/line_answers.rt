@@ -14,7 +14,7 @@ use crate::handle::Handle;
 use crate::handles::{AnswersHandle, BookHandle};
 use crate::held_answers::HeldAnswers;
 use crate::opening::{close, put_after};
-use legumeyet_c_values::{CallError, answer};
+use legumeyet_c_values::{CallError, status_of};
 use locale_numbers::Book;
 use std::alloc::Global;
 
@@ -96,7 +96,7 @@ pub extern "C" fn legumeyet_answers_open(
         (IsAnswersFault (book_open book.old) (is_kept (book_content book.old)) capacity)
         (answers_content answers.old) (answers_content answers.new)) result }
 {
-    answer(open_answers(alloc, &mut book.handle, capacity, &mut answers.handle))
+    status_of(open_answers(alloc, &mut book.handle, capacity, &mut answers.handle))
 }
 
 /// Closes answers, and frees their memory; the book stays as it is.
@@ -109,7 +109,7 @@ pub extern "C" fn legumeyet_answers_close(alloc: Global, answers: &mut AnswersHa
     ensures same { answers_open answers.old ≡ None → answers_content answers.new ≡ answers_content answers.old }
     ensures told { Answers (IsClosing (answers_open answers.old)) result }
 {
-    answer(close::<HeldAnswers>(alloc, &mut answers.handle))
+    status_of(close::<HeldAnswers>(alloc, &mut answers.handle))
 }
 
 // What a closed handle leaves: nothing is read or written.
@@ -186,5 +186,5 @@ pub extern "C" fn legumeyet_answers_answer(
         (AreAnswered (answers_open answers.old) lines.now (buffers out.old read.old written.old needs.old)
         (buffers out.new read.new written.new needs.new)) result }
 {
-    answer(answer_after(&mut answers.handle, lines, out, read, written, needs))
+    status_of(answer_after(&mut answers.handle, lines, out, read, written, needs))
 }

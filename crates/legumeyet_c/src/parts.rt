@@ -15,7 +15,7 @@ use crate::content::Content;
 use crate::formatting::text_in_parts;
 use crate::handles::FormatterHandle;
 use fixed_decimal::Decimal;
-use legumeyet_c_values::{CallError, GivenNumber, Interval, answer, put_parts};
+use legumeyet_c_values::{CallError, GivenNumber, Interval, put_parts, status_of};
 use std::alloc::Global;
 use writeable::PartsSink;
 
@@ -78,7 +78,7 @@ pub(crate) fn answer_parts(
         result }
 {
     match opened_in_parts(alloc, content, number, words) {
-        Ok(sink) => answer(put_parts(&sink, out, length, intervals, count)),
+        Ok(sink) => status_of(put_parts(&sink, out, length, intervals, count)),
         Err(error) => error.number(),
     }
 }

@@ -15,7 +15,7 @@ use crate::content::Content;
 use crate::handles::FormatterHandle;
 use crate::lent_formatter::LentFormatter;
 use fixed_decimal::Decimal;
-use legumeyet_c_values::{CallError, GivenNumber, answer};
+use legumeyet_c_values::{CallError, GivenNumber, status_of};
 use locale_numbers_formats::NumberOptions;
 use std::alloc::Global;
 
@@ -87,7 +87,7 @@ pub(crate) fn answer_range(
         out.old out.new length.old length.new) result }
 {
     match asked(content, words) {
-        Ok(asked) => answer(write_range(alloc, &asked, first, second, out, length)),
+        Ok(asked) => status_of(write_range(alloc, &asked, first, second, out, length)),
         Err(error) => error.number(),
     }
 }

@@ -15,7 +15,7 @@ use crate::handles::FormatterHandle;
 use crate::held_formatter::HeldFormatter;
 use fixed_decimal::Decimal;
 use icu_decimal::error::ReadError;
-use legumeyet_c_values::{CallError, answer, put};
+use legumeyet_c_values::{CallError, put, status_of};
 use std::alloc::Global;
 
 // How a text is read. A type that holds nothing stands for it.
@@ -155,7 +155,7 @@ pub extern "C" fn legumeyet_formatter_read(
         length.new) result }
 {
     ready_after::<Exact>(alloc, &mut formatter.handle);
-    answer(write_read::<Exact>(alloc, formatter.handle.content(), text, out, length))
+    status_of(write_read::<Exact>(alloc, formatter.handle.content(), text, out, length))
 }
 
 /// Reads a text that somebody typed, with its unit or its code before or after the number, or without it: in English
@@ -180,5 +180,5 @@ pub extern "C" fn legumeyet_formatter_read_lenient(
         length.new) result }
 {
     ready_after::<Lenient>(alloc, &mut formatter.handle);
-    answer(write_read::<Lenient>(alloc, formatter.handle.content(), text, out, length))
+    status_of(write_read::<Lenient>(alloc, formatter.handle.content(), text, out, length))
 }

@@ -9,7 +9,7 @@ use crate::handles::FormatterHandle;
 use crate::held_formatter::HeldFormatter;
 use crate::shared_handles::SharedFormatterHandle;
 use crate::sharing::{close_shared, share};
-use legumeyet_c_values::answer;
+use legumeyet_c_values::status_of;
 use std::alloc::Global;
 
 /// Shares an open formatter: from now on any number of threads use it at once, by the shared handle, and it stays for
@@ -32,7 +32,7 @@ pub extern "C" fn legumeyet_formatter_share(
     ensures unshared { format_open formatter.old ≡ None
         → shared_format_content shared.new ≡ shared_format_content shared.old }
 {
-    answer(share::<HeldFormatter>(alloc, &mut formatter.handle, &mut shared.handle))
+    status_of(share::<HeldFormatter>(alloc, &mut formatter.handle, &mut shared.handle))
 }
 
 /// Closes a shared handle. The formatter stays, and so do other handles that it was copied to.
@@ -46,5 +46,5 @@ pub extern "C" fn legumeyet_shared_formatter_close(formatter: &mut SharedFormatt
         → shared_format_content formatter.new ≡ shared_format_content formatter.old }
     ensures told { Answers (IsClosing (shared_format_open formatter.old)) result }
 {
-    answer(close_shared::<HeldFormatter>(&mut formatter.handle))
+    status_of(close_shared::<HeldFormatter>(&mut formatter.handle))
 }

@@ -7,7 +7,7 @@ ghost use Rattle.legumeyet_c.specs.Views.{shared_format_open};
 
 use crate::reading::{Exact, Lenient, write_read};
 use crate::shared_handles::SharedFormatterHandle;
-use legumeyet_c_values::answer;
+use legumeyet_c_values::status_of;
 use std::alloc::Global;
 
 /// Reads a text back, as `legumeyet_formatter_read` does. Any number of threads may be in it at once.
@@ -24,7 +24,7 @@ pub extern "C" fn legumeyet_shared_formatter_read(
         (IsReadFault exact_reading ReadAllocates (shared_format_open formatter.now) text.now) out.old out.new length.old
         length.new) result }
 {
-    answer(write_read::<Exact>(alloc, formatter.handle.content(), text, out, length))
+    status_of(write_read::<Exact>(alloc, formatter.handle.content(), text, out, length))
 }
 
 /// Reads a text that somebody typed, as `legumeyet_formatter_read_lenient` does. Any number of threads may be in it at
@@ -42,5 +42,5 @@ pub extern "C" fn legumeyet_shared_formatter_read_lenient(
         (IsReadFault typed_reading TypedReadAllocates (shared_format_open formatter.now) text.now) out.old out.new
         length.old length.new) result }
 {
-    answer(write_read::<Lenient>(alloc, formatter.handle.content(), text, out, length))
+    status_of(write_read::<Lenient>(alloc, formatter.handle.content(), text, out, length))
 }

@@ -9,7 +9,7 @@ ghost use Rattle.legumeyet_c.specs.Writing.{IsRangeWritingFault, WritesRange};
 use crate::ranges::answer_range;
 use crate::shared_handles::SharedFormatterHandle;
 use crate::telling::write_fact;
-use legumeyet_c_values::answer;
+use legumeyet_c_values::status_of;
 use std::alloc::Global;
 
 /// Writes the plural category of the range from one number to another: of `0` and `1` in French `one`.
@@ -48,5 +48,5 @@ pub extern "C" fn legumeyet_shared_formatter_tell(
         (IsPut (SaysFact (shared_format_open formatter.now) fact) (IsFactFault (shared_format_open formatter.now) fact)
         out.old out.new length.old length.new) result }
 {
-    answer(write_fact(formatter.handle.content(), fact, out, length))
+    status_of(write_fact(formatter.handle.content(), fact, out, length))
 }

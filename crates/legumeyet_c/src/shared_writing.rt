@@ -12,7 +12,7 @@ ghost use Rattle.legumeyet_c.specs.Writing.{IsFormWritingFault, IsNumberWritingF
 use crate::exact::{answer_form, answer_shown};
 use crate::parts::answer_parts;
 use crate::shared_handles::SharedFormatterHandle;
-use crate::writing::answer_number;
+use crate::writing::{answer_number, answer_text};
 use legumeyet_c_values::{GivenNumber, Interval};
 use std::alloc::Global;
 
@@ -33,9 +33,14 @@ pub extern "C" fn legumeyet_shared_formatter_format(
         (IsNumberWritingFault IsTextFault (shared_format_open formatter.now) options.now (spelled number.now))
         out.old out.new length.old length.new) result }
 {
-    let number = GivenNumber::Text(number);
-    let content = formatter.handle.content();
-    answer_number(alloc, content, number, options, out, length)
+    answer_text(
+        alloc,
+        formatter.handle.content(),
+        number,
+        options,
+        out,
+        length,
+    )
 }
 
 /// Writes the number `mantissa` times ten to the power `exponent`: -123456 and -2 in English as `-1,234.56`.

@@ -5,7 +5,7 @@ ghost use Rattle.locale_numbers_formats.specs.Skeletons.{skeleton_of};
 ghost use Rattle.legumeyet_c_values.specs.Putting.{Answers, IsPut};
 ghost use Rattle.legumeyet_c.specs.AskedFormats.{IsSkeletonFault, SaysNormal, place_by, place_of_outcome};
 
-use legumeyet_c_values::{CallError, answer, put};
+use legumeyet_c_values::{CallError, put, status_of};
 use locale_numbers_formats::Skeleton;
 
 // Tells where a skeleton is wrong, where a call was refused for it.
@@ -34,7 +34,7 @@ pub extern "C" fn legumeyet_skeleton_normal(
         (IsPut (SaysNormal skeleton.now) (IsSkeletonFault skeleton.now) out.old out.new length.old length.new) result }
 {
     match Skeleton::try_from_utf8(skeleton) {
-        Ok(skeleton) => answer(put(&skeleton, out, length)),
+        Ok(skeleton) => status_of(put(&skeleton, out, length)),
         Err(error) => {
             *place = error.place();
             CallError::Skeleton(error).number()

@@ -11,7 +11,7 @@ ghost use Rattle.legumeyet_c.specs.Views.{format_content, format_open};
 use crate::content::{Content, formatter_in};
 use crate::handles::FormatterHandle;
 use crate::lent_formatter::LentFormatter;
-use legumeyet_c_values::{CallError, Fact, Facts, answer, fact_by, put_fact};
+use legumeyet_c_values::{CallError, Fact, Facts, fact_by, put_fact, status_of};
 
 // Writes a fact of a formatter.
 fn put_fact_of(
@@ -69,5 +69,5 @@ pub extern "C" fn legumeyet_formatter_tell(
         (IsPut (SaysFact (format_open formatter.old) fact) (IsFactFault (format_open formatter.old) fact) out.old out.new
         length.old length.new) result }
 {
-    answer(write_fact(formatter.handle.content(), fact, out, length))
+    status_of(write_fact(formatter.handle.content(), fact, out, length))
 }

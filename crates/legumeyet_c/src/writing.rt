@@ -8,64 +8,20 @@ ghost use Rattle.legumeyet_c.specs.Kinds.{format_in};
 ghost use Rattle.legumeyet_c.specs.Opened.{opened};
 ghost use Rattle.legumeyet_c.specs.Views.{format_content, format_open};
 ghost use Rattle.legumeyet_c.specs.Worded.{IsText, IsTextFault};
-ghost use Rattle.legumeyet_c.specs.Writing.{IsNumberWritingFault, WritesNumber, asked_for};
+ghost use Rattle.legumeyet_c.specs.Writing.{IsNumberWritingFault, WritesNumber};
 
-use crate::asking::{AskedFormatter, asked};
+use crate::asking::{AskedFormatter, asked, rules_asked, texts_asked};
+use crate::categories::put_spelled_category;
 use crate::content::Content;
-use crate::direct::{digits_given, put_digits};
-use crate::formatting::put_text;
+use crate::direct::put_digits;
+use crate::format_writer::{FormatWriter, write_given};
 use crate::handles::FormatterHandle;
-use crate::lent_formatter::LentFormatter;
 use fixed_decimal::Decimal;
-use legumeyet_c_values::{CallError, GivenNumber, answer};
-use locale_numbers_formats::NumberOptions;
+use icu_decimal_direct::TextDigits;
+use legumeyet_c_values::{CallError, GivenNumber, NumberWriter, status_of};
 use std::alloc::Global;
 
-// Writes a number, changed as options ask for; `value` is room for it.
-pub(crate) fn write_given(
-    alloc: Global,
-    lent: &LentFormatter<'_>,
-    options: &NumberOptions,
-    number: GivenNumber<'_>,
-    value: &mut Decimal,
-    out: &mut [u8],
-    length: &mut usize,
-) -> Result<(), CallError>
-    ensures { IsPut (WritesAsked (asked_for lent.now options.now) (given_of number.entry))
-        (IsAskedFault (asked_for lent.now options.now) (given_of number.entry)) out.old out.new length.old length.new
-        result }
-{
-    match number.assign_changed(alloc, options, lent.fractions(), value) {
-        Ok(()) => put_text(lent, value, out, length),
-        Err(error) => Err(error),
-    }
-}
-
 // Writes a number as is asked.
-fn write_lent(
-    alloc: Global,
-    asked: &AskedFormatter<'_>,
-    number: GivenNumber<'_>,
-    out: &mut [u8],
-    length: &mut usize,
-) -> Result<(), CallError>
-    ensures { IsPut (WritesAsked asked.now (given_of number.entry)) (IsAskedFault asked.now (given_of number.entry))
-        out.old out.new length.old length.new result }
-{
-    let lent = asked.held.lent();
-    let mut value = Decimal::zero(alloc);
-    write_given(
-        alloc,
-        &lent,
-        &asked.options,
-        number,
-        &mut value,
-        out,
-        length,
-    )
-}
-
-// The same, a text directly where it can be.
 fn write_asked(
     alloc: Global,
     asked: &AskedFormatter<'_>,
@@ -76,13 +32,10 @@ fn write_asked(
     ensures { IsPut (WritesAsked asked.now (given_of number.entry)) (IsAskedFault asked.now (given_of number.entry))
         out.old out.new length.old length.new result }
 {
-    let Some(texts) = asked.held.texts() else {
-        return write_lent(alloc, asked, number, out, length);
-    };
-    match digits_given(&asked.options, number) {
-        Some(digits) => put_digits(texts, &digits, out, length),
-        None => write_lent(alloc, asked, number, out, length),
-    }
+    let lent = asked.held.lent();
+    let options = &asked.options;
+    let mut value = Decimal::zero(alloc);
+    write_given(alloc, &lent, options, number, &mut value, out, length)
 }
 
 // Answers a call that writes a number with what is open.
@@ -100,8 +53,89 @@ pub(crate) fn answer_number(
         out.old out.new length.old length.new) result }
 {
     match asked(content, words) {
-        Ok(asked) => answer(write_asked(alloc, &asked, number, out, length)),
+        Ok(asked) => status_of(write_asked(alloc, &asked, number, out, length)),
         Err(error) => error.number(),
+    }
+}
+
+// Writes the number that a text spells as is asked, directly where it can be.
+fn write_text_asked(
+    alloc: Global,
+    asked: &AskedFormatter<'_>,
+    text: &[u8],
+    out: &mut [u8],
+    length: &mut usize,
+) -> Result<(), CallError>
+    ensures { IsPut (WritesAsked asked.now (spelled text.now)) (IsAskedFault asked.now (spelled text.now)) out.old out.new
+        length.old length.new result }
+{
+    let lent = asked.held.lent();
+    let options = &asked.options;
+    let mut value = Decimal::zero(alloc);
+    FormatWriter::new(&lent, options).write_text(alloc, text, &mut value, out, length)
+}
+
+// Answers a call that writes the number that a text spells with what is open, by tables that are borrowed for the call.
+fn answer_text_once(
+    alloc: Global,
+    content: Option<&Content>,
+    text: &[u8],
+    words: &[i32],
+    out: &mut [u8],
+    length: &mut usize,
+) -> i32
+    ensures { Answers
+        (IsPut (WritesNumber IsText (format_in (opened content.entry)) words.now (spelled text.now))
+        (IsNumberWritingFault IsTextFault (format_in (opened content.entry)) words.now (spelled text.now)) out.old
+        out.new length.old length.new) result }
+{
+    match asked(content, words) {
+        Ok(asked) => status_of(write_text_asked(alloc, &asked, text, out, length)),
+        Err(error) => error.number(),
+    }
+}
+
+// The same, where no tables that texts are put with are kept: the word of a category at once, where it can be.
+fn answer_unkept_text(
+    alloc: Global,
+    content: Option<&Content>,
+    text: &[u8],
+    words: &[i32],
+    out: &mut [u8],
+    length: &mut usize,
+) -> i32
+    ensures { Answers
+        (IsPut (WritesNumber IsText (format_in (opened content.entry)) words.now (spelled text.now))
+        (IsNumberWritingFault IsTextFault (format_in (opened content.entry)) words.now (spelled text.now)) out.old
+        out.new length.old length.new) result }
+{
+    match rules_asked(content, words) {
+        Some(rules) => status_of(put_spelled_category(alloc, rules, text, out, length)),
+        None => answer_text_once(alloc, content, text, words, out, length),
+    }
+}
+
+// Answers a call that writes the number that a text spells with what is open, directly where it can be.
+#[inline(always)]
+pub(crate) fn answer_text(
+    alloc: Global,
+    content: Option<&Content>,
+    text: &[u8],
+    words: &[i32],
+    out: &mut [u8],
+    length: &mut usize,
+) -> i32
+    ensures { Answers
+        (IsPut (WritesNumber IsText (format_in (opened content.entry)) words.now (spelled text.now))
+        (IsNumberWritingFault IsTextFault (format_in (opened content.entry)) words.now (spelled text.now)) out.old
+        out.new length.old length.new) result }
+{
+    let Some(texts) = texts_asked(content, words) else {
+        return answer_unkept_text(alloc, content, text, words, out, length);
+    };
+    match TextDigits::of(text) {
+        Some(digits) => status_of(put_digits(texts, &digits, out, length)),
+        None => answer_number(alloc, content, GivenNumber::Text(text), words, out, length),
     }
 }
 
@@ -127,9 +161,14 @@ pub extern "C" fn legumeyet_formatter_format(
         (IsNumberWritingFault IsTextFault (format_open formatter.old) options.now (spelled number.now))
         out.old out.new length.old length.new) result }
 {
-    let number = GivenNumber::Text(number);
-    let content = formatter.handle.content();
-    answer_number(alloc, content, number, options, out, length)
+    answer_text(
+        alloc,
+        formatter.handle.content(),
+        number,
+        options,
+        out,
+        length,
+    )
 }
 
 /// Writes the number `mantissa` times ten to the power `exponent`: -123456 and -2 in English as `-1,234.56`, and 500 and

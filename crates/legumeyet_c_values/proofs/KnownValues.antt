@@ -27,7 +27,7 @@ use Rattle.locale_numbers_formats.specs.declared.SignAsked.TheVariants.{Keep as 
 use Rattle.locale_numbers_formats.specs.declared.SignificantDigits.{SignificantDigits}
 use Rattle.locale_numbers_formats.specs.declared.SkeletonError.TheVariants as skeleton
 use Rattle.locale_numbers_formats.specs.declared.TrailingZeros.TheVariants.{Keep, Trim, TrimWhole, TrimAll}
-use Rattle.legumeyet_c_values.specs.CallErrors.{answer_of}
+use Rattle.legumeyet_c_values.specs.CallErrors.{status_of}
 use Rattle.legumeyet_c_values.specs.Columns.{ends_from, spelled_lines}
 use Rattle.legumeyet_c_values.specs.Numbers.{spelled}
 use Rattle.legumeyet_c_values.specs.Parts.{kind_of}
@@ -37,38 +37,38 @@ use Rattle.legumeyet_c_values.specs.declared.shape_words.AskedShape.{AskedShape}
 
 -- ---- what a call returns
 
-returns_ok : answer_of (Ok tt) ≡ pos 0
+returns_ok : status_of (Ok tt) ≡ pos 0
 returns_ok = refl
 
-returns_too_small : answer_of (Err call.TooSmall) ≡ pos 3
+returns_too_small : status_of (Err call.TooSmall) ≡ pos 3
 returns_too_small = refl
 
-returns_exponent : answer_of (Err call.Exponent) ≡ pos 13
+returns_exponent : status_of (Err call.Exponent) ≡ pos 13
 returns_exponent = refl
 
-returns_code : answer_of (Err call.Code) ≡ pos 14
+returns_code : status_of (Err call.Code) ≡ pos 14
 returns_code = refl
 
-returns_unkept : answer_of (Err call.Unkept) ≡ pos 15
+returns_unkept : status_of (Err call.Unkept) ≡ pos 15
 returns_unkept = refl
 
-returns_unit : answer_of (Err (call.Book book.Unit)) ≡ pos 113
+returns_unit : status_of (Err (call.Book book.Unit)) ≡ pos 113
 returns_unit = refl
 
-returns_json : answer_of (Err (call.Book book.Json)) ≡ pos 101
+returns_json : status_of (Err (call.Book book.Json)) ≡ pos 101
 returns_json = refl
 
-returns_cycle : answer_of (Err (call.Book book.Cycle)) ≡ pos 111
+returns_cycle : status_of (Err (call.Book book.Cycle)) ≡ pos 111
 returns_cycle = refl
 
-returns_unknown_word : answer_of (Err (call.Skeleton (skeleton.Unknown 8))) ≡ pos 201
+returns_unknown_word : status_of (Err (call.Skeleton (skeleton.Unknown 8))) ≡ pos 201
 returns_unknown_word = refl
 
-returns_unsupported : answer_of (Err (call.Skeleton (skeleton.Unsupported 0))) ≡ pos 207
+returns_unsupported : status_of (Err (call.Skeleton (skeleton.Unsupported 0))) ≡ pos 207
 returns_unsupported = refl
 
 -- out of memory has one number, whatever it was wanted for
-returns_memory : answer_of (Err (call.Book book.Memory)) ≡ answer_of (Err call.Memory)
+returns_memory : status_of (Err (call.Book book.Memory)) ≡ status_of (Err call.Memory)
 returns_memory = refl
 
 -- ---- parts
@@ -437,6 +437,9 @@ notation_below = refl
 percents : shape_of (pos 0 ∷ pos 0 ∷ pos 1 ∷ []) [] ≡ Ok (numbers (record plain { unit = beside.Percent }))
 percents = refl
 
+permilles : shape_of (pos 0 ∷ pos 0 ∷ pos 3 ∷ []) [] ≡ Ok (numbers (record plain { unit = beside.Permille }))
+permilles = refl
+
 in_euros : shape_of (pos 0 ∷ pos 0 ∷ pos 2 ∷ []) (codes "EUR") ≡ Ok (numbers (euros style.Standard currency_width.Short))
 in_euros = refl
 
@@ -455,7 +458,10 @@ code_of_plain_numbers = refl
 code_of_percents : shape_of (pos 0 ∷ pos 0 ∷ pos 1 ∷ []) (codes "EUR") ≡ Err call.Code
 code_of_percents = refl
 
-unit_unknown : shape_of (pos 0 ∷ pos 0 ∷ pos 3 ∷ []) [] ≡ Err call.UnknownOption
+code_of_permilles : shape_of (pos 0 ∷ pos 0 ∷ pos 3 ∷ []) (codes "EUR") ≡ Err call.Code
+code_of_permilles = refl
+
+unit_unknown : shape_of (pos 0 ∷ pos 0 ∷ pos 4 ∷ []) [] ≡ Err call.UnknownOption
 unit_unknown = refl
 
 style_unknown : shape_of (pos 0 ∷ pos 0 ∷ pos 0 ∷ pos 2 ∷ []) [] ≡ Err call.UnknownOption

@@ -37,9 +37,9 @@ number_of (Book error) = book_answer error
 number_of (Skeleton error) = pos (200 + skeleton_number error)
 
 -- 0 of a call that was not refused
-abbrev pub answer_of : Result (Unit {0}) CallError → ℤ
-answer_of (Ok done) = pos 0
-answer_of (Err error) = number_of error
+abbrev pub status_of : Result (Unit {0}) CallError → ℤ
+status_of (Ok done) = pos 0
+status_of (Err error) = number_of error
 
 abbrev pub book_text : BookError → List ℕ
 book_text book.Json = codes "no book: no JSON"

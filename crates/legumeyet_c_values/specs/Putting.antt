@@ -2,7 +2,7 @@
 -- Defined in include/legumeyet.h, and docs/annotated-text.md, "Bytes of the caller's".
 -- Cited by the exports that write a text.
 use Rattle.std.specs.Prelude.{◌≡◌, ◌≢◌, ℕ, ℤ, ◌<◌, ◌-◌, ◌^◌, ◌++◌, min, List, length, take, drop, Result, IsOk, IfErr, IsErrOf}
-use Rattle.legumeyet_c_values.specs.CallErrors.{answer_of}
+use Rattle.legumeyet_c_values.specs.CallErrors.{status_of}
 use Rattle.legumeyet_c_values.specs.declared.call_error.CallError.{CallError}
 use Rattle.legumeyet_c_values.specs.declared.call_error.CallError.TheVariants.{TooSmall}
 
@@ -34,7 +34,7 @@ pub record IsPut (says : List ℕ → Type 0) (fault : CallError → Type 0) (be
   pub refused : IfErr outcome (λ error. error ≢ TooSmall → IsUntouched (fault error) before after was told)
 
 -- a call answers the number of an outcome of which this holds
-pub record Answers (holds : Result (Unit {0}) CallError → Type 0) (answer : ℤ) : Type 0 where
+pub record Answers (holds : Result (Unit {0}) CallError → Type 0) (status : ℤ) : Type 0 where
   pub outcome : Result (Unit {0}) CallError
-  pub number : answer ≡ answer_of outcome
+  pub number : status ≡ status_of outcome
   pub held : holds outcome

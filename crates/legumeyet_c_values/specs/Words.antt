@@ -231,7 +231,7 @@ abbrev pub currency_by : CurrencyStyle → CurrencyWidth → List ℕ → Result
 currency_by style width text = if is_currency_code text then Ok (beside.Currency (record { code = text; style = style; width = width })) else Err Code
 
 abbrev pub units : CurrencyStyle → CurrencyWidth → List ℕ → List (Result NumberUnit CallError)
-units style width text = unit_alone beside.None text ∷ unit_alone beside.Percent text ∷ currency_by style width text ∷ []
+units style width text = unit_alone beside.None text ∷ unit_alone beside.Percent text ∷ currency_by style width text ∷ unit_alone beside.Permille text ∷ []
 
 abbrev pub unit_with : Option CurrencyStyle → Option CurrencyWidth → ℤ → List ℕ → Result NumberUnit CallError
 unit_with None width word text = Err UnknownOption

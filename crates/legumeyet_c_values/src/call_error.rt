@@ -1,7 +1,7 @@
 //! What calls return.
 
 ghost use Rattle.std.specs.Prelude.{◌≡◌, IfSome, IsNone};
-ghost use Rattle.legumeyet_c_values.specs.CallErrors.{answer_of, book_answer, book_text, number_of, skeleton_text, text_of};
+ghost use Rattle.legumeyet_c_values.specs.CallErrors.{book_answer, book_text, number_of, skeleton_text, status_of, text_of};
 ghost use Rattle.legumeyet_c_values.specs.Information.{IsNoError};
 
 use locale_numbers_faults::BookError;
@@ -158,8 +158,8 @@ impl CallError {
 }
 
 /// The number that a call returns: 0 where it was not refused.
-pub fn answer(outcome: Result<(), CallError>) -> i32
-    ensures { result ≡ answer_of outcome }
+pub fn status_of(outcome: Result<(), CallError>) -> i32
+    ensures { result ≡ status_of outcome }
 {
     match outcome {
         Ok(()) => 0,

@@ -3,11 +3,11 @@
 //! number means.
 //!
 //! ```rust
-//! use legumeyet_c_values::{GivenNumber, answer, number_options_by, put};
+//! use legumeyet_c_values::{GivenNumber, number_options_by, put, status_of};
 //!
 //! let options = number_options_by(&[3, 9, -1])?;                  // the sign always, to the nearest tenth
 //! GivenNumber::Text(b"9.75").assign_changed(alloc, &options, None, &mut value)?;      // 9.8, with the sign +
-//! let number = answer(put(&value, out, &mut length));             // 0; `out` begins with `+9.8`, and `length` is 4
+//! let status = status_of(put(&value, out, &mut length));          // 0; `out` begins with `+9.8`, and `length` is 4
 //! ```
 
 #![tactic(auto)]
@@ -29,15 +29,16 @@ mod shape_words;
 mod usual_words;
 mod words;
 
-pub use call_error::{CallError, answer, error_of};
+pub use call_error::{CallError, error_of, status_of};
 pub use columns::{Column, NumberWriter, write_column};
 pub use fact_words::{Fact, fact_by};
 pub use facts::{Facts, put_fact};
 pub use intervals::Interval;
 pub use line_buffers::{AnswerLine, answer_lines};
-pub use numbers::{GivenNumber, change, compact_of_text};
+pub use numbers::{GivenNumber, assign_text, change, compact_of_text};
 pub use option_words::{number_options_by, options_asked, usual_options};
 pub use parts::put_parts;
 pub use putting::{put, put_bytes};
 pub use shape_words::{AskedShape, shape_by};
 pub use usual_words::is_usual;
+pub use words::are_zeros;

@@ -17,8 +17,9 @@ use locale_numbers_formats::NumberOptions;
 use ryu::Buffer;
 use std::alloc::Global;
 
-// Replaces a number by the one that a text spells.
-pub(crate) fn assign_text(number: &mut Decimal, text: &[u8]) -> Result<(), CallError>
+/// Replaces a number by the one that a text spells: `-1.50` is -1.5 with two fraction digits. The errors are those of
+/// `GivenNumber::assign_changed`.
+pub fn assign_text(number: &mut Decimal, text: &[u8]) -> Result<(), CallError>
     ensures value { OnOk result (ReadsSigned text.now number.new) }
     ensures fault { IfErr result (λ error. IsNumberFault text.now error) }
 {

@@ -120,6 +120,7 @@ fn unit_by(words: &[i32], text: &[u8]) -> Result<NumberUnit, CallError>
         0 => unit_alone(NumberUnit::None, text),
         1 => unit_alone(NumberUnit::Percent, text),
         2 => currency_by(style, width, text),
+        3 => unit_alone(NumberUnit::Permille, text),
         _ => Err(CallError::UnknownOption),
     }
 }

@@ -18,8 +18,8 @@ fn is_zero(word: i32) -> bool
     word == 0
 }
 
-// Whether all words are 0.
-pub(crate) fn are_zeros(words: &[i32]) -> bool
+/// Whether words ask for nothing: each is 0, or there is none.
+pub fn are_zeros(words: &[i32]) -> bool
     ensures { result ≡ list_all is_zero words.now }
 {
     for word in words {

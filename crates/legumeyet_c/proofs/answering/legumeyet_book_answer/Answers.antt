@@ -11,11 +11,11 @@ use Rattle.legumeyet_c.proofs.answering.legumeyet_book_answer.Goals as goal
 
 pub returns-in-Ok-clause-told : goal.returns-in-Ok-clause-told
 returns-in-Ok-clause-told c =
-    let fits : SFits w32 c.answer.result = search rules in
+    let fits : SFits w32 c.status_of.result = search rules in
     let shown = book_in (opened c.content.result) in
     record {
       outcome = c.put_bytes.result;
-      number = to_z-of_z w32 c.answer.result fits ∙ c.answer.ensures;
+      number = to_z-of_z w32 c.status_of.result fits ∙ c.status_of.ensures;
       held = put_by _ _ _ _ _
           (λ text is. subst (λ (b : Option BookTables). SaysAnswer b c.args.line.now text) (ap book_in c.content.ensures.value)
           (subst (λ (t : List ℕ). SaysAnswer shown c.args.line.now t) (sym (is ∙ c.as_slice.ensures.value)) c.in-Ok.ensures.value))

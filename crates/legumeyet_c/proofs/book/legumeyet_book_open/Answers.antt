@@ -11,10 +11,10 @@ use Rattle.legumeyet_c.proofs.book.legumeyet_book_open.Goals as goal
 
 pub returns-in-Ok : goal.returns-in-Ok
 returns-in-Ok c =
-    let fits : SFits w32 c.answer.result = search rules in
+    let fits : SFits w32 c.status_of.result = search rules in
     record {
       outcome = c.put_after.result;
-      number = to_z-of_z w32 c.answer.result fits ∙ c.answer.ensures;
+      number = to_z-of_z w32 c.status_of.result fits ∙ c.status_of.ensures;
       held = opening_by book_in _ _ _
           (λ x is. subst (SaysBook c.args.json.now) (sym is)
           (record { value = c.in-Ok.ensures.value.0; reads = c.in-Ok.ensures.value.1; is_book = c.in-Ok.ensures.value.2 }))

@@ -9,12 +9,12 @@ use Rattle.legumeyet_c.proofs.column_writing.answer_column.Goals as goal
 
 pub returns-in-Ok : goal.returns-in-Ok
 returns-in-Ok c =
-    let fits : SFits w32 c.answer.result = search rules in
+    let fits : SFits w32 c.status_of.result = search rules in
     let before = room c.args.out.now c.args.ends.now c.args.count.now in
     let after = room c.write_asked.new.out c.write_asked.new.ends c.write_asked.new.count in
     record {
       outcome = c.write_asked.result;
-      number = to_z-of_z w32 c.answer.result fits ∙ c.answer.ensures;
+      number = to_z-of_z w32 c.status_of.result fits ∙ c.status_of.ensures;
       held = subst (λ (a : Result Asked CallError). IsAskedColumn a (given_in c.args.column) before after c.write_asked.result) c.in-Ok.ensures c.write_asked.ensures;
     }
 

@@ -10,5 +10,5 @@ returns c =
     let before = room c.args.out.now c.args.ends.now c.args.count.now in
     let after = room c.write_column.new.out c.write_column.new.ends c.write_column.new.count in
     subst (λ (a : Asked). IsAskedColumn (Ok a) (given_in c.args.column) before after c.write_column.result) c.asked.view_is
-    (subst (λ (w : Wording). IsAskedColumn (Ok (asked_for w c.asked.inside.options)) (given_in c.args.column) before after c.write_column.result)
-    c.lent-lent.ensures c.write_column.ensures)
+    (subst (λ (w : Wording). IsAskedColumn (Ok (asked_for w c.asked.inside.options)) (given_in c.args.column) before after c.write_column.result) c.lent-lent.ensures
+    (subst (λ (a : Asked). IsAskedColumn (Ok a) (given_in c.args.column) before after c.write_column.result) c.new-writer.ensures c.write_column.ensures))

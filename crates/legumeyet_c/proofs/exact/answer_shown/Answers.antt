@@ -11,11 +11,11 @@ use Rattle.legumeyet_c.proofs.exact.answer_shown.Goals as goal
 
 pub returns-in-Ok : goal.returns-in-Ok
 returns-in-Ok c =
-    let fits : SFits w32 c.answer.result = search rules in
+    let fits : SFits w32 c.status_of.result = search rules in
     let number = spelled c.args.number.now in
     record {
       outcome = c.write_shown.result;
-      number = to_z-of_z w32 c.answer.result fits ∙ c.answer.ensures;
+      number = to_z-of_z w32 c.status_of.result fits ∙ c.status_of.ensures;
       held = asked_put IsShown IsNotShown (GivesNumber number) (IsNumberRefused number) (asked_of (format_in (opened c.args.content)) c.args.words.now) (Ok c.in-Ok.asked) _ _ _ _ _
           c.in-Ok.ensures c.write_shown.ensures;
     }

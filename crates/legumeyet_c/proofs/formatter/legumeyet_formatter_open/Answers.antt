@@ -8,10 +8,10 @@ use Rattle.legumeyet_c.proofs.formatter.legumeyet_formatter_open.Goals as goal
 
 pub returns-clause-told : goal.returns-clause-told
 returns-clause-told c =
-    let fits : SFits w32 c.answer.result = search rules in
+    let fits : SFits w32 c.status_of.result = search rules in
     record {
       outcome = c.open.result;
-      number = to_z-of_z w32 c.answer.result fits ∙ c.answer.ensures;
+      number = to_z-of_z w32 c.status_of.result fits ∙ c.status_of.ensures;
       held = opening_asked (book_open c.args.book.now) c.format_by_words-asked.result (format_by_words c.args.format.now c.args.unit.now) c.args.tag.now
           (format_content c.args.formatter.now) _ c.open.result c.format_by_words-asked.ensures c.open.ensures.told;
     }

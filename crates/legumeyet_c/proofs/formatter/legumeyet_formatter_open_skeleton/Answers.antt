@@ -17,10 +17,10 @@ returns-clause-place c =
 
 pub returns-clause-told : goal.returns-clause-told
 returns-clause-told c =
-    let fits : SFits w32 c.answer.result = search rules in
+    let fits : SFits w32 c.status_of.result = search rules in
     record {
       outcome = c.open-outcome.result;
-      number = to_z-of_z w32 c.answer.result fits ∙ c.answer.ensures;
+      number = to_z-of_z w32 c.status_of.result fits ∙ c.status_of.ensures;
       held = opening_asked (book_open c.args.book.now) c.format_by_skeleton-asked.result (format_by_skeleton c.args.skeleton.now) c.args.tag.now
           (format_content c.args.formatter.now) _ c.open-outcome.result c.format_by_skeleton-asked.ensures c.open-outcome.ensures.told;
     }

@@ -8,11 +8,11 @@ use Rattle.legumeyet_c.proofs.information.legumeyet_error_text.Goals as goal
 
 pub returns-in-Some : goal.returns-in-Some
 returns-in-Some c =
-    let fits : SFits w32 c.answer.result = search rules in
+    let fits : SFits w32 c.status_of.result = search rules in
     let error = to_z-of_z w32 c.args.error c.ranges.error in
     record {
       outcome = c.put.result;
-      number = to_z-of_z w32 c.answer.result fits ∙ c.answer.ensures;
+      number = to_z-of_z w32 c.status_of.result fits ∙ c.status_of.ensures;
       held = put_by _ _ _ _ _
           (λ text is. record { error = c.in-Some.error; is_number = simp error at c.in-Some.ensures.value; is_text = is ∙ text_of_bytes _ ∙ c.text.ensures })
           (λ error none. absurd none)

@@ -5,5 +5,5 @@ use Rattle.legumeyet_c.proofs.line_answers.legumeyet_answers_open.Goals as goal
 
 pub returns-clause-told : goal.returns-clause-told
 returns-clause-told c =
-    let fits : SFits w32 c.answer.result = search rules in
-    record { outcome = c.open_answers.result; number = to_z-of_z w32 c.answer.result fits ∙ c.answer.ensures; held = c.open_answers.ensures.told }
+    let fits : SFits w32 c.status_of.result = search rules in
+    record { outcome = c.open_answers.result; number = to_z-of_z w32 c.status_of.result fits ∙ c.status_of.ensures; held = c.open_answers.ensures.told }

@@ -13,10 +13,10 @@ use Rattle.legumeyet_c.proofs.parts.answer_parts.Goals as goal
 
 pub returns-in-Ok : goal.returns-in-Ok
 returns-in-Ok c =
-    let fits : SFits w32 c.answer.result = search rules in
+    let fits : SFits w32 c.status_of.result = search rules in
     record {
       outcome = c.put_parts.result;
-      number = to_z-of_z w32 c.answer.result fits ∙ c.answer.ensures;
+      number = to_z-of_z w32 c.status_of.result fits ∙ c.status_of.ensures;
       held = parts_by _ _ _
           (λ text is. subst (λ (t : AnnotatedText). WritesNumber IsTextInParts (format_in (opened c.args.content)) c.args.words.now (spelled c.args.number.now) t) (sym is) c.in-Ok.ensures.value)
           (λ error none. absurd none)

@@ -12,12 +12,12 @@ use Rattle.legumeyet_c.proofs.ranges.answer_range.Goals as goal
 
 pub returns-in-Ok : goal.returns-in-Ok
 returns-in-Ok c =
-    let fits : SFits w32 c.answer.result = search rules in
+    let fits : SFits w32 c.status_of.result = search rules in
     let first = spelled c.args.first.now in
     let second = spelled c.args.second.now in
     record {
       outcome = c.write_range.result;
-      number = to_z-of_z w32 c.answer.result fits ∙ c.answer.ensures;
+      number = to_z-of_z w32 c.status_of.result fits ∙ c.status_of.ensures;
       held = asked_put IsRange IsRangeFault (GivesEnds first second) (AreEndsRefused first second) (range_asked_of (format_in (opened c.args.content)) c.args.words.now)
           (range_asked_by (Ok c.in-Ok.asked)) _ _ _ _ _ (ap range_asked_by c.in-Ok.ensures) c.write_range.ensures;
     }

@@ -5,5 +5,5 @@ use Rattle.legumeyet_c.proofs.shared_formatter.legumeyet_formatter_share.Goals a
 
 pub returns-clause-told : goal.returns-clause-told
 returns-clause-told c =
-    let fits : SFits w32 c.answer.result = search rules in
-    record { outcome = c.share.result; number = to_z-of_z w32 c.answer.result fits ∙ c.answer.ensures; held = c.share.ensures.told }
+    let fits : SFits w32 c.status_of.result = search rules in
+    record { outcome = c.share.result; number = to_z-of_z w32 c.status_of.result fits ∙ c.status_of.ensures; held = c.share.ensures.told }

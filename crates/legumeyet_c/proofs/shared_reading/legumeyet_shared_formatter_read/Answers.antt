@@ -9,9 +9,9 @@ use Rattle.legumeyet_c.proofs.shared_reading.legumeyet_shared_formatter_read.Goa
 
 pub returns : goal.returns
 returns c =
-    let fits : SFits w32 c.answer.result = search rules in
+    let fits : SFits w32 c.status_of.result = search rules in
     record {
       outcome = c.write_read.result;
-      number = to_z-of_z w32 c.answer.result fits ∙ c.answer.ensures;
+      number = to_z-of_z w32 c.status_of.result fits ∙ c.status_of.ensures;
       held = read_open exact_reading ReadAllocates c.args.text.now _ _ _ _ _ (ap format_in c.content.ensures.value) c.write_read.ensures;
     }

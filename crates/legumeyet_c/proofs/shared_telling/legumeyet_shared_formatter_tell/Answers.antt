@@ -9,10 +9,10 @@ use Rattle.legumeyet_c.proofs.shared_telling.legumeyet_shared_formatter_tell.Goa
 
 pub returns : goal.returns
 returns c =
-    let fits : SFits w32 c.answer.result = search rules in
+    let fits : SFits w32 c.status_of.result = search rules in
     record {
       outcome = c.write_fact.result;
-      number = to_z-of_z w32 c.answer.result fits ∙ c.answer.ensures;
+      number = to_z-of_z w32 c.status_of.result fits ∙ c.status_of.ensures;
       held = subst (λ (o : Option HeldFormat). IsPut (SaysFact o c.args.fact) (IsFactFault o c.args.fact) c.args.out.now c.write_fact.new.out c.args.length.now c.write_fact.new.length c.write_fact.result)
           (ap format_in c.content.ensures.value) c.write_fact.ensures;
     }

@@ -8,10 +8,10 @@ use Rattle.legumeyet_c.proofs.skeletons.legumeyet_skeleton_normal.Goals as goal
 
 pub returns-in-Ok-clause-told : goal.returns-in-Ok-clause-told
 returns-in-Ok-clause-told c =
-    let fits : SFits w32 c.answer.result = search rules in
+    let fits : SFits w32 c.status_of.result = search rules in
     record {
       outcome = c.put.result;
-      number = to_z-of_z w32 c.answer.result fits ∙ c.answer.ensures;
+      number = to_z-of_z w32 c.status_of.result fits ∙ c.status_of.ensures;
       held = put_by _ _ _ _ _
           (λ text is. record { skeleton = c.in-Ok.skeleton; reads = search rules; is = is ∙ text_of_bytes _ })
           (λ error none. absurd none)

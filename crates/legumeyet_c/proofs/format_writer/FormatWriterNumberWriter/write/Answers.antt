@@ -4,7 +4,7 @@ use Rattle.locale_numbers_formatter.specs.FormatText.{fractions_in}
 use Rattle.legumeyet_c.specs.Worded.{IsText, IsTextFault}
 use Rattle.legumeyet_c.specs.Writing.{Asked, GivesNumber, IsNumberRefused, asked_for}
 use Rattle.legumeyet_c.proofs.AskedLemmas.{asked_put, gives_number, refuses_number, ungiven, written}
-use Rattle.legumeyet_c.proofs.column_writing.FormatWriterNumberWriter.write.Goals as goal
+use Rattle.legumeyet_c.proofs.format_writer.FormatWriterNumberWriter.write.Goals as goal
 
 pub returns-in-Ok : goal.returns-in-Ok
 returns-in-Ok c =
