@@ -79,6 +79,7 @@ pub fn words_of<'a>(matches: &ArgMatches<'a>) -> NumberWords<'a>
         is_accounting: matches.get_flag("accounting"),
         is_by_code: matches.get_flag("code"),
         is_percent: matches.get_flag("percent"),
+        is_permille: matches.get_flag("permille"),
         grouping: matches.get_str("grouping"),
         sign: matches.get_str("sign"),
         chosen: digits_of(matches),
@@ -92,7 +93,7 @@ fn has_unit(asked: &NumbersAsked) -> bool
 {
     match asked.format.shape.unit {
         NumberUnit::None => false,
-        NumberUnit::Percent | NumberUnit::Currency(_) => true,
+        NumberUnit::Percent | NumberUnit::Permille | NumberUnit::Currency(_) => true,
     }
 }
 

@@ -98,6 +98,7 @@ fn numbers_by(skeleton: &str) -> Result<NumbersAsked, OptionFault> {
         is_accounting: false,
         is_by_code: false,
         is_percent: false,
+        is_permille: false,
         grouping: None,
         sign: None,
         chosen: DigitWords {

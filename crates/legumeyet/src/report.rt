@@ -324,7 +324,7 @@ pub fn tell_parts(rt: &HostRuntime, form: &str) -> u8
     ensures status { result ≡ 2 }
 {
     let _ = eprintln!(rt;
-        "error: --form {form} --parts: parts are for plain, short and long, --currency and --percent"
+        "error: --form {form} --parts: parts are for plain, short and long, --currency, --percent and --permille"
     );
     2
 }

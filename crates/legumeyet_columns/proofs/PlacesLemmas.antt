@@ -3,7 +3,7 @@ use Rattle.std.proofs.Common.{◌≡◌, ℕ, zero, suc, ◌<◌, List, [], ◌�
 use Rattle.std.specs.Prelude.{◌==◌, ◌||◌, is_some}
 use Rattle.std.proofs.lemmas.Bool.{false_from_ne_true}
 use Rattle.memchr.specs.Find.{IsFirstByte, is_byte}
-use Rattle.legumeyet_columns.specs.FieldTexts.{is_in_quotes}
+use Rattle.legumeyet_columns.specs.FieldTexts.{doubled, is_in_quotes}
 use Rattle.legumeyet_columns.specs.Places.{after, after_all, after_plain, field_length, has_quote, is_quoted, left_after, plain_length, rest_of}
 use Rattle.legumeyet_columns.specs.declared.dialect.Dialect.{Dialect}
 use Rattle.legumeyet_columns.specs.declared.dialect.Place.{Place}
@@ -103,3 +103,14 @@ quote_found (b ∷ bs) (suc n) below here = at_first (b == 34) refl (quote_found
 pub quote_search : (bytes : List ℕ) (found : Option ℕ) → IsFirstByte (is_byte 34) bytes found → is_some found ≡ has_quote bytes
 quote_search bytes None none = sym (no_quote_found bytes (λ k below. none k (omega arith) below))
 quote_search bytes (Some at) found = sym (quote_found bytes at found.0.high found.1)
+
+-- a text without quotes is the same, doubled
+pub doubled_plain : (text : List ℕ) → has_quote text ≡ false → doubled text ≡ text
+doubled_plain [] none = refl
+doubled_plain (b ∷ bs) none = at (b == 34) (has_quote bs) refl refl none (doubled_plain bs)
+  where
+    at : (q s : Bool) → (b == 34) ≡ q → has_quote bs ≡ s → (q || s) ≡ false → (has_quote bs ≡ false → doubled bs ≡ bs)
+        → doubled (b ∷ bs) ≡ b ∷ bs
+    at true s' q s e others = cc
+    at false true q s e others = cc
+    at false false q s e others = simp q (ap (λ r. b ∷ r) (others s))

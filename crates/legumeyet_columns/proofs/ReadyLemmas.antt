@@ -1,16 +1,16 @@
 -- A record in a reader's buffer: what a search for its line feed and the place after it tell.
-use Rattle.std.proofs.Common.{◌≡◌, ℕ, zero, suc, ◌+◌, ◌<◌, List, [], ◌∷◌, ◌++◌, Bool, true, false, length, get_or, take, drop, Option, None, Some, sym, ap, ◌∙◌, arith, add-one, append-nil}
-use Rattle.std.specs.Prelude.{◌==◌, if◌then◌else◌}
+use Rattle.std.proofs.Common.{◌≡◌, ℕ, zero, suc, ◌+◌, ◌<◌, List, [], ◌∷◌, ◌++◌, Bool, true, false, length, get_or, take, drop, Some, refl, sym, ap, ◌∙◌, arith, add-one, append-nil, eqb-true}
+use Rattle.std.specs.Prelude.{◌==◌, ◌||◌}
 use Rattle.std.specs.Io.BufRead.{drop_through, take_through}
-use Rattle.std.specs.Io.KnownBytes.{Appends, Keeps, prepend_known}
 use Rattle.std.proofs.lemmas.Bool.{false_from_ne_true}
 use Rattle.std.proofs.lemmas.List.{length-take-le}
-use Rattle.memchr.specs.Find.{IsFirstByte, is_byte}
+use Rattle.memchr.specs.Find.{IsFirstByte, is_byte, is_byte2}
 use Rattle.legumeyet_columns.specs.declared.dialect.Dialect.{Dialect}
 use Rattle.legumeyet_columns.specs.declared.dialect.Place.TheVariants.{Front}
-use Rattle.legumeyet_columns.specs.Places.{after_all, after_record, first_record, is_quoted, rest_of}
+use Rattle.legumeyet_columns.specs.Places.{after_all, after_record, first_record, has_quote, is_quoted, rest_of}
+use Rattle.legumeyet_columns.specs.RowsWritten.{is_open}
 use Rattle.legumeyet_columns.proofs.LinesLemmas.{first_by_line, left_by_line}
-use Rattle.legumeyet_columns.proofs.PlacesLemmas.{left_outside, rest_outside}
+use Rattle.legumeyet_columns.proofs.PlacesLemmas.{left_outside, no_quotes, rest_outside}
 
 -- the place of the first line feed
 record IsFeed (bytes : List ℕ) (at : ℕ) : Type 0 where
@@ -20,6 +20,27 @@ record IsFeed (bytes : List ℕ) (at : ℕ) : Type 0 where
 
 is_feed : (bytes : List ℕ) (at : ℕ) → IsFirstByte (is_byte 10) bytes (Some at) → IsFeed bytes at
 is_feed bytes at found = record { below = found.0.high; before = λ k l. found.0.before k (omega arith) l; here = found.1 }
+
+-- a line feed that a search for one or for a quote finds: no quote is in its line
+either_true : (a b : Bool) → b ≡ true → (a || b) ≡ true
+either_true true b e = refl
+either_true false b e = e
+
+no_quote_before : (bytes : List ℕ) (at : ℕ) → at < length bytes → ((k : ℕ) → k < at → ¬ ((get_or bytes k 0 == 34) ≡ true))
+    → (get_or bytes at 0 == 10) ≡ true → has_quote (take (suc at) bytes) ≡ false
+no_quote_before [] at below before here = absurd (omega arith)
+no_quote_before (b ∷ bs) zero below before here =
+    let other : (b == 34) ≡ false = ap (λ x. x == 34) (eqb-true b 10 here) in simp other
+no_quote_before (b ∷ bs) (suc n) below before here =
+    let other = false_from_ne_true (b == 34) (before 0 (omega arith)) in
+    simp other (no_quote_before bs n (omega arith) (λ k l. before (suc k) (omega arith)) here)
+
+pub plain_closed : (dialect : Dialect) (bytes : List ℕ) (at : ℕ) → IsFirstByte (is_byte2 10 34) bytes (Some at)
+    → (get_or bytes at 0 == 10) ≡ true → is_open dialect (take (at + 1) bytes) ≡ false
+plain_closed dialect bytes at found here =
+    ap (λ n. is_open dialect (take n bytes)) (add-one at)
+    ∙ no_quotes dialect (take (suc at) bytes) (no_quote_before bytes at found.0.high
+    (λ k below is. found.0.before k (omega arith) below (either_true (get_or bytes k 0 == 10) (get_or bytes k 0 == 34) is)) here)
 
 -- the line up to it, and what follows it
 taken : (bytes more : List ℕ) (at : ℕ) → IsFeed bytes at → take_through 10 (bytes ++ more) ≡ take (suc at) bytes
@@ -70,27 +91,3 @@ module _ (dialect : Dialect) (bytes row : List ℕ) (at : ℕ) (found : IsFirstB
       ∙ left_outside dialect _ _ (ap (λ l. is_quoted (after_all dialect Front l)) (line more) ∙ closed)
       ∙ dropped bytes more at (is_feed bytes at found)
       ∙ ap (λ n. drop n (bytes ++ more)) (sym (add-one at) ∙ sym ready_length)
-
--- the bytes that a reader has left begin with those in its buffer
-abbrev some_of : {A : Type 0} → A → Option A → A
-some_of other None = other
-some_of other (Some x) = x
-
-none_is_some : {A : Type 0} (x : A) → None ≡ Some x → ⊥
-none_is_some x e = cc
-
-pub buffered : (capacity : ℕ) (buffer bytes : List ℕ) (inner : Option (List ℕ))
-    → (if capacity == 0 then None else prepend_known buffer inner) ≡ Some bytes → (more : List ℕ) × (bytes ≡ buffer ++ more)
-buffered capacity buffer bytes inner = at (capacity == 0) inner
-  where
-    at : (b : Bool) (inner : Option (List ℕ)) → (if b then None else prepend_known buffer inner) ≡ Some bytes → (more : List ℕ) × (bytes ≡ buffer ++ more)
-    at true inner known = absurd (none_is_some bytes known)
-    at false None known = absurd (none_is_some bytes known)
-    at false (Some more) known = (more, sym (ap (some_of bytes) known))
-
--- what is kept and then grows grows
-pub kept_then : (before mid after : Option (List ℕ)) (bytes : List ℕ) → Keeps before mid → Appends mid after bytes → Appends before after bytes
-kept_then None mid after bytes kept more = tt
-kept_then (Some x) None after bytes kept more = absurd kept
-kept_then (Some x) (Some y) None bytes kept more = absurd more
-kept_then (Some x) (Some y) (Some z) bytes kept more = more ∙ ap (λ t. t ++ bytes) kept

@@ -3,6 +3,7 @@
 -- Cited by `put_row` and `put_rows`, and by the steps of them.
 use Rattle.std.specs.Prelude.{◌≡◌, ℕ, ◌<◌, Bool, false, ◌||◌, List, [], ◌∷◌, ◌++◌, length, Option, Some, if◌then◌else◌}
 use Rattle.std.specs.Io.KnownBytes.{Appends}
+use Rattle.std.specs.List.{list_any}
 use Rattle.legumeyet_columns.specs.FieldsWritten.{any_refused, field_written}
 use Rattle.legumeyet_columns.specs.Places.{after_all, after_record, fields_of, first_record, is_quoted, records_of}
 use Rattle.legumeyet_columns.specs.Records.{body_of, record_written}
@@ -56,3 +57,7 @@ module _ (asked : TableAsked) (is_chosen : ℕ → Bool) (said : ℕ → List �
   -- for the records of an input
   abbrev pub table_written : List ℕ → List ℕ
   table_written input = rows_written (records_of asked.dialect input)
+
+  -- whether something of them is refused
+  abbrev pub table_refused : List ℕ → Bool
+  table_refused input = list_any row_refused (records_of asked.dialect input)

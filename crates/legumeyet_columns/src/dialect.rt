@@ -41,7 +41,7 @@ impl Place {
 }
 
 // Whether there is a quote.
-fn has_quote(bytes: &[u8]) -> bool
+pub fn has_quote(bytes: &[u8]) -> bool
     ensures value { result ≡ has_quote bytes.now }
 {
     memchr(b'"', bytes).is_some()

@@ -14,28 +14,7 @@ use crate::texts::{is_in_quotes, unquoted};
 use crate::trimming::trimmed;
 use std::alloc::{AllocError, Global};
 
-// Puts a text that is said of a field, with spaces around it.
-fn put_padded_cell(
-    asked: &TableAsked,
-    field: &[u8],
-    text: &[u8],
-    padded: &mut Vec<u8>,
-    out: &mut Vec<u8>,
-) -> Result<bool, AllocError>
-    ensures text { IfOk result (λ is_put.
-        PutCell (said_cell asked.now field.now (Some text.now)) out.old.items out.new.items is_put) }
-{
-    padded.clear();
-    put_padded(asked.padding, text, padded)?;
-    put_text(
-        asked.dialect,
-        is_in_quotes(asked.dialect, field),
-        padded,
-        out,
-    )
-}
-
-// Puts a text that is said of a field, and returns whether it can be a field.
+// Puts a text that is said of a field, with spaces around it, and returns whether it can be a field.
 fn put_cell(
     asked: &TableAsked,
     field: &[u8],
@@ -46,10 +25,13 @@ fn put_cell(
     ensures text { IfOk result (λ is_put.
         PutCell (said_cell asked.now field.now (Some text.now)) out.old.items out.new.items is_put) }
 {
+    let was_in_quotes = is_in_quotes(asked.dialect, field);
     if asked.padding.width == 0 {
-        return put_text(asked.dialect, is_in_quotes(asked.dialect, field), text, out);
+        return put_text(asked.dialect, was_in_quotes, text, out);
     }
-    put_padded_cell(asked, field, text, padded, out)
+    padded.clear();
+    put_padded(asked.padding, text, padded)?;
+    put_text(asked.dialect, was_in_quotes, padded, out)
 }
 
 // Puts what is said of a text that is a field's and not blank, and returns whether it is not refused.

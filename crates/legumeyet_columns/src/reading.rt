@@ -1,9 +1,10 @@
 //! Records read one by one.
 
-ghost use Rattle.std.specs.Prelude.{◌≡◌, ◌≢◌, ◌+◌, ◌<◌, ◌≤◌, ℕ, List, Some, ◌++◌, true, false, IfOk, IfSome, OnOk, drop, length, if◌then◌else◌};
+ghost use Rattle.std.specs.Prelude.{◌≡◌, ◌≢◌, ◌+◌, ◌<◌, ◌≤◌, ℕ, List, Some, ◌++◌, true, false, IfOk, IfSome, OnOk, drop, length, take};
 ghost use Rattle.std.specs.Io.BufRead.{drop_through, take_through};
 ghost use Rattle.std.specs.Io.KnownBytes.{IsAtEnd};
 ghost use Rattle.std.specs.Io.Buffered.{reader_remaining};
+ghost use Rattle.memchr.specs.Find.{IsFirstByte, is_byte};
 ghost use Rattle.legumeyet_columns.specs.Marks.{mark_of, without_mark};
 ghost use Rattle.legumeyet_columns.specs.Places.{after_all, after_record, first_record, is_quoted, left_after, rest_of};
 ghost use Rattle.legumeyet_columns.specs.RowsWritten.{is_open};
@@ -11,7 +12,7 @@ ghost use Rattle.legumeyet_columns.specs.declared.dialect.Place.TheVariants.{Fro
 
 use crate::dialect::{Dialect, Place};
 use crate::fields::{tail, without_mark};
-use memchr::memchr;
+use memchr::{memchr, memchr2};
 use std::io::{self, BufRead, BufReader, Read};
 
 // What was read.
@@ -76,7 +77,23 @@ fn read_rest<R: Read>(
     Ok(Found::Record)
 }
 
-// The first record of bytes, where it ends in them.
+// Where the line feed of the first line of bytes is, where they have one and the line is a record.
+fn closing_feed(dialect: Dialect, bytes: &[u8]) -> Option<usize>
+    ensures feed { IfSome result (λ at. IsFirstByte (is_byte 10) bytes.now (Some at)) }
+    ensures closed { IfSome result (λ at. is_open dialect (take (at + 1) bytes.now) ≡ false) }
+{
+    let at = memchr2(b'\n', b'"', bytes)?;
+    if bytes[at] == b'\n' {
+        return Some(at);
+    }
+    let at = memchr(b'\n', bytes)?;
+    if dialect.place_after(&bytes[..at + 1]).is_quoted() {
+        return None;
+    }
+    Some(at)
+}
+
+// The first record of bytes, where it is a line of them.
 pub(crate) fn ready_record(dialect: Dialect, bytes: &[u8]) -> Option<&[u8]>
     ensures record { IfSome result (λ row. (more : List ℕ) → row.now ≡ first_record dialect Front (bytes.now ++ more)) }
     ensures left { IfSome result (λ row. (more : List ℕ)
@@ -85,12 +102,8 @@ pub(crate) fn ready_record(dialect: Dialect, bytes: &[u8]) -> Option<&[u8]>
     ensures bound { IfSome result (λ row. length row.now ≤ length bytes.now) }
     ensures closed { IfSome result (λ row. is_open dialect row.now ≡ false) }
 {
-    let at = memchr(b'\n', bytes)?;
-    let row = &bytes[..at + 1];
-    if dialect.place_after(row).is_quoted() {
-        return None;
-    }
-    Some(row)
+    let at = closing_feed(dialect, bytes)?;
+    Some(&bytes[..at + 1])
 }
 
 /// Reads a record into `row`, with the end of its line: `1,2` and a line feed.

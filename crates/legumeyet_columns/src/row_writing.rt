@@ -18,7 +18,7 @@ use std::alloc::{AllocError, Global};
 use std::io::Write;
 
 // Whether one or the other is so.
-fn either(one: bool, other: bool) -> bool
+pub fn either(one: bool, other: bool) -> bool
     ensures value { result ≡ (one || other) }
 {
     one || other

@@ -62,6 +62,7 @@ pub fn read_first_row<R: Read>(
         → (bytes : List ℕ) → reader_remaining R.remaining reader.old ≡ Some bytes
         → (row.new.items ≡ mark_of bytes ++ first_record dialect Front (without_mark bytes))
         × (reader_remaining R.remaining reader.new ≡ Some (after_record dialect Front (without_mark bytes)))) }
+    ensures some { IfOk result (λ is_there. is_there ≡ true → 0 < length row.new.items) }
 {
     match read_first_record(dialect, reader, row) {
         Ok(found) => found_row(1, found),

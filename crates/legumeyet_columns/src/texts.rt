@@ -3,7 +3,7 @@
 ghost use Rattle.std.specs.Prelude.{◌≡◌, ◌++◌, OnOk, IfOk, option_map};
 ghost use Rattle.legumeyet_columns.specs.FieldTexts.{doubled, in_quotes, is_in_quotes, undoubled, unquoted};
 
-use crate::dialect::Dialect;
+use crate::dialect::{Dialect, has_quote};
 use std::alloc::{AllocError, Global};
 
 /// Whether a field is in quotes: `"1,5"` is in CSV. It does not allocate.
@@ -49,6 +49,10 @@ pub fn unquoted(alloc: Global, field: &[u8]) -> Result<Option<Vec<u8>>, AllocErr
 fn put_doubled(text: &[u8], out: &mut Vec<u8>) -> Result<(), AllocError>
     ensures text { OnOk result (out.new.items ≡ out.old.items ++ doubled text.now) }
 {
+    if !has_quote(text) {
+        out.extend_from_slice(text)?;
+        return Ok(());
+    }
     for byte in text {
         if *byte == b'"' {
             out.push(b'"')?;

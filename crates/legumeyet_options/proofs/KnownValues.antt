@@ -109,6 +109,7 @@ nothing = record {
   is_accounting = false;
   is_by_code = false;
   is_percent = false;
+  is_permille = false;
   grouping = None;
   sign = None;
   chosen = record { is_in_cash = false; round = None; digits = None; max_digits = None; min_digits = None; significant = None; priority = None };
@@ -131,6 +132,9 @@ written unit rounding zeros least coarse = record {
 
 without_options : numbers_asked nothing ≡ Ok (written unit.None Usual Keep 0 false)
 without_options = refl
+
+permilles : numbers_asked (record nothing { is_permille = true }) ≡ Ok (written unit.Permille Usual Keep 0 false)
+permilles = refl
 
 amount_by_code : numbers_asked (record nothing { currency = Some (codes "EUR"); is_by_code = true })
     ≡ Ok (written (unit.Currency (record { code = codes "EUR"; style = style.Standard; width = width.IsoCode })) Usual Keep 0 false)

@@ -40,6 +40,7 @@ pub record NumbersSaid : Type 0 where
   pub is_accounting : Bool
   pub is_by_code : Bool
   pub is_percent : Bool
+  pub is_permille : Bool
   pub grouping : Option (List ℕ)
   pub sign : Option (List ℕ)
   pub chosen : DigitsSaid
@@ -53,6 +54,7 @@ numbers_said w = record {
   is_accounting = w.is_accounting;
   is_by_code = w.is_by_code;
   is_percent = w.is_percent;
+  is_permille = w.is_permille;
   grouping = option_map (λ word. word.now) w.grouping;
   sign = option_map (λ word. word.now) w.sign;
   chosen = words_of w.chosen;
@@ -78,10 +80,10 @@ abbrev pub sign_asked : Option (List ℕ) → Result SignAsked OptionFault
 sign_asked None = Ok sign.Keep
 sign_asked (Some word) = named_or fault.Sign (sign_named word)
 
--- an amount, a percent, or neither
-abbrev pub unit_asked : Option (List ℕ) → Bool → Bool → Bool → Result NumberUnit OptionFault
-unit_asked None accounting by_code percent = Ok (if percent then unit.Percent else unit.None)
-unit_asked (Some code) accounting by_code percent =
+-- an amount, a percent, a permille, or none
+abbrev pub unit_asked : Option (List ℕ) → Bool → Bool → Bool → Bool → Result NumberUnit OptionFault
+unit_asked None accounting by_code percent permille = Ok (if percent then unit.Percent else if permille then unit.Permille else unit.None)
+unit_asked (Some code) accounting by_code percent permille =
     if is_currency_code code then Ok (unit.Currency (record {
       code = code;
       style = if accounting then style.Accounting else style.Standard;
@@ -118,7 +120,7 @@ after (Err fault) next = Err fault
 abbrev pub words_asked : NumbersSaid → Result NumbersAsked OptionFault
 words_asked s =
     after (form_asked s.form) (λ form.
-    after (unit_asked s.currency s.is_accounting s.is_by_code s.is_percent) (λ unit.
+    after (unit_asked s.currency s.is_accounting s.is_by_code s.is_percent s.is_permille) (λ unit.
     after (grouping_asked s.grouping) (λ grouping.
     after (sign_asked s.sign) (λ sign.
     after (digits_said s.chosen) (λ options.

@@ -48,8 +48,8 @@ Money and percents:
   does not know is written by itself. The amount is rounded to the digits of the currency, half to
   even, or with --cash to what is paid in cash, or as an option of digits says. --accounting is for
   accounts: ($5.00). --code writes EUR in place of €. --percent writes a number as it is given: 12.5 is
-  12.5%. With either of these --read takes a text with the unit on either side, with its code or
-  without.
+  12.5%, with --permille 12.5‰. With any of these --read takes a text with the unit on either side,
+  with its code or without.
 
 Digits:
   --digits 2 shows two digits after the point; --max-digits 2 two at most, and none that is not
@@ -77,10 +77,10 @@ Skeletons:
 
 Lines:
   A line of --lines has six fields with tabs between: tag, form, grouping, sign, rounding and number.
-  The first five have the words of the options. Further forms are percent and, of amounts in euros,
-  currency-EUR, accounting-EUR and code-EUR, each with read- or read-lenient- before it where a text
-  is read, and ::SKELETON. plural and ordinal tell plural categories, range-plural that of a range as
-  1..5, each with ::SKELETON behind it or without. The rounding is -, cash, or all three words of
+  The first five have the words of the options. Further forms are percent, permille and, of amounts in
+  euros, currency-EUR, accounting-EUR and code-EUR, each with read- or read-lenient- before it where a
+  text is read, and ::SKELETON. plural and ordinal tell plural categories, range-plural that of a range
+  as 1..5, each with ::SKELETON behind it or without. The rounding is -, cash, or all three words of
   --round, in which f0-2 is two digits at most, or s1-3,half-even for three significant ones at most;
   with - only amounts are rounded, to the digits of their currency. The answer to a line is ok, a tab
   and the text, for short and long also a tab and the value that is shown; or err, a tab and the

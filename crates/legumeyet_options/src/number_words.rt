@@ -31,6 +31,8 @@ pub struct NumberWords<'a> {
     pub is_by_code: bool,
     /// Whether `--percent` is.
     pub is_percent: bool,
+    /// Whether `--permille` is.
+    pub is_permille: bool,
     /// That of `--grouping`: `min2`.
     pub grouping: Option<&'a str>,
     /// That of `--sign`: `always`.
@@ -163,18 +165,21 @@ fn sign_asked(word: Option<&str>) -> Result<SignAsked, OptionFault>
     }
 }
 
-// What `--currency` and the options beside it ask, or `--percent`.
+// What `--currency` and the options beside it ask, or `--percent` or `--permille`.
 fn unit_asked(
     code: Option<&str>,
     accounting: bool,
     by_code: bool,
     percent: bool,
+    permille: bool,
 ) -> Result<NumberUnit, OptionFault>
-    ensures { result ≡ unit_asked (option_map (λ word. word.now) code.entry) accounting by_code percent }
+    ensures { result ≡ unit_asked (option_map (λ word. word.now) code.entry) accounting by_code percent permille }
 {
     let Some(code) = code else {
         return Ok(if percent {
             NumberUnit::Percent
+        } else if permille {
+            NumberUnit::Permille
         } else {
             NumberUnit::None
         });
@@ -302,6 +307,7 @@ impl NumberWords<'_> {
             self.is_accounting,
             self.is_by_code,
             self.is_percent,
+            self.is_permille,
         )?;
         let grouping = grouping_asked(self.grouping)?;
         let sign = sign_asked(self.sign)?;

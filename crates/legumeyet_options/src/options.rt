@@ -156,7 +156,7 @@ fn currency<'a>(alloc: Global) -> Result<Arg<'a>, AllocError> {
 // without a currency is named.
 fn of_amounts<'a>(option: Arg<'a>) -> Result<Arg<'a>, AllocError> {
     let option = option.requires_arg("currency")?;
-    without(option, &["form", "format", "percent"])
+    without(option, &["form", "format", "percent", "permille"])
 }
 
 fn accounting<'a>(alloc: Global) -> Result<Arg<'a>, AllocError> {
@@ -195,6 +195,14 @@ fn percent<'a>(alloc: Global) -> Result<Arg<'a>, AllocError> {
         .action(ArgAction::SetTrue)
         .help("Writes percents: 12.5 is 12.5% in English");
     without(option, &["form", "format", "currency"])
+}
+
+fn permille<'a>(alloc: Global) -> Result<Arg<'a>, AllocError> {
+    let option = Arg::new(alloc, "permille")
+        .long("permille")
+        .action(ArgAction::SetTrue)
+        .help("Writes permilles: 12.5 is 12.5‰ in English");
+    without(option, &["form", "format", "currency", "percent"])
 }
 
 fn plural<'a>(alloc: Global) -> Result<Arg<'a>, AllocError> {
@@ -324,7 +332,7 @@ fn book<'a>(alloc: Global) -> Arg<'a> {
 }
 
 // The options that say which numbers and texts are written or read, and how.
-static OF_NUMBERS: [&str; 28] = [
+static OF_NUMBERS: [&str; 29] = [
     "numbers",
     "tag",
     "form",
@@ -342,6 +350,7 @@ static OF_NUMBERS: [&str; 28] = [
     "code",
     "cash",
     "percent",
+    "permille",
     "plural",
     "ordinal",
     "read",
@@ -417,13 +426,14 @@ fn put_forms<'a>(alloc: Global, args: &mut Vec<Arg<'a>>) -> Result<(), AllocErro
     put(args, format(alloc))
 }
 
-// Puts those of amounts and percents.
+// Puts those of amounts, percents and permilles.
 fn put_units<'a>(alloc: Global, args: &mut Vec<Arg<'a>>) -> Result<(), AllocError> {
     put(args, currency(alloc))?;
     put(args, accounting(alloc))?;
     put(args, code(alloc))?;
     put(args, cash(alloc))?;
-    put(args, percent(alloc))
+    put(args, percent(alloc))?;
+    put(args, permille(alloc))
 }
 
 // Puts those of groups, signs and digits of a fraction.
