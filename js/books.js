@@ -2,6 +2,7 @@
 import { LoadError, NONE, age, begun, calls, expected, got, inside, put, written } from "./instance.js";
 import { Open, closeHandle, handleOf, isOpen, openHandle } from "./open.js";
 import { forget } from "./sharing.js";
+import { listed } from "./tags.js";
 
 const { at: atOf } = Open;
 
@@ -51,6 +52,12 @@ export class Book extends Open {
     return written(atOf(this), calls.js_book_answer, NONE, typeof line === "string" ? line : plain(Uint8Array, line));
   }
 
+  /** The tag of the locale whose symbols the book has for a tag: of the world's book `de` for `de-XX`, which falls back to it, and `de-AT` for `de-AT`. */
+  foundLocale(tag) {
+    const [text] = listed(tag);
+    return written(atOf(this), calls.js_book_found_locale, NONE, text);
+  }
+
   /** The tags of the locales that the book has symbols of, in its order. Others have the tables of their parents. */
   locales() {
     const at = atOf(this);
@@ -85,8 +92,10 @@ function openBook(source, handle) {
 /**
  * Calls with where the book is. Of one that was closed since, which a formatter is opened from again, another is opened meanwhile; where it is
  * kept, once for each instance, since its memory is never given back.
+ * @template T
  * @param {Source} source
- * @param {(at: number) => void} use
+ * @param {(at: number) => T} use
+ * @returns {T}
  */
 export function withBook(source, use) {
   const handle = source.handle.at === 0 ? (source.other ??= handleOf(source.handle.close)) : source.handle;
@@ -98,6 +107,16 @@ export function withBook(source, use) {
   } finally {
     if (handle === source.other && !source.isKept) closeHandle(handle);
   }
+}
+
+/**
+ * What `Book.foundLocale` tells, of what a book is opened from, as that of the world.
+ * @param {Source} source
+ * @param {string} tag
+ * @returns {string}
+ */
+export function foundLocale(source, tag) {
+  return withBook(source, (at) => written(at, calls.js_book_found_locale, NONE, tag));
 }
 
 // The book inside a module of pages.

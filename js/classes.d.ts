@@ -139,6 +139,8 @@ export class Book extends Open {
   keep(): this;
   /** The answer to a request line, a text or its bytes. */
   answer(line: string | Uint8Array): string;
+  /** The tag of the locale whose symbols the book has for a tag: of the world's book `de` for `de-XX`, which falls back to it, and `de-AT` for `de-AT`. */
+  foundLocale(tag: string | Intl.Locale): string;
   /** The tags of the locales that the book has symbols of, in its order. Others have the tables of their parents. */
   locales(): string[];
 }
@@ -263,11 +265,11 @@ export interface ResolvedNumberFormatOptions {
 }
 
 export interface NumberFormatPart {
-  type: Part["type"] | "compact";
+  type: Part["type"] | "compact" | "nan" | "infinity";
   value: string;
 }
 
-/** Writes numbers as `Intl.NumberFormat` does. A number that is not finite, and a text that is no number, is refused by a RangeError. */
+/** Writes numbers as `Intl.NumberFormat` does, NaN and infinity too. */
 export interface NumberFormat {
   /** The text of a number. It may be handed on without its object: `numbers.map(german.format)`. */
   readonly format: (value: Num) => string;
@@ -302,6 +304,8 @@ export interface PluralRulesOptions extends OpeningOptions, Omit<DecimalCallOpti
   notation?: "standard" | "compact";
   /** `short` without it, of compact numbers. */
   compactDisplay?: "short" | "long";
+  /** Changes nothing. */
+  localeMatcher?: "lookup" | "best fit";
 }
 
 export type ResolvedPluralRulesOptions = Omit<PluralRulesOptions, "book" | "fallback"> & {

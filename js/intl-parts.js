@@ -46,3 +46,11 @@ export function intlParts(parts, number) {
   }
   return found;
 }
+
+const OF_DIGITS = ["integer", "group", "decimal", "fraction"];
+
+/** The parts of a number with one part in the place of its digits. */
+export function withSymbol(parts, type, value) {
+  const first = parts.findIndex((it) => OF_DIGITS.includes(it.type));
+  return parts.flatMap((it, at) => (at === first ? [{ type, value }] : OF_DIGITS.includes(it.type) ? [] : [it]));
+}

@@ -6,8 +6,9 @@ import { hasWorld } from "./books.js";
 import { FieldText, History, plainOf } from "./field.js";
 import { compare, neighbours, padded, plus } from "./field-decimals.js";
 import { MESSAGES, languageOf } from "./field-messages.js";
+import { directionOf } from "./tags.js";
 
-const RIGHT_TO_LEFT = new Set(["Adlm", "Arab", "Hebr", "Mand", "Nkoo", "Rohg", "Samr", "Syrc", "Thaa", "Yezi"]);
+export { directionOf };
 const OPENING = ["locale", "currency", "percent"];
 const JUDGING = ["required", "min", "max", "step", ...Object.keys(MESSAGES.en).map((it) => `${it}-message`)];
 const NAMING = ["aria-label", "aria-labelledby", "aria-describedby"];
@@ -31,11 +32,6 @@ const SHEET = new CSSStyleSheet();
 SHEET.replaceSync(STYLE);
 // Where the library does not load a field can be typed into, and says why no text is a number.
 const library = hasWorld() ? formatters : await import("./index.js").catch((error) => ({ error }));
-
-/** The direction in which a locale is written: `rtl` or `ltr`. */
-export function directionOf(locale) {
-  return RIGHT_TO_LEFT.has(new Intl.Locale(locale).maximize().script) ? "rtl" : "ltr";
-}
 
 // A tag, those of its parents and that of English, for the first that has tables.
 function tagsOf(locale) {

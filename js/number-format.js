@@ -1,9 +1,10 @@
 // NumberFormat, which stands in for Intl.NumberFormat: its options, defaults, calls and errors, over the formatters of the library. What these cannot
-// write is refused by its name.
+// write is refused by its name; but NaN and infinity, which are no numbers to them, are written here.
 import { CompactDecimalFormatter, CurrencyFormatter, DecimalFormatter, PercentFormatter, isWithoutTables } from "./formatters.js";
 import { readMatcher, readNumberFormat } from "./intl-options.js";
-import { intlParts } from "./intl-parts.js";
+import { intlParts, withSymbol } from "./intl-parts.js";
 import { intlDigits, timesHundred } from "./intl-numbers.js";
+import { INFINITY, NAN } from "./specials.js";
 import { canonicalTags, isUndetermined, machineTag } from "./tags.js";
 
 const COUNTS = ["minimumIntegerDigits", "minimumFractionDigits", "maximumFractionDigits", "minimumSignificantDigits", "maximumSignificantDigits"];
@@ -19,6 +20,7 @@ const ZEROS =
   "onao:1e5f1 orya:b66 osma:104a0 outlined:1ccf0 rohg:10d30 saur:a8d0 segment:1fbf0 shrd:111d0 sind:112f0 sinh:de6 sora:110f0 sund:1bb0 sunu:11bf0 " +
   "takr:116c0 talu:19d0 tamldec:be6 telu:c66 thai:e50 tibt:f20 tirh:114d0 tnsa:16ac0 tols:11de0 vaii:a620 wara:118e0 wcho:1e2f0";
 const SYSTEMS = new Map(Array.from(ZEROS.matchAll(/(\w+):(\w+)/g), ([, name, zero]) => [name, String.fromCodePoint(parseInt(zero, 16))]));
+const WITHOUT_LETTERS = ["XXX", "EUR"]; // currencies whose symbols, `¤` and `€`, have no letter, each in most locales
 const LEGACY = Symbol("IntlLegacyConstructedSymbol");
 
 function refused(what) {
@@ -60,6 +62,8 @@ function withOneZero({ formatter, resolved }, digits) {
   const isRoundedToZero = resolved.roundingIncrement > 1 && Math.abs(Number(digits)) >= 10 && !/[1-9]/.test(formatter.shown(digits));
   return isRoundedToZero ? digits.replace(/[\d.].*/, "1") : digits;
 }
+
+const textOf = (parts) => parts.map(({ value }) => value).join("");
 
 // What is made of a tag; null where there are no tables for it.
 function madeOf(make, tag) {
@@ -115,6 +119,45 @@ function partsBeside({ formatter, tag, resolved }, digits) {
   return new DecimalFormatter(tag, { useGrouping: groupingOf(resolved), signDisplay: "never" }).formatToParts(significand);
 }
 
+// The first symbol of those that a locale has a key of.
+function symbolOf(table, tag, system, usual) {
+  const { baseName } = new Intl.Locale(tag);
+  const { language, script } = new Intl.Locale(baseName).maximize();
+  const own = [`${language}-${script}-${system}`, baseName, `${language}-${script}`].find((it) => Object.hasOwn(table, it));
+  return own === undefined ? usual : table[own];
+}
+
+// Where what is between the unit and a part of another type begins and ends.
+function betweenOf(parts, type) {
+  const [first, last] = ["currency", type].map((it) => parts.findIndex((part) => part.type === it)).sort((one, other) => one - other);
+  return { start: first + 1, end: last, isUnitFirst: parts[first].type === "currency" };
+}
+
+/**
+ * The parts of NaN or infinity: those of a number with its sign, 0 for NaN, and a symbol in the place of the digits. Neither is rounded or compact.
+ * CLDR's space between digits and a letter of a currency's symbol is not there: what is between both is that of a currency without a letter.
+ * @param {{ formatter: any, tag: string, resolved: Record<string, any> }} opened
+ * @param {number} number
+ */
+function specialParts({ formatter, tag, resolved: { style, currency, currencySign, currencyDisplay, signDisplay } }, number) {
+  const system = systemOf(formatter);
+  const [type, symbol] = Number.isNaN(number) ? ["nan", symbolOf(NAN, tag, system, "NaN")] : ["infinity", symbolOf(INFINITY, tag, system, "∞")];
+  const partsOf = (more) => {
+    const like = formatterOf(tag, { style, currencySign, signDisplay, useGrouping: false, notation: "standard", ...more });
+    return withSymbol(intlParts(like.formatToParts(String(Math.sign(number) || 0))), type, symbol);
+  };
+  const own = partsOf({ currency, currencyDisplay });
+  if (!own.some((it) => it.type === "currency")) return own;
+  const place = betweenOf(own, type);
+  for (const it of WITHOUT_LETTERS) {
+    const parts = partsOf({ currency: it, currencyDisplay: "symbol" });
+    const { start, end, isUnitFirst } = betweenOf(parts, type);
+    const isLetter = /\p{L}/u.test(parts[isUnitFirst ? start - 1 : end].value);
+    if (isUnitFirst === place.isUnitFirst && !isLetter) return [...own.slice(0, place.start), ...parts.slice(start, end), ...own.slice(place.end)];
+  }
+  return own;
+}
+
 function isSupported(tag) {
   const { baseName } = new Intl.Locale(tag);
   return !isUndetermined(baseName) && madeOf((it) => new DecimalFormatter(it), baseName) !== null;
@@ -156,11 +199,11 @@ export function numberFormatOver(Engine) {
       return this.#other[name](...values);
     }
 
-    // Runs what writes digits; what these are no digits for, as NaN, is written otherwise.
-    #written(value, name, write) {
+    // Runs what writes digits, or what writes the parts of NaN or infinity.
+    #written(value, name, write, writeParts) {
       const { resolved } = this.#opened;
       const digits = intlDigits(value);
-      if (typeof digits === "number") return this.#otherwise(String(digits), name, [digits]);
+      if (typeof digits === "number") return writeParts(specialParts(this.#opened, digits));
       try {
         return write(withOneZero(this.#opened, resolved.style === "percent" ? timesHundred(digits) : digits));
       } catch (error) {
@@ -175,7 +218,7 @@ export function numberFormatOver(Engine) {
       if (!NumberFormat.#isOwn(it)) return Reflect.get(Engine.prototype, "format", it);
       if (it.#bound !== undefined) return it.#bound;
       const { format } = it.#opened.formatter;
-      it.#bound = (value) => it.#written(value, "format", format);
+      it.#bound = (value) => it.#written(value, "format", format, textOf);
       return it.#bound;
     }
 
@@ -185,7 +228,7 @@ export function numberFormatOver(Engine) {
       const { formatter, resolved } = this.#opened;
       return this.#written(value, "formatToParts", (digits) => {
         return intlParts(formatter.formatToParts(digits), resolved.notation === "compact" ? partsBeside(this.#opened, digits) : undefined);
-      });
+      }, (parts) => parts);
     }
 
     /** The text of a range. */
@@ -202,7 +245,9 @@ export function numberFormatOver(Engine) {
 
     #ranged(name, start, end) {
       if (start === undefined || end === undefined) throw new TypeError("a range has two ends");
-      return this.#otherwise(name, name, [start, end]);
+      const ends = [start, end].map(intlDigits);
+      if (ends.some(Number.isNaN)) throw new RangeError("a range has no end that is no number");
+      return this.#otherwise(name, name, ends);
     }
 
     /** The options, as they were given or as they are without, with the locale and the numbering system that were found. */

@@ -33,7 +33,7 @@ const UNPLACED = { compact: ["roundingMode"], standard: ["roundingMode", "roundi
 // The kinds of numbers that a skeleton may ask for beside plain ones, by a word that it then has.
 const OF_SKELETONS = {
   compact: (word) => ["K", "KK", "compact-short", "compact-long"].includes(word), currency: (word) => word.startsWith("currency/"),
-  percent: (word) => word === "%" || word === "percent",
+  percent: (word) => ["%", "percent", "permille"].includes(word),
 };
 
 /** Whether a rounding looks at halves, and else takes the nearest. */

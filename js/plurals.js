@@ -8,6 +8,7 @@ import { AS_IT_IS, howFor } from "./rounding.js";
 
 const TYPES = { cardinal: 1, ordinal: 2 };
 const NOTATIONS = { standard: 0, compact: 1 };
+const MATCHERS = { lookup: 0, "best fit": 1 }; // of which neither changes anything
 const OF_RULES = ["type", "notation", "compactDisplay"];
 const DIGITS = OF_DIGITS.filter((it) => !["signDisplay", "position"].includes(it));
 // What Intl has where no option says it, and of compact numbers, whose digits no option says.
@@ -49,7 +50,8 @@ function compactBy(options) {
  * @returns {import("./options.js").Opening}
  */
 function openingOf(options) {
-  checked(options, [...HOW_OPENED, ...OF_RULES, ...DIGITS], "");
+  checked(options, [...HOW_OPENED, "localeMatcher", ...OF_RULES, ...DIGITS], "");
+  chosen(options, "localeMatcher", MATCHERS, "best fit");
   const type = chosen(options, "type", TYPES, "cardinal");
   const form = chosen(options, "notation", NOTATIONS, "standard");
   const width = chosen(options, "compactDisplay", WIDTHS, "short");

@@ -1,5 +1,6 @@
 // The tags of locales that a caller asks for.
 const { NumberFormat: Engine } = Intl; // that of the engine, also where `legumeyet/polyfill` has another in its place
+const RIGHT_TO_LEFT = new Set(["Adlm", "Arab", "Hebr", "Mand", "Nkoo", "Rohg", "Samr", "Syrc", "Thaa", "Yezi"]);
 
 function isLocale(it) {
   return typeof it === "string" || it instanceof Intl.Locale;
@@ -53,4 +54,9 @@ export function isTag(text) {
   } catch {
     return false;
   }
+}
+
+/** The direction in which a locale is written: `rtl` or `ltr`. */
+export function directionOf(locale) {
+  return RIGHT_TO_LEFT.has(new Intl.Locale(locale).maximize().script) ? "rtl" : "ltr";
 }

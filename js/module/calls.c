@@ -37,6 +37,7 @@ number legumeyet_book_keep(handle *);
 number legumeyet_book_answer(handle *, const u8 *, u64, TEXT);
 number legumeyet_book_locale_count(handle *, u64 *);
 number legumeyet_book_locale(handle *, u64, TEXT);
+number legumeyet_book_found_locale(handle *, const u8 *, u64, TEXT);
 number legumeyet_answers_open(handle *, u64, handle *);
 number legumeyet_answers_close(handle *);
 number legumeyet_answers_answer(handle *, const u8 *, u64, TEXT, u64 *, u64 *);
@@ -190,6 +191,7 @@ number js_book_locale_count(handle *it) {
     return error ? -error : (number)count;
 }
 number js_book_locale(handle *it, u32 index) { WRITTEN(legumeyet_book_locale(it, index, OUT)) }
+number js_book_found_locale(handle *it, u32 n) { WRITTEN(legumeyet_book_found_locale(it, text_in(), n, OUT)) }
 void js_book_close(handle *it) {
     legumeyet_book_close(it);
     free(it);

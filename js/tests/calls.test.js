@@ -269,8 +269,13 @@ test("locales of a book", () => {
   const book = new Book(JSON_OF_ONE);
   assert.deepEqual(book.locales(), ["xx"]);
   assert.deepEqual(new Book("[[],[],[],[],[]]").locales(), []);
+  assert.deepEqual([book.foundLocale("XX-u-nu-thai"), book.foundLocale(new Intl.Locale("xx"))], ["xx", "xx"]);
+  refuses(ErrorNumber.TAG, () => book.foundLocale("x"));
+  refuses(ErrorNumber.TABLE, () => book.foundLocale("yy"));
+  assert.throws(() => book.foundLocale(5), TypeError);
   book.close();
   refuses(ErrorNumber.CLOSED, () => book.locales());
+  refuses(ErrorNumber.CLOSED, () => book.foundLocale("xx"));
 });
 
 test("books", () => {

@@ -2,21 +2,36 @@
 import assert from "node:assert/strict";
 import { createRequire } from "node:module";
 import { test } from "node:test";
-import { DecimalFormatter, ErrorNumber, LegumeyetError, NumberFormat } from "legumeyet";
+import { DecimalFormatter, ErrorNumber, LegumeyetError, NumberFormat as Own } from "legumeyet";
 
+// Node 20 and later have the options that are read here.
+const isNew = Number(process.versions.node.split(".")[0]) >= 20;
 const IN_ORDER = [
   "localeMatcher", "numberingSystem", "style", "currency", "currencyDisplay", "currencySign", "unit", "unitDisplay", "notation", "minimumIntegerDigits", "minimumFractionDigits", "maximumFractionDigits",
   "minimumSignificantDigits", "maximumSignificantDigits", "roundingIncrement", "roundingMode", "roundingPriority", "trailingZeroDisplay", "compactDisplay", "useGrouping", "signDisplay",
 ];
-const resolved = (options, locales = "en") => new NumberFormat(locales, options).resolvedOptions();
-const text = (number, options = {}, locales = "en") => new NumberFormat(locales, options).format(number);
+
+// A class with what the rows ask of it.
+const kindOf = (NumberFormat) => ({
+  NumberFormat, isOwn: NumberFormat === Own, resolved: (options, locales = "en") => new NumberFormat(locales, options).resolvedOptions(),
+  text: (number, options = {}, locales = "en") => new NumberFormat(locales, options).format(number),
+});
+
+/**
+ * Tries the library's class, and by the same rows that of Node. Its V8 reads and tells the options in the order of an earlier edition, which takes 20 fraction
+ * digits, and it forgets the numbering system of a tag beside an option that there is no system of: `isOwn` leaves these rows to the library's class.
+ */
+function each(name, run) {
+  test(name, () => run(kindOf(Own)));
+  test(`${name}, in Node`, { skip: !isNew }, () => run(kindOf(Intl.NumberFormat)));
+}
 
 // Each error is of the constructor itself, and no LegumeyetError.
 function throwsOwn(wanted, call, said) {
   assert.throws(call, (error) => error.constructor === wanted, said);
 }
 
-test("a class as Intl has it", () => {
+each("a class as Intl has it", ({ NumberFormat }) => {
   assert.equal(typeof NumberFormat, "function");
   assert.deepEqual([NumberFormat.length, NumberFormat.name], [0, "NumberFormat"]);
   const fixed = { writable: false, enumerable: false, configurable: false };
@@ -39,7 +54,7 @@ test("a class as Intl has it", () => {
   for (const name of ["formatToParts", "resolvedOptions", "formatRange"]) assert.throws(() => new prototype[name](), TypeError);
 });
 
-test("with new and without", () => {
+each("with new and without", ({ NumberFormat }) => {
   for (const it of [NumberFormat("de"), new NumberFormat("de"), NumberFormat.call(undefined, "de"), NumberFormat.call({}, "de"), Reflect.apply(NumberFormat, Intl, ["de"])]) {
     assert.ok(it instanceof NumberFormat);
     assert.equal(Object.getPrototypeOf(it), NumberFormat.prototype);
@@ -75,6 +90,7 @@ test("with new and without", () => {
 });
 
 test("options are read once, in order", () => {
+  const { NumberFormat } = kindOf(Own);
   const log = [];
   const options = new Proxy({}, { get: (_, name) => void log.push(name), has: () => assert.fail("asked"), ownKeys: () => assert.fail("listed"), getOwnPropertyDescriptor: () => assert.fail("described") });
   new NumberFormat("en", options);
@@ -95,6 +111,7 @@ test("options are read once, in order", () => {
 });
 
 test("a wrong option ends the reading where it is looked at", () => {
+  const { NumberFormat } = kindOf(Own);
   const ends = { localeMatcher: "x", numberingSystem: "x", style: "x", currency: "x", currencyDisplay: "x", currencySign: "x", unit: "x", unitDisplay: "x", notation: "x", minimumIntegerDigits: 0, roundingIncrement: 3, roundingMode: "x", roundingPriority: "x", trailingZeroDisplay: "x", compactDisplay: "x", useGrouping: "x", signDisplay: "x" };
   for (const [name, value] of Object.entries(ends)) {
     const read = [];
@@ -109,7 +126,7 @@ test("a wrong option ends the reading where it is looked at", () => {
   }
 });
 
-test("words that there are not", () => {
+each("words that there are not", ({ NumberFormat }) => {
   const rows = {
     localeMatcher: ["", "best", "Lookup", null, 5], style: ["", "Decimal", "number", null], currencyDisplay: ["", "Symbol", "never", null], currencySign: ["", "account", true], unitDisplay: ["", "wide", null],
     notation: ["", "Compact", "simple"], compactDisplay: ["", "Short", "narrow"], signDisplay: ["", "plus", "keep", null], roundingMode: ["", "halfDown", "up"], roundingPriority: ["", "more"], trailingZeroDisplay: ["", "never", "lessPrecision"],
@@ -125,9 +142,9 @@ test("words that there are not", () => {
   throwsOwn(TypeError, () => new NumberFormat("en", { style: { toString: null, valueOf: null } }));
 });
 
-test("what are words and numbers by conversion", () => {
+each("what are words and numbers by conversion", ({ NumberFormat, isOwn, resolved }) => {
   const said = (value) => ({ toString: () => value, valueOf: () => assert.fail("valueOf") });
-  assert.deepEqual(resolved({ style: said("percent"), signDisplay: new String("always"), numberingSystem: said("THAI"), maximumFractionDigits: "2", minimumFractionDigits: 1.9 }), { ...resolved(), numberingSystem: "thai", style: "percent", minimumFractionDigits: 1, maximumFractionDigits: 2, signDisplay: "always" });
+  assert.deepEqual(resolved({ style: said("percent"), signDisplay: new String("always"), numberingSystem: said(isOwn ? "THAI" : "thai"), maximumFractionDigits: "2", minimumFractionDigits: 1.9 }), { ...resolved(), numberingSystem: "thai", style: "percent", minimumFractionDigits: 1, maximumFractionDigits: 2, signDisplay: "always" });
   assert.equal(resolved({ minimumIntegerDigits: true }).minimumIntegerDigits, 1);
   assert.equal(resolved({ maximumFractionDigits: null }).maximumFractionDigits, 0);
   assert.equal(resolved({ minimumIntegerDigits: { valueOf: () => 3 } }).minimumIntegerDigits, 3);
@@ -137,14 +154,14 @@ test("what are words and numbers by conversion", () => {
     for (const value of [NaN, Infinity, -1, "x", {}, 101, "Infinity"]) throwsOwn(RangeError, () => new NumberFormat("en", { [name]: value }), `${name} ${String(value)}`);
     throwsOwn(TypeError, () => new NumberFormat("en", { [name]: 1n }), name);
   }
-  for (const [name, most] of [["minimumIntegerDigits", 21], ["minimumFractionDigits", 100], ["maximumFractionDigits", 100], ["minimumSignificantDigits", 21], ["maximumSignificantDigits", 21]]) {
+  for (const [name, most] of [["minimumIntegerDigits", 21], ["minimumFractionDigits", isOwn ? 100 : 20], ["maximumFractionDigits", isOwn ? 100 : 20], ["minimumSignificantDigits", 21], ["maximumSignificantDigits", 21]]) {
     assert.equal(resolved({ [name]: most })[name], most);
     throwsOwn(RangeError, () => new NumberFormat("en", { [name]: most + 1 }), name);
   }
   for (const name of ["minimumSignificantDigits", "maximumSignificantDigits"]) throwsOwn(RangeError, () => new NumberFormat("en", { [name]: 0 }), name);
 });
 
-test("options that are no object", () => {
+each("options that are no object", ({ NumberFormat, resolved }) => {
   for (const none of [undefined, {}, Object.create(null), [], 5, "x", true, Symbol("x"), 1n, () => {}]) assert.deepEqual(new NumberFormat("en", none).resolvedOptions(), resolved());
   throwsOwn(TypeError, () => new NumberFormat("en", null));
   throwsOwn(TypeError, () => NumberFormat.supportedLocalesOf("en", null));
@@ -160,7 +177,7 @@ test("options that are no object", () => {
   }
 });
 
-test("locales", () => {
+each("locales", ({ NumberFormat, resolved }) => {
   const machine = new Intl.NumberFormat().resolvedOptions().locale;
   for (const none of [undefined, [], {}, 5, true, "xx", ["xx", "tlh"], "und", "und-Latn"]) assert.equal(new NumberFormat(none).resolvedOptions().locale, machine, String(none));
   for (const wrong of [null, [5], [null], [undefined]]) throwsOwn(TypeError, () => new NumberFormat(wrong), String(wrong));
@@ -178,13 +195,13 @@ test("locales", () => {
   throwsOwn(RangeError, () => NumberFormat.supportedLocalesOf("de_DE"));
 });
 
-test("numbering systems", () => {
+each("numbering systems", ({ NumberFormat, isOwn, resolved, text }) => {
   const rows = [
     ["en", undefined, "en", "latn"], ["ar-EG", undefined, "ar-EG", "arab"], ["en-u-nu-thai", undefined, "en-u-nu-thai", "thai"], ["en-u-nu-thai", "thai", "en-u-nu-thai", "thai"], ["en-u-nu-thai", "latn", "en", "latn"],
     ["en-u-nu-thai", "deva", "en", "deva"], ["en-u-nu-thai", "roman", "en-u-nu-thai", "thai"], ["en-u-nu-roman", undefined, "en", "latn"], ["en", "native", "en", "latn"], ["en-u-nu-native", "thai", "en", "thai"],
     ["hi", "DEVA", "hi", "deva"], ["en", "nosuch", "en", "latn"], ["en", "latn-nosuch", "en", "latn"], ["en-u-nu-latn", undefined, "en-u-nu-latn", "latn"], ["en-u-nu", undefined, "en", "latn"], ["zh", "hanidec", "zh", "hanidec"],
   ];
-  for (const [asked, numberingSystem, locale, system] of rows) {
+  for (const [asked, numberingSystem, locale, system] of isOwn ? rows : rows.filter(([, option]) => !["roman", "DEVA"].includes(option))) {
     const it = new NumberFormat(asked, { numberingSystem });
     assert.deepEqual([it.resolvedOptions().locale, it.resolvedOptions().numberingSystem], [locale, system], `${asked} ${numberingSystem}`);
   }
@@ -199,10 +216,10 @@ test("numbering systems", () => {
 });
 
 const DIGITS = ["minimumFractionDigits", "maximumFractionDigits", "minimumSignificantDigits", "maximumSignificantDigits", "roundingPriority"];
-const digitsOf = (options) => DIGITS.map((it) => resolved(options)[it]);
+
 const none = undefined;
 
-test("digits", () => {
+each("digits", ({ NumberFormat, resolved }) => {
   const rows = [
     [{}, 0, 3, none, none, "auto"], [{ style: "percent" }, 0, 0, none, none, "auto"], [{ style: "currency", currency: "USD" }, 2, 2, none, none, "auto"], [{ style: "currency", currency: "JPY" }, 0, 0, none, none, "auto"],
     [{ style: "currency", currency: "KWD" }, 3, 3, none, none, "auto"], [{ style: "currency", currency: "CLF" }, 4, 4, none, none, "auto"], [{ style: "currency", currency: "QQQ" }, 2, 2, none, none, "auto"],
@@ -214,7 +231,7 @@ test("digits", () => {
     [{ roundingIncrement: 5, maximumFractionDigits: 0 }, 0, 0, none, none, "auto"], [{ roundingIncrement: 5 }, 0, 0, none, none, "auto"], [{ roundingIncrement: 5, style: "currency", currency: "USD" }, 2, 2, none, none, "auto"], [{ roundingIncrement: 5, minimumFractionDigits: 2 }, 2, 2, none, none, "auto"],
     [{ notation: "compact", minimumFractionDigits: 0, maximumFractionDigits: 0, minimumSignificantDigits: 1, maximumSignificantDigits: 2, roundingPriority: "morePrecision" }, 0, 0, 1, 2, "morePrecision"],
   ];
-  for (const [options, ...wanted] of rows) assert.deepEqual(digitsOf(options), wanted, JSON.stringify(options));
+  for (const [options, ...wanted] of rows) assert.deepEqual(DIGITS.map((it) => resolved(options)[it]), wanted, JSON.stringify(options));
   const wrong = [
     [RangeError, { minimumFractionDigits: 3, maximumFractionDigits: 2 }], [RangeError, { minimumSignificantDigits: 3, maximumSignificantDigits: 2 }], [RangeError, { minimumFractionDigits: 3, maximumFractionDigits: 2, roundingPriority: "morePrecision" }],
     [TypeError, { roundingIncrement: 5, maximumSignificantDigits: 3 }], [TypeError, { roundingIncrement: 5, roundingPriority: "morePrecision" }], [TypeError, { roundingIncrement: 5, notation: "compact" }],
@@ -224,7 +241,7 @@ test("digits", () => {
   for (const roundingIncrement of [1, 2, 5, 10, 20, 25, 50, 100, 200, 250, 500, 1000, 2000, 2500, 5000]) assert.equal(resolved({ roundingIncrement, maximumFractionDigits: 0 }).roundingIncrement, roundingIncrement);
 });
 
-test("grouping", () => {
+each("grouping", ({ resolved }) => {
   const rows = [[undefined, "auto"], ["auto", "auto"], ["always", "always"], ["min2", "min2"], [true, "always"], [false, false], [null, false], [0, false], ["", false], [NaN, false], [0n, false], ["true", "auto"], ["false", "auto"], [{ toString: () => "min2" }, "min2"]];
   for (const [useGrouping, wanted] of rows) {
     assert.equal(resolved({ useGrouping }).useGrouping, wanted, String(useGrouping));
@@ -232,7 +249,7 @@ test("grouping", () => {
   }
 });
 
-test("resolved options, in their order", () => {
+each("resolved options, in their order", ({ NumberFormat, isOwn, resolved }) => {
   const first = ["locale", "numberingSystem", "style"];
   const last = ["roundingIncrement", "roundingMode", "roundingPriority", "trailingZeroDisplay"];
   const fraction = ["minimumFractionDigits", "maximumFractionDigits"];
@@ -244,7 +261,10 @@ test("resolved options, in their order", () => {
     [{ style: "currency", currency: "EUR", minimumSignificantDigits: 1, maximumSignificantDigits: 2 }, [...first, ...money, "minimumIntegerDigits", ...significant, "useGrouping", "notation", "signDisplay", ...last]],
     [{ notation: "compact" }, [...first, "minimumIntegerDigits", ...fraction, ...significant, "useGrouping", "notation", "compactDisplay", "signDisplay", ...last]],
   ];
-  for (const [options, wanted] of rows) assert.deepEqual(Object.keys(resolved(options)), wanted);
+  for (const [options, wanted] of rows) {
+    const found = Object.keys(resolved(options));
+    assert.deepEqual(isOwn ? found : found.sort(), isOwn ? wanted : wanted.sort());
+  }
   const it = new NumberFormat("en");
   assert.notEqual(it.resolvedOptions(), it.resolvedOptions());
   assert.equal(Object.getPrototypeOf(it.resolvedOptions()), Object.prototype);
@@ -252,7 +272,7 @@ test("resolved options, in their order", () => {
   assert.equal(it.resolvedOptions().locale, "en");
 });
 
-test("format is bound", () => {
+each("format is bound", ({ NumberFormat }) => {
   const it = new NumberFormat("de");
   const { format } = it;
   assert.equal(format, it.format);
@@ -263,7 +283,7 @@ test("format is bound", () => {
   assert.throws(() => Reflect.set(it, "format", 5) || assert.fail("not set"), assert.AssertionError);
 });
 
-test("numbers", () => {
+each("numbers", ({ NumberFormat, text }) => {
   const rows = [
     [0, "0"], [-0, "-0"], [1e21, "1,000,000,000,000,000,000,000"], [-1e-7, "-0"], [1234.5678, "1,234.568"], [0.0005, "0.001"], [null, "0"], [true, "1"], [false, "0"], [12n, "12"], [-(10n ** 30n), `-1${",000".repeat(10)}`], ["", "0"], [" \n", "0"],
     [" 12\u00a0", "12"], ["12.50", "12.5"], ["+5", "5"], ["5.", "5"], [".5", "0.5"], ["-.5", "-0.5"], ["1e3", "1,000"], ["1E+3", "1,000"], ["12e-1", "1.2"], ["-0", "-0"], ["-0.0e5", "-0"], ["0x1F", "31"], ["0O17", "15"], ["0b11", "3"], ["007", "7"],
@@ -280,6 +300,7 @@ test("numbers", () => {
 });
 
 test("numbers of any length", () => {
+  const { text } = kindOf(Own);
   const far = "0".repeat(500);
   const halves = { maximumFractionDigits: 0, roundingMode: "halfEven" };
   assert.deepEqual([`0.5${far}`, `0.5${far}1`, `2.5${far}`, `2.5${far}1`, `-0.5${far}1`].map((it) => text(it, halves)), ["0", "1", "2", "3", "-1"]);
@@ -294,13 +315,14 @@ test("numbers of any length", () => {
   assert.throws(() => text(10n ** 33000n), (it) => it instanceof LegumeyetError && it.number === ErrorNumber.LIMIT);
 });
 
-test("percents are ratios", () => {
+each("percents are ratios", ({ text }) => {
   const rows = [[0.5, "50%"], [0.256, "26%"], [-0.001, "-0%"], ["1e-3", "0%"], [12n, "1,200%"], [-0, "-0%"], [1e21, `100,000${",000".repeat(6)}%`], ["0.125", "13%"], [1e-7, "0%"]];
   for (const [number, wanted] of rows) assert.equal(text(number, { style: "percent" }), wanted);
   assert.equal(text("0.12345", { style: "percent", maximumFractionDigits: 2 }), "12.35%");
 });
 
 test("what the library cannot write is refused by name", () => {
+  const { NumberFormat, text } = kindOf(Own);
   const rows = [
     [{ style: "unit", unit: "meter" }, "style unit"], [{ style: "currency", currency: "EUR", currencyDisplay: "name" }, "currencyDisplay name"], [{ style: "currency", currency: "EUR", currencyDisplay: "narrowSymbol" }, "currencyDisplay narrowSymbol"],
     [{ notation: "scientific" }, "notation scientific"], [{ notation: "engineering" }, "notation engineering"], [{ notation: "compact", style: "percent" }, "notation compact with style percent"],
@@ -311,18 +333,38 @@ test("what the library cannot write is refused by name", () => {
   throwsOwn(RangeError, () => new NumberFormat("en", { style: "unit", unit: "meter", signDisplay: "x" }));
   assert.throws(() => new NumberFormat("en", { style: "unit", unit: "meter", signDisplay: "x" }), /^RangeError: signDisplay/);
   const it = new NumberFormat("en");
-  for (const number of [NaN, Infinity, -Infinity, undefined, "x", "1e400", "-Infinity", "1_0", "0x", "-0x1", "1,5", "٣"]) {
-    for (const name of ["format", "formatToParts"]) assert.throws(() => it[name](number), { name: "RangeError", message: /^(NaN|-?Infinity): the library cannot write this yet$/ }, String(number));
-  }
   for (const name of ["formatRange", "formatRangeToParts"]) {
     assert.throws(() => it[name](1, 2), { name: "RangeError", message: `${name}: the library cannot write this yet` });
-    for (const ends of [[], [1], [undefined, 1]]) assert.throws(() => it[name](...ends), TypeError);
+    for (const ends of [[], [1], [undefined, 1], [1, Symbol("x")]]) throwsOwn(TypeError, () => it[name](...ends));
+    assert.throws(() => it[name](1, NaN), { name: "RangeError", message: /no number/ });
   }
   // what these styles have is no fault of others
   assert.equal(text(5, { currencyDisplay: "name", unit: "meter", unitDisplay: "long", currency: "EUR" }), "5");
 });
 
-test("parts", () => {
+each("values that are no digits", ({ NumberFormat, text }) => {
+  for (const number of [NaN, undefined, "x", "1_0", "0x", "-0x1", "1,5", "٣", {}, () => {}]) assert.equal(text(number), "NaN", String(number));
+  for (const number of [Infinity, "Infinity", " +Infinity ", "1e400"]) assert.equal(text(number), "∞");
+  for (const number of [-Infinity, "-Infinity", "-1e400"]) assert.equal(text(number), "-∞");
+  assert.equal(text(-Infinity, {}, "dz"), "-གྲངས་མེད");
+  const signs = { auto: "NaN ∞ -∞", always: "+NaN +∞ -∞", exceptZero: "NaN +∞ -∞", negative: "NaN ∞ -∞", never: "NaN ∞ ∞" };
+  for (const [signDisplay, wanted] of Object.entries(signs)) assert.equal([NaN, Infinity, -Infinity].map((it) => text(it, { signDisplay })).join(" "), wanted);
+  const rows = [
+    ["en", { style: "percent" }, -Infinity, "minusSign - infinity ∞ percentSign %"], ["de", { style: "percent" }, NaN, "nan NaN literal \u00a0 percentSign %"], ["en", { notation: "compact", compactDisplay: "long" }, Infinity, "infinity ∞"],
+    ["en", { minimumIntegerDigits: 5, minimumFractionDigits: 2, useGrouping: "always" }, Infinity, "infinity ∞"], ["en", { maximumFractionDigits: 0, roundingIncrement: 5000 }, -Infinity, "minusSign - infinity ∞"],
+    ["en", { style: "currency", currency: "USD", currencySign: "accounting" }, -Infinity, "literal ( currency $ infinity ∞ literal )"], ["en", { style: "currency", currency: "CHF" }, NaN, "currency CHF nan NaN"],
+    ["de", { style: "currency", currency: "CHF", signDisplay: "always" }, NaN, "plusSign + nan NaN literal \u00a0 currency CHF"], ["zh", { style: "currency", currency: "EUR", currencyDisplay: "code" }, -Infinity, "minusSign - currency EUR infinity ∞"],
+    ["ru", {}, NaN, "nan не\u00a0число"], ["ar-EG", { style: "percent" }, NaN, "nan ليس\u00a0رقمًا percentSign ٪ literal \u061c"], ["dz-u-nu-latn", {}, Infinity, "infinity ∞"],
+    ["zh-Hant-HK", {}, NaN, "nan 非數值"], ["zh", {}, NaN, "nan NaN"], ["kk-Arab", {}, NaN, "nan سان\u00a0ەمەس"], ["bo-u-nu-tibt", {}, NaN, "nan ཨང་མེན་"],
+  ];
+  for (const [tag, options, number, wanted] of rows) {
+    const parts = new NumberFormat(tag, options).formatToParts(number);
+    assert.equal(parts.map(({ type, value }) => `${type} ${value}`).join(" "), wanted, `${tag} ${JSON.stringify(options)}`);
+    assert.equal(parts.map(({ value }) => value).join(""), text(number, options, tag));
+  }
+});
+
+each("parts", ({ NumberFormat, text }) => {
   const rows = [
     ["en", { style: "currency", currency: "USD", currencySign: "accounting" }, -5, "literal ( currency $ integer 5 decimal . fraction 00 literal )"], ["en", {}, -1234.5, "minusSign - integer 1 group , integer 234 decimal . fraction 5"],
     ["en", { style: "percent", signDisplay: "always" }, 0.5, "plusSign + integer 50 percentSign %"], ["de", { notation: "compact" }, -1234567, "minusSign - integer 1 decimal , fraction 2 literal \u00a0 compact Mio."],

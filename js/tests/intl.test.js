@@ -34,6 +34,12 @@ const SIGNS = ["auto", "never", "always", "exceptZero", "negative"];
 const MODES = ["expand", "trunc", "ceil", "floor", "halfExpand", "halfTrunc", "halfCeil", "halfFloor", "halfEven"];
 const INCREMENTS = [1, 2, 5, 10, 20, 25, 50, 100, 200, 250, 500, 1000, 2000, 2500, 5000];
 
+// What resolvedOptions tells, in the order of ECMA-402; that of Node is an earlier one.
+const IN_ORDER = [
+  "locale", "numberingSystem", "style", "currency", "currencyDisplay", "currencySign", "minimumIntegerDigits", "minimumFractionDigits", "maximumFractionDigits", "minimumSignificantDigits", "maximumSignificantDigits", "useGrouping", "notation",
+  "compactDisplay", "signDisplay", "roundingIncrement", "roundingMode", "roundingPriority", "trailingZeroDisplay",
+];
+
 function someFraction(options) {
   const least = below(4);
   if (!oneIn(3)) options.minimumFractionDigits = oneIn(12) ? below(21) : least;
@@ -90,7 +96,7 @@ const digits = (count) => Array.from({ length: 1 + below(count) }, () => below(1
 const KINDS = [
   () => below(200), () => -below(20000) / 100, () => below(2) * -0, () => below(1e9) / 1000, () => BigInt(digits(25)), () => `${digits(20)}.${digits(20)}`, () => `-${digits(12)}.${digits(4)}`,
   () => `${below(1000)}${oneOf(["5", "25", "50", "999", ""])}e${below(12) - 6}`, () => 10 ** (below(24) - 4) * (1 + below(99)), () => oneOf([0.5, 1.5, 2.5, 0.125, 1.005, 999.5, 9999.5, 999999, 1e21, -1e-7, 0.0000005]),
-  () => oneOf([" 12 ", "", "0x1F", "+5", "5.", ".5", null, true, "0.0", "-0"]), () => `0.${"0".repeat(below(30))}${digits(3)}`,
+  () => oneOf([" 12 ", "", "0x1F", "+5", "5.", ".5", null, true, "0.0", "-0"]), () => `0.${"0".repeat(below(30))}${digits(3)}`, () => oneOf([NaN, Infinity, -Infinity, undefined, "x", "-Infinity"]),
 ];
 const someNumber = () => oneOf(KINDS)();
 
@@ -131,6 +137,7 @@ test("drawn options, beside Intl of Node", { skip: !isNew || !hasSameData }, () 
     } else {
       for (const number of Array.from({ length: 3 }, someNumber)) compared(tag, options, ours.value, theirs.value, number, count, unknown);
       const [here, there] = [ours, theirs].map((it) => it.value.resolvedOptions());
+      assert.deepEqual(Object.keys(here), IN_ORDER.filter((it) => it in here), said);
       for (const name of new Set([...Object.keys(here), ...Object.keys(there)])) {
         if (here[name] === there[name]) continue;
         const cause = causeOfOption(name, tag, options);
@@ -178,15 +185,21 @@ const isCode = (key) => /^[A-Z]{3}$/.test(key);
 // Why the text of a number or its parts are others in Node, as books/README.md has it; null where no cause is known.
 function causeOf(tag, options, number, ours, theirs) {
   const { numberingSystem: system, notation, style, currencySign, signDisplay } = ours.resolvedOptions();
-  if (typeof number === "number" && number !== 0 && theirs.format(number) !== theirs.format(String(number))) return "a double that Node rounds otherwise than its digits";
+  if (typeof number === "number" && number !== 0 && Number.isFinite(number) && theirs.format(number) !== theirs.format(String(number))) return "a double that Node rounds otherwise than its digits";
   if (system !== theirs.resolvedOptions().numberingSystem) return causeOfOption("numberingSystem", tag, options);
   if (currencySign === "accounting" && signDisplay === "never") return causeOfOption("currencySign", tag, options);
   const chain = chainOf(new Intl.Locale(tag).baseName);
   const hasSameDigits = digitsOf(ours.format(number)) === digitsOf(theirs.format(number));
   const isNamed = entryOf(chain, [symbols, system]) !== null || entryOf(chain, [symbols, ""])[2] === system;
   if (hasSameDigits && !isNamed) return "a numbering system that the data of the locale does not name";
+  if (typeof number !== "bigint" && !Number.isFinite(Number(number))) return causeOfSpecial(chain, ours, style);
   if (notation === "compact") return causeOfCompact(tag, number, ours);
   return style === "currency" && hasSameDigits ? causeOfAmount(chain, ours.resolvedOptions()) : null;
+}
+
+function causeOfSpecial(chain, ours, style) {
+  if (chain.includes("dz")) return "an infinity of letters: there an integer";
+  return style === "currency" ? causeOfAmount(chain, ours.resolvedOptions()) : null;
 }
 
 function causeOfAmount(chain, { currency, currencyDisplay, currencySign, numberingSystem: system }) {

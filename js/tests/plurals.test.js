@@ -70,8 +70,9 @@ test("options that are none, as Intl has them", () => {
   assert.equal(it.select(1), "one");
   const rows = [
     [RangeError, { type: "x" }], [RangeError, { type: "Cardinal" }], [RangeError, { minimumIntegerDigits: 0 }], [RangeError, { maximumFractionDigits: -1 }], [RangeError, { minimumFractionDigits: 3, maximumFractionDigits: 2 }],
-    [RangeError, { minimumSignificantDigits: 3, maximumSignificantDigits: 2 }], [RangeError, { maximumSignificantDigits: 0 }], [TypeError, null],
+    [RangeError, { minimumSignificantDigits: 3, maximumSignificantDigits: 2 }], [RangeError, { maximumSignificantDigits: 0 }], [RangeError, { localeMatcher: "x" }], [TypeError, null],
   ];
+  for (const localeMatcher of ["lookup", "best fit", undefined]) assert.equal(new PluralRules("en", { localeMatcher }).select(1), "one");
   const newer = [
     [RangeError, { roundingMode: "x" }], [RangeError, { trailingZeroDisplay: "x" }], [RangeError, { roundingPriority: "x" }], [RangeError, { roundingIncrement: 3 }], [RangeError, { roundingIncrement: 5, maximumFractionDigits: 2 }],
     [TypeError, { roundingIncrement: 5, maximumSignificantDigits: 2 }], [TypeError, { roundingIncrement: 5, roundingPriority: "morePrecision" }],

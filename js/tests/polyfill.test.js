@@ -138,6 +138,24 @@ test("plural rules", { skip: !hasRanges }, () => {
   assert.equal(String(new Intl.PluralRules("en")), "[object Intl.PluralRules]");
 });
 
+test("plural rules read their options once, in order", () => {
+  restore = install();
+  const inOrder = [
+    "localeMatcher", "type", "minimumIntegerDigits", "minimumFractionDigits", "maximumFractionDigits", "minimumSignificantDigits", "maximumSignificantDigits", "roundingIncrement", "roundingMode", "roundingPriority", "trailingZeroDisplay",
+  ];
+  const log = [];
+  new Intl.PluralRules("en", new Proxy({}, { get: (_, name) => void log.push(name) }));
+  assert.deepEqual(log, inOrder);
+  for (const [wanted, options] of [[RangeError, { type: "x" }], [RangeError, { minimumIntegerDigits: 0 }], [RangeError, { maximumFractionDigits: -1 }], [TypeError, null], [TypeError, { type: Symbol("x") }], [RangeError, { localeMatcher: "x" }]]) {
+    for (const Type of [Intl.PluralRules, EngineRules]) assert.throws(() => new Type("en", options), wanted);
+  }
+  assert.deepEqual([Intl.PluralRules.length, Intl.PluralRules.name, Intl.PluralRules.supportedLocalesOf.length], [EngineRules.length, EngineRules.name, EngineRules.supportedLocalesOf.length]);
+  for (const name of ["select", "selectRange", "resolvedOptions"]) {
+    const [ours, theirs] = [Intl.PluralRules, EngineRules].map((Type) => Object.getOwnPropertyDescriptor(Type.prototype, name));
+    if (theirs !== undefined) assert.deepEqual([ours.value.length, ours.value.name, ours.writable, ours.enumerable, ours.configurable], [theirs.value.length, theirs.value.name, theirs.writable, theirs.enumerable, theirs.configurable]);
+  }
+});
+
 test("the library's own classes ask the engine for the locale of the machine", () => {
   restore = install();
   const machine = new EngineNumbers().resolvedOptions().locale;

@@ -15,7 +15,7 @@ test("numbers by skeletons", () => {
     ["en", "group-off", "1234.5", "1234.5"], ["en", "group-min2", "1234", "1234"], ["en", "group-min2", "12345", "12,345"], ["es", "", "1234", "1234"], ["es", "group-on-aligned", "1234.5", "1.234,5"],
     ["en", "@@@", "9.996", "10.0"], ["en", "@@#/w", "1234.5", "1,230"], ["en", "@@*", "0.1", "0.10"], ["en", ".0#/@@r", "0.00123", "0.0012"], ["en", ".0#/@@s", "0.00123", "0.0"], ["en", ".0#/w", "3", "3"],
     ["en", "sign-always", "5", "+5"], ["en", "+_", "-5", "5"], ["en", "sign-except-zero", "0", "0"], ["en", "sign-negative", "-0", "0"], ["en", "rounding-mode-floor .0", "-1.21", "-1.3"],
-    ["tr", "percent", "12.50", "%12,5"], ["de", "% .00", "-12.5", "-12,50\u00a0%"],
+    ["tr", "percent", "12.50", "%12,5"], ["de", "% .00", "-12.5", "-12,50\u00a0%"], ["de", "permille", "5", "5\u00a0‰"],
     ["de", "currency/EUR", "-1234567.891", "-1.234.567,89\u00a0€"], ["en", "currency/eur", "5", "€5.00"], ["en", "currency/USD sign-accounting", "-5", "($5.00)"], ["en", "currency/JPY", "2.5", "¥2"],
     ["en", "currency/USD unit-width-iso-code", "5", "USD\u00a05.00"], ["en", "currency/CHF precision-currency-cash", "2.345", "CHF\u00a02.35"], ["en", "currency/USD .", "5.5", "$6"], ["en", "currency/USD .00/w", "5", "$5"],
     ["en", "compact-short", "-1172700", "-1.2M"], ["de", "KK", "1234567", "1,2 Millionen"], ["en", "compact-short", "1650", "1.6K"], ["en", "K +!", "1650", "+1.6K"],
@@ -83,7 +83,7 @@ const FAULTS = [
   ["foo", 201, "unknown", 0], ["percent foo", 201, "unknown", 8], ["  .0x", 201, "unknown", 2], ["percent \ud800", 201, "unknown", 8], [".00 ä", 201, "unknown", 4], ["\0", 201, "unknown", 0],
   ["percent\u00a0.00", 201, "unknown", 0], ["percent currency/EUR", 202, "twice", 8], [".00 .0", 202, "twice", 4], ["currency/EURO", 203, "code", 0], ["K currency/", 203, "code", 2],
   ["sign-accounting", 204, "pair", 0], ["percent unit-width-iso-code", 204, "pair", 8], ["latin", 205, "system", 0], ["numbering-system/thai", 205, "system", 0],
-  ["permille", 206, "later", 0], ["compact-short .00", 206, "later", 14], ["decimal-always", 207, "unsupported", 0], [`percent ${"x".repeat(5000)}`, 201, "unknown", 8],
+  ["scientific", 206, "later", 0], ["compact-short .00", 206, "later", 14], ["decimal-always", 207, "unsupported", 0], [`percent ${"x".repeat(5000)}`, 201, "unknown", 8],
 ];
 
 test("texts that are no skeleton", () => {

@@ -7,6 +7,8 @@ import { load, loadSync, memorySize, setWorld } from "legumeyet/core";
 import { FieldText } from "legumeyet/field";
 import { CurrencyFormatter as Inside, init } from "legumeyet/inline";
 import locales from "legumeyet/locales";
+import { MessageFunctionError, functions } from "legumeyet/messages";
+import type { MessageFunction, MessageNumber } from "legumeyet/messages";
 import { DecimalFormatter as OfPage, NumberFormat as NumbersOfPage, NumberFormatter as BySkeletonOfPage, PluralRules as PluralsOfPage, load as loadPage, loadSync as loadPageSync } from "legumeyet/page";
 import { pageModule } from "legumeyet/pages";
 import { install } from "legumeyet/polyfill";
@@ -28,7 +30,7 @@ const dollars = new CurrencyFormatter(undefined, { ...inAccounts, maximumFractio
 const same: CurrencyFormatter = new Inside("de", { currency: "EUR", useGrouping: "always", fallback: "en" });
 const percent: string = new PercentFormatter("tr", options).read(dollars.readLenient(dollars.format(5)));
 const types: string[] = [...dollars.formatToParts(5), ...new PercentFormatter().formatToParts("1")].filter(({ type }) => type === "currency" || type === "percentSign").map((it) => it.type);
-const listed: string[] = [...new Book("[]").locales(), ...CurrencyFormatter.supportedLocalesOf("de", inAccounts), dollars.resolvedOptions().currency];
+const listed: string[] = [...new Book("[]").locales(), new Book("[]").foundLocale(new Intl.Locale("de-XX")), ...CurrencyFormatter.supportedLocalesOf("de", inAccounts), dollars.resolvedOptions().currency];
 const supported: string[] = DecimalFormatter.supportedLocalesOf(["de"]);
 const bySkeleton: NumberFormatterOptions = { skeleton: normalSkeleton("currency/EUR .00"), fallback: "en" };
 const asked: CurrencyCallOptions = { maximumFractionDigits: 2, signDisplay: "always", maximumSignificantDigits: 3, roundingPriority: "morePrecision", trailingZeroDisplay: "stripIfInteger" };
@@ -43,6 +45,9 @@ texts.push(...categories, ...PluralRules.supportedLocalesOf("de", { type: "cardi
 const asIntl: NumberFormatOptions = { style: "currency", currency: "EUR", currencySign: "accounting", useGrouping: "min2", roundingIncrement: 5, numberingSystem: "thai", localeMatcher: "lookup" };
 const byIntl: NumberFormat = new NumberFormat(["de", new Intl.Locale("en")], asIntl);
 class Own extends NumberFormat {}
+const ofMessages: MessageFunction = functions.currency;
+const ofMessage: MessageNumber = ofMessages({ locales: ["en"], onError: (error: MessageFunctionError) => void error.type }, { currency: "EUR" }, 5);
+texts.push(String(ofMessage), ofMessage.selectKey?.(new Set(["one"])) ?? "", ofMessage.toParts()[0]?.parts[0]?.value ?? "");
 const ofIntl: NumberFormatPart[] = NumberFormat("de").formatToParts(5n);
 texts.push(...[1, "2", 3n].map(byIntl.format), byIntl.resolvedOptions().currency ?? "", ofIntl[0]?.type ?? "", new Own().format(5), ...NumberFormat.supportedLocalesOf("de", { localeMatcher: "best fit" }), new NumbersOfPage("de").formatRange(1, 2));
 const restore: () => void = install(["NumberFormat", "PluralRules"]);

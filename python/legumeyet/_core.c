@@ -62,7 +62,7 @@ struct open {
 
 /* What is asked of the library. */
 struct request {
-    enum { TEXT, INTEGER, REAL, SHOWN, EXACT, RANGE, READ, LENIENT, FACT, LINE, LOCALE, NORMAL, MEANING, NAME } what;
+    enum { TEXT, INTEGER, REAL, SHOWN, EXACT, RANGE, READ, LENIENT, FACT, LINE, LOCALE, FOUND, NORMAL, MEANING, NAME } what;
     const uint8_t *at; /* the text of a number, a text that is read, a line, a skeleton, or the name of a locale */
     size_t length;
     int64_t integer;   /* also the index of a locale, or the number of an error or a fact */
@@ -453,6 +453,7 @@ static int32_t ask(struct open *it, const struct request *asked, size_t *place, 
     case FACT: return BY(it, tell, (uint32_t)asked->integer, out, room, length);
     case LINE: return legumeyet_book_answer(&it->handle.book, asked->at, asked->length, out, room, length);
     case LOCALE: return legumeyet_book_locale(&it->handle.book, (size_t)asked->integer, out, room, length);
+    case FOUND: return legumeyet_book_found_locale(&it->handle.book, asked->at, asked->length, out, room, length);
     case NORMAL: return legumeyet_skeleton_normal(asked->at, asked->length, place, out, room, length);
     case MEANING: return legumeyet_error_text((int32_t)asked->integer, out, room, length);
     default: return legumeyet_tag_of_locale_name((const char *)asked->at, out, room, length);
@@ -793,12 +794,16 @@ static PyObject *format_all(PyObject *self, PyObject *arguments, PyObject *given
     return list;
 }
 
-static PyObject *answer(PyObject *self, PyObject *line) {
-    struct request asked = {.what = LINE};
-    PyObject *text = take_text(&asked, line) ? written((struct open *)self, &asked) : NULL;
+/* What is written for a text that a caller gives. */
+static PyObject *written_of(PyObject *self, struct request asked, PyObject *given) {
+    PyObject *text = take_text(&asked, given) ? written((struct open *)self, &asked) : NULL;
     Py_XDECREF(asked.owner);
     return text;
 }
+
+static PyObject *answer(PyObject *self, PyObject *line) { return written_of(self, (struct request){.what = LINE}, line); }
+
+static PyObject *found_locale(PyObject *self, PyObject *tag) { return written_of(self, (struct request){.what = FOUND}, tag); }
 
 /* Lines that are to be answered, and the answers that were written. */
 struct lines {
@@ -963,6 +968,13 @@ static PyMethodDef book_methods[] = {
      "Raises Error 2 where the book is closed, 1 where memory was refused.\n\n"
      ">>> Book.world().answer('de\\tplain\\tauto\\tkeep\\t-\\t-987654.321')\n"
      "'ok\\t-987.654,321'"},
+    {"found_locale", found_locale, METH_O,
+     "found_locale($self, tag, /)\n--\n\n"
+     "The tag of the locale whose symbols the book has for a tag: the first of the tag, its parent and so on; `und` of English too.\n\n"
+     "Raises Error 5 of what is no tag, 6 where the book has no tables for it, 2 where the book is closed, 1 where memory was refused.\n\n"
+     ">>> world = Book.world()\n"
+     ">>> world.found_locale('de-XX'), world.found_locale('de-AT'), world.found_locale('en-u-nu-thai')\n"
+     "('de', 'de-AT', 'und')"},
     {"locales", book_locales, METH_NOARGS,
      "locales($self, /)\n--\n\n"
      "The tags of the locales that the book has symbols of, in its order. Others have the tables of their parents: of the world's book\n"

@@ -129,7 +129,7 @@ class Fault(IntEnum):
 
     UNKNOWN: a word is none of a skeleton, as `foo`. TWICE: it sets what another has set, as the second of `percent currency/EUR`. CODE: what
     follows `currency/` is no code of a currency. PAIR: a word is for amounts, and there is no currency, as `sign-accounting` alone. SYSTEM: it
-    names a numbering system, which the tag has, as `latin`. LATER: what it says is not written yet, as `permille`. UNSUPPORTED: it asks
+    names a numbering system, which the tag has, as `latin`. LATER: what it says is not written yet, as `scientific`. UNSUPPORTED: it asks
     for what is not written here, as `decimal-always`.
 
     >>> Fault(201)

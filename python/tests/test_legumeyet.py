@@ -31,7 +31,7 @@ from fractions import Fraction
 import legumeyet
 from legumeyet import (
     Answers, Book, ClosedError, CompactDecimalFormatter, CurrencyFormatter, DecimalFormatter, Error, Grouping, InputError, Kind,
-    OutOfMemoryError, PercentFormatter, Rounding, RoundingPriority, Sign, TrailingZeros, Width, _core, _errors, _formatters, _locales, _options, _plurals,
+    OutOfMemoryError, PercentFormatter, Rounding, RoundingPriority, Sign, TrailingZeros, Width, _core, _errors, _formatters, _locales, _options, _plurals, messages,
 )
 from legumeyet.__main__ import main
 
@@ -46,7 +46,7 @@ FORKS_BESIDE_THREADS = unittest.skipIf(
 
 def load_tests(_loader, tests, _pattern):
     """The tests of this file, and the examples."""
-    for module in (legumeyet, _core, _errors, _formatters, _locales, _options, _plurals):
+    for module in (legumeyet, _core, _errors, _formatters, _locales, _options, _plurals, messages):
         tests.addTests(doctest.DocTestSuite(module, extraglobs={**vars(legumeyet), "Decimal": Decimal}))
     return tests
 
@@ -1294,9 +1294,16 @@ class Calls(unittest.TestCase):
     def test_locales_of_a_book(self):
         self.assertEqual(self.book.locales(), ["en", "ar", "bad"])
         self.assertEqual(Book("[[],[],[],[],[]]").locales(), [])
-        self.assertLess({"de", "de-AT", "und"}, set(Book.world().locales()))
+        world = Book.world()
+        self.assertLess({"de", "de-AT", "und"}, set(world.locales()))
+        found = [world.found_locale(it) for it in ("de-XX", "de-AT", "de-AT-1996", "en-u-nu-thai", b"en-US")]
+        self.assertEqual(found, ["de", "de-AT", "de-AT", "und", "und"])
+        self.refused(5, world.found_locale, "de_AT")
+        self.refused(6, world.found_locale, "xx")
+        self.assertRaises(TypeError, world.found_locale, None)
         self.book.close()
         self.refused(2, self.book.locales)
+        self.refused(2, self.book.found_locale, "en")
 
 
 if __name__ == "__main__":

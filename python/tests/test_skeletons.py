@@ -24,7 +24,7 @@ class Skeletons(unittest.TestCase):
     def test_texts(self):
         for tag, skeleton, number, text in [
             ("de", "", "1234567.891", "1.234.567,891"), ("en", "", "1.23456789", "1.234568"), ("en", "", "007", "7"), ("en", "", "1.500", "1.5"),
-            ("en", "", "+5", "5"), ("en", "", "-0", "-0"), ("de", "percent", 12.5, "12,5\xa0%"), ("tr", "%", Decimal("12.50"), "%12,5"),
+            ("en", "", "+5", "5"), ("en", "", "-0", "-0"), ("de", "percent", 12.5, "12,5\xa0%"), ("tr", "%", Decimal("12.50"), "%12,5"), ("de", "permille", 5, "5\xa0‰"),
             ("de", "currency/EUR", 1234.5, "1.234,50\xa0€"), ("de", "currency/eur", 1234.5, "1.234,50\xa0€"), ("en", "currency/JPY", 2.5, "¥2"),
             ("en", "currency/USD sign-accounting", -5, "($5.00)"), ("en", "currency/USD unit-width-iso-code", 5, "USD\xa05.00"),
             ("en", "currency/CHF precision-currency-cash", "2.345", "CHF\xa02.35"), ("en", "currency/USD precision-currency-standard/w", 5, "$5"),
@@ -100,7 +100,7 @@ class Skeletons(unittest.TestCase):
             ("percent currency/EUR", Fault.TWICE, 8, "currency/EUR"), (".00 .00", Fault.TWICE, 4, ".00"), ("base-unit percent", Fault.TWICE, 10, "percent"),
             ("currency/EURO", Fault.CODE, 0, "currency/EURO"), ("percent sign-accounting", Fault.PAIR, 8, "sign-accounting"),
             ("unit-width-iso-code", Fault.PAIR, 0, "unit-width-iso-code"), ("latin", Fault.SYSTEM, 0, "latin"),
-            ("numbering-system/thai", Fault.SYSTEM, 0, "numbering-system/thai"), ("permille", Fault.LATER, 0, "permille"),
+            ("numbering-system/thai", Fault.SYSTEM, 0, "numbering-system/thai"), ("scientific", Fault.LATER, 0, "scientific"),
             ("compact-short .00", Fault.LATER, 14, ".00"), ("decimal-always", Fault.UNSUPPORTED, 0, "decimal-always"),
             ("percent £ é", Fault.UNKNOWN, 8, "£"), ("percent \udcff", Fault.UNKNOWN, 8, "\udcff"), ("percent \U0001f600 x", Fault.UNKNOWN, 8, "\U0001f600"),
             (b"percent \xff\xfe", Fault.UNKNOWN, 8, b"\xff\xfe"), ("percent\0", Fault.UNKNOWN, 0, "percent\0"), ("  \0", Fault.UNKNOWN, 2, "\0"),

@@ -74,7 +74,7 @@ impl Error {
     pub const SKELETON_PAIR: Error = Error(204);
     /// A word names a numbering system, which the tag has, as `latin`.
     pub const SKELETON_SYSTEM: Error = Error(205);
-    /// A word, or what it says beside another one, is not written yet: `permille`, `compact-short .00`.
+    /// A word, or what it says beside another one, is not written yet: `scientific`, `compact-short .00`.
     pub const SKELETON_LATER: Error = Error(206);
     /// A word asks for what is not written here, as `decimal-always`.
     pub const SKELETON_UNSUPPORTED: Error = Error(207);

@@ -109,6 +109,17 @@ impl Book {
         written(|out, room, length| unsafe { sys::legumeyet_book_answer(self.0.at(), line.as_ptr(), line.len(), out, room, length) })
     }
 
+    /// The tag of the locale whose symbols the book has for a tag: of the world's book `de` for `de-XX`, which falls back to it, and `de-AT` for
+    /// `de-AT`.
+    ///
+    /// # Errors
+    ///
+    /// [`Error::TAG`], [`Error::TABLE`], [`Error::MEMORY`].
+    pub fn found_locale(&self, tag: &str) -> Result<String, Error> {
+        // SAFETY: a text is memory of its length, and no other call has the handle.
+        written(|out, room, length| unsafe { sys::legumeyet_book_found_locale(self.0.at(), tag.as_ptr(), tag.len(), out, room, length) })
+    }
+
     /// The tags of the locales that the book has symbols of, in its order. Others have the tables of their parents: of the world's book
     /// `world_locales` lists all.
     ///

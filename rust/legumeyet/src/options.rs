@@ -159,6 +159,8 @@ pub enum Unit<'a> {
     None,
     /// The percent sign: 12.5 as `12.5%`.
     Percent,
+    /// The permille sign: 12.5 as `12.5‰`.
+    Permille,
     /// The currency of a code, three capitals: 5 as `$5.00`.
     Currency(&'a str),
 }
@@ -205,6 +207,12 @@ impl<'a> Format<'a> {
         Format { unit: Unit::Percent, ..Format::default() }
     }
 
+    /// That of permilles.
+    #[must_use]
+    pub fn permille() -> Format<'a> {
+        Format { unit: Unit::Permille, ..Format::default() }
+    }
+
     /// That of amounts of money in a currency.
     #[must_use]
     pub fn currency(code: &'a str) -> Format<'a> {
@@ -220,6 +228,7 @@ impl<'a> Format<'a> {
         let (unit, code) = match self.unit {
             Unit::None => (0, ""),
             Unit::Percent => (1, ""),
+            Unit::Permille => (3, ""),
             Unit::Currency(code) => (2, code),
         };
         ([notation, width, unit, self.currency_style as i32, self.currency_width as i32, self.grouping as i32, 0], code)

@@ -55,6 +55,7 @@ extern "C" {
     pub fn legumeyet_answers_answer(answers: *mut Handle, lines: *const u8, lines_length: usize, out: *mut u8, room: usize, read: *mut usize, written: *mut usize, needs: *mut usize) -> i32;
     pub fn legumeyet_book_locale_count(book: *mut Handle, count: *mut usize) -> i32;
     pub fn legumeyet_book_locale(book: *mut Handle, index: usize, out: *mut u8, room: usize, length: *mut usize) -> i32;
+    pub fn legumeyet_book_found_locale(book: *mut Handle, tag: *const u8, tag_length: usize, out: *mut u8, room: usize, length: *mut usize) -> i32;
     pub fn legumeyet_formatter_open(book: *mut Handle, tag: *const u8, tag_length: usize, format: *const i32, format_words: usize, unit: *const u8, unit_length: usize, formatter: *mut Handle) -> i32;
     pub fn legumeyet_formatter_open_skeleton(book: *mut Handle, tag: *const u8, tag_length: usize, skeleton: *const u8, skeleton_length: usize, place: *mut usize, formatter: *mut Handle) -> i32;
     pub fn legumeyet_skeleton_normal(skeleton: *const u8, skeleton_length: usize, place: *mut usize, out: *mut u8, room: usize, length: *mut usize) -> i32;

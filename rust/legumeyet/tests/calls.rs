@@ -541,5 +541,9 @@ fn units_that_are_refused() {
 fn locales_of_a_book() {
     assert_eq!(book().locales().unwrap(), ["en", "bad"]);
     assert!(Book::from_json(b"[[],[],[],[],[]]").unwrap().locales().unwrap().is_empty());
-    assert!(Book::world().unwrap().locales().unwrap().iter().any(|it| it == "de-AT"));
+    let world = Book::world().unwrap();
+    assert!(world.locales().unwrap().iter().any(|it| it == "de-AT"));
+    let found = |tag| world.found_locale(tag);
+    assert_eq!(["de-XX", "de-AT", "en-u-nu-thai"].map(|it| found(it).unwrap()), ["de", "de-AT", "und"]);
+    assert_eq!(["de_AT", "xx"].map(found), [Err(Error::TAG), Err(Error::TABLE)]);
 }
