@@ -10,6 +10,10 @@
  */
 #include "postgres.h"
 
+#if PG_VERSION_NUM < 130000
+#error "legumeyet needs PostgreSQL 13 or a later version"
+#endif
+
 #include "common/hashfn.h"
 #include "common/shortest_dec.h"
 #include "fmgr.h"

@@ -27,7 +27,7 @@ WRITTEN = [
     (1234567, "de", "group-off", "1234567"), (5, "en", "sign-always", "+5"), (1.2, "en", ".00##", "1.20"),
     ("0.123456789", "en", "sign-auto", "0.123457"), ("1.50", "en", "sign-auto", "1.5"),
     (1234567.891, "de", "@@#", "1.230.000"), (0.0012345, "de", "@@#", "0,00123"), (5, "en", "@@#", "5.0"), ("1.500", "en", "@@#", "1.5"),
-    (12345678, "hi", "currency/INR @@#", "₹1,23,00,000"), (12.345, "en", "@@# percent", "12.3%"), (1234.567, "de", ".0#/@@r", "1.234,57"),
+    (12345678, "hi", "currency/INR @@#", "₹1,23,00,000"), (12.345, "en", "@@# percent", "12.3%"), (5, "de", "permille", "5\u00a0‰"), (1234.567, "de", ".0#/@@r", "1.234,57"),
     (0.012345, "de", ".0#/@@r", "0,012"), (5, "de", ".0#/@@r", "5,0"), (1234.567, "de", ".0#/@@s", "1.200"), (1234.5, "es", "", "1234,5"),
     (1234.5, "es", "group-on-aligned", "1.234,5"), (1234, "pl", ",!", "1\u00a0234"),
     (1234.5, "es", "currency/EUR group-on-aligned", "1.234,50\u00a0€"),
@@ -52,7 +52,7 @@ REFUSED = [
     # a call; what the message has
     ("legumeyet_format(1, 'e')", "'e'"), ("legumeyet_format(1, '')", "''"), ("legumeyet_format(1, 'de_DE')", "'de_DE'"),
     ("legumeyet_format(1, 'xx')", "'xx'"), ("legumeyet_format(1, 'en', 'percent foo')", "'foo'"), ("legumeyet_format(1, 'en', 'currency/EURO')", "'currency/EURO'"),
-    ("legumeyet_format(1, 'en', 'compact-short currency/EUR')", "'compact-short currency/EUR'"), ("legumeyet_format(1, 'en', 'permille')", "'permille'"),
+    ("legumeyet_format(1, 'en', 'compact-short currency/EUR')", "'compact-short currency/EUR'"), ("legumeyet_format(1, 'en', 'scientific')", "'scientific'"),
     ("legumeyet_format(1, 'en', 'compact-short @@#')", "'@@#'"),
     ("legumeyet_format('5.', 'en')", "'5.'"), ("legumeyet_format('12 apples', 'en')", "'12 apples'"), ("legumeyet_format('', 'en')", "''"),
     ("legumeyet_format(x'31', 'en')", "a blob is no number"), ("legumeyet_format(9e999, 'en')", "infinity"), ("legumeyet_format(-9e999, 'en')", "infinity"),

@@ -36,6 +36,7 @@ SELECT legumeyet.read('1.234,50 €', 'de', 'currency/EUR'), legumeyet.read('12,
 SELECT legumeyet.read('1,234.5', 'ar-EG'), legumeyet.read('١٬٢٣٤٫٥', 'ar-EG');
 SELECT legumeyet.read_or_null('1,23', 'en'), legumeyet.read_or_null('', 'en'), legumeyet.read_or_null('abc', 'en'), legumeyet.read_or_null('1,234', 'en');
 SELECT legumeyet.read_or_null('0.' || repeat('1', 16383), 'en') > 0, legumeyet.read_or_null('0.' || repeat('1', 16384), 'en');
+SELECT legumeyet.read_or_null(repeat('1', 1000000), 'en'), length(legumeyet.read(repeat('9', 32768), 'en')::text);
 -- plural categories of numbers as they are shown, cardinal and ordinal
 SELECT legumeyet.plural(1, 'pl'), legumeyet.plural(2, 'pl'), legumeyet.plural(5, 'pl'), legumeyet.plural(22::bigint, 'pl'), legumeyet.plural(1.5, 'pl'), legumeyet.plural(0::smallint, 'pl');
 SELECT legumeyet.plural(1, 'en'), legumeyet.plural(1.0, 'en'), legumeyet.plural(1::real, 'en'), legumeyet.plural(round(0.96, 1), 'en'), legumeyet.plural(-1, 'en'), legumeyet.plural(0.1::real, 'fr');
@@ -49,10 +50,13 @@ SELECT legumeyet.format(tag => 'de', number => 1234.5, format => 'currency/EUR')
 SELECT legumeyet.format(n, tag, format) FROM (VALUES (1, 1234.5, 'de', ''), (2, 1234.5, 'en', '.00'), (3, 1234.5, 'hi', 'currency/EUR'), (4, 1234.5, 'de', '')) AS v (at, n, tag, format) ORDER BY at;
 -- what is refused
 SELECT legumeyet.format('NaN'::numeric, 'de');
+\echo :SQLSTATE
 SELECT legumeyet.format('NaN'::double precision, 'de');
 SELECT legumeyet.format('-Infinity'::double precision, 'de');
 SELECT legumeyet.format('Infinity'::real, 'de');
+\echo :SQLSTATE
 SELECT legumeyet.format(5::money, 'de');
+\echo :SQLSTATE
 SELECT legumeyet.format(1, 'e');
 \echo :SQLSTATE
 SELECT legumeyet.format(1, 'de_DE');
@@ -64,7 +68,7 @@ SELECT legumeyet.format(1, 'en', 'percent currency/EUR');
 SELECT legumeyet.format(1, 'en', 'currency/EURO');
 SELECT legumeyet.format(1, 'en', '.00 sign-accounting');
 SELECT legumeyet.format(1, 'en', 'latin');
-SELECT legumeyet.format(1, 'en', 'permille');
+SELECT legumeyet.format(1, 'en', 'scientific');
 SELECT legumeyet.format(1, 'en', 'decimal-always');
 SELECT legumeyet.format(1, 'en', 'compact-short currency/EUR');
 SELECT legumeyet.format(1, 'en', 'compact-short @@#');
