@@ -32,7 +32,7 @@ PIECE = re.compile(r"^(?=define |declare |@|attributes |!)", re.M)
 NAME = re.compile(r'@("[^"]+"|[\w.$]+)')
 ESCAPED = re.compile(r"\\([0-9A-F]{2})")
 # The calls that no page makes; and those that only some pages make, or only what puts a book inside. All others are of each page.
-NOT_OF_PAGE = re.compile(r"js_answers_\w+|js_book_(?:answer|locale|locale_count)|js_column_\w+|js_formatter_(?:doubles|integers|texts)")
+NOT_OF_PAGE = re.compile(r"js_answers_\w+|js_book_(?:answer|found_locale|locale|locale_count)|js_column_\w+|js_formatter_(?:doubles|integers|texts)")
 PARTS_OF_PAGE = {
     "opening": re.compile(r"js_book_(?:open|keep|close|put_inside)|js_zero_freed"),
     "compact": re.compile(r"js_compact|js_formatter_exact"),

@@ -16,6 +16,7 @@ complete -c legumeyet -l accounting -d 'Writes amounts as accounts have them: in
 complete -c legumeyet -l code -d 'Writes the code of the currency, EUR, in place of its symbol'
 complete -c legumeyet -l cash -d 'Rounds amounts to what is paid in cash: 2.34 Swiss francs are 2.35'
 complete -c legumeyet -s p -l percent -d 'Writes percents: 12.5 is 12.5% in English'
+complete -c legumeyet -l permille -d 'Writes permilles: 12.5 is 12.5‰ in English'
 complete -c legumeyet -l plural -d 'Prints the plural category of each number as it would be written: one, few, other'
 complete -c legumeyet -l ordinal -d 'Prints the category of each as an ordinal number: in English two of 2, as in 2nd'
 complete -c legumeyet -l read -x -d 'Prints the number that was typed so, as 1.234,5 or 1234,5 under de; may be given again'

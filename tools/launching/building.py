@@ -9,6 +9,7 @@ copied from one file system to another.
 import contextlib
 import errno
 import fcntl
+import json
 import os
 import shutil
 import subprocess
@@ -16,7 +17,7 @@ import time
 from concurrent.futures import FIRST_COMPLETED, ThreadPoolExecutor, wait
 
 from . import sources
-from .common import COMMAND, MINUTES, NO_KIT, OUT, PROGRAMS, RT, TOP, Fault, make_out, out_of, program_of, read_text, say
+from .common import COMMAND, MINUTES, NO_KIT, OUT, PROGRAMS, RT, TOP, Fault, make_out, out_of, program_of, read_text, say, write_whole
 from .guard import Guard
 from .trial import SHORT_CALLS
 
@@ -28,21 +29,8 @@ JOBS_OF_ANOTHER = 2
 TRUSTED = 600
 # Each 64-bit processor of the family runs what is compiled for this one. A program for newer ones alone has their level in it, to say so.
 EVERY_CPU, LEVEL = "x86-64", b"x86-64-v2"
-# The seconds that each took in a whole build on four processors, beside other work.
-SHARES = {
-    "icu_locale_core_grammar": 26, "tinystr_words": 38, "writeable": 80, "icu_decimal_chains": 13,
-    "locale_numbers_lines": 95, "locale_numbers_cache": 51, "tinystr": 54,
-    "fixed_decimal_digit_words": 20, "fixed_decimal_digits": 130, "fixed_decimal_unsigned": 120,
-    "icu_locale_core_subtags": 45, "icu_locale_core_subtag_lists": 69, "icu_locale_core_langid": 266,
-    "icu_locale_core_keywords_fields": 260, "fixed_decimal_signed": 180, "fixed_decimal": 200, "icu_locale_core_preference_keywords": 512,
-    "icu_locale_core_extensions": 185, "icu_locale_core_locale": 531, "icu_decimal_compact_value": 68,
-    "icu_locale_core": 150, "locale_numbers_parents": 106,
-    "icu_decimal_plurals": 118, "icu_decimal_grouping": 44, "icu_decimal_plain": 283, "icu_decimal_patterns": 343,
-    "icu_decimal_reading": 184, "icu_decimal_direct": 60, "icu_decimal_lenient": 150, "icu_decimal": 320,
-    "locale_numbers_faults": 15, "locale_numbers_tables": 220, "locale_numbers_book": 140,
-    "locale_numbers_requests": 90, "locale_numbers_answers": 150, "locale_numbers_world": 30, "locale_numbers": 240,
-    "locale_numbers_program": 180, "legumeyet_options": 71, "legumeyet": 300,
-}
+# Where the seconds are that the last build of each crate took, beside other work; and those of a line, where none are known.
+TOOK, OF_A_LINE = f"{OUT}/took.json", 0.05
 
 
 @contextlib.contextmanager
@@ -71,12 +59,20 @@ def is_built(crate, sums):
     return os.path.isfile(stamp) and read_text(made_of(crate)) == sources.key(crate, sums)
 
 
+def took():
+    """The seconds that the last build of each crate took, those that are known."""
+    try:
+        return {crate: float(seconds) for crate, seconds in json.loads(read_text(TOOK)).items()}
+    except (AttributeError, TypeError, ValueError):
+        return {}
+
+
 def shares(crates):
-    """What part of the work each crate is, measured or, where it is not known, by its lines."""
-    lines = {crate: sources.lines(crate) or 1 for crate in crates}
-    known = [crate for crate in crates if crate in SHARES]
-    rate = sum(SHARES[it] for it in known) / sum(lines[it] for it in known) if known else 1
-    return {crate: SHARES.get(crate) or lines[crate] * rate for crate in crates}
+    """The seconds of each crate, those of its last build or else by its lines."""
+    lines, seconds = {crate: sources.lines(crate) or 1 for crate in crates}, took()
+    known = [crate for crate in crates if crate in seconds]
+    rate = sum(seconds[it] for it in known) / sum(lines[it] for it in known) if known else OF_A_LINE
+    return {crate: seconds.get(crate) or lines[crate] * rate for crate in crates}
 
 
 def weights(crates, share):
@@ -262,9 +258,11 @@ class Progress:
         del self.running[crate], self.plan.share[crate]
 
     def ends(self, crate):
-        """Says that a crate is built, and about how many minutes the rest takes."""
+        """Says that a crate is built, and about how many minutes the rest takes; notes how long it took."""
         self.done[crate] = time.monotonic() - self.begun[crate]
         del self.running[crate]
+        with contextlib.suppress(OSError):
+            write_whole(TOOK, json.dumps({**took(), crate: round(self.done[crate], 1)}))
         spent, left = (time.monotonic() - self.start) / 60, self.seconds_left() / 60
         say(f"built {len(self.done)} of {len(self.plan.share)}: {crate}; {spent:.0f} minutes so far, about {left:.0f} to go")
 

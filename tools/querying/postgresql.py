@@ -9,9 +9,12 @@ import signal
 import subprocess
 import time
 
+from releasing.databases import VERSIONS, postgresql_versions
+
 from .common import BOUND, MOST_GROWTH, TOP, Missing, Wrong, environment, expect, header_version, need, page_block, run, trimmed
 
-VERSIONS = pathlib.Path("/usr/lib/postgresql")
+# The versions that the extension is written for.
+WRITTEN_FOR = ("13", "14", "15", "16", "17")
 # (the headers of PostgreSQL are not looked at)
 WARNINGS = "-Wall -Wextra -Wpedantic -Wno-unused-parameter -Werror"
 # (a server of Debian's stands still as it starts where the address sanitizer is loaded before it; sqlite.py has that one)
@@ -21,21 +24,26 @@ GERMAN = "SELECT legumeyet.format(1234567.891, 'de')"
 # A later version of the script, which tools/try_databases makes up, so that one is updated to another.
 LATER_VERSION = "2.999"
 LATER = "CREATE FUNCTION @extschema@.later() RETURNS text LANGUAGE SQL IMMUTABLE AS $$ SELECT @extschema@.format(1234.5, 'de') $$;\n"
-# A million tags and then one, with how many kilobytes the backend has before and after.
-MANY_TAGS = """\
+# A thousand tags, and how many kilobytes the backend has then.
+SIZE = "\\! grep VmRSS /proc/$PID/status\n"
+WARM = f"""\
 SELECT pg_backend_pid() AS pid \\gset
 \\setenv PID :pid
 SELECT count(legumeyet.format(n, 'de-x-a' || n % 1000)) FROM generate_series(1, 20000) n;
-\\! grep VmRSS /proc/$PID/status
+{SIZE}"""
+# Then a million of them, and how many it has after that.
+MANY_TAGS = f"""{WARM}\
 SELECT count(legumeyet.format(n, 'de-x-a' || n, CASE n % 3 WHEN 0 THEN '' ELSE '.00' END)) FROM generate_series(1, 1000000) n;
 SELECT count(legumeyet.read('1,5', 'de-x-b' || n)) FROM generate_series(1, 100000) n;
-\\! grep VmRSS /proc/$PID/status
-"""
-# A statement that is cancelled, and one after it in the same session.
-CANCELLED = f"""\
-SET statement_timeout = 300;
-SELECT count(legumeyet.format(n, 'de-x-a' || n)) FROM generate_series(1, 1000000000) n;
-SET statement_timeout = 0;
+{SIZE}"""
+# A statement that writes numbers for hours, from its first millisecond on: in FROM the series would be made before them, and where the planner knew
+# how long it is, the statement would be compiled first.
+ENDLESS = "SELECT count(legumeyet.format(n, 'de-x-a' || n)) FROM (SELECT generate_series(1, (SELECT 1000000000)) AS n) AS numbers;\n"
+# Or ten that are cancelled, and one after them in the same session.
+CANCELLED = f"""{WARM}\
+SET statement_timeout = 200;
+{10 * ENDLESS}\\echo :SQLSTATE
+{SIZE}SET statement_timeout = 0;
 {GERMAN};
 """
 WORKERS = """\
@@ -219,24 +227,36 @@ def try_workers(server, name):
     expect("parallel workers", several, server.psql(f"SET max_parallel_workers_per_gather = 0; {SUM}", name))
 
 
+def grows_little(said, what):
+    """Raises Wrong where a backend has more memory after something than before."""
+    sizes = [int(it) for it in re.findall(r"VmRSS:\s*(\d+) kB", said)]
+    if len(sizes) != 2 or sizes[1] - sizes[0] > MOST_GROWTH:
+        raise Wrong(f"a backend has {sizes} kB before and after {what}")
+
+
 def try_memory(server, name):
     """A million tags hold no more memory than a thousand."""
-    sizes = [int(it) for it in re.findall(r"VmRSS:\s*(\d+) kB", server.psql(MANY_TAGS, name))]
-    if len(sizes) != 2 or sizes[1] - sizes[0] > MOST_GROWTH:
-        raise Wrong(f"a backend has {sizes} kB before and after a million tags")
+    grows_little(server.psql(MANY_TAGS, name), "a million tags")
+
+
+def try_infinity(server, name):
+    """An infinity of `numeric`, which came with version 14, is refused as that of `double precision` is."""
+    for it in ("Infinity", "-Infinity") if float(server.version) >= 14 else ():
+        expect(it, server.refusal(f"SELECT legumeyet.format('{it}'::numeric, 'de')", name), "22023 cannot format infinity")
 
 
 def try_cancel(server, name):
-    """After a statement that was cancelled the session answers."""
-    expect("after a cancelled statement", server.psql(CANCELLED, name, stop=False).splitlines()[-1], "1.234.567,891")
+    """Statements that were cancelled leave nothing behind: the session answers, and holds no more memory."""
+    said = server.psql(CANCELLED, name, stop=False)
+    grows_little(said, "ten cancelled statements")
+    expect("after cancelled statements", [it for it in said.splitlines() if "VmRSS" not in it], ["20000", "57014", "1.234.567,891"])
 
 
 def try_crash(server, name):
     """After a backend was killed the others are started again, and answer."""
-    long = "SELECT count(legumeyet.format(n, 'de')) FROM generate_series(1, 1000000000) n"
     quiet = {"stdout": subprocess.DEVNULL, "stderr": subprocess.DEVNULL}
-    client = subprocess.Popen(("psql", "-X", "-q", "-d", name, "-c", long), env=server.how, **quiet, **server.as_user)
-    backend = "SELECT pid FROM pg_stat_activity WHERE query LIKE 'SELECT count(legumeyet%' AND state = 'active'"
+    client = subprocess.Popen(("psql", "-X", "-q", "-d", name, "-c", ENDLESS), env=server.how, **quiet, **server.as_user)
+    backend = "SELECT pid FROM pg_stat_activity WHERE query LIKE 'SELECT count(legumeyet%' AND state = 'active' AND query_start < clock_timestamp() - interval '0.5 s'"
     try:
         found = wait_for(lambda: server.psql(backend, name))
         os.kill(int(found), signal.SIGKILL)
@@ -365,6 +385,7 @@ def try_server(server):
         try_page(server)
         try_encodings(server)
         try_memory(server, name)
+        try_infinity(server, name)
         try_cancel(server, name)
         try_crash(server, name)
         try_update(server)
@@ -378,11 +399,10 @@ def try_server(server):
 
 
 def try_postgresql(library, folder):
-    """Tries each version that is installed, and says which."""
+    """Tries each version that is installed, and says which, and which it can't try."""
     need("cc", "pgxs", "postgres", "psql", "pgbouncer")
-    versions = sorted((it.name for it in VERSIONS.iterdir() if (it / "lib/pgxs/src/makefiles/pgxs.mk").is_file()), key=float)
     said = []
-    for version in versions:
+    for version in postgresql_versions():
         if not (VERSIONS / version / "bin/postgres").is_file():
             Server(made(folder, version), version).build(library)
             said.append(f"{version} (compiled: its server is not installed)")
@@ -394,7 +414,8 @@ def try_postgresql(library, folder):
         said.append(version)
     if not said:
         raise Missing("no version of PostgreSQL is installed")
-    return f"PostgreSQL {', '.join(said)}"
+    absent = [it for it in WRITTEN_FOR if it not in postgresql_versions()]
+    return f"PostgreSQL {', '.join(said)}" + (f"; not tried, since their headers are not installed: {', '.join(absent)}" if absent else "")
 
 
 def made(folder, name):

@@ -5,6 +5,7 @@ import pathlib
 from .common import committed, said_by
 
 VERSIONS = pathlib.Path("/usr/lib/postgresql")
+HEADERS = pathlib.Path("/usr/include/postgresql")
 # No path of this machine is in what is made.
 FLAGS = "-O2 -g0 -fstack-protector-strong -D_FORTIFY_SOURCE=2 -Wall -Wextra"
 SQLITE_HEADER = pathlib.Path("/usr/include/sqlite3ext.h")
@@ -12,9 +13,8 @@ SQLITE_HEADER = pathlib.Path("/usr/include/sqlite3ext.h")
 
 def postgresql_versions():
     """The versions of PostgreSQL whose headers are installed, in order."""
-    if not VERSIONS.is_dir():
-        return []
-    return sorted((it.name for it in VERSIONS.iterdir() if (it / "lib/pgxs/src/makefiles/pgxs.mk").is_file()), key=float)
+    # (what make reads of them is in Debian's package of the client)
+    return sorted((it.parent.parent.name for it in HEADERS.glob("*/server/postgres.h")), key=float)
 
 
 def lacking():
