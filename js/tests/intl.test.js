@@ -205,6 +205,8 @@ function causeOfSpecial(chain, ours, style) {
 function causeOfAmount(chain, { currency, currencyDisplay, currencySign, numberingSystem: system }) {
   if (usual.some(([locale, key]) => isCode(key) && key !== currency && chain.includes(locale))) return "the pattern of the region's own currency: there for all others too";
   if (entryOf(chain, [usual, currency]) !== null) return "the separators of the locale that gives a currency its pattern: there for the locales below it too";
+  const own = entryOf(chain, [usual, ""])[2];
+  if (own !== null && own[0] !== system) return "the separators of amounts of the locale's own digits: there for all digits";
   const unit = currencyDisplay === "code" ? currency : entryOf(chain, [signs, currency])?.[2] ?? currency;
   const asked = currencySign === "accounting" ? [[accounts, system], [accounts, ""]] : [];
   const [, , , , beside] = entryOf(chain, ...asked, [usual, system], [usual, ""]);
