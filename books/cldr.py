@@ -275,7 +275,7 @@ class Cldr:
                         if f"{part}[{system}]" not in known and not is_missing:
                             aliases[(f"{part}[{system}]",)] = (f"{part}[latn]",)
             for path, values in tables.items():
-                # A locale that gives the pattern alone has no pattern beside a letter, whatever its parents have.
+                # A locale that gives only the pattern has no pattern beside a letter, whatever its parents have.
                 if "pattern" in values and is_of_currencies(path):
                     values.setdefault(f"pattern[{BESIDE_LETTER}]", "")
             self._read[name] = tables, aliases

@@ -209,7 +209,7 @@ def readers(book, locale, system, style, code):
 
 def read_as_it_is(its, text, grouping):
     """The number that a text is by one of these readers, where the other one reads none or the same. What the format of the first
-    one writes of it, under any grouping, is read by that one alone."""
+    one writes of it, under any grouping, is read only by that one."""
     found = read_typed(its[0], text, grouping)
     if len(its) == 1 or found == UNREADABLE or (found and found in (read_as(its[0].form, text, it) for it in GROUPINGS)):
         return found

@@ -1,6 +1,6 @@
 """A book's tables and how a line finds them: the rule of docs/books.md, written down once more.
 
-The scripts of this folder go by this model alone; nothing in it is taken from the program. A book with units is a pair
+The scripts of this folder go only by this model; nothing in it is taken from the program. A book with units is a pair
 of a book and of five arrays of units: percents, currencies, accounts, symbols and digits of currencies. One with ordinal
 rules and ranges too is a triple of both and of two arrays more.
 """

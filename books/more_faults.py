@@ -23,7 +23,7 @@ def is_range(value):
 
 
 def is_ranges(value):
-    """Whether a value has ranges alone."""
+    """Whether a value has only ranges."""
     return isinstance(value, list) and all(map(is_range, value))
 
 

@@ -110,6 +110,17 @@ SKELETONS = [
     "K +?",
     "KK +-",
     "KK +_",
+    # what is before the pattern in digits of its own
+    "K .",
+    "KK .00",
+    "K .##",
+    "K .0/w",
+    "K @@@",
+    "KK @@#",
+    "K .0#/@@s",
+    "K .+",
+    "K rounding-mode-up",
+    "K 000 .0",
 ]
 # Words beside those of the definition: what it refuses by its first part, short forms, and texts with faults.
 WORDS = """\

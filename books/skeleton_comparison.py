@@ -5,11 +5,11 @@ import re
 import tempfile
 import typing
 
-from comparison import LIKELY, NEGATIVE, answers, causes_of, locale_and_system, text
+from comparison import CARRY, LIKELY, NEGATIVE, answers, carries, causes_of, locale_and_system, shown_value, text
 from look_up import locale_of, read_book
 from peers import NODE, NOT_IN_ICU, NOT_IN_NODE, VERSION, book_of_peer, known, with_tags_cut
 from skeleton_cases import NUMBERS, SKELETONS, WORDS
-from skeletons import REFUSED, SPELLINGS, Refused, Skeleton, is_amount, is_of_intl, line_of, options_of, read_skeleton
+from skeletons import REFUSED, SPELLINGS, Refused, Skeleton, has_own_digits, is_amount, is_of_intl, line_of, options_of, read_skeleton
 from unit_comparison import cause_of
 from unit_text import Symbols
 
@@ -235,6 +235,25 @@ def causes_of_compact(book, ours, peer, found):
     return named
 
 
+def of_value(it):
+    """The same of the value that is shown here."""
+    return it._replace(number=f"{shown_value(it.here):f}", here="", there="")
+
+
+def causes_of_digits(book, ours, peer, found):
+    """The same of compact numbers with digits of their own: a number that is rounded up to the next pattern, or what the value shown has as a
+    cause without such digits."""
+    found = [it for it in found if it.here.startswith("ok\t")]
+    carried = [it for it in found if carries(line_of_skeleton(book, it), it.here)]
+    again = answers(peer.command, [peer.line(book, of_value(it)) for it in carried])
+    named = {it: CARRY for it, its in zip(carried, again) if text(it.there) == text(its)}
+    rest = [it for it in found if it not in named]
+    usual = asked_with(book, ours, peer, [of_value(it) for it in rest], precision="", mode="", integer="")
+    causes_there = causes_of_compact(book, ours, peer, [it for it in usual if not agrees(it)])
+    named.update((it, causes_there.get(its)) for it, its in zip(rest, usual))
+    return named
+
+
 def has_groups(book, tag):
     """Whether the locale's symbols, where the book has some, have a size of groups."""
     locale, system = locale_and_system(tag)
@@ -252,6 +271,8 @@ def causes_of_groups(book, ours, peer, found):
 def causes_by_rule(book, ours, peer, found):
     """The cause of each of these where one is known: what is done otherwise there under the same data. A cause is that of the line
     of other words, so what is not answered as that line has none."""
+    digits = [it for it in found if has_own_digits(it.its)]
+    found = [it for it in found if not has_own_digits(it.its)]
     lines = [line_by_words(book, it) for it in found]
     found = [it for it, its in zip(found, answers(ours, lines)) if its == it.here]
     compact, padded = ([it for it in found if it.its.notation and bool(it.its.integer) == its] for its in (False, True))
@@ -262,6 +283,7 @@ def causes_by_rule(book, ours, peer, found):
             named[it] = PADDED if agrees(its) else f"{PADDED}; and {named[its]}"
     named.update((it, cause_of(book, line_by_words(book, it), it.there)) for it in found if is_amount(it.its))
     named.update(causes_of_groups(book, ours, peer, found))
+    named.update(causes_of_digits(book, ours, peer, digits))
     return {it: name for it, name in named.items() if name}
 
 

@@ -25,11 +25,14 @@ K currency/EURO | Code at 2
 precision-currency-cash/w | Pair at 0
 percent latin | System at 8
 numbering-system/thai | System at 0
-KK .00 | Later at 3
+KK .00 | compact-long .00
+currency/EUR rounding-mode-up K | Later at 13
+compact-short currency/EUR .00 | Later at 27
+K precision-currency-standard | Later at 2
 currency/EUR rounding-mode-up | Later at 13
 .##/@@@+ | .##/@##r
 .00/@@@+ | Later at 0
-K @@ | Later at 2
+@@ rounding-mode-floor K | compact-short @@ rounding-mode-floor
 .0#/@@x | Unknown at 0
 @@#/w ,! | @@#/w group-on-aligned
 precision-integer/@@#s/w | ./@@#s/w
@@ -72,6 +75,8 @@ precision-increment/250 | 1400 | - | plain auto auto - 1500
 permille . | 1234.5 | - | permille auto auto - 1234
 KK | 1234567.00 | - | long min2 auto - 1234567
 K group-auto +_ | 1234 | - | short auto never - 1234
+K .00 | 1234 | - | None
+KK rounding-mode-up | 1234 | - | None
 currency/JPY | 2.5 | 0 1 0 1 | currency-JPY auto auto 0,half-even,1 2
 currency/CHF precision-currency-cash | 5.03 | 2 1 2 5 | currency-CHF auto auto -2,half-even,1 5.05
 currency/USD ()! precision-currency-standard/w | 5 | 2 1 2 1 | accounting-USD auto always 0,half-even,1 5

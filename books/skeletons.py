@@ -190,14 +190,13 @@ def setting(word):
 
 def pair_fault(its):
     """The kind and the fault of what does not go with another word, or None."""
-    is_amount, of_currency = its.unit.startswith("currency/"), its.precision.startswith("precision-currency")
-    has_own_digits = of_currency or (is_amount and not its.precision)
+    of_currency = its.precision.startswith("precision-currency")
     for kind, is_wrong, name in (
-        ("precision", its.notation and its.precision, "Later"),
-        ("precision", of_currency and not is_amount, "Pair"),
-        ("mode", its.mode and (its.notation or has_own_digits), "Later"),
-        ("width", its.width and not is_amount, "Pair"),
-        ("sign", its.sign.startswith("sign-accounting") and not is_amount, "Pair"),
+        ("precision", its.notation and (of_currency or (is_amount(its) and its.precision)), "Later"),
+        ("precision", of_currency and not is_amount(its), "Pair"),
+        ("mode", its.mode and (of_currency or (is_amount(its) and not its.precision)), "Later"),
+        ("width", its.width and not is_amount(its), "Pair"),
+        ("sign", its.sign.startswith("sign-accounting") and not is_amount(its), "Pair"),
     ):
         if is_wrong:
             return kind, name
@@ -244,13 +243,18 @@ def is_amount(its):
     return its.unit.startswith("currency/")
 
 
+def has_own_digits(its):
+    """Whether a skeleton asks for digits of what is before a compact pattern."""
+    return bool(its.notation and (its.precision or its.mode))
+
+
 def digits_asked(its, of_currency):
-    """The digits of a fraction that a skeleton asks for, or None where a compact pattern says which; those of the currency are its
-    digits, its increment, its digits of cash and their increment."""
+    """The digits that a skeleton asks for, of a compact number those of what is before the pattern, or None where the pattern says which;
+    those of the currency are its digits, its increment, its digits of cash and their increment."""
     word, *options = its.precision.split("/")
     is_whole = "w" in options
-    if its.notation:
-        return None
+    if its.notation and not word:
+        return Digits(0, 0, significant=(1, 2), priority="r") if its.mode else None
     if word.startswith("precision-currency") or (is_amount(its) and not word):
         digits, increment = of_currency[2:] if word.endswith("cash") else of_currency[:2]
         return Digits(digits, digits, increment, is_whole)
@@ -336,9 +340,9 @@ def sign_of(its):
 
 
 def form_of(its):
-    """The word of a line for the notation and the unit of a skeleton, or None where none says both."""
+    """The word of a line for the notation and the unit of a skeleton, or None where none says both, or digits of a compact number."""
     if its.notation:
-        return None if its.unit else its.notation.partition("-")[2]
+        return None if its.unit or has_own_digits(its) else its.notation.partition("-")[2]
     if not is_amount(its):
         return its.unit or "plain"
     is_in_accounting = its.sign.startswith("sign-accounting")
@@ -349,9 +353,12 @@ def form_of(its):
 
 def line_of(its, tag, number, of_currency=None):
     """The request line that asks by other words for what a skeleton shows of a number, or None where none does."""
-    form, number = form_of(its), shown(its, number, of_currency)
+    form = form_of(its)
+    if form is None:
+        return None
+    number = shown(its, number, of_currency)
     rounding = f"{-len(number.partition('.')[2])},half-even,1" if is_amount(its) else "-"
-    return form and "\t".join((tag, form, grouping_of(its), sign_of(its), rounding, number))
+    return "\t".join((tag, form, grouping_of(its), sign_of(its), rounding, number))
 
 
 def is_of_intl(its):

@@ -105,7 +105,7 @@ def patterns_there(units, along, system, style, code):
 
 
 def with_usual_separators(book, locale, symbols, entry):
-    """These symbols with the separators that the locale's usual entry has for currencies alone, or None where it has none."""
+    """These symbols with the separators that the locale's usual entry has for currencies only, or None where it has none."""
     plain, own = plain_tables(book, locale, "")[0], Symbols(*entry[0]) if entry[0] else None
     changed = {it: getattr(own, it) for it in SEPARATORS if own and getattr(own, it) != getattr(plain, it)}
     return symbols._replace(**changed) if changed else None

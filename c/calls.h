@@ -37,7 +37,7 @@ typedef struct {
     const char *unit, *skeleton;
 } asked;
 
-enum { PLAIN, BAD, SHORT, LONG, PERCENT, EUROS, ACCOUNTS, FRANCS, ARABIC, ARABIC_PERCENT, FORMATS };
+enum { PLAIN, BAD, SHORT, LONG, HUNDREDTHS, PERCENT, EUROS, ACCOUNTS, FRANCS, ARABIC, ARABIC_PERCENT, FORMATS };
 
 /* Those of the tests. */
 static const asked ASKED[FORMATS] = {
@@ -45,6 +45,7 @@ static const asked ASKED[FORMATS] = {
     [BAD] = {"bad", {0}, "", NULL},
     [SHORT] = {"en", {.notation = LEGUMEYET_NOTATION_COMPACT, .grouping = LEGUMEYET_GROUPING_MIN2}, "", NULL},
     [LONG] = {"en", {.notation = LEGUMEYET_NOTATION_COMPACT, .width = LEGUMEYET_WIDTH_LONG}, "", NULL},
+    [HUNDREDTHS] = {"en", {0}, "", "compact-short .00"},
     [PERCENT] = {"en", {.unit = LEGUMEYET_UNIT_PERCENT}, "", NULL},
     [EUROS] = {"en", {.unit = LEGUMEYET_UNIT_CURRENCY}, "EUR", NULL},
     [ACCOUNTS] = {"en", {.unit = LEGUMEYET_UNIT_CURRENCY, .currency_style = LEGUMEYET_STYLE_ACCOUNTING}, "EUR", NULL},

@@ -55,6 +55,7 @@ static const struct {
     {TAG, "", "1234567.8", {.rounding = LEGUMEYET_ROUND_HALF_EVEN, .position = -2, .increment = 25}, "1,234,567.75", 5, NULL, NULL, NULL},
     {TAG, "", DIGITS, {.rounding = LEGUMEYET_ROUND_HALF_EVEN, .maximum_significant_digits = 5, .rounding_priority = LEGUMEYET_PRIORITY_LESS_PRECISION}, "-98,765,000,000,000,000,000", 8, NULL, NULL, NULL},
     {TAG, "compact-short", DIGITS, {.rounding = LEGUMEYET_ROUND_HALF_EVEN}, "-98,765,432,109,876,543 ks", 1, NULL, NULL, NULL},
+    {TAG, "compact-short precision-increment/0.25", DIGITS, {0}, "-98,765,432,109,876,543.25 ks", 9, NULL, NULL, NULL},
     {TAG, "percent", DIGITS, {0}, "-98,765,432,109,876,543,210.5%", 11, "-98,765,432,109.5%", "-98765432109.5", "-98765432109.5"},
     {TAG, "currency/USD sign-accounting", "-12345.5", {.rounding = LEGUMEYET_ROUND_CASH}, "($12,345.50)", 7, "($123,456,789.50)", "USD -123456789.50", "-123456789.50"},
     {"ar", ".00", "-5", {0}, "-\xd9\xa5", 2, "-\xd9\xa5", "-5.", "-5"},

@@ -54,8 +54,8 @@ static const struct {
     {"percent sign-accounting", Code::SkeletonPair, 8},
     {"percent latin", Code::SkeletonSystem, 8},
     {"sign-always scientific", Code::SkeletonLater, 12},
-    {"compact-short .00", Code::SkeletonLater, 14},
-    {"percent .00/@##", Code::SkeletonLater, 8},
+    {"compact-short scale/100", Code::SkeletonLater, 14},
+    {"percent scale/100", Code::SkeletonLater, 8},
     {"percent .0#/@@", Code::SkeletonUnknown, 8},
     {"percent decimal-always", Code::SkeletonUnsupported, 8},
 };
@@ -96,7 +96,7 @@ static void normal_texts() {
     const std::string long_one = "currency/" + std::string(300, ' ') + "EUR", many(300, '0');
     expect(normal_skeleton("percent") + '|' + normal_skeleton("currency/EUR .00") + '|' + normal_skeleton(""), "percent|currency/EUR .00|");
     expect(normal_skeleton(" .00  currency/eur ") + '|' + normal_skeleton("K sign-auto") + '|' + normal_skeleton("+! % "), "currency/EUR .00|compact-short|percent sign-always");
-    expect(normal_skeleton("@@+ ,!") + '|' + normal_skeleton(".##/@@@+") + '|' + normal_skeleton("precision-integer/@@#s/w"), "@@* group-on-aligned|.##/@##r|./@@#s/w");
+    expect(normal_skeleton("@@+ ,!") + '|' + normal_skeleton(".##/@@@+") + '|' + normal_skeleton("precision-integer/@@#s/w"), "@@* group-on-aligned|.##/@@@*|./@@#s/w");
     expect_code(try_normal_skeleton(long_one).error(), Code::SkeletonCode);
     expect_code(try_normal_skeleton('.' + many).error(), Code::SkeletonUnknown);
     expect(*try_normal_skeleton("integer-width/*" + std::string(100, '0')), "integer-width/*" + std::string(100, '0'));
@@ -109,10 +109,12 @@ static void skeletons(Book &book) {
     expect(euros.format(1234.5) + ' ' + percents.format("12.34567") + ' ' + compact.format(-1172700) + ' ' + plain.format(1234),
            "€1,234.50 12,3457\u00a0% -1.2M +1234");
     expect(plain.format("007.50") + ' ' + plain.format("007.50", {}) + ' ' + plain.format("7.50", Options::own()), "+7.5 007.50 +7.5");
+    expect(std::to_string(NumberFormatter::skeleton(book, "en", "K .00").format_parts(-1234).parts.size()), "4");
     const Format permilles = {{}, {}, Unit::Permille};
     expect(NumberFormatter("de", permilles).format(5) + NumberFormatter::skeleton("en", "permille").format(12.5), "5\u00a0‰12.5‰");
     expect(plain.format(7, 0, Options().with_sign(Sign::Never).with_minimum_fraction_digits(1)), "7.0");
     expect(NumberFormatter::skeleton("es", "@@# ,!").format(1234.5) + ' ' + NumberFormatter::skeleton("es", "@@#").format(5), "1.230 5,0");
+    expect(NumberFormatter::skeleton("en", "K .00").format(-1234) + ' ' + NumberFormatter::skeleton("de", "KK .0").format(1234567), "-1.23K 1,2 Millionen");
     expect(*plain.try_format(5) + *plain.try_format(5, Options()) + plain.format(500, -2), "+55+5");
     std::string text;
     std::ostringstream out;

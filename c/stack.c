@@ -116,6 +116,7 @@ static const struct {
     {{.plurals = LEGUMEYET_PLURALS_ORDINAL}, "", NULL},
     {{0}, "", "currency/CHF precision-currency-cash sign-accounting-except-zero unit-width-iso-code group-min2 integer-width/*000"},
     {{0}, "", "compact-short sign-always"},
+    {{0}, "", "compact-long precision-increment/0.25"},
 };
 
 /* Formatters for some of the world's locales, by a book, and some of them shared. */

@@ -220,6 +220,10 @@ static const struct {
     {SHORT, "12345678901", {0}, WELL, "12,346M"},
     {SHORT, "-1172700", AT(6, 0), WELL, "-1M"},
     {LONG, "1650", {0}, WELL, "1.6 thousand"},
+    {HUNDREDTHS, "-1234", {0}, WELL, "-1.23K"},
+    {HUNDREDTHS, "999999", {0}, WELL, "1.00M"},
+    {HUNDREDTHS, "1234", AT(2, 0), WELL, "1.20K"},
+    {HUNDREDTHS, "+5", SIGNED(LEGUMEYET_SIGN_ALWAYS), WELL, "5.00"},
     {PERCENT, "-12.50", {0}, WELL, "-12.50%"},
     {EUROS, "-1234.5", {0}, WELL, "-" EURO "1,234.50"},
     {EUROS, "0.125", {0}, WELL, EURO "0.12"},
@@ -507,6 +511,8 @@ static const struct {
     {false, SHORT, "950", {0}, WELL, "950"},
     {false, SHORT, "999500", SIGNED(LEGUMEYET_SIGN_ALWAYS), WELL, "+1c6"},
     {false, SHORT, "-1172700", AT(6, 0), WELL, "-1c6"},
+    {false, HUNDREDTHS, "1234", {0}, WELL, "1.23c3"},
+    {false, HUNDREDTHS, "5", {0}, WELL, "5.00"},
     {false, SHORT, "\xff", {0}, LEGUMEYET_NUMBER, NULL},
     {false, SHORT, "1", {.sign = 6}, LEGUMEYET_OPTION, NULL},
     {false, PLAIN, "-1234.50", {0}, WELL, "-1234.50"},
@@ -519,6 +525,7 @@ static const struct {
     {false, ARABIC, "1234.5", {0}, WELL, "1234.5"},
     {false, EUROS, "x", {0}, LEGUMEYET_NUMBER, NULL},
     {true, SHORT, "-1.20c6", {0}, WELL, "-1.20M"},
+    {true, HUNDREDTHS, "-1.2c6", {0}, WELL, "-1.2M"},
     {true, SHORT, "0c6", {0}, WELL, "0M"},
     {true, SHORT, "1.20c6", AT(-1, .sign = LEGUMEYET_SIGN_ALWAYS), WELL, "+1.2M"},
     {true, SHORT, "1.5c3", LEAST(0, 2), WELL, "1.50K"},
@@ -582,6 +589,7 @@ static const struct {
     {SHORT, "1.6K", LEGUMEYET_UNREADABLE, LEGUMEYET_UNREADABLE, NULL, NULL},
     {SHORT, "950", LEGUMEYET_UNREADABLE, LEGUMEYET_UNREADABLE, NULL, NULL},
     {LONG, "\xff", LEGUMEYET_UTF8, LEGUMEYET_UTF8, NULL, NULL},
+    {HUNDREDTHS, "1.23K", LEGUMEYET_UNREADABLE, LEGUMEYET_UNREADABLE, NULL, NULL},
     {PERCENT, "-12.50%", WELL, WELL, "-12.50", "-12.50"},
     {PERCENT, "12.5 %", LEGUMEYET_NOT_WRITTEN, WELL, NULL, "12.5"},
     {PERCENT, "-12.5", LEGUMEYET_NOT_WRITTEN, WELL, NULL, "-12.5"},
@@ -639,6 +647,8 @@ static void many_digits(void) {
     expect("the least double", (int64_t)needed, 2 + 324);
     expect_error("what is shown", CALL(by[SHORT], format, (uint8_t *)digits, 32768, NOTHING, out, ROOM, &length), LEGUMEYET_RANGE);
     expect_error("the value shown", CALL(by[SHORT], shown, (uint8_t *)digits, 32768, NOTHING, out, ROOM, &length), LEGUMEYET_RANGE);
+    expect("hundredths", CALL(by[HUNDREDTHS], format, (uint8_t *)digits, 32768, NOTHING, wide, sizeof wide, &needed), WELL);
+    expect("hundredths", (int64_t)needed, 32763 + 10920 + 4);
     expect("no compact number", CALL(by[EUROS], shown, (uint8_t *)digits, 32768, NOTHING, wide, sizeof wide, &needed), WELL);
     expect("no compact number", (int64_t)needed, 32768 + 3);
     memset(digits + 1, '0', 32767);
@@ -646,6 +656,11 @@ static void many_digits(void) {
     expect_error("an exact form", CALL(by[SHORT], format_exact, (uint8_t *)digits, 32770, NOTHING, out, ROOM, &length), LEGUMEYET_RANGE);
     expect("30,000 digits", CALL(by[SHORT], format, (uint8_t *)digits, 30000, NOTHING, wide, sizeof wide, &needed), WELL);
     expect("30,000 digits", (int64_t)needed, 29994 + 9997 + 1);
+    memcpy(digits, "1000.", 5);
+    memset(digits + 5, '0', 32767);
+    digits[5 + 32767] = '1';
+    expect_error("a digit beyond thousands", CALL(by[HUNDREDTHS], format, (uint8_t *)digits, 5 + 32768, NOTHING, out, ROOM, &length), LEGUMEYET_RANGE);
+    expect_error("a digit beyond thousands", CALL(by[HUNDREDTHS], shown, (uint8_t *)digits, 5 + 32768, NOTHING, out, ROOM, &length), LEGUMEYET_RANGE);
 }
 
 /* Texts with their parts. */
@@ -660,6 +675,8 @@ static const struct {
     {PLAIN, "+5", "+5", 2, {{0, 1, LEGUMEYET_PART_PLUS_SIGN}, {1, 2, LEGUMEYET_PART_INTEGER}}},
     {SHORT, "-1650", "-1.6K", 1, {{0, 1, LEGUMEYET_PART_MINUS_SIGN}}},
     {SHORT, "950", "950", 0, {{0, 0, 0}}},
+    {HUNDREDTHS, "-1234", "-1.23K", 4, {{0, 1, LEGUMEYET_PART_MINUS_SIGN}, {1, 2, LEGUMEYET_PART_INTEGER}, {2, 3, LEGUMEYET_PART_DECIMAL},
+                                        {3, 5, LEGUMEYET_PART_FRACTION}}},
     {PERCENT, "5", "5%", 2, {{0, 1, LEGUMEYET_PART_INTEGER}, {1, 2, LEGUMEYET_PART_PERCENT_SIGN}}},
     {EUROS, "-1234.5", "-" EURO "1,234.50", 6, {{0, 1, LEGUMEYET_PART_MINUS_SIGN}, {1, 4, LEGUMEYET_PART_CURRENCY}, {4, 9, LEGUMEYET_PART_INTEGER},
                                                {5, 6, LEGUMEYET_PART_GROUP}, {9, 10, LEGUMEYET_PART_DECIMAL}, {10, 12, LEGUMEYET_PART_FRACTION}}},
@@ -752,7 +769,7 @@ static void nulls(void) {
     legumeyet_interval none;
     size_t row, count = 77;
     for (row = 0; row < FORMATS; row++) {
-        const int32_t unread = row == SHORT || row == LONG || row == BAD ? LEGUMEYET_UNREADABLE : LEGUMEYET_NOT_WRITTEN;
+        const int32_t unread = row == SHORT || row == LONG || row == HUNDREDTHS || row == BAD ? LEGUMEYET_UNREADABLE : LEGUMEYET_NOT_WRITTEN;
         expect_error("a number", CALL(by[row], format, NOTHING, NOTHING, out, ROOM, &length), LEGUMEYET_NUMBER);
         expect_error("parts", CALL(by[row], format_parts, NOTHING, NOTHING, out, ROOM, &length, &none, 1, &count), LEGUMEYET_NUMBER);
         expect_error("what is shown", CALL(by[row], shown, NOTHING, NOTHING, out, ROOM, &length), LEGUMEYET_NUMBER);

@@ -37,6 +37,10 @@ static const struct {
     {"en", "", "0", "other", {.plurals = CARDINAL}, {0}, WELL},
     {"en-GB", "", "-1", "one", {.plurals = CARDINAL}, {0}, WELL},
     {"ja", "", "1", "other", {.plurals = CARDINAL}, {0}, WELL},
+    {"cs", "", "-0.50", "many", {.plurals = CARDINAL}, {0}, WELL},
+    {"en", "", "+01", "one", {.plurals = CARDINAL}, {0}, WELL},
+    {"fr", "", "00000000000001000000", "many", {.plurals = CARDINAL}, {0}, WELL},
+    {"fr", "", "1e6", "many", {.plurals = CARDINAL}, {0}, WELL},
     /* as it is shown: rounded, padded, trimmed, and with the digits of a currency */
     {"en", "", "0.9", "one", {.plurals = CARDINAL}, {.rounding = LEGUMEYET_ROUND_HALF_EVEN}, WELL},
     {"en", "", "1", "other", {.plurals = CARDINAL}, {.minimum_fraction_digits = 2}, WELL},

@@ -19,23 +19,21 @@
  * has one. A pointer to a text of length 0, to no words, to no numbers, or to a room of 0, may be NULL, so `NULL, 0` asks how much room a
  * text needs. No other pointer may be NULL, but where a call says so.
  *
- * A handle is memory of the caller's. Zeroed memory is a closed handle. A handle is not copied, and its fields are not for callers. A
- * formatter has the tables that it needs, so its book may be closed before it. A handle that has something of another type open, as a
- * book's that is cast to a formatter's, is closed to a call. Only a call that opens the handle closes what it had, once it returns 0.
- *
- * A call that returns a number other than 0 leaves its handles as they were. Of several such numbers it returns the first of its list.
+ * A handle is memory of the caller's. Zeroed memory is a closed handle. A handle is not copied, and its fields are not for callers. A formatter
+ * has the tables that it needs, so its book may be closed before it. A handle that has something of another type open, as a book's that is cast
+ * to a formatter's, is closed to a call. Only a call that opens the handle closes what it had, once it returns 0. A call that returns a number
+ * other than 0 leaves its handles as they were. Of several such numbers it returns the first of its list.
  *
  * A call that takes `out`, `room` and `length` writes the text to the front of the `room` bytes at `out`, and its length in bytes to
  * `length`; the bytes after the text stay as they were. Where the text is longer than `room` it returns LEGUMEYET_TOO_SMALL, the `room`
  * bytes are the first of the text, which may end inside a character, and `length` is what it needs. Any other error leaves both as they were.
  * What a call writes to overlaps nothing else that it is given, and nothing else writes meanwhile to what a call is given.
  *
- * Threads: one call at a time has a handle, also a call that only reads, as legumeyet_formatter_format, but for the calls that take the
- * handle of a shared formatter as `const`: any number of these run at once. A handle may go to another thread by a lock, a thread's start
- * or join, or a sequentially consistent atomic. Two handles may be used at once, also two formatters of one book; to open a formatter is a
- * call on its book. No call is made in a signal handler, or in a forked child of a process with threads.
- *
- * A call takes at most 48 KiB of stack, and 168 KiB where it opens a book of a JSON that is nested far deeper than a book.
+ * Threads: one call at a time has a handle, also a call that only reads, as legumeyet_formatter_format, but for the calls that take the handle
+ * of a shared formatter as `const`: any number of these run at once. A handle may go to another thread by a lock, a thread's start or join, or
+ * a sequentially consistent atomic. Two handles may be used at once, also two formatters of one book; to open a formatter is a call on its
+ * book. No call is made in a signal handler, or in a forked child of a process with threads. A call takes at most 48 KiB of stack, and 168 KiB
+ * where it opens a book of a JSON that is nested far deeper than a book.
  */
 #ifndef LEGUMEYET_H
 #define LEGUMEYET_H
@@ -49,16 +47,12 @@
 extern "C" {
 #endif
 
-/* The version of this header: functions, numbers and words are added, and none of them ever changes its meaning. */
+/* The version of this header, and the minor one: a function, a number or a word that is added raises this, and none ever changes its meaning. */
 #define LEGUMEYET_VERSION 2
-
-/* The minor version, which rises when a function, a number or a word is added. */
 #define LEGUMEYET_MINOR 1
 
-/* The two arguments that a text with a NUL at its end is given by. The text is evaluated twice. */
+/* The two arguments that a text with a NUL at its end is given by, evaluated twice, and those of a struct of words: see legumeyet_format. */
 #define LEGUMEYET_TEXT(text) (const uint8_t *)(text), strlen(text)
-
-/* The two arguments that a struct of words is given by: its address, and how many words it has. See legumeyet_format. */
 #define LEGUMEYET_WORDS(asked) &(asked), sizeof(asked) / sizeof(int32_t)
 
 /* What a call returns. */
@@ -73,7 +67,7 @@ enum {
     LEGUMEYET_TABLE = 6,        /* the book lacks a table for the tag, or compact numbers with a unit are asked for */
     LEGUMEYET_NUMBER = 7,       /* the text is no decimal number, as `5.`, or `1e+3`, which is written `1e3` */
     LEGUMEYET_LIMIT = 8,        /* a digit of the number is beyond the magnitudes -32768 to 32767 */
-    LEGUMEYET_RANGE = 9,        /* what the number is shown as in compact form, or an exact form, reaches ten to the power 32768 */
+    LEGUMEYET_RANGE = 9,        /* what the number is shown as in compact form, or an exact form, has a digit beyond these magnitudes */
     LEGUMEYET_UTF8 = 10,        /* the text is not UTF-8 */
     LEGUMEYET_UNREADABLE = 11,  /* two numbers may have one text: under the symbols, or since compact numbers or words are written */
     LEGUMEYET_NOT_WRITTEN = 12, /* the formatter writes no number so, as `98,7654` in English */
@@ -247,12 +241,11 @@ typedef struct {
 } legumeyet_format;
 
 /*
- * What is made of a number before it is written, in words, as those of legumeyet_format: it is rounded, then trimmed, then padded, and then
- * its sign is chosen. Zeroed, the number stays as it is, and an amount has the digits of its currency. `NULL, 0` are the formatter's own
- * options: those of its skeleton, or zeroes where it was opened without one. Options that are given replace them wholly.
- *
- * Of LEGUMEYET_ROUND_USUAL, LEGUMEYET_ROUND_CASH and LEGUMEYET_ROUND_NONE the position and the increment count for nothing. A zero that a
- * rounding above the ones leaves is one `0`: 400 to thousands, at 3, is `0`, and of dollars `$0`.
+ * What is made of a number before it is written, in words, as those of legumeyet_format: it is rounded, then trimmed, then padded, and then its
+ * sign is chosen. Zeroed, the number stays as it is, and an amount has the digits of its currency. `NULL, 0` are the formatter's own options:
+ * those of its skeleton, or zeroes where it was opened without one. Options that are given replace them wholly. Of LEGUMEYET_ROUND_USUAL,
+ * LEGUMEYET_ROUND_CASH and LEGUMEYET_ROUND_NONE the position and the increment count for nothing. A zero that a rounding above the ones leaves
+ * is one `0`: 400 to thousands, at 3, is `0`, and of dollars `$0`.
  *
  * Significant digits are counted from the first one on that is not zero: at most 3 of 12345 are `12,300`, and of 0.012345 `0.0123`; at least
  * 3 of 5 are `5.00`. Of zeros at the end of the fraction only those of the least count stay. The least count of fraction digits does nothing,
@@ -260,11 +253,10 @@ typedef struct {
  * another increment than 1, and of a least count above the greatest; a priority other than AUTO needs them, and a rounding that is a mode.
  *
  * At most two fraction digits, and none that is not needed: LEGUMEYET_ROUND_HALF_EVEN, the position -2 and LEGUMEYET_TRAILING_ZEROS_TRIM write
- * 1.995 as `2` and 1.255 as `1.26`. To the nearest twentieth: the position -2 and the increment 5 write 1.23 as `1.25`.
- *
- * An increment that ends in zeros is one of its digits at a higher position, and the fraction digits down to the given position are shown too,
- * where LEGUMEYET_TRAILING_ZEROS keeps them: the position -2 and the increment 50 write 1.26 as `1.50`, and with TRIM as `1.5`. LEGUMEYET_OPTION
- * of such an increment where the higher position is above 32767, or the given one is -32768.
+ * 1.995 as `2` and 1.255 as `1.26`. To the nearest twentieth: the position -2 and the increment 5 write 1.23 as `1.25`. An increment that ends
+ * in zeros is one of its digits at a higher position, and the fraction digits down to the given position are shown too, where
+ * LEGUMEYET_TRAILING_ZEROS keeps them: the position -2 and the increment 50 write 1.26 as `1.50`, and with TRIM as `1.5`. LEGUMEYET_OPTION of
+ * such an increment where the higher position is above 32767, or the given one is -32768.
  */
 typedef struct {
     int32_t sign;                       /* a LEGUMEYET_SIGN */
@@ -310,13 +302,11 @@ int32_t legumeyet_book_close(legumeyet_book *book);
  */
 int32_t legumeyet_book_keep(legumeyet_book *book);
 
-/* Counts the locales that a book has symbols of. Returns 0; LEGUMEYET_CLOSED. */
-int32_t legumeyet_book_locale_count(legumeyet_book *book, size_t *count);
-
 /*
- * Writes the tag of one of these locales, as `de-AT`. They have the order of the book, and each is there once.
- * Returns 0; LEGUMEYET_CLOSED; LEGUMEYET_OPTION, where `index` is not below the count; LEGUMEYET_TOO_SMALL.
+ * Count the locales that a book has symbols of, and write the tag of one, as `de-AT`: in the order of the book, each once.
+ * Return 0; LEGUMEYET_CLOSED; LEGUMEYET_OPTION, where `index` is not below the count; LEGUMEYET_TOO_SMALL.
  */
+int32_t legumeyet_book_locale_count(legumeyet_book *book, size_t *count);
 int32_t legumeyet_book_locale(legumeyet_book *book, size_t index, uint8_t *out, size_t room, size_t *length);
 
 /*
@@ -358,22 +348,18 @@ int32_t legumeyet_answers_close(legumeyet_answers *answers);
  *         fwrite(out, 1, written, stdout);
  *         at += read;
  *     } while (error == LEGUMEYET_TOO_SMALL && needs <= sizeof out);
- *
  * Returns 0, where all lines that end were answered; LEGUMEYET_CLOSED, and the three counts are 0; LEGUMEYET_MEMORY; LEGUMEYET_TOO_SMALL.
  */
 int32_t legumeyet_answers_answer(legumeyet_answers *answers, const uint8_t *lines, size_t lines_length, uint8_t *out, size_t room, size_t *read,
     size_t *written, size_t *needs);
 
 /*
- * Opens the formatter of a format for a locale tag. Without words that of `en` writes -1234.5 as `-1,234.5`; of compact numbers that of
- * `en` writes 1650 as `1.6K`, of percents that of `tr` 12.5 as `%12,5`, and of amounts that of `de-CH` and `CHF` -5 as `CHF-5.00`.
- *
- * `unit` is the code of the currency, three letters `A` to `Z`, where the format is of amounts, and else `NULL, 0`. A currency that the
- * book does not know is written by its code, and has two digits. The formatter has its own copy of the tables, unless the book is kept.
- *
- * With `plurals` each call that writes the text of a number writes its plural category instead, by what would be shown: of `1` with two
- * fraction digits at least `other` in English, and of 1200000 compact `many` in French, as `1,2 M`. It has no parts, and reads no text.
- *
+ * Opens the formatter of a format for a locale tag. Without words that of `en` writes -1234.5 as `-1,234.5`; of compact numbers that of `en`
+ * writes 1650 as `1.6K`, of percents that of `tr` 12.5 as `%12,5`, and of amounts that of `de-CH` and `CHF` -5 as `CHF-5.00`. `unit` is the
+ * code of the currency, three letters `A` to `Z`, where the format is of amounts, and else `NULL, 0`. A currency that the book does not know is
+ * written by its code, and has two digits. The formatter has its own copy of the tables, unless the book is kept. With `plurals` each call that
+ * writes the text of a number writes its plural category instead, by what would be shown: of `1` with two fraction digits at least `other` in
+ * English, and of 1200000 compact `many` in French, as `1,2 M`. It has no parts, and reads no text.
  * Returns 0; LEGUMEYET_CLOSED, of the book; LEGUMEYET_OPTION, of the format; LEGUMEYET_CODE; LEGUMEYET_TAG; LEGUMEYET_TABLE, where the book
  * has no symbols or no digits for the tag, or lacks what the format needs: plural rules, patterns of the width, percents, or currencies;
  * LEGUMEYET_MEMORY, also in place of the last two.
@@ -383,7 +369,8 @@ int32_t legumeyet_formatter_open(legumeyet_book *book, const uint8_t *tag, size_
 
 /*
  * Opens the formatter of a skeleton, the text by which ICU asks for a format: `currency/EUR .00`, `compact-short`, `percent .##`. The
- * options that it says are the formatter's own. docs/skeletons.md of the repository has the words, and where ICU differs.
+ * options that it says are the formatter's own, but for the digits of compact numbers, as of `compact-short .00`, which are of its format.
+ * docs/skeletons.md of the repository has the words, and where ICU differs.
  * Returns 0; LEGUMEYET_CLOSED, of the book; LEGUMEYET_SKELETON_UNKNOWN to LEGUMEYET_SKELETON_UNSUPPORTED, and only then `place` is written:
  * where the faulty word begins, in bytes of the skeleton, 8 of `percent foo`; LEGUMEYET_TAG; LEGUMEYET_TABLE; LEGUMEYET_MEMORY.
  */
@@ -401,14 +388,11 @@ int32_t legumeyet_formatter_close(legumeyet_formatter *formatter);
 
 /*
  * Writes a decimal number that is given as text: in English `-987654.321` as `-987,654.321`, and `1.5e3` as `1,500`. With
- * LEGUMEYET_ROUND_HALF_EVEN at -1 and LEGUMEYET_SIGN_ALWAYS `9.75` is `+9.8`.
- *
- * An amount is rounded to the digits of its currency, and shown down to them: 1.005 dollars are `$1.00`, 5 are `$5.00`, 2.5 yen are `¥2`.
- * With LEGUMEYET_ROUND_CASH 2.345 francs are `CHF 2.35`, and with LEGUMEYET_ROUND_NONE 5 dollars `$5`.
- *
- * A compact number is changed by the options before it is shown: -1172700 is `-1.2M`, rounded at 6 `-1M`. What is shown has no zeros at the
- * end of its fraction, so a least count of digits does nothing.
- *
+ * LEGUMEYET_ROUND_HALF_EVEN at -1 and LEGUMEYET_SIGN_ALWAYS `9.75` is `+9.8`. An amount is rounded to the digits of its currency, and shown
+ * down to them: 1.005 dollars are `$1.00`, 5 are `$5.00`, 2.5 yen are `¥2`. With LEGUMEYET_ROUND_CASH 2.345 francs are `CHF 2.35`, and with
+ * LEGUMEYET_ROUND_NONE 5 dollars `$5`. A compact number is changed by the options before it is shown: -1172700 is `-1.2M`, rounded at 6 `-1M`.
+ * What is shown has no zeros at the end of its fraction, so a least count of digits does nothing. The digits that a skeleton has for what is
+ * before the pattern stay, whatever options are given: with `compact-short .00` 1234 is `1.23K`, rounded at 2 `1.20K`.
  * Returns 0; LEGUMEYET_CLOSED; LEGUMEYET_OPTION, of the options; LEGUMEYET_NUMBER; LEGUMEYET_LIMIT; LEGUMEYET_RANGE, of compact numbers;
  * LEGUMEYET_MEMORY, which a number of sixteen digits at most takes only where multiples of 25 give it a seventeenth; LEGUMEYET_TOO_SMALL.
  */
@@ -416,15 +400,12 @@ int32_t legumeyet_formatter_format(legumeyet_formatter *formatter, const uint8_t
     const legumeyet_options *options, size_t option_words, uint8_t *out, size_t room, size_t *length);
 
 /*
- * Writes the number `mantissa` times ten to the power `exponent`: -123456 and -2 as `-1,234.56` in English, 5 and 3 as `5,000`.
- *
- * The digits down to that power are shown, of 0 too: 500 and -2 as `5.00`, 0 and 3 as `0,000`. The texts `0e3` and `0e-2` are both `0`.
- * Returns as legumeyet_formatter_format, but for LEGUMEYET_NUMBER.
+ * Write the number `mantissa` times ten to the power `exponent`: -123456 and -2 as `-1,234.56` in English, 5 and 3 as `5,000`. The digits down
+ * to that power are shown, of 0 too: 500 and -2 as `5.00`, 0 and 3 as `0,000`. The texts `0e3` and `0e-2` are both `0`.
+ * Return as legumeyet_formatter_format, but for LEGUMEYET_NUMBER.
  */
 int32_t legumeyet_formatter_format_i64(legumeyet_formatter *formatter, int64_t mantissa, int16_t exponent, const legumeyet_options *options,
     size_t option_words, uint8_t *out, size_t room, size_t *length);
-
-/* Writes as legumeyet_formatter_format_i64 does, of a number without a sign: 18446744073709551615 and -18 as `18.446744073709551615`. */
 int32_t legumeyet_formatter_format_u64(legumeyet_formatter *formatter, uint64_t mantissa, int16_t exponent, const legumeyet_options *options,
     size_t option_words, uint8_t *out, size_t room, size_t *length);
 
@@ -439,12 +420,11 @@ int32_t legumeyet_formatter_format_double(legumeyet_formatter *formatter, double
 /*
  * Writes as legumeyet_formatter_format does, and lists the parts of the text in order of their beginning: of `-€1,234.50` the minus sign at
  * 0 to 1, the currency at 1 to 4, the integer at 4 to 9, the group at 5 to 6, the decimal at 9 to 10 and the fraction at 10 to 12. Of a
- * compact number they are those of its sign: of `-1.2M` the minus sign at 0 to 1.
+ * compact number they are those of its sign, of `-1.2M` the minus sign at 0 to 1; with digits of a skeleton those of its digits too.
  *
  * `count` is how many parts there are. Where they are more than `intervals_room` the call returns LEGUMEYET_TOO_SMALL too, and the first
  * `intervals_room` of them are at `intervals`; those after the last part stay as they were. With LEGUMEYET_TOO_SMALL `length` and `count`
  * are what both need. Any other error leaves all as it was.
- *
  * Returns as legumeyet_formatter_format; LEGUMEYET_MEMORY of any number.
  */
 int32_t legumeyet_formatter_format_parts(legumeyet_formatter *formatter, const uint8_t *number, size_t number_length,
@@ -462,7 +442,6 @@ int32_t legumeyet_formatter_shown(legumeyet_formatter *formatter, const uint8_t 
 /*
  * Writes an exact form, as legumeyet_formatter_shown writes one, its digits as they are given: `-1.20c6` as `-1.20M` in short English. In
  * other formats than compact ones it has no exponent: `1.20`. The options change the significand: rounded at -1 it is `-1.2M`.
- *
  * Returns 0; LEGUMEYET_CLOSED; LEGUMEYET_OPTION, of the options; LEGUMEYET_NUMBER, where the text is no compact number, as `1.2e6`;
  * LEGUMEYET_LIMIT, also of an exponent above 255; LEGUMEYET_MEMORY, as of legumeyet_formatter_format; LEGUMEYET_RANGE, where the magnitude
  * of both together is above 32767; LEGUMEYET_EXPONENT; LEGUMEYET_TOO_SMALL.
@@ -487,11 +466,8 @@ int32_t legumeyet_formatter_tell(legumeyet_formatter *formatter, uint32_t fact, 
 
 /*
  * Reads a text back as the one number that the formatter writes so, and writes it as digits: in English `-1,234.50` as `-1234.50`, and with
- * euros `-€1,234.50`. How many digits the currency has is not looked at: `€1.5` is 1.5.
- *
- * A formatter of a kept book keeps what it makes of its tables at the first call that reads, until it is closed. Another one, or one to
- * which memory for that is refused, makes it for each text.
- *
+ * euros `-€1,234.50`. How many digits the currency has is not looked at: `€1.5` is 1.5. A formatter of a kept book keeps what it makes of its
+ * tables at the first call that reads, until it is closed. Another one, or one to which memory for that is refused, makes it for each text.
  * Returns 0; LEGUMEYET_CLOSED; LEGUMEYET_UTF8; LEGUMEYET_UNREADABLE, as always of compact numbers and of `plurals`; LEGUMEYET_NOT_WRITTEN, as of
  * `$1.00` with euros; LEGUMEYET_MEMORY, which a plain number of sixteen digits at most never takes; LEGUMEYET_TOO_SMALL.
  */
@@ -508,7 +484,6 @@ int32_t legumeyet_formatter_read(legumeyet_formatter *formatter, const uint8_t *
  * those of plain numbers too: `€ 1.234,50` and `1 234,50` are 1234.50 in `de-AT`. What the formatter does not write, and the two read as
  * different numbers, is refused. Nothing is dropped or guessed, and digits are grouped wholly, by the sizes of the locale, or not at all.
  * docs/reading.md and docs/units.md of the repository have the rules.
- *
  * Returns as legumeyet_formatter_read; LEGUMEYET_UNREADABLE also where two numbers may have one text once symbols, affixes and unit are
  * folded, but not of a plain number as it is written; LEGUMEYET_MEMORY of any text that the formatter does not write.
  */
@@ -530,20 +505,17 @@ int32_t legumeyet_formatter_read_lenient(legumeyet_formatter *formatter, const u
  * `count` is `ends_room`, or where its text has not room in `out` after the others; or what the call for one number returns. A caller takes
  * what is written, and goes on from the number at `count`, or from the one after it.
  *
- * LEGUMEYET_CLOSED and LEGUMEYET_OPTION come before all numbers, also where there is none: `count` is 0. The ends from `count` on stay as
- * they were, and so do the bytes of `out` after the last text, but that with LEGUMEYET_TOO_SMALL these may be the first of the next text.
- *
- * A column of texts has one number a line. A line ends at a line feed; what is after the last one is a line too, where it is not empty.
+ * LEGUMEYET_CLOSED and LEGUMEYET_OPTION come before all numbers, also where there is none: `count` is 0. The ends from `count` on stay as they
+ * were, and so do the bytes of `out` after the last text, but that with LEGUMEYET_TOO_SMALL these may be the first of the next text. A column
+ * of texts has one number a line. A line ends at a line feed; what is after the last one is a line too, where it is not empty.
  */
 
 /* Writes doubles, each as legumeyet_formatter_format_double does. */
 int32_t legumeyet_formatter_format_doubles(legumeyet_formatter *formatter, const double *numbers, size_t number_count,
     const legumeyet_options *options, size_t option_words, uint8_t *out, size_t room, size_t *ends, size_t ends_room, size_t *count);
-
 /* Writes each mantissa times ten to the power `exponent`, as legumeyet_formatter_format_i64 does. */
 int32_t legumeyet_formatter_format_integers(legumeyet_formatter *formatter, const int64_t *mantissas, size_t mantissa_count, int16_t exponent,
     const legumeyet_options *options, size_t option_words, uint8_t *out, size_t room, size_t *ends, size_t ends_room, size_t *count);
-
 /* Writes the numbers that lines are, each as legumeyet_formatter_format does: of `1234.5`, a line feed and `-7` `1,234.5` and `-7`. */
 int32_t legumeyet_formatter_format_texts(legumeyet_formatter *formatter, const uint8_t *numbers, size_t numbers_length,
     const legumeyet_options *options, size_t option_words, uint8_t *out, size_t room, size_t *ends, size_t ends_room, size_t *count);
@@ -552,18 +524,13 @@ int32_t legumeyet_formatter_format_texts(legumeyet_formatter *formatter, const u
  * Shared formatters: one formatter for any number of threads at once. It is opened as any other, and then shared:
  *
  *     static legumeyet_shared_formatter german;
- *     legumeyet_formatter opened = {0};
- *     legumeyet_formatter_open(&world, LEGUMEYET_TEXT("de"), NULL, 0, NULL, 0, &opened);
  *     legumeyet_formatter_share(&opened, &german);
  *     legumeyet_shared_formatter_format(&german, LEGUMEYET_TEXT("1234.5"), NULL, 0, out, sizeof out, &length);
  *
- * Each call that takes a shared formatter as `const` may run in any thread, any number of them at once with the same handle, without a lock.
- *
- * A shared formatter stays for the rest of the program: its memory is never given back. So share one for the program, not one a request.
- *
- * The handle of a shared formatter may be copied by `=`, as to another thread: each copy is a handle of its own. That which shares a formatter
- * by a handle, and that which closes it, which frees nothing, write to it. They come before and after all other calls on this very handle,
- * ordered as above. It is not cast to the handle of a formatter that is not shared.
+ * A shared formatter stays for the rest of the program: its memory is never given back. So share one for the program, not one a request. The
+ * handle of a shared formatter may be copied by `=`, as to another thread: each copy is a handle of its own. That which shares a formatter by a
+ * handle, and that which closes it, which frees nothing, write to it. They come before and after all other calls on this very handle, ordered
+ * as above. It is not cast to the handle of a formatter that is not shared.
  */
 
 /*
@@ -621,10 +588,8 @@ int32_t legumeyet_error_text(int32_t error, uint8_t *out, size_t room, size_t *l
  */
 int32_t legumeyet_tag_of_locale_name(const char *name, uint8_t *out, size_t room, size_t *length);
 
-/* The version of the library, as LEGUMEYET_VERSION is that of this header. */
+/* The version of the library, as LEGUMEYET_VERSION is that of this header, and the minor one: a function that came later is not in the library. */
 uint32_t legumeyet_version(void);
-
-/* The minor version of the library, as LEGUMEYET_MINOR is that of this header: a function that came later is not in the library. */
 uint32_t legumeyet_minor(void);
 
 #ifdef __cplusplus

@@ -784,7 +784,7 @@ template <class Base> class Formatter : Base {
     template <class C> Result<Column> try_format_all(const int64_t *numbers, C count, Exponent power, Options options = OWN) {
         return try_format_all(Numbers(numbers, count, power), options);
     }
-    // The text of a number with its parts, in order of their beginning; of a compact number those of its sign.
+    // The text of a number with its parts, in order of their beginning; of a compact number without digits of its own those of its sign.
     Result<Annotated> try_format_parts(const Digits &number, Options options = OWN) {
         const auto write = writing(twin(&handle, legumeyet_formatter_format_parts, legumeyet_shared_formatter_format_parts), number, options);
         Annotated found{std::string(), std::vector<legumeyet_interval>(16)};

@@ -124,11 +124,21 @@ const INSIDE = { json: null, isKept: true, handle: handleOf("") };
 
 let world = null;
 
-/** Makes the book inside the module that of formatters for which none is named. Throws a LoadError where there is none. */
-export function useInside() {
+/**
+ * The tag that is handed to the module for one that a caller names; null where that is none.
+ * @type {(tag: string) => string | null}
+ */
+export let tagFor = (tag) => tag;
+
+/**
+ * Makes the book inside the module that of formatters for which none is named, and hands it tags in this form. Throws a LoadError where there is none.
+ * @param {(tag: string) => string | null} form
+ */
+export function useInside(form) {
   begun();
   if (calls.js_book_inside() === 0) throw new LoadError("the module", "module", "there is no book inside: legumeyet-page makes one that has it");
   world = INSIDE;
+  tagFor = form;
 }
 
 /** Whether formatters have a book for which none is named. */

@@ -73,7 +73,11 @@ export interface FormatterOptions extends OpeningOptions, CallOptions {
 
 export interface DecimalFormatterOptions extends FormatterOptions, DecimalCallOptions {}
 
-export interface CompactDecimalFormatterOptions extends FormatterOptions {
+/**
+ * With an option of digits a compact number has digits of its own: these are of the number before the word, as 1.23 of `1.23K`, and at most 100. Then
+ * there is no `position`, no `keep`, and no option of a call.
+ */
+export interface CompactDecimalFormatterOptions extends FormatterOptions, DecimalCallOptions {
   /** `short` without it. */
   compactDisplay?: "short" | "long";
 }
@@ -226,7 +230,7 @@ export interface NumberFormatOptions {
   currencySign?: "standard" | "accounting";
   unit?: string;
   unitDisplay?: "short" | "narrow" | "long";
-  /** Compact numbers are of the style `decimal`, and have no options of digits yet; the two of exponents are not written yet. */
+  /** Compact numbers are of the style `decimal`; the two of exponents are not written yet. */
   notation?: "standard" | "scientific" | "engineering" | "compact";
   compactDisplay?: "short" | "long";
   useGrouping?: UseGrouping | "true" | "false";
@@ -296,7 +300,7 @@ export const NumberFormat: NumberFormatConstructor;
 
 export type PluralCategory = "zero" | "one" | "two" | "few" | "many" | "other";
 
-/** Which digits a number is shown with, as Intl has it: up to three of a fraction without these, and no zeros at its end. Compact numbers have `roundingMode` only. */
+/** Which digits a number is shown with, as Intl has it: up to three of a fraction without these, and no zeros at its end. */
 export interface PluralRulesOptions extends OpeningOptions, Omit<DecimalCallOptions, "signDisplay" | "position"> {
   /** `cardinal` without it: how many there are. `ordinal` is which one it is: `1st`, `2nd`. */
   type?: "cardinal" | "ordinal";

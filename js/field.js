@@ -73,8 +73,8 @@ export class FieldText {
   constructor(formatter) {
     this.#formatter = formatter;
     this.#digits = new Digits(formatter?.symbols());
-    const isRounding = formatter?.formatToParts("9876543210.5").every(({ type }) => type !== "fraction");
-    if (isRounding) throw new RangeError("the formatter of a field shows a fraction as it is: it rounds no number, and is not compact");
+    const shown = formatter?.shown("9876543210.5") ?? ".5";
+    if (!/\.50*$/.test(shown)) throw new RangeError("the formatter of a field shows a fraction as it is: it rounds no number, and is not compact");
   }
 
   /** What is shown, as it is kept for `restore`: its text, the caret, and its value. */

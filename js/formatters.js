@@ -1,6 +1,6 @@
 // Formatters, as classes in the manner of Intl: one over the module's, and its faces.
 import { ErrorNumber, LegumeyetError, ask, calling, calls, partsWritten, putBoth, written } from "./instance.js";
-import { sourceOf, withBook } from "./books.js";
+import { sourceOf, tagFor, withBook } from "./books.js";
 import { allWritten } from "./columns.js";
 import { categoriesOf, currencyDigitsOf, symbolsOf } from "./facts.js";
 import { digitsOf } from "./numbers.js";
@@ -12,8 +12,10 @@ import { reading } from "./skeletons.js";
 import { isTag, listed, tagsOf } from "./tags.js";
 
 // What a module of pages may be made without, by the kind of numbers that needs it.
-const PARTS = { compact: "js_compact", percent: "js_units", currency: "js_units" };
+const PARTS = { compact: "js_compact", compactDigits: "js_compact", percent: "js_units", currency: "js_units" };
 const OF_PLURALS = "js_plurals";
+// A tag that there are no tables for, in the place of a text that is none: what else is wrong comes first.
+const UNKNOWN = "zxx";
 
 // What the message of an error says of a tag, or of the code of a currency.
 function hint(number, tag, code) {
@@ -31,9 +33,11 @@ function openNative(native, { source, tag, opening: { format, unit, isSkeleton, 
   if (call.kind in PARTS) calling(PARTS[call.kind]);
   if (hasPlurals) calling(OF_PLURALS);
   const open = calling(isSkeleton ? "js_formatter_open_skeleton" : "js_formatter_open");
+  const handed = tagFor(tag);
   const fill = (book, at) => {
     ask(format);
-    return open(book, ...putBoth(tag, unit), at);
+    const told = open(book, ...putBoth(handed ?? UNKNOWN, unit), at);
+    return handed === null && (told === 0 || told === -ErrorNumber.TABLE) ? -ErrorNumber.TAG : told;
   };
   const opened = () => withBook(source, (book) => openHandle(native, (at) => fill(book, at), (number) => hint(number, tag, unit)));
   isSkeleton ? reading(unit, opened) : opened();
@@ -124,7 +128,7 @@ export class Formatter {
     return write(native.at, calls[name], howFor(native, this.#callBy(native, options), digits), digits);
   }
 
-  /** The parts of a number's text, each with its type and value; of a compact one its sign, and the rest as a literal. */
+  /** The parts of a number's text, each with its type and value; of a compact one with the usual digits its sign, and the rest as a literal. */
   formatToParts(number, options) {
     return this.#made(partsWritten, "js_formatter_parts", number, options);
   }

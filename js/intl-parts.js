@@ -4,8 +4,8 @@ const EDGES = /^([\p{Zs}\t\p{Bidi_Control}\p{Variation_Selector}]*)(.*?)([\p{Zs}
 const SIGN = /[-+\u2212]/u;
 
 /**
- * The parts of a text as Intl has them. Of a compact number `number` are the parts of the number before or behind its word, which the library has in
- * one literal with that.
+ * The parts of a text as Intl has them. Of a compact number `number` are the parts of the number before or behind its word, where the library has these
+ * in one literal with that: none of digits of its own.
  * @param {{ type: string, value: string }[]} parts
  * @param {{ type: string, value: string }[]} [number]
  */

@@ -1,5 +1,6 @@
 // NumberFormat, which stands in for Intl.NumberFormat: its options, defaults, calls and errors, over the formatters of the library. What these cannot
 // write is refused by its name; but NaN and infinity, which are no numbers to them, are written here.
+import { USUAL } from "./compact-digits.js";
 import { CompactDecimalFormatter, CurrencyFormatter, DecimalFormatter, PercentFormatter, isWithoutTables } from "./formatters.js";
 import { readMatcher, readNumberFormat } from "./intl-options.js";
 import { intlParts, withSymbol } from "./intl-parts.js";
@@ -7,10 +8,10 @@ import { intlDigits, timesHundred } from "./intl-numbers.js";
 import { INFINITY, NAN } from "./specials.js";
 import { canonicalTags, isUndetermined, machineTag } from "./tags.js";
 
-const COUNTS = ["minimumIntegerDigits", "minimumFractionDigits", "maximumFractionDigits", "minimumSignificantDigits", "maximumSignificantDigits"];
-const DIGITS = [...COUNTS, "roundingIncrement", "roundingMode", "roundingPriority", "trailingZeroDisplay"];
-// What says of DIGITS that compact numbers have the usual ones.
-const USUAL = "1 0 0 1 2 morePrecision";
+const DIGITS = [
+  "minimumIntegerDigits", "minimumFractionDigits", "maximumFractionDigits", "minimumSignificantDigits", "maximumSignificantDigits",
+  "roundingIncrement", "roundingMode", "roundingPriority", "trailingZeroDisplay",
+];
 // The numbering systems of ten digits, each with the number of its zero in Unicode.
 const ZEROS =
   "adlm:1e950 ahom:11730 arab:660 arabext:6f0 bali:1b50 beng:9e6 bhks:11c50 brah:11066 cakm:11136 cham:aa50 deva:966 diak:11950 fullwide:ff10 gara:10d40 " +
@@ -29,13 +30,16 @@ function refused(what) {
 
 /** What of resolved options the library cannot write yet, by its name; null where it can. */
 function lackOf(resolved) {
-  const { style, currencyDisplay, notation, roundingPriority } = resolved;
+  const { style, currencyDisplay, notation } = resolved;
   if (style === "unit") return "style unit";
   if (currencyDisplay === "narrowSymbol" || currencyDisplay === "name") return `currencyDisplay ${currencyDisplay}`;
   if (notation === "scientific" || notation === "engineering") return `notation ${notation}`;
-  if (notation !== "compact") return null;
-  if (style !== "decimal") return `notation compact with style ${style}`;
-  return [...COUNTS.map((it) => resolved[it]), roundingPriority].join(" ") === USUAL ? null : "notation compact with options of digits";
+  return notation === "compact" && style !== "decimal" ? `notation compact with style ${style}` : null;
+}
+
+// Whether compact numbers have the digits that they have without an option.
+function hasUsualDigits(resolved) {
+  return resolved.minimumIntegerDigits === 1 && Object.entries(USUAL).every(([name, value]) => resolved[name] === value);
 }
 
 // In compact numbers the engines' `auto` is `min2`.
@@ -50,17 +54,20 @@ function groupingOf({ notation, useGrouping }) {
 function formatterOf(tag, resolved) {
   const { style, notation, currency, currencySign, currencyDisplay, compactDisplay, signDisplay, roundingMode } = resolved;
   const useGrouping = groupingOf(resolved);
-  if (notation === "compact") return new CompactDecimalFormatter(tag, { useGrouping, signDisplay, compactDisplay, roundingMode });
-  const digits = Object.fromEntries(DIGITS.filter((it) => it in resolved).map((it) => [it, resolved[it]]));
+  const isUsual = notation === "compact" && hasUsualDigits(resolved);
+  const digits = isUsual ? { roundingMode } : Object.fromEntries(DIGITS.filter((it) => it in resolved).map((it) => [it, resolved[it]]));
   const options = { useGrouping, signDisplay, ...digits };
+  if (notation === "compact") return new CompactDecimalFormatter(tag, { ...options, compactDisplay });
   if (style === "currency") return new CurrencyFormatter(tag, { ...options, currency, currencySign, currencyDisplay });
   return new (style === "percent" ? PercentFormatter : DecimalFormatter)(tag, options);
 }
 
-// The library leaves as many zeros as a number had digits: by multiples of 25 it makes `00` of 12. What 1 is rounded to has one zero.
+// The library leaves as many zeros as a number had digits: by multiples of 25 it makes `00` of 12. What 1 is rounded to has one zero; it is 1 times
+// ten to the exponent that is shown, of compact numbers.
 function withOneZero({ formatter, resolved }, digits) {
-  const isRoundedToZero = resolved.roundingIncrement > 1 && Math.abs(Number(digits)) >= 10 && !/[1-9]/.test(formatter.shown(digits));
-  return isRoundedToZero ? digits.replace(/[\d.].*/, "1") : digits;
+  if (resolved.roundingIncrement === 1 || Math.abs(Number(digits)) < 10) return digits;
+  const [significand, exponent = "0"] = formatter.shown(digits).split("c");
+  return /[1-9]/.test(significand) ? digits : digits.replace(/[\d.].*/, `1e${exponent}`);
 }
 
 const textOf = (parts) => parts.map(({ value }) => value).join("");
@@ -113,8 +120,9 @@ function systemOf(formatter) {
   return "latn";
 }
 
-// The parts of the number that a compact text has beside its word.
+// The parts of the number that a compact text has beside its word, where its own parts do not have them.
 function partsBeside({ formatter, tag, resolved }, digits) {
+  if (!hasUsualDigits(resolved)) return [];
   const [significand] = formatter.shown(digits).split("c");
   return new DecimalFormatter(tag, { useGrouping: groupingOf(resolved), signDisplay: "never" }).formatToParts(significand);
 }

@@ -1,4 +1,5 @@
 // The options of formatters: Intl's words, and what these are in the library's words, those of legumeyet_format and legumeyet_options.
+import { MOST as MOST_OF_WORDS, SIGNS as SIGNS_OF_WORDS, USUAL, compactSkeleton } from "./compact-digits.js";
 import { NONE } from "./instance.js";
 
 const GROUPINGS = { auto: 0, false: 1, always: 4, true: 4, min2: 3 };
@@ -16,14 +17,15 @@ const [MOST, MOST_SIGNIFICANT] = [32767, 65535];
 const UNITS = { percent: 1, currency: 2 };
 // The options of a kind: of its calls, and of its opening only.
 const OF_EACH = ["signDisplay", "position", "roundingMode", "roundingIncrement"];
-/** The options of numbers that are not compact. */
-export const OF_DIGITS = [
-  ...OF_EACH, "minimumIntegerDigits", "minimumFractionDigits", "maximumFractionDigits", "minimumSignificantDigits", "maximumSignificantDigits", "roundingPriority",
-  "trailingZeroDisplay",
-];
-const OF_CALLS = { decimal: OF_DIGITS, compact: OF_EACH, percent: OF_DIGITS, currency: [...OF_DIGITS, "currencyDigits"], skeleton: [] };
+const PRECISIONS = ["minimumFractionDigits", "maximumFractionDigits", "minimumSignificantDigits", "maximumSignificantDigits"];
+const COUNTS = ["minimumIntegerDigits", ...PRECISIONS];
+// With one of these a compact number has digits of its own.
+const OF_OWN_DIGITS = [...COUNTS, "roundingPriority", "trailingZeroDisplay"];
+/** The options of digits and signs. */
+export const OF_DIGITS = [...OF_EACH, ...OF_OWN_DIGITS];
+const OF_CALLS = { decimal: OF_DIGITS, compact: OF_EACH, compactDigits: [], percent: OF_DIGITS, currency: [...OF_DIGITS, "currencyDigits"], skeleton: [] };
 const OF_FORMATS = {
-  decimal: ["useGrouping"], compact: ["useGrouping", "compactDisplay"], percent: ["useGrouping"],
+  decimal: ["useGrouping"], compact: ["useGrouping", "compactDisplay", ...OF_OWN_DIGITS], percent: ["useGrouping"],
   currency: ["useGrouping", "currency", "currencySign", "currencyDisplay"], skeleton: ["skeleton"],
 };
 /** What resolvedOptions does not tell. */
@@ -35,6 +37,8 @@ const OF_SKELETONS = {
   compact: (word) => ["K", "KK", "compact-short", "compact-long"].includes(word), currency: (word) => word.startsWith("currency/"),
   percent: (word) => ["%", "percent", "permille"].includes(word),
 };
+// The words of a skeleton by which compact numbers have digits of their own.
+const OF_PRECISION = /^(?:[.@]|precision-|rounding-mode-)/;
 
 /** Whether a rounding looks at halves, and else takes the nearest. */
 export const isOfHalves = (mode) => mode >= MODES.halfExpand;
@@ -57,7 +61,7 @@ export const asGiven = (fraction) => wordsOf({ mode: CURRENCY_DIGITS.given, frac
 /**
  * The number that a word of an option has.
  * @param {Record<string, any>} options
- * @param {Record<string, number>} table
+ * @param {Record<string, any>} table
  */
 export function chosen(options, name, table, otherwise) {
   const word = options[name] === undefined ? otherwise : options[name];
@@ -196,10 +200,28 @@ function resolvedOf(kind, options, how) {
 function ofSkeleton({ skeleton }) {
   if (typeof skeleton !== "string") throw new TypeError("skeleton is a string, as percent .00");
   const words = skeleton.split(" ");
-  const kind = Object.keys(OF_SKELETONS).find((it) => words.some(OF_SKELETONS[it])) ?? "decimal";
+  const found = Object.keys(OF_SKELETONS).find((it) => words.some(OF_SKELETONS[it])) ?? "decimal";
+  const kind = found === "compact" && words.some((it) => OF_PRECISION.test(it)) ? "compactDigits" : found;
+  return openedBy(skeleton, kind, { skeleton });
+}
+
+// What is opened by the words of a skeleton, which say all that its calls do.
+function openedBy(skeleton, kind, resolved) {
   /** @type {Call} */
   const call = { kind, how: NONE, rounding: 0, multiple: 0, learned: null };
-  return { format: NONE, unit: skeleton, isSkeleton: true, key: `skeleton ${skeleton}`, call, resolved: { skeleton } };
+  return { format: NONE, unit: skeleton, isSkeleton: true, key: `skeleton ${skeleton}`, call, resolved };
+}
+
+// Compact numbers with digits of their own: how these are said is as of plain numbers, and without a precision they are the usual ones.
+function ofCompactDigits(given) {
+  const options = PRECISIONS.some((it) => given[it] !== undefined) || (given.roundingPriority ?? "auto") !== "auto" ? given : { ...given, ...USUAL };
+  if (options.position !== undefined) throw new RangeError("position is of compact numbers without options of digits");
+  chosen(options, "useGrouping", GROUPINGS, "min2");
+  chosen(options, "compactDisplay", WIDTHS, "short");
+  chosen(options, "signDisplay", SIGNS_OF_WORDS, "auto");
+  for (const name of COUNTS) whole(options, name, 0, MOST_OF_WORDS);
+  const { how } = callOf("decimal", options);
+  return openedBy(compactSkeleton(options), "compactDigits", resolvedOf("compact", options, how));
 }
 
 function ofWords(kind, options) {
@@ -217,7 +239,7 @@ function ofWords(kind, options) {
 export function checked(options, names, of) {
   if (typeof options !== "object" || options === null) throw new TypeError("options are an object");
   const unknown = Object.keys(options).find((it) => !names.includes(it));
-  if (unknown !== undefined) throw new RangeError(`${unknown} is no option${of}: there are ${names.join(", ")}`);
+  if (unknown !== undefined) throw new RangeError(`${unknown} is no option${of}: there are ${names.join(", ") || "none"}`);
 }
 
 // What is said by no options, of each kind.
@@ -232,6 +254,7 @@ const defaults = new Map();
 export function read(kind, options) {
   checked(options, [...HOW_OPENED, ...OF_FORMATS[kind], ...OF_CALLS[kind]], "");
   if (kind === "skeleton") return ofSkeleton(options);
+  if (kind === "compact" && OF_OWN_DIGITS.some((it) => options[it] !== undefined)) return ofCompactDigits(options);
   if (Object.keys(options).some((it) => !HOW_OPENED.includes(it))) return ofWords(kind, options);
   if (!defaults.has(kind)) defaults.set(kind, ofWords(kind, {}));
   return defaults.get(kind);

@@ -135,6 +135,7 @@ function stackOf(sections) {
 // Opens a book in an instance, from its JSON, and leaves it inside.
 function openInside(calls, json) {
   const bytes = new TextEncoder().encode(json);
+  calls.js_keep_clean();
   const book = calls.js_new();
   const input = calls.js_large_in(bytes.length);
   new Uint8Array(calls.memory.buffer).set(bytes, input);
@@ -142,7 +143,7 @@ function openInside(calls, json) {
   if (told !== 0) throw new RangeError(`the book is refused: ${0 - told}`);
   calls.js_let_go();
   calls.js_book_put_inside(book);
-  calls.js_zero_freed();
+  calls.js_forget_freed();
 }
 
 // The module with the memory of an instance, without some calls and functions. Nothing in it asks how many pieces its memory has.
@@ -158,7 +159,7 @@ function withMemory(sections, memory, left) {
   return joined([HEAD, ...all.flatMap(({ id, data }) => [[id], numberOf(data.length), data])]);
 }
 
-/** What a page's module may be made without: compact numbers, percents and amounts, what reads texts, skeletons, and plural rules. */
+/** What a page's module may be made without: compact numbers, percents and amounts, what reads texts, skeletons, by which compact numbers have digits of their own, and plural rules. */
 export const PARTS = Object.freeze(["compact", "units", "read", "skeletons", "plurals"]);
 
 /**

@@ -1,6 +1,7 @@
 // Plural categories in the manner of Intl.PluralRules: those of numbers as they are shown.
 import { calls, written } from "./instance.js";
-import { Formatter, openedOf } from "./formatters.js";
+import { USUAL as COMPACT } from "./compact-digits.js";
+import { CompactDecimalFormatter, Formatter, openedOf } from "./formatters.js";
 import { digitsOf } from "./numbers.js";
 import { closesAtEnd } from "./open.js";
 import { HOW_OPENED, OF_DIGITS, WIDTHS, checked, chosen, readCall } from "./options.js";
@@ -11,11 +12,12 @@ const NOTATIONS = { standard: 0, compact: 1 };
 const MATCHERS = { lookup: 0, "best fit": 1 }; // of which neither changes anything
 const OF_RULES = ["type", "notation", "compactDisplay"];
 const DIGITS = OF_DIGITS.filter((it) => !["signDisplay", "position"].includes(it));
-// What Intl has where no option says it, and of compact numbers, whose digits no option says.
+// What Intl has where no option says it.
 const USUAL = { minimumIntegerDigits: 1, roundingIncrement: 1, roundingMode: "halfExpand", roundingPriority: "auto", trailingZeroDisplay: "auto" };
-const COMPACT = {
-  minimumFractionDigits: 0, maximumFractionDigits: 0, minimumSignificantDigits: 1, maximumSignificantDigits: 2, roundingPriority: "morePrecision",
-};
+// The options that give compact numbers digits of their own, as does a roundingPriority.
+const PRECISIONS = Object.keys(COMPACT).filter((it) => it !== "roundingPriority");
+// Numbers that have among them each category of a language.
+const SAMPLES = [...Array.from({ length: 101 }, (_, number) => String(number)), "1000000", "0.1", "1.5"];
 
 // The options that say something.
 function given(options, names) {
@@ -39,10 +41,9 @@ function digitsBy(options) {
   return { minimumIntegerDigits, ...fraction, ...(isSignificant || isEither ? countsOf(found, "Significant", 1, 21) : {}), ...others };
 }
 
-function compactBy(options) {
-  const idle = Object.keys(given(options, DIGITS)).find((it) => it !== "roundingMode");
-  if (idle !== undefined) throw new RangeError(`${idle} is no option of compact numbers`);
-  return { ...USUAL, ...COMPACT, ...given(options, ["roundingMode"]) };
+// Whether compact numbers have digits of their own.
+function hasOwnDigits(options) {
+  return Object.keys(given(options, PRECISIONS)).length > 0 || (options.roundingPriority ?? "auto") !== "auto";
 }
 
 /**
@@ -56,8 +57,10 @@ function openingOf(options) {
   const form = chosen(options, "notation", NOTATIONS, "standard");
   const width = chosen(options, "compactDisplay", WIDTHS, "short");
   const isCompact = form === NOTATIONS.compact;
-  const digits = isCompact ? compactBy(options) : digitsBy(options);
-  const call = isCompact ? readCall("compact", { roundingMode: digits.roundingMode }) : readCall("decimal", digits);
+  const isUsual = isCompact && !hasOwnDigits(options);
+  const digits = isUsual ? { ...USUAL, ...given(options, Object.keys(USUAL)), ...COMPACT } : digitsBy(options);
+  const read = readCall("decimal", digits); // and says what is wrong
+  const call = isCompact ? readCall("compact", isUsual ? { roundingMode: digits.roundingMode } : {}) : read;
   const format = Int32Array.of(7, form, isCompact ? width : 0, 0, 0, 0, 0, type);
   const resolved = { type: "cardinal", notation: "standard", ...(isCompact ? { compactDisplay: "short" } : {}), ...given(options, OF_RULES), ...digits };
   if (!isCompact) delete resolved.compactDisplay;
@@ -71,23 +74,38 @@ class Categories extends Formatter {
   }
 }
 
+// What shows compact numbers that have digits of their own.
+function compactOf(resolved, book) {
+  return new CompactDecimalFormatter(resolved.locale, { book, ...given(resolved, ["compactDisplay", ...DIGITS]) });
+}
+
 /** Says which plural form goes with a number, by its digits as they are shown. */
 export class PluralRules {
   #categories;
+  #compact = null;
 
   constructor(locales, options = {}) {
     this.#categories = new Categories(locales, options);
+    if (options.notation === "compact" && hasOwnDigits(options)) this.#compact = compactOf(this.#categories.resolvedOptions(), options.book);
   }
 
   /** The category of a number: `one` of 1 in English. */
   select(number) {
     if (typeof number === "number" && !Number.isFinite(number)) return "other"; // as Intl has it
-    return this.#categories.format(number);
+    return this.#compact === null ? this.#categories.format(number) : this.#categories.formatExact(this.#compact.shown(number));
+  }
+
+  // A number that has, with the usual digits, the category of another one.
+  #like(number) {
+    const category = this.select(digitsOf(number));
+    const found = SAMPLES.find((it) => this.#categories.format(it) === category);
+    if (found === undefined) throw new RangeError(`no range is known of numbers of the category ${category}`);
+    return found;
   }
 
   /** The category of a range, by those of its two ends. */
   selectRange(start, end) {
-    const ends = [start, end].map(digitsOf);
+    const ends = this.#compact === null ? [start, end].map(digitsOf) : [start, end].map((it) => this.#like(it));
     const { native, call } = openedOf(this.#categories);
     const isRounded = call.learned !== null; // a compact number, at a place of its own
     const shown = (it) => written(native.at, calls.js_formatter_shown, howFor(native, call, it), it).replace("c", "e");
@@ -103,6 +121,7 @@ export class PluralRules {
   /** Its calls are refused from then on. */
   close() {
     this.#categories.close();
+    this.#compact?.close();
   }
 
   /** The options, as they were given or as they are without; the locale that was found; and the categories that its numbers may have. */

@@ -56,6 +56,32 @@ export function isTag(text) {
   }
 }
 
+// A tag of the language part with one variant at most, and with the keyword `nu` at most.
+const SHORT = /^[a-z]{2,3}(?:-[a-z]{4})?(?:-(?:[a-z]{2}|\d{3}))?(?:-(?:[a-z\d]{5,8}|\d[a-z\d]{3}))?(?:-u-nu-(?!true$)[a-z\d]{3,8})?$/i;
+// The language, script and region of a tag, and its variants.
+const LANGUAGE_PART = /^([a-z]{2,3}(?:-[a-z]{4})?(?:-(?:[a-z]{2}|\d{3}))?)((?:-(?:[a-z\d]{5,8}|\d[a-z\d]{3}))*)(?![a-z\d])/;
+// What the engine takes for a tag and the library does not: a language of five letters or more behind `t`, and a key of `u` that ends in a digit.
+const LOOSE = /-t-[a-z]{5}|-u-(?:[a-z\d]{2,8}-)*[a-z\d]\d(?:-|$)/;
+const OF_UNICODE = /-u(-.*?)(?=-[a-z\d]-|$)/;
+const SYSTEM = /-nu(?![a-z\d])((?:-[a-z\d]{3,8})*)/;
+
+/**
+ * What a tag says by which tables are found, in a tag of one variant and one keyword at most: its language, script and region, the first of its variants,
+ * and its numbering system. A module of pages reads no others. `null` where the text is no tag.
+ */
+export function shortTag(tag) {
+  if (SHORT.test(tag)) return tag;
+  if (!isTag(tag)) return null;
+  const text = tag.toLowerCase().replace(/-x-.*/, "");
+  const [, language, variants] = LANGUAGE_PART.exec(text) ?? [];
+  if (language === undefined || LOOSE.test(text)) return null;
+  const [variant] = variants.split("-").slice(1).sort();
+  const [, keywords = ""] = OF_UNICODE.exec(text) ?? [];
+  const [, value = ""] = SYSTEM.exec(keywords) ?? [];
+  const [system, ...others] = value.split("-").filter((it) => it !== "" && it !== "true");
+  return `${language}${variant === undefined ? "" : `-${variant}`}${system === undefined || others.length > 0 ? "" : `-u-nu-${system}`}`;
+}
+
 /** The direction in which a locale is written: `rtl` or `ltr`. */
 export function directionOf(locale) {
   return RIGHT_TO_LEFT.has(new Intl.Locale(locale).maximize().script) ? "rtl" : "ltr";

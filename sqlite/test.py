@@ -53,7 +53,7 @@ REFUSED = [
     ("legumeyet_format(1, 'e')", "'e'"), ("legumeyet_format(1, '')", "''"), ("legumeyet_format(1, 'de_DE')", "'de_DE'"),
     ("legumeyet_format(1, 'xx')", "'xx'"), ("legumeyet_format(1, 'en', 'percent foo')", "'foo'"), ("legumeyet_format(1, 'en', 'currency/EURO')", "'currency/EURO'"),
     ("legumeyet_format(1, 'en', 'compact-short currency/EUR')", "'compact-short currency/EUR'"), ("legumeyet_format(1, 'en', 'scientific')", "'scientific'"),
-    ("legumeyet_format(1, 'en', 'compact-short @@#')", "'@@#'"),
+    ("legumeyet_format(1, 'en', 'compact-short scale/100')", "'scale/100'"),
     ("legumeyet_format('5.', 'en')", "'5.'"), ("legumeyet_format('12 apples', 'en')", "'12 apples'"), ("legumeyet_format('', 'en')", "''"),
     ("legumeyet_format(x'31', 'en')", "a blob is no number"), ("legumeyet_format(9e999, 'en')", "infinity"), ("legumeyet_format(-9e999, 'en')", "infinity"),
     ("legumeyet_format('NaN', 'en')", "'NaN'"), ("legumeyet_format('1e40000', 'en')", "'1e40000'"), ("legumeyet_format(1, x'65ff')", "legumeyet: "),

@@ -14,7 +14,8 @@ typedef int number;
 
 void *malloc(__SIZE_TYPE__);
 void free(void *);
-void zero_freed(void);
+void keep_clean(void);
+void forget_freed(void);
 
 typedef struct {
     u64 content, is_open;
@@ -201,7 +202,8 @@ void js_book_close(handle *it) {
 static handle *inside;
 void js_book_put_inside(handle *book) { inside = book; }
 handle *js_book_inside(void) { return inside; }
-void js_zero_freed(void) { zero_freed(); }
+void js_keep_clean(void) { keep_clean(); }
+void js_forget_freed(void) { forget_freed(); }
 
 /* Answers to request lines. */
 number js_answers_open(handle *book, u32 capacity, handle *it) { return -legumeyet_answers_open(book, capacity, it); }

@@ -23,6 +23,8 @@ static const u64 MOST = 1u << 30;
 
 static block *freed[LISTS];
 static size_t end_of_heap;
+/* Whether what is freed is filled with zeros: so it is while the memory is made of which a page's module is. */
+static int is_clean;
 
 static size_t rounded_up(size_t size) { return (size + STEP - 1) & ~(size_t)(STEP - 1); }
 
@@ -41,9 +43,11 @@ static unsigned list_of(size_t *size) {
 
 static block *block_of(void *at) { return (block *)((u8 *)at - HEAD); }
 
+static size_t start_of_heap(void) { return rounded_up((size_t)&__heap_base); }
+
 /* A block behind all others. */
 static block *made(size_t size) {
-    if (!end_of_heap) end_of_heap = rounded_up((size_t)&__heap_base);
+    if (!end_of_heap) end_of_heap = start_of_heap();
     u64 end = (u64)end_of_heap + HEAD + size, have = (u64)__builtin_wasm_memory_size(0) * PAGE;
     if (end > have && __builtin_wasm_memory_grow(0, (size_t)((end - have + PAGE - 1) / PAGE)) == (size_t)-1) return 0;
     block *it = (block *)end_of_heap;
@@ -67,15 +71,38 @@ void free(void *at) {
     if (!at) return;
     block *it = block_of(at);
     size_t size = (size_t)it->size;
+    if (is_clean) __builtin_memset(at, 0, size);
     unsigned list = list_of(&size);
     it->next = freed[list];
     freed[list] = it;
 }
 
-/* Fills what is freed with zeros, for a module that is made of the memory as it is. */
-void zero_freed(void) {
-    for (unsigned list = 0; list < LISTS; list++)
-        for (block *it = freed[list]; it; it = it->next) __builtin_memset((u8 *)it + HEAD, 0, (size_t)it->size);
+/* From now on what is freed is filled with zeros. */
+void keep_clean(void) { is_clean = 1; }
+
+/*
+ * Makes zeros of all that is freed, heads too, and forgets it, for a module that is made of the memory as it is: blocks that are not freed are found by
+ * the pointers to them, and what is behind the last of them is free. Of their heads only the sizes stay.
+ */
+void forget_freed(void) {
+    for (unsigned list = 0; list < LISTS; list++) {
+        for (block *it = freed[list], *next; it; it = next) {
+            next = it->next;
+            it->next = it; /* its own mark */
+        }
+        freed[list] = 0;
+    }
+    size_t at = start_of_heap(), end = at;
+    while (at < end_of_heap) {
+        block *it = (block *)at;
+        int is_freed = it->next == it;
+        at += HEAD + (size_t)it->size;
+        if (!is_freed) end = at;
+        if (is_freed) it->size = 0;
+        it->next = 0;
+    }
+    end_of_heap = end;
+    is_clean = 0;
 }
 
 /* memory.copy and memory.fill are these three. */
@@ -100,7 +127,10 @@ int bcmp(const void *one, const void *other, size_t size) { return memcmp(one, o
 static void *resized(void *at, size_t size) {
     if (!at) return malloc(size);
     size_t old = (size_t)block_of(at)->size;
-    if (old >= size) return at;
+    if (old >= size) {
+        if (is_clean) __builtin_memset((u8 *)at + size, 0, old - size);
+        return at;
+    }
     void *to = malloc(size);
     if (!to) return 0;
     memcpy(to, at, old);

@@ -93,7 +93,7 @@ test("options that are none", () => {
   ];
   for (const [options, word] of rows) assert.throws(() => new DecimalFormatter("en", options), (error) => error instanceof RangeError && error.message.includes(word), JSON.stringify(options));
   assert.throws(() => new CompactDecimalFormatter("en", { compactDisplay: "medium" }), RangeError);
-  for (const options of [{ maximumFractionDigits: 2 }, { roundingIncrement: 5 }, { roundingMode: "x" }]) assert.throws(() => new CompactDecimalFormatter("en", options), RangeError);
+  for (const options of [{ maximumFractionDigits: -1 }, { maximumFractionDigits: 2, position: -1 }, { roundingIncrement: 5 }, { roundingMode: "x" }]) assert.throws(() => new CompactDecimalFormatter("en", options), RangeError);
   for (const options of [null, "x", 5]) assert.throws(() => new DecimalFormatter("en", options), TypeError);
   for (const book of [null, "{}", en, {}]) assert.throws(() => new DecimalFormatter("en", { book }), { name: "TypeError", message: "book is a Book" });
 });

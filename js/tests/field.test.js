@@ -91,7 +91,7 @@ test("a paste is read as it is", () => {
 });
 
 test("a formatter that shows no fraction is refused", () => {
-  for (const it of [new DecimalFormatter("en", { position: 0 }), new CurrencyFormatter("en", { currency: "JPY" }), new CompactDecimalFormatter("en")]) {
+  for (const it of [new DecimalFormatter("en", { position: 0 }), new CurrencyFormatter("en", { currency: "JPY" }), new CompactDecimalFormatter("en"), new CompactDecimalFormatter("en", { maximumFractionDigits: 2 })]) {
     assert.throws(() => new FieldText(it), RangeError);
   }
 });

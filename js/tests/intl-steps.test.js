@@ -326,7 +326,7 @@ test("what the library cannot write is refused by name", () => {
   const rows = [
     [{ style: "unit", unit: "meter" }, "style unit"], [{ style: "currency", currency: "EUR", currencyDisplay: "name" }, "currencyDisplay name"], [{ style: "currency", currency: "EUR", currencyDisplay: "narrowSymbol" }, "currencyDisplay narrowSymbol"],
     [{ notation: "scientific" }, "notation scientific"], [{ notation: "engineering" }, "notation engineering"], [{ notation: "compact", style: "percent" }, "notation compact with style percent"],
-    [{ notation: "compact", style: "currency", currency: "EUR" }, "notation compact with style currency"], [{ notation: "compact", maximumFractionDigits: 1 }, "notation compact with options of digits"], [{ notation: "compact", minimumIntegerDigits: 2 }, "notation compact with options of digits"],
+    [{ notation: "compact", style: "currency", currency: "EUR" }, "notation compact with style currency"],
   ];
   for (const [options, what] of rows) throwsOwn(RangeError, () => new NumberFormat("en", options), what);
   for (const [options, what] of rows) assert.throws(() => new NumberFormat("en", options), { name: "RangeError", message: `${what}: the library cannot write this yet` });

@@ -81,7 +81,7 @@ function someOptions() {
   const isCompact = oneIn(4);
   if (isCompact) Object.assign(options, { notation: "compact" }, oneIn(2) ? { compactDisplay: oneOf(["short", "long"]) } : {});
   if (!isCompact || oneIn(10)) someStyle(options);
-  if (!isCompact || oneIn(10)) someDigits(options);
+  if (!isCompact || oneIn(2)) someDigits(options);
   if (oneIn(60)) options.notation = oneOf(["scientific", "engineering", "standard"]);
   if (oneIn(3)) options.signDisplay = oneOf(SIGNS);
   if (oneIn(3)) options.useGrouping = oneOf(["auto", "always", "min2", "true", "false", true, false]);
@@ -220,12 +220,20 @@ const OF_COMPACT = {
 };
 for (const it of ["ast", "wo"]) OF_COMPACT[it] = OF_COMPACT.ps;
 
+// The digits of compact numbers where no option says them.
+const USUAL = { minimumIntegerDigits: 1, minimumFractionDigits: 0, maximumFractionDigits: 0, minimumSignificantDigits: 1, maximumSignificantDigits: 2, roundingPriority: "morePrecision" };
+
 function causeOfCompact(tag, number, ours) {
-  const { compactDisplay, roundingMode } = ours.resolvedOptions();
+  const resolved = ours.resolvedOptions();
+  const isUsual = Object.entries(USUAL).every(([name, value]) => resolved[name] === value);
+  const own = Object.entries(resolved).filter(([name]) => name === "compactDisplay" || (isUsual ? name === "roundingMode" : /Digits$|^rounding/.test(name)));
   const digits = typeof number === "bigint" ? String(number) : String(Number(number)).replace("e+", "e");
-  const [significand, exponent = "0"] = new CompactDecimalFormatter(tag, { compactDisplay, roundingMode }).shown(digits).split("c");
+  const [significand, exponent = "0"] = new CompactDecimalFormatter(tag, Object.fromEntries(own)).shown(digits).split("c");
   const magnitude = (it) => Number(Number(it).toExponential().split("e")[1]);
-  if (magnitude(significand) + Number(exponent) > magnitude(digits)) return "a carry to the next magnitude: there the pattern of the value that is shown";
+  const isCarried = magnitude(significand) + Number(exponent) > magnitude(digits);
+  if (isCarried && isUsual) return "a carry to the next magnitude: there the pattern of the value that is shown";
+  if (isCarried && resolved.roundingIncrement > 1) return "multiples that reach above the next pattern: there the pattern of a larger number";
+  if (significand.split(".")[1]?.length > 18) return "a plural by more than 18 digits of the fraction: there by others of them";
   if (significand === "-1") return "slot 1 for minus one: not there";
   return OF_COMPACT[new Intl.Locale(tag).language] ?? null;
 }

@@ -23,7 +23,8 @@ function saved(name, bytes) {
   return join(folder, name);
 }
 
-const linesOf = (...words) => execFileSync(process.execPath, [fileURLToPath(new URL("texts-of-page.js", import.meta.url)), ...words], { encoding: "utf8", maxBuffer: 1e9 }).trim().split("\n");
+const saidBy = (script, ...words) => execFileSync(process.execPath, [fileURLToPath(new URL(script, import.meta.url)), ...words], { encoding: "utf8", maxBuffer: 1e9 }).trim().split("\n");
+const linesOf = (...words) => saidBy("texts-of-page.js", ...words);
 
 test("each locale of a page is written and read as by the package", () => {
   for (const [tags, below] of [[["en", "de"], ["en-GB", "de-AT", "de-CH"]], [["es", "pt-PT", "pl"], ["es-MX"]], [["ar-EG", "hi", "fa"], ["ar-EG-u-nu-latn", "hi-u-nu-latn"]]]) {
@@ -33,6 +34,14 @@ test("each locale of a page is written and read as by the package", () => {
     assert.ok(lines.length > 100);
     for (const [number, line] of linesOf(asked).entries()) assert.equal(lines[number], line);
   }
+});
+
+test("a tag of any form is read as by the package, or refused", () => {
+  const module = saved("tags.wasm", made("en", "de", "ar-EG"));
+  const seed = process.env.SEED ?? "1";
+  const lines = saidBy("tags-of-page.js", seed, module);
+  assert.ok(lines.length > 6000);
+  for (const [number, line] of saidBy("tags-of-page.js", seed).entries()) assert.equal(lines[number], line);
 });
 
 test("a page's module is the same each time", () => {

@@ -30,7 +30,8 @@ test("numbers of each type", () => {
     ["en", { type: "ordinal" }, { 1: "one", 2: "two", 3: "few", 4: "other", 11: "other", 21: "one", 112: "other", 1003: "few" }],
     ["pl", {}, { 1: "one", 2: "few", 5: "many", 1.5: "other", 22: "few", 112: "many" }], ["ar-EG", {}, { 0: "zero", 1: "one", 2: "two", 3: "few", 11: "many", 100: "other" }],
     ["fr", {}, { 0: "one", 1.9: "one", 2: "other", 1000000: "many", 1500000: "other" }], ["fr", { notation: "compact" }, { 1500000: "many", 1000: "other", 1: "one" }],
-    ["es", { notation: "compact", compactDisplay: "long" }, { 1234567: "many", 1650: "other", 1: "one" }], ["ja", {}, { 1: "other" }], ["it", { type: "ordinal" }, { 8: "many", 11: "many", 1: "other" }],
+    ["fr", { notation: "compact", minimumFractionDigits: 2 }, { 1230000: "many", 1: "one", 1000: "other" }], ["en", { notation: "compact", minimumSignificantDigits: 2 }, { 1: "other", 12: "other" }], ["en", { notation: "compact", maximumFractionDigits: 0 }, { 1.4: "one", 1400: "other" }],
+    ["lv", { notation: "compact", minimumFractionDigits: 2, maximumFractionDigits: 2 }, { 0.21: "one", 0.215: "other", 0.11: "zero" }], ["es", { notation: "compact", compactDisplay: "long" }, { 1234567: "many", 1650: "other", 1: "one" }], ["ja", {}, { 1: "other" }], ["it", { type: "ordinal" }, { 8: "many", 11: "many", 1: "other" }],
     ["en", { maximumSignificantDigits: 1 }, { 1.04: "one", 1.5: "other" }], ["en", { roundingMode: "trunc", maximumFractionDigits: 0 }, { 1.9: "one", 0.9: "other" }],
   ];
   for (const [tag, options, wanted] of rows) {
@@ -61,6 +62,7 @@ test("ranges", () => {
   const rows = [
     ["en", {}, 0, 1, "other"], ["en", {}, 1, 2, "other"], ["fr", {}, 0, 1, "one"], ["fr", {}, 1, 2, "other"], ["sl", {}, 1, 1, "few"], ["lv", {}, 0, 1, "one"], ["ar", {}, 1, 2, "other"], ["ar", {}, "0", "3", "few"],
     ["fr", { notation: "compact" }, 1, 1650000, "many"], ["en", { minimumFractionDigits: 1 }, 1, 1, "other"], ["fr", { notation: "compact", roundingMode: "floor" }, 1, 1999, "other"],
+    ["fr", { notation: "compact", maximumFractionDigits: 2 }, 1, 1234567, "many"], ["ar", { notation: "compact", minimumFractionDigits: 1 }, 0, 3, "few"], ["sl", { notation: "compact", maximumSignificantDigits: 3 }, 1, 1, "few"],
   ];
   for (const [tag, options, start, end, category] of rows) assert.equal(new PluralRules(tag, options).selectRange(start, end), category, `${tag} ${start} ${end}`);
 });
@@ -75,14 +77,14 @@ test("options that are none, as Intl has them", () => {
   for (const localeMatcher of ["lookup", "best fit", undefined]) assert.equal(new PluralRules("en", { localeMatcher }).select(1), "one");
   const newer = [
     [RangeError, { roundingMode: "x" }], [RangeError, { trailingZeroDisplay: "x" }], [RangeError, { roundingPriority: "x" }], [RangeError, { roundingIncrement: 3 }], [RangeError, { roundingIncrement: 5, maximumFractionDigits: 2 }],
-    [TypeError, { roundingIncrement: 5, maximumSignificantDigits: 2 }], [TypeError, { roundingIncrement: 5, roundingPriority: "morePrecision" }],
+    [TypeError, { roundingIncrement: 5, maximumSignificantDigits: 2 }], [TypeError, { roundingIncrement: 5, roundingPriority: "morePrecision" }], [TypeError, { roundingIncrement: 5, notation: "compact" }],
   ];
   for (const [wanted, options] of [...rows, ...newer]) {
     assert.throws(() => new PluralRules("en", options), (error) => error.constructor === wanted, JSON.stringify(options));
     const Theirs = rows.some((row) => row[1] === options) ? Intl.PluralRules : Intl.NumberFormat;
     if (isNew) assert.throws(() => new Theirs("en", options), wanted, JSON.stringify(options));
   }
-  const own = [{ notation: "scientific" }, { notation: "compact", maximumFractionDigits: 1 }, { notation: "compact", compactDisplay: "x" }, { position: 1 }, { signDisplay: "auto" }, { useGrouping: false }, { minimumIntegerDigits: 1.5 }];
+  const own = [{ notation: "scientific" }, { notation: "compact", minimumFractionDigits: 2, maximumFractionDigits: 1 }, { notation: "compact", compactDisplay: "x" }, { position: 1 }, { signDisplay: "auto" }, { useGrouping: false }, { minimumIntegerDigits: 1.5 }];
   for (const options of own) assert.throws(() => new PluralRules("en", options), (error) => error.constructor === RangeError, JSON.stringify(options));
   assert.throws(() => PluralRules("en"), TypeError);
 });
@@ -115,6 +117,8 @@ test("resolved options, as Intl has them", () => {
   assert.deepEqual(new PluralRules("en", { compactDisplay: "long", notation: undefined }).resolvedOptions(), wanted);
   const compact = new PluralRules("de", { notation: "compact", roundingMode: "floor" }).resolvedOptions();
   assert.deepEqual(compact, { ...wanted, locale: "de", notation: "compact", compactDisplay: "short", maximumFractionDigits: 0, minimumSignificantDigits: 1, maximumSignificantDigits: 2, roundingMode: "floor", roundingPriority: "morePrecision" });
+  const own = { notation: "compact", compactDisplay: "long", minimumFractionDigits: 1, maximumFractionDigits: 4 };
+  assert.deepEqual(new PluralRules("en", own).resolvedOptions(), { ...wanted, ...own });
   const all = [{}, { type: "ordinal" }, { minimumFractionDigits: 5 }, { maximumFractionDigits: 5 }, { maximumFractionDigits: 0 }, { minimumFractionDigits: 1, maximumFractionDigits: 2 }, { minimumIntegerDigits: 3 }, { maximumSignificantDigits: 3 }, { minimumSignificantDigits: 2 }, { minimumSignificantDigits: 2, maximumFractionDigits: 1 }];
   for (const options of all) {
     const [ours, theirs] = [PluralRules, Intl.PluralRules].map((Type) => new Type("pl", options).resolvedOptions());

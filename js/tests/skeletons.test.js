@@ -19,6 +19,8 @@ test("numbers by skeletons", () => {
     ["de", "currency/EUR", "-1234567.891", "-1.234.567,89\u00a0€"], ["en", "currency/eur", "5", "€5.00"], ["en", "currency/USD sign-accounting", "-5", "($5.00)"], ["en", "currency/JPY", "2.5", "¥2"],
     ["en", "currency/USD unit-width-iso-code", "5", "USD\u00a05.00"], ["en", "currency/CHF precision-currency-cash", "2.345", "CHF\u00a02.35"], ["en", "currency/USD .", "5.5", "$6"], ["en", "currency/USD .00/w", "5", "$5"],
     ["en", "compact-short", "-1172700", "-1.2M"], ["de", "KK", "1234567", "1,2 Millionen"], ["en", "compact-short", "1650", "1.6K"], ["en", "K +!", "1650", "+1.6K"],
+    ["en", "compact-short .00", "-1234", "-1.23K"], ["en", "compact-short .00", "999999", "1.00M"], ["en", "compact-short .0", "999949", "999.9K"], ["en", "compact-short .0", "999950", "1.0M"], ["en", "K @@@", "5", "5.00"], ["en", "K .", "1500", "2K"],
+    ["en", "KK .##", "1234567", "1.23 million"], ["en", "K rounding-mode-down", "1999", "1.9K"], ["en", "K .+", "1234567", "1.234567M"], ["de", "KK .0", "1234567", "1,2 Millionen"], ["en", "K 000 .0", "1234", "001.2K"],
   ];
   for (const [locale, skeleton, number, text] of rows) {
     const it = by(locale, skeleton);
@@ -47,6 +49,9 @@ test("skeletons as Intl means them", () => {
     ["currency/USD sign-accounting", money("USD", { currencySign: "accounting" })], ["currency/USD unit-width-iso-code", money("USD", { currencyDisplay: "code" })],
     ["currency/USD ()!", money("USD", { currencySign: "accounting", signDisplay: "always" })], ["currency/EUR group-off", money("EUR", { useGrouping: false })],
     ["compact-short", { notation: "compact" }], ["compact-long", { notation: "compact", compactDisplay: "long" }], ["K sign-always", { notation: "compact", signDisplay: "always" }],
+    ["K .00", { notation: "compact", minimumFractionDigits: 2, maximumFractionDigits: 2, roundingMode: "halfEven" }], ["KK @@# sign-except-zero", { notation: "compact", compactDisplay: "long", minimumSignificantDigits: 2, maximumSignificantDigits: 3, roundingMode: "halfEven", signDisplay: "exceptZero" }],
+    ["K rounding-mode-ceiling", { notation: "compact", roundingMode: "ceil" }], ["K .0/@@@@r", { notation: "compact", minimumFractionDigits: 1, maximumFractionDigits: 1, minimumSignificantDigits: 4, maximumSignificantDigits: 4, roundingPriority: "morePrecision", roundingMode: "halfEven" }],
+    ["K precision-increment/0.25", { notation: "compact", minimumFractionDigits: 2, maximumFractionDigits: 2, roundingIncrement: 25, roundingMode: "halfEven" }],
   ];
   for (const [skeleton, options] of choices) {
     if (!isNew && (options.roundingMode || options.useGrouping === "min2" || options.signDisplay === "negative" || options.roundingPriority || options.trailingZeroDisplay)) continue;
@@ -83,7 +88,7 @@ const FAULTS = [
   ["foo", 201, "unknown", 0], ["percent foo", 201, "unknown", 8], ["  .0x", 201, "unknown", 2], ["percent \ud800", 201, "unknown", 8], [".00 ä", 201, "unknown", 4], ["\0", 201, "unknown", 0],
   ["percent\u00a0.00", 201, "unknown", 0], ["percent currency/EUR", 202, "twice", 8], [".00 .0", 202, "twice", 4], ["currency/EURO", 203, "code", 0], ["K currency/", 203, "code", 2],
   ["sign-accounting", 204, "pair", 0], ["percent unit-width-iso-code", 204, "pair", 8], ["latin", 205, "system", 0], ["numbering-system/thai", 205, "system", 0],
-  ["scientific", 206, "later", 0], ["compact-short .00", 206, "later", 14], ["decimal-always", 207, "unsupported", 0], [`percent ${"x".repeat(5000)}`, 201, "unknown", 8],
+  ["scientific", 206, "later", 0], ["compact-short unit-width-narrow", 206, "later", 14], ["decimal-always", 207, "unsupported", 0], [`percent ${"x".repeat(5000)}`, 201, "unknown", 8],
 ];
 
 test("texts that are no skeleton", () => {
@@ -109,7 +114,7 @@ test("the normal text", () => {
   const rows = [
     ["", ""], ["   ", ""], ["sign-auto", ""], ["K  sign-auto", "compact-short"], ["KK", "compact-long"], ["% .00", "percent .00"], ["currency/eur .00", "currency/EUR .00"], [".", "precision-integer"],
     ["K currency/EUR", "compact-short currency/EUR"], ["currency/EUR K", "compact-short currency/EUR"], ["000", "integer-width/*000"], [",_ +! .0#", ".0# group-off sign-always"], ["K group-auto", "compact-short group-auto"], ["group-auto", ""],
-    ["currency/USD ()! unit-width-iso-code", "currency/USD unit-width-iso-code sign-accounting-always"], [".00/w", ".00/w"], [".00+", ".00*"], ["@@+ ,!", "@@* group-on-aligned"], [".##/@@@+", ".##/@##r"],
+    ["currency/USD ()! unit-width-iso-code", "currency/USD unit-width-iso-code sign-accounting-always"], [".00/w", ".00/w"], [".00+", ".00*"], ["@@+ ,!", "@@* group-on-aligned"], [".##/@@@+", ".##/@@@*"],
   ];
   for (const [skeleton, normal] of rows) assert.deepEqual([skeleton, normal].map(normalSkeleton), [normal, normal], skeleton);
   assert.equal(normalSkeleton(`.${"0".repeat(100)}`).length, 101);
@@ -159,5 +164,6 @@ test("options of a call take the place of those of a skeleton", () => {
   }
   const short = by("en", "compact-short");
   for (const options of [{ maximumFractionDigits: 1 }, { currencyDigits: "cash" }, { skeleton: "" }, { useGrouping: false }, { book: null }]) assert.throws(() => short.format(1, options), RangeError);
+  for (const options of [{ signDisplay: "always" }, { roundingMode: "floor" }, { maximumFractionDigits: 1 }]) assert.throws(() => by("en", "K .00").format(1, options), RangeError); // nothing is left to say
   assert.throws(() => by("en", "percent").format(1, { currencyDigits: "cash" }), RangeError);
 });

@@ -10,12 +10,12 @@ const { CompactDecimalFormatter, CurrencyFormatter, DecimalFormatter, NumberForm
 const NUMBERS = ["0", "-0", "1", "7.50", "-1234.5", "2500", "1650", "999999.995", "-123456789012345678901234567890.5", 1e21, 0.1, 12345n, "x", "1e40000", NaN];
 const TYPED = ["1234.5", "1.234,5", "1,234.50", "-5", "−5", " 7 ", "5.", ".5", "१२३", "٤٥٦", "1x", "", "\ud800", "5 €", "€5", "EUR 5", "12%", "12 %"];
 const PLAIN = [{}, { useGrouping: "always" }, { useGrouping: false }, { useGrouping: "min2" }, { signDisplay: "exceptZero" }, { maximumFractionDigits: 2, roundingMode: "floor" }, { minimumIntegerDigits: 5, minimumFractionDigits: 1 }, { minimumSignificantDigits: 2, maximumSignificantDigits: 3, maximumFractionDigits: 1, roundingPriority: "morePrecision" }];
-const COMPACT = [{}, { compactDisplay: "long" }, { useGrouping: "always" }, { roundingMode: "ceil" }, { position: 3 }];
+const COMPACT = [{}, { compactDisplay: "long" }, { useGrouping: "always" }, { roundingMode: "ceil" }, { position: 3 }, { maximumFractionDigits: 2, signDisplay: "always" }];
 const AMOUNTS = ["EUR", "JPY", "CHF", "QQQ", "eur"].flatMap((currency) => [{ currency }, { currency, currencySign: "accounting", currencyDisplay: "code" }, { currency, currencyDigits: "cash", useGrouping: "always" }, { currency, maximumSignificantDigits: 3, roundingPriority: "lessPrecision" }]);
-const SKELETONS = ["", ".00", "percent .0#", "currency/EUR", "currency/CHF sign-accounting precision-currency-cash", "K", "compact-long +!", "foo"].map((skeleton) => ({ skeleton }));
+const SKELETONS = ["", ".00", "percent .0#", "currency/EUR", "currency/CHF sign-accounting precision-currency-cash", "K", "compact-long +!", "K @@@", "foo"].map((skeleton) => ({ skeleton }));
 const KINDS = [[DecimalFormatter, PLAIN], [PercentFormatter, PLAIN], [CompactDecimalFormatter, COMPACT], [CurrencyFormatter, AMOUNTS], [NumberFormatter, SKELETONS]];
-const BY_INTL = [{}, { style: "percent", useGrouping: "min2" }, { style: "currency", currency: "EUR", currencySign: "accounting" }, { notation: "compact", compactDisplay: "long" }, { minimumSignificantDigits: 2, maximumSignificantDigits: 3 }, { style: "unit", unit: "meter" }];
-const PLURALS = [{}, { type: "ordinal" }, { minimumFractionDigits: 1 }, { notation: "compact" }, { type: "ordinal", notation: "compact", roundingMode: "floor" }];
+const BY_INTL = [{}, { style: "percent", useGrouping: "min2" }, { style: "currency", currency: "EUR", currencySign: "accounting" }, { notation: "compact", compactDisplay: "long" }, { notation: "compact", minimumFractionDigits: 1 }, { minimumSignificantDigits: 2, maximumSignificantDigits: 3 }, { style: "unit", unit: "meter" }];
+const PLURALS = [{}, { type: "ordinal" }, { minimumFractionDigits: 1 }, { notation: "compact" }, { notation: "compact", minimumFractionDigits: 1 }, { type: "ordinal", notation: "compact", roundingMode: "floor" }];
 const RANGES = [["0", "1"], ["1", "2"], [2, 5n], ["1.5", "1650000"], ["x", "1"], ["1", "x"]];
 
 function said(call) {

@@ -73,10 +73,9 @@ german.formatAll([null]);
 german.formatAll(5);
 // @ts-expect-error
 new DecimalFormatter("de", { style: "percent" });
+texts.push(new CompactDecimalFormatter("de", { maximumFractionDigits: 2, maximumSignificantDigits: 2, roundingPriority: "lessPrecision" }).format(5));
 // @ts-expect-error
-new CompactDecimalFormatter("de", { maximumFractionDigits: 2 });
-// @ts-expect-error
-new CompactDecimalFormatter("de", { maximumSignificantDigits: 2 });
+short.format(5, { maximumFractionDigits: 2 });
 // @ts-expect-error
 german.format(5, { roundingPriority: "more" });
 // @ts-expect-error

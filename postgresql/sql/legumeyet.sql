@@ -71,7 +71,7 @@ SELECT legumeyet.format(1, 'en', 'latin');
 SELECT legumeyet.format(1, 'en', 'scientific');
 SELECT legumeyet.format(1, 'en', 'decimal-always');
 SELECT legumeyet.format(1, 'en', 'compact-short currency/EUR');
-SELECT legumeyet.format(1, 'en', 'compact-short @@#');
+SELECT legumeyet.format(1, 'en', 'compact-short scale/100');
 SELECT legumeyet.format(1, repeat('é', 60));
 SELECT legumeyet.format(('1' || repeat('0', 32768))::numeric, 'en');
 \echo :SQLSTATE

@@ -142,7 +142,7 @@ class Calls(unittest.TestCase):
         self.refused(8, lambda: self.english.format(10, exponent=32767))
 
     def test_zeros(self):
-        """A zero that a rounding above the ones leaves is one digit, and zeros may be trimmed of whole numbers alone."""
+        """A zero that a rounding above the ones leaves is one digit, and zeros may be trimmed of only whole numbers."""
         dollars, whole = CurrencyFormatter("en", "USD"), TrailingZeros.TRIM_WHOLE
         for formatter, number, options, text in [
             (self.english, 400, {"position": 3}, "0"), (self.english, 600, {"position": 3}, "1,000"), (self.english, -400, {"position": 3}, "-0"),

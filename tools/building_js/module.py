@@ -24,7 +24,7 @@ EACH_DEFINED = re.compile(r"^(define .*\)(?: unnamed_addr)?)((?: #\d+)* \{)$", r
 FOR_SPEED, FOR_SIZE = "-O2", "-Oz"
 FOR_WASM = ("--target=wasm32-unknown-unknown", "-mbulk-memory", "-msimd128", "-mno-multivalue", "-fno-builtin", "--no-default-config")
 # The stack is first, so that what runs over it leaves the memory and stops; addresses stay below what JavaScript has as numbers above 0.
-LINKED = ("--no-entry", "--gc-sections", "--strip-debug", "--stack-first", "-z", "stack-size=524288", "--max-memory=2147418112")
+LINKED = ("--no-entry", "--gc-sections", "--strip-debug", "--compress-relocations", "--stack-first", "-z", "stack-size=524288", "--max-memory=2147418112")
 STATIC = re.compile(r"^ +([0-9a-f]+) +[0-9a-f]+ +([0-9a-f]+) +(\S*:\(\.(?:ro)?data\S*\))$", re.M)  # in the linker's map
 STATIC_NAME = re.compile(r"data\.(?:\.L)?([^)]*)\)$")
 # What the text of a module has: its pieces, and the names in them.
@@ -34,7 +34,7 @@ ESCAPED = re.compile(r"\\([0-9A-F]{2})")
 # The calls that no page makes; and those that only some pages make, or only what puts a book inside. All others are of each page.
 NOT_OF_PAGE = re.compile(r"js_answers_\w+|js_book_(?:answer|found_locale|locale|locale_count)|js_column_\w+|js_formatter_(?:doubles|integers|texts)")
 PARTS_OF_PAGE = {
-    "opening": re.compile(r"js_book_(?:open|keep|close|put_inside)|js_zero_freed"),
+    "opening": re.compile(r"js_book_(?:open|keep|close|put_inside)|js_keep_clean|js_forget_freed"),
     "compact": re.compile(r"js_compact|js_formatter_exact"),
     "units": re.compile(r"js_units"),
     "read": re.compile(r"js_formatter_read\w*"),
@@ -42,12 +42,16 @@ PARTS_OF_PAGE = {
     "plurals": re.compile(r"js_plurals|js_formatter_range"),
 }
 CHOSEN = [it for it in PARTS_OF_PAGE if it != "opening"]  # what a page may be made without, as js/pages.js has it
-# The functions of the library that only calls for a part come to, though calls of all pages name them: compact numbers, percents and amounts, and
-# formatters with tables of their own, which a page's book never opens. Where a page does without the part they stop, and what only they call goes.
+# The functions of the library that only calls for a part come to, though calls of all pages name them: compact numbers, those with digits of their own,
+# percents and amounts. Where a page does without the part they stop, and what only they call goes. Those of `opening` no page comes to: formatters with
+# tables of their own, which a page's book never opens; numbers that are no texts; and tags of more than js/tags.js makes of them for a page.
+OF_DIGITS = r"locale_numbers_formatter::compact_digits::|::number_formatter::(?:format|show)_digits\b|::shown_operands::digits_operands\b"
 ONLY_OF = {
-    "opening": re.compile(r"locale_numbers_formatter::own_tables::|own_tables\+\+\w+\+Destruct::drop|::held_(?:formatter::own_of|plurals::own_plurals)|held_answers|::book::Book::drop\b"),
-    "compact": re.compile(r"icu_decimal::(?:compact_formatter|formatted_compact)::|::find_compact\b"),
+    "opening": re.compile(r"locale_numbers_formatter::own_tables::|own_tables\+\+\w+\+Destruct::drop|::held_(?:formatter::own_of|plurals::own_plurals)|held_answers|::book::Book::drop\b"
+                          r"|legumeyet_c_values::numbers::assign_(?:double|scaled)\b|::tag_reader::read_any\b"),
+    "compact": re.compile(r"icu_decimal::(?:compact_formatter|formatted_compact)::|::find_compact\b|" + OF_DIGITS),
     "units": re.compile(r"icu_dimension(?:_affixes|_lenient)?::(?!\w+::drop)|::find_(?:amounts|percents)\b"),
+    "skeletons": re.compile(OF_DIGITS),
     "plurals": re.compile(r"legumeyet_c::categories::|::find_plural_rules\b"),
 }
 WHOLE, OF_PAGE = "legumeyet.wasm", "page.wasm"

@@ -27,7 +27,7 @@ JOBS_OF_THE_FIRST = 4
 JOBS_OF_ANOTHER = 2
 # So many seconds of work count as what the shares say, before what was built does.
 TRUSTED = 600
-# Each 64-bit processor of the family runs what is compiled for this one. A program for newer ones alone has their level in it, to say so.
+# Each 64-bit processor of the family runs what is compiled for this one. A program only for newer ones has their level in it, to say so.
 EVERY_CPU, LEVEL = "x86-64", b"x86-64-v2"
 # Where the seconds are that the last build of each crate took, beside other work; and those of a line, where none are known.
 TOOK, OF_A_LINE = f"{OUT}/took.json", 0.05
@@ -316,7 +316,7 @@ def build_crates(tops, programs, libraries=()):
 
 
 def needs_level(program):
-    """Whether a program runs on newer processors alone, as the one that `rt ci` builds."""
+    """Whether a program runs only on newer processors, as the one that `rt ci` builds."""
     with open(program, "rb") as file:
         return LEVEL in file.read()
 

@@ -5,7 +5,7 @@ ghost use Rattle.fixed_decimal_digits.specs.Rounding.{increment_number};
 
 /// Which multiple a rounding takes, by size: at 0 by `Trunc`, `7.8` becomes `7`. The modes have their names from
 /// ECMA-402's `roundingMode`.
-#[derive(Clone, Copy, Debug, Drop, PartialEq, Eq)]
+#[derive(Clone, Copy, Debug, Drop, PartialEq, Eq, Hash)]
 pub enum UnsignedRoundingMode {
     /// The next multiple away from zero: at 0, `7.3` becomes `8`.
     Expand,
@@ -22,7 +22,7 @@ pub enum UnsignedRoundingMode {
 
 /// The multiples that a rounding looks at, counted in the last place that it keeps, as in ECMA-402's
 /// `roundingIncrement`.
-#[derive(Clone, Copy, Debug, Drop, PartialEq, Eq)]
+#[derive(Clone, Copy, Debug, Drop, PartialEq, Eq, Hash)]
 pub enum RoundingIncrement {
     /// Every count: 1.1, 1.2, 1.3.
     MultiplesOf1,

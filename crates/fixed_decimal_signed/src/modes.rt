@@ -8,7 +8,7 @@ use fixed_decimal_unsigned::UnsignedRoundingMode;
 
 /// Which multiple a rounding takes, by size or by order: at 0 by `Ceil`, `-7.3` becomes `-7`. The modes have
 /// their names from ECMA-402's `roundingMode`.
-#[derive(Clone, Copy, Debug, Drop, PartialEq, Eq)]
+#[derive(Clone, Copy, Debug, Drop, PartialEq, Eq, Hash)]
 pub enum SignedRoundingMode {
     /// By size, whatever the sign: at 0 by `Unsigned(Expand)`, `-7.3` becomes `-8`.
     Unsigned(UnsignedRoundingMode),

@@ -13,7 +13,7 @@ pub enum Sign {
 
 /// Which sign a number is shown with: with `Always`, `5` becomes `+5`. The choices have their names from
 /// ECMA-402's `signDisplay`.
-#[derive(Clone, Copy, Debug, Drop, PartialEq, Eq)]
+#[derive(Clone, Copy, Debug, Drop, PartialEq, Eq, Hash)]
 pub enum SignDisplay {
     /// A minus where the number has one; a plus is left out: `+5` becomes `5`, and `-5` and `-0` stay.
     Auto,

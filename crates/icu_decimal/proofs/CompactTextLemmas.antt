@@ -43,7 +43,7 @@ number_in None n = unsigned_is_text n
 number_in (Some (literal text)) n = text_of_bytes text
 number_in (Some (around before after)) n = text_in_unit before after (unsigned_events n) (unsigned_text n.tables n.number) (unsigned_is_text n)
 
-under_is_text : (t : CompactTables) (d : SignedValue Number) (entry : Option CompactEntry) → text_of (exact_events (written_under t d entry)) ≡ written_text t d entry
+pub under_is_text : (t : CompactTables) (d : SignedValue Number) (entry : Option CompactEntry) → text_of (exact_events (written_under t d entry)) ≡ written_text t d entry
 under_is_text t d entry =
     let p = pattern_of t entry (operands_of d.absolute 0) in
     let n : PlainNumber = record { number = d.absolute; tables = t.plain } in

@@ -15,7 +15,7 @@ none_of : {A B : Type 0} (f : A → B) (o : Option A) → is_none (option_map f 
 none_of f None = refl
 none_of f (Some a) = refl
 
-under_is : (t : CompactTables) (d : SignedValue Number) (index : Option ℕ) → Rises 0 t.patterns.entries → written_under t d (entry_of t.patterns.entries index) ≡ written_at t d index
+pub under_is : (t : CompactTables) (d : SignedValue Number) (index : Option ℕ) → Rises 0 t.patterns.entries → written_under t d (entry_of t.patterns.entries index) ≡ written_at t d index
 under_is t d index rises =
     ap (λ p. record { value = record { pattern = p; value = record { number = d.absolute; tables = t.plain } }; affixes = affixes_of t.plain.symbols.strings d.sign })
     (sym (pattern_is t index (operands_of d.absolute 0) rises))

@@ -1,9 +1,10 @@
 //! Exact forms: a significand and an exponent that the caller chose.
 
 ghost use Rattle.std.specs.Prelude.{◌≡◌, ◌↔◌, IfErr, IfOk, IsTrue, Some, is_err, is_none};
+ghost use Rattle.icu_decimal_compact_value.specs.Choice.{entry_of};
 ghost use Rattle.icu_decimal_compact_value.specs.ExactForms.{IsInRange, IsRefused};
 ghost use Rattle.icu_decimal_plain.specs.Affixes.{affixes_of};
-ghost use Rattle.icu_decimal.specs.ExactText.{exact_formatted};
+ghost use Rattle.icu_decimal.specs.ExactText.{exact_formatted, written_under};
 ghost use Rattle.icu_decimal.specs.HeldCompact.{compact_tables_of};
 ghost use Rattle.icu_decimal.specs.PatternAt.{written_at};
 
@@ -37,6 +38,23 @@ impl<'b> CompactDecimalFormatter<'b> {
         let pattern = self.pattern_at(entry, &significand.absolute);
         let number = self.plain.format_unsigned(&significand.absolute);
         signed(self, significand.sign, Interpolated::new(pattern, number))
+    }
+
+    /// A significand in the pattern of the entry at an index, or in none: of -1.20 and that of `M` `-1.20M` in English,
+    /// with the parts of the number.
+    ///
+    /// The digits are written as they are, and the plural is that of these digits. It does not allocate.
+    pub fn format_under<'l>(
+        &'l self,
+        significand: &'l Decimal,
+        entry: Option<usize>,
+    ) -> FormattedSign<'l, Interpolated<'l, FormattedUnsignedDecimal<'l>>>
+        ensures { result
+            ≡ written_under (compact_tables_of self.now) significand.now
+            (entry_of (compact_tables_of self.now).patterns.entries entry) }
+    {
+        let _rising = self.patterns.entries(); // for the proof
+        self.written_at(significand, entry)
     }
 
     /// Whether the magnitude of a significand and an exponent together is at most 32767: true of 1.2 and 6, false of

@@ -1,6 +1,6 @@
 -- The steps by which a number becomes what is shown: rounded to its unit, then divided.
 -- Defined in docs/compact-text.md, "The value shown".
--- Cited by the private functions of `show` and `can_show`; `IsNines` by the law of what is rounded up to the next power of ten.
+-- Cited by `divide` and the private functions of `show` and `can_show`; `IsNines` by the law of what is rounded up to the next power of ten.
 use Rattle.std.specs.Prelude.{◌≡◌, ℕ, suc, ◌-◌, ◌*◌, ◌^◌, ◌≤◌, ◌⊎◌, max, min, List}
 use Rattle.fixed_decimal.specs.Number.{Number, digit}
 use Rattle.fixed_decimal.specs.Range.{IsHighest, IsLowest}

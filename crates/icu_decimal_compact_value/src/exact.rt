@@ -1,12 +1,13 @@
 //! Exact forms: a significand and an exponent, written under the entry of their magnitude.
 
 ghost use Rattle.std.specs.Prelude.{◌≡◌, ◌+◌, ◌<◌, ◌↔◌, Some, is_err, is_none, IfOk, IfErr, IsTrue};
-ghost use Rattle.icu_decimal_compact_value.specs.Choice.{entry_of, exact_entry as entry_is};
+ghost use Rattle.icu_decimal_compact_value.specs.Choice.{entry_at, entry_of, exponent_of, exact_entry as entry_is};
 ghost use Rattle.icu_decimal_compact_value.specs.ExactForms.{IsInRange, IsRefused, exact_place};
 
 use crate::entry::CompactEntry;
 use crate::error::CompactExponentError;
 use crate::places::{magnitude_of, magnitude_place};
+use crate::shown::ShownUnder;
 use crate::table::{entry_index, exponent_at};
 use fixed_decimal::UnsignedDecimal;
 
@@ -27,6 +28,28 @@ pub fn exponent_in_range(significand: &UnsignedDecimal, exponent: u8) -> bool
     place_with(significand, exponent) <= u16::MAX as u32
 }
 
+/// The exponent and the entry for the magnitude of a significand and an exponent together: of 1.2 and 3 under entries of
+/// the types 3 and 6 with the exponents 3 and 6 these are 3 and the first entry, and of 1000 and 3 they are 6 and the
+/// second one.
+///
+/// Any magnitude is taken, so the exponent 0 is that of a number itself. It does not allocate.
+pub fn entry_with(
+    significand: &UnsignedDecimal,
+    exponent: u8,
+    entries: &[CompactEntry],
+) -> ShownUnder
+    ensures entry { entry_of entries.now result.entry
+        ≡ entry_at 32768 entries.now (exact_place significand.now.count exponent) }
+    ensures exponent { result.exponent
+        ≡ exponent_of (entry_at 32768 entries.now (exact_place significand.now.count exponent)) }
+{
+    let entry = entry_index(entries, place_with(significand, exponent));
+    ShownUnder {
+        exponent: exponent_at(entries, entry),
+        entry,
+    }
+}
+
 /// The index of the entry that an exact form is written under: of 1.2 and 3 under entries of the types 3 and 6 with the
 /// exponents 3 and 6 it is 0, and none of 1.2 and 0.
 ///
@@ -45,7 +68,7 @@ pub fn exact_entry(
     ensures err { IfErr result (IsRefused entries.now significand.now.count exponent) }
 {
     let place = place_with(significand, exponent) as u16;
-    let entry = entry_index(entries, place);
+    let entry = entry_index(entries, place as u32);
     let expected = exponent_at(entries, entry);
     if exponent == expected {
         Ok(entry)

@@ -14,6 +14,6 @@ mod table;
 
 pub use entry::CompactEntry;
 pub use error::CompactExponentError;
-pub use exact::{exact_entry, exponent_in_range};
-pub use shown::{Shown, ShownUnder, can_show, show, show_in_place};
+pub use exact::{entry_with, exact_entry, exponent_in_range};
+pub use shown::{Shown, ShownUnder, can_show, divide, show, show_in_place};
 pub use table::exponent_for_magnitude;

@@ -100,7 +100,7 @@ pub fn can_show(number: &UnsignedDecimal, entries: &[CompactEntry]) -> bool
     if place < u16::MAX {
         return true;
     }
-    let exponent = exponent_at(entries, entry_index(entries, place));
+    let exponent = exponent_at(entries, entry_index(entries, place as u32));
     !are_nines(number, rounding_place(place, exponent))
 }
 
@@ -150,8 +150,11 @@ fn carried_index(entries: &[CompactEntry], place: u16, rounded: &UnsignedDecimal
     }
 }
 
-// Divides a rounded number by ten to an exponent, and takes the zeros away that end its fraction.
-fn divide(rounded: &mut UnsignedDecimal, exponent: u8)
+/// Divides a number by ten to an exponent, and takes the zeros away that end its fraction: 1600 by 3 becomes 1.6.
+///
+/// The condition is that no place below the exponent is shown, counted from the lowest one up: 10^-32768 is not divided.
+/// It does not allocate.
+pub fn divide(rounded: &mut UnsignedDecimal, exponent: u8)
     requires { exponent ≤ rounded.old.low }
     ensures { IsDivided exponent rounded.old rounded.new }
 {
@@ -173,7 +176,7 @@ pub fn show_in_place(number: &mut UnsignedDecimal, entries: &[CompactEntry]) -> 
         (record { significand = number.new; exponent = result.exponent; entry = result.entry }) }
 {
     let place = magnitude_place(number);
-    let entry = entry_index(entries, place);
+    let entry = entry_index(entries, place as u32);
     round_to_unit(number, entries, place, entry);
     match carried_index(entries, place, number) {
         Some(next) => {

@@ -8,15 +8,15 @@ ghost use Rattle.icu_decimal_compact_value.specs.Choice.{entry_at, entry_of, exp
 use crate::entry::CompactEntry;
 use crate::places::{ONES, place_of};
 
-// The index of the last entry whose type a magnitude reaches.
-pub fn entry_index(entries: &[CompactEntry], place: u16) -> Option<usize>
+// The index of the last entry whose type a magnitude reaches, whether a decimal has that magnitude or not.
+pub fn entry_index(entries: &[CompactEntry], place: u32) -> Option<usize>
     ensures entry { entry_of entries.now result ≡ entry_at 32768 entries.now place }
     ensures within { IfSome result (λ i. i < length entries.now) }
 {
     let mut index = entries.len();
     while index > 0 {
         index -= 1;
-        if ONES + entries[index].log10_type as u16 <= place {
+        if ONES as u32 + entries[index].log10_type as u32 <= place {
             return Some(index);
         }
     }
@@ -50,5 +50,5 @@ pub fn exponent_at(entries: &[CompactEntry], index: Option<usize>) -> u8
 pub fn exponent_for_magnitude(magnitude: i16, entries: &[CompactEntry]) -> u8
     ensures { result ≡ exponent_of (entry_at 32768 entries.now (place_is magnitude)) }
 {
-    exponent_at(entries, entry_index(entries, place_of(magnitude)))
+    exponent_at(entries, entry_index(entries, place_of(magnitude) as u32))
 }

@@ -1,6 +1,6 @@
 -- The number that the digits of a text spell.
 -- Defined in docs/numbers.md, "The text".
--- Cited by `TextDigits::of` and `TextTables::put`.
+-- Cited by `TextDigits::of`, `TextDigits::plural_operands` and `TextTables::put`.
 use Rattle.fixed_decimal.specs.Number.{Number}
 use Rattle.fixed_decimal.specs.SignedValue.{SignedValue}
 use Rattle.icu_decimal_direct.specs.FewDigits.{plain_number}

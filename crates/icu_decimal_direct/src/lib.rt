@@ -13,6 +13,7 @@
 #![tactic(auto)]
 
 mod choosing;
+mod operands;
 mod putting;
 mod reading;
 mod text_digits;

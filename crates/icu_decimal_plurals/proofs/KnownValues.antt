@@ -4,7 +4,7 @@ use Rattle.icu_decimal_plurals.specs.declared.category.PluralCategory.{PluralCat
 use Rattle.icu_decimal_plurals.specs.declared.category.PluralCategory.TheVariants.{Zero, One, Few, Many, Other}
 use Rattle.icu_decimal_plurals.specs.declared.operand.Operand.TheVariants as operand
 use Rattle.icu_decimal_plurals.specs.declared.token.Token.TheVariants as token
-use Rattle.icu_decimal_plurals.specs.Operands.{Operands, operands_with, operands_of}
+use Rattle.icu_decimal_plurals.specs.Operands.{Operands, operands_of, operands_shown, operands_with}
 use Rattle.icu_decimal_plurals.specs.Reading.{condition_in, rules_of}
 use Rattle.icu_decimal_plurals.specs.Rules.{category_of}
 use Rattle.icu_decimal_plurals.specs.Tokens.{tokens_of}
@@ -22,6 +22,12 @@ one_point_zero_three = refl
 
 one_point_zero : operands_with 3 1000 1 0 ≡ seen 1 1 0 0 0 0
 one_point_zero = refl
+
+fraction_given : operands_shown 1 2 50 0 ≡ seen 1 2 50 5 1 0
+fraction_given = refl
+
+zero_and_five_given : operands_shown 1 2 5 0 ≡ seen 1 2 5 5 2 0
+zero_and_five_given = refl
 
 -- 1.2 with the exponent 6, and 1.20050 with 3
 compact_number : operands_of (record { count = 12 * 10 ^ 32767; low = 32767; high = 32768 }) 6 ≡ seen 1200000 0 0 0 0 6

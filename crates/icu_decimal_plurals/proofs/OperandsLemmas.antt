@@ -6,7 +6,7 @@ use Rattle.std.proofs.lemmas.Bool.Decides.{nat_tests}
 use Rattle.std.proofs.lemmas.Nat.{pow-add}
 use Rattle.fixed_decimal.specs.Number.{digit}
 use Rattle.fixed_decimal.proofs.TenLemmas.{tens_next, tens_positive}
-use Rattle.icu_decimal_plurals.specs.Operands.{Operands, operands_with, part_of, trimmed}
+use Rattle.icu_decimal_plurals.specs.Operands.{operands_shown, operands_with, part_of, trimmed}
 
 -- one digit more after
 part_more : (n a j : ℕ) → part_of n a (j + 1) ≡ part_of n (a + 1) j * 10 + digit n a
@@ -56,19 +56,20 @@ pub trim_ends : (left digits : ℕ) → left ≡ 0 → trimmed left digits ≡ (
 trim_ends zero digits h = refl
 trim_ends (suc k) digits h = absurd (omega arith)
 
-abbrev pub made : ℕ → ℕ → ℕ → ℕ → ℕ → ℕ → Operands
-made i v f t w c = record { i = i; v = v; f = f; t = t; w = w; c = c }
+-- of zeros alone nothing is left
+pub trim_nothing : (left digits : ℕ) → digits ≡ 0 → trimmed left digits ≡ (0, 0)
+trim_nothing zero digits none = ap (λ n. (n, 0)) none
+trim_nothing (suc k) digits none =
+    ap (λ b. cond b (trimmed k (digits / 10)) (digits, suc k)) (by_zero k digits (ap (λ n. n % 10) none)) ∙ trim_nothing k (digits / 10) (ap (λ n. n / 10) none)
 
--- operands by their parts
-pub operands_are : (ones count low c places v i f t w : ℕ) → low + places ≡ ones → c + 18 ≤ ones → v ≡ min (places - c) 18
-    → i ≡ part_of count (ones - c) 18 → f ≡ part_of count (ones - c - v) v → t ≡ (trimmed v f).0 → w ≡ (trimmed v f).1
-    → made i v f t w c ≡ operands_with ones (count * 10 ^ c) (min (ones - (low + c)) 18) c
-operands_are ones count low c places v i f t w shown room v_is i_is f_is t_is w_is =
+-- operands by their digits
+pub operands_are : (ones count low c places v i f : ℕ) → low + places ≡ ones → c + 18 ≤ ones → v ≡ min (places - c) 18
+    → i ≡ part_of count (ones - c) 18 → f ≡ part_of count (ones - c - v) v
+    → operands_shown i v f c ≡ operands_with ones (count * 10 ^ c) (min (ones - (low + c)) 18) c
+operands_are ones count low c places v i f shown room v_is i_is f_is =
     let value = count * 10 ^ c in
     let i_same : i ≡ part_of value ones 18 = i_is ∙ sym (part_shifted count c ones 18 (omega arith)) in
     let moved : ones - c - v ≡ ones - v - c = omega arith in
     let f_same : f ≡ part_of value (ones - v) v = f_is ∙ ap (λ a. part_of count a v) moved ∙ sym (part_shifted count c (ones - v) v (omega arith)) in
-    let t_same : t ≡ (trimmed v (part_of value (ones - v) v)).0 = t_is ∙ ap (λ x. (trimmed v x).0) f_same in
-    let w_same : w ≡ (trimmed v (part_of value (ones - v) v)).1 = w_is ∙ ap (λ x. (trimmed v x).1) f_same in
     let kept : v ≡ min (ones - (low + c)) 18 = omega arith in
-    (λ k. record { i = i_same k; v = v; f = f_same k; t = t_same k; w = w_same k; c = c }) ∙ ap (λ n. operands_with ones value n c) kept
+    ap (λ n. operands_shown n v f c) i_same ∙ ap (λ n. operands_shown (part_of value ones 18) v n c) f_same ∙ ap (λ n. operands_with ones value n c) kept

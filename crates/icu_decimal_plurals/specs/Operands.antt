@@ -27,11 +27,13 @@ abbrev pub trimmed : ℕ → ℕ → ℕ × ℕ
 trimmed zero digits = (digits, 0)
 trimmed (suc k) digits = cond (digits % 10 == 0) (trimmed k (digits / 10)) (digits, suc k)
 
+-- the operands of these integer digits, so many fraction digits, these, and an exponent
+abbrev pub operands_shown : ℕ → ℕ → ℕ → ℕ → Operands
+operands_shown i v f c = record { i = i; v = v; f = f; t = (trimmed v f).0; w = (trimmed v f).1; c = c }
+
 -- the operands of a count of which so many fraction digits are kept, where `ones` is the place of the ones
 abbrev pub operands_with : ℕ → ℕ → ℕ → ℕ → Operands
-operands_with ones count v c =
-    let f = part_of count (ones - v) v in
-    record { i = part_of count ones 18; v = v; f = f; t = (trimmed v f).0; w = (trimmed v f).1; c = c }
+operands_with ones count v c = operands_shown (part_of count ones 18) v (part_of count (ones - v) v) c
 
 -- the operands of a number with an exponent: those of the number times ten to the exponent, with at most 18 of the fraction digits
 -- that it then shows, and the exponent

@@ -2,7 +2,7 @@
 
 ghost use Rattle.std.specs.Prelude.{◌≡◌, ◌+◌, ◌-◌, ◌^◌, ◌<◌, ◌≤◌};
 ghost use Rattle.fixed_decimal.specs.Number.{digit, place as place_is};
-ghost use Rattle.icu_decimal_plurals.specs.Operands.{part_of, trimmed};
+ghost use Rattle.icu_decimal_plurals.specs.Operands.{operands_shown, part_of, trimmed};
 
 use crate::operand::Operand;
 use fixed_decimal::UnsignedDecimal;
@@ -75,11 +75,14 @@ fn part_of(number: &UnsignedDecimal, place: u16, places: u16) -> u64
 }
 
 // Of so many digits, those up to the last one that is not zero: as a number, and how many they are.
-#[tactic(auto, using(crate::proofs::OperandsLemmas::trim_goes_on, crate::proofs::OperandsLemmas::trim_stops, crate::proofs::OperandsLemmas::trim_ends))]
+#[tactic(auto, using(crate::proofs::OperandsLemmas::trim_goes_on, crate::proofs::OperandsLemmas::trim_stops, crate::proofs::OperandsLemmas::trim_ends, crate::proofs::OperandsLemmas::trim_nothing))]
 fn trimmed(count: u8, digits: u64) -> (u64, u8)
     ensures digits { result.0 ≡ (trimmed count digits).0 }
     ensures count { result.1 ≡ (trimmed count digits).1 }
 {
+    if digits == 0 {
+        return (0, 0);
+    }
     let mut left = count;
     let mut rest = digits;
     while left > 0 && rest % 10 == 0 {
@@ -87,6 +90,14 @@ fn trimmed(count: u8, digits: u64) -> (u64, u8)
         rest /= 10;
     }
     (rest, left)
+}
+
+// The operands of these digits and an exponent.
+fn operands_by(i: u64, f: u64, v: u8, c: u8) -> PluralOperands
+    ensures { result ≡ operands_shown i v f c }
+{
+    let (t, w) = trimmed(v, f);
+    PluralOperands { i, v, f, t, w, c }
 }
 
 impl PluralOperands {
@@ -106,16 +117,18 @@ impl PluralOperands {
         let v = fraction_len(significand)
             .saturating_sub(u16::from(exponent))
             .min(18);
+        let i = part_of(significand, ones, 18);
         let f = part_of(significand, ones - v, v);
-        let (t, w) = trimmed(v as u8, f);
-        PluralOperands {
-            i: part_of(significand, ones, 18),
-            v: v as u8,
-            f,
-            t,
-            w,
-            c: exponent,
-        }
+        operands_by(i, f, v as u8, exponent)
+    }
+
+    /// The operands of a number without an exponent, by its integer digits as a number, at most 18, its fraction digits
+    /// as one, and how many these are: of 1, 50 and 2 those of `1.50`, of 1, 5 and 2 those of `1.05`. It does not
+    /// allocate.
+    pub fn from_digits(i: u64, f: u64, v: u8) -> Self
+        ensures { result ≡ operands_shown i v f 0 }
+    {
+        operands_by(i, f, v, 0)
     }
 
     // The whole number that an operand is: none for `N` where a fraction digit is not zero.

@@ -14,7 +14,7 @@ use Rattle.icu_decimal_scientific.proofs.PowerLemmas.{HasFirst, above_place, bel
 use Rattle.icu_decimal_scientific.proofs.FormLemmas.{other_way}
 
 -- the first digit of a number that is not zero
-first_of : (number : Number) → IsNumber number → 0 < number.count → HasFirst number.count
+pub first_of : (number : Number) → IsNumber number → 0 < number.count → HasFirst number.count
 first_of number is some = has_first (number.high + 1) number.count some is.below
 
 pub one_number : OneNumber
@@ -51,7 +51,7 @@ same_multiple Engineering p (pos m) (negsuc n) f g = let a = f.under in let b = 
 same_multiple Engineering p (negsuc m) (pos n) f g = let a = f.under in let b = f.next in let x = g.under in let y = g.next in let k = f.multiple in let l = g.multiple in absurd (omega arith)
 same_multiple Engineering p (negsuc m) (negsuc n) f g = let a = f.under in let b = f.next in let x = g.under in let y = g.next in let k = f.multiple in let l = g.multiple in ap negsuc (omega arith)
 
-same_exponent : (notation : Notation) (number : Number) (c d : ℤ) → IsNumber number → IsExponent notation number.count c → IsExponent notation number.count d → c ≡ d
+pub same_exponent : (notation : Notation) (number : Number) (c d : ℤ) → IsNumber number → IsExponent notation number.count c → IsExponent notation number.count d → c ≡ d
 same_exponent notation number c d is f g =
     ⊎_elim (λ z. let none : number.count ≡ 0 = omega arith in f.zero none ∙ sym (g.zero none))
     (λ some. let h = first_of number is (omega arith) in same_multiple notation h.place c d (f.some h.place h.first) (g.some h.place h.first))

@@ -9,7 +9,7 @@ use Rattle.icu_decimal_scientific.specs.Scientific.{IsForm}
 use Rattle.icu_decimal_scientific.proofs.DivisionLemmas.{whole_below}
 use Rattle.icu_decimal_scientific.proofs.FormLawLemmas.{normal_is_the_form}
 
-lowest_ones : (n : ℕ) → n % 10 ^ 32768 ≡ 0 → IsLowest 32768 n 32768
+pub lowest_ones : (n : ℕ) → n % 10 ^ 32768 ≡ 0 → IsLowest 32768 n 32768
 lowest_ones n w = record { under = omega arith; whole = w; highest = λ p l _. l }
 
 lowest_at : (n low : ℕ) → low ≤ 32768 → n % 10 ^ low ≡ 0 → ¬ (n % 10 ^ (low + 1) ≡ 0) → IsLowest 32768 n low
@@ -19,10 +19,10 @@ lowest_at n low l w part = record {
   highest = λ p _ h. ⊎_elim (λ above. absurd (part (whole_below n p (low + 1) h (omega arith)))) (λ below. below) (cases_lt low p);
 }
 
-highest_ones : (n : ℕ) → n < 10 ^ 32769 → IsHighest 32768 0 n 32768
+pub highest_ones : (n : ℕ) → n < 10 ^ 32769 → IsHighest 32768 0 n 32768
 highest_ones n b = record { keeps = omega arith; position = omega arith; holds = b; lowest = λ h l _ _. l }
 
-highest_at : (n high : ℕ) → 32768 ≤ high → 10 ^ high ≤ n → n < 10 ^ (high + 1) → IsHighest 32768 0 n high
+pub highest_at : (n high : ℕ) → 32768 ≤ high → 10 ^ high ≤ n → n < 10 ^ (high + 1) → IsHighest 32768 0 n high
 highest_at n high l r b = record {
   keeps = l;
   position = omega arith;

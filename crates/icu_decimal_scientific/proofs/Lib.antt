@@ -1,10 +1,14 @@
+mod KnownCarry
 mod KnownTexts
-mod KnownValues
+pub mod KnownValues
 pub mod CutLemmas
 pub mod DivisionLemmas
 pub mod FormLawLemmas
 pub mod FormLemmas
+pub mod FormOfLemmas
+pub mod NotationLemmas
 pub mod PowerLemmas
+pub mod ProductLemmas
 pub mod ReadableLemmas
 pub mod ReaderLemmas
 pub mod ScientificReadingLemmas

@@ -24,6 +24,9 @@ cancel_zero a t p h = cancel_same a 0 t p (h ∙ sym (zero-mul t))
 pub powers_lt : (i j : ℕ) → 10 ^ i < 10 ^ j → i < j
 powers_lt i j h = ⊎_elim (λ l. l) (λ l. let m = tens_apart j i l in absurd (omega arith)) (cases_lt i j)
 
+pub lt_through : (n a b : ℕ) → n < a → a ≤ b → n < b
+lt_through n a b h k = omega arith
+
 -- ---- the first digit
 
 pub record IsTop (n p : ℕ) : Type 0 where
@@ -47,7 +50,7 @@ pub record HasFirst (n : ℕ) : Type 0 where
   pub first : IsFirstPlace n place
   pub top : IsTop n place
 
-first_at : (n k : ℕ) → IsTop n k → IsFirstPlace n k
+pub first_at : (n k : ℕ) → IsTop n k → IsFirstPlace n k
 first_at n k t = record {
   nonzero = top_digit n k t;
   highest = λ other some. ⊎_elim (λ l. let z = digit_above n (k + 1) other t.below (omega arith) in absurd (omega arith)) (λ l. l) (cases_lt k other);

@@ -241,10 +241,10 @@ signs_apart : (sign : ExponentSign) (m n : ℕ) → exponent_sign sign (pos m) �
 signs_apart Auto m n same = subst IsMinus (sym same) tt
 signs_apart Always m n same = subst IsMinus (sym same) tt
 
-same_size : (o : ExponentOptions) (x y : ℤ) (v : SignedValue Number) → IsShownExponent o x v → IsShownExponent o y v → size_of x ≡ size_of y
+pub same_size : (o : ExponentOptions) (x y : ℤ) (v : SignedValue Number) → IsShownExponent o x v → IsShownExponent o y v → size_of x ≡ size_of y
 same_size o x y v f g = cancel_same (size_of x) (size_of y) (10 ^ 32768) (tens_positive 32768) (sym f.count ∙ g.count)
 
-same_shown : (o : ExponentOptions) (x y : ℤ) (v : SignedValue Number) → IsShownExponent o x v → IsShownExponent o y v → x ≡ y
+pub same_shown : (o : ExponentOptions) (x y : ℤ) (v : SignedValue Number) → IsShownExponent o x v → IsShownExponent o y v → x ≡ y
 same_shown o (pos m) (pos n) v f g = ap pos (same_size o (pos m) (pos n) v f g)
 same_shown o (pos m) (negsuc n) v f g = absurd (signs_apart o.sign m n (sym f.sign ∙ g.sign))
 same_shown o (negsuc m) (pos n) v f g = absurd (signs_apart o.sign n m (sym g.sign ∙ f.sign))

@@ -1,5 +1,10 @@
+pub mod CarryLaws
 pub mod ExponentialText
+pub mod FormOf
 pub mod HeldTables
+pub mod NotationLaws
+pub mod NotationReading
+pub mod Product
 pub mod ReadingSteps
 pub mod Scientific
 pub mod ScientificLaws

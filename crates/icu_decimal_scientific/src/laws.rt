@@ -1,4 +1,6 @@
 //! Laws of scientific forms and of their texts. No call is made: each clause is the law.
+ghost use Rattle.icu_decimal_scientific.specs.CarryLaws.{BeyondIsBelow, CarriedIsNormal, FormIsFunction, UnchangedIsForm};
+ghost use Rattle.icu_decimal_scientific.specs.NotationLaws.{DecimalHasFormText, DecimalIsReadBack, FormHasProduct, FormIsWrittenAgain, OneProduct, ProductIsTheNumber, TextHasOneForm};
 ghost use Rattle.icu_decimal_scientific.specs.ScientificLaws.{BeyondHasNoForm, FormIsNormal, FormIsTheNumber, NormalFormIsTheForm, OneForm, OneNumber};
 ghost use Rattle.icu_decimal_scientific.specs.ScientificTextLaws.{HasOneScientificReading, ReadIsWrittenAgain, ScientificIsText, TextsHaveOneNumber, TextsHaveOneValue, WrittenIsReadBack};
 
@@ -47,4 +49,35 @@ pub fn both_scientific_trips()
     ensures one { HasOneScientificReading }
     ensures back { WrittenIsReadBack }
     ensures again { ReadIsWrittenAgain }
+{}
+
+/// A law: the form of a number is a decimal, and that is the number, whatever zeros it shows: 1.2 and 6 are 1200000. A
+/// significand and an exponent are one decimal at most.
+pub fn form_is_its_decimal()
+    ensures one { OneProduct }
+    ensures has { FormHasProduct }
+    ensures value { ProductIsTheNumber }
+{}
+
+/// A law: in a notation a text has one reading at most. What was written of a decimal is read as its form, and as the
+/// decimal, whatever zeros that shows; what was read, shown and written again, is the same text. In English with `E`
+/// 1200000.0 is written `1.2E6`, and this is read as 1.2 and 6, and as 1200000.
+pub fn notation_trips()
+    ensures one { TextHasOneForm }
+    ensures written { DecimalHasFormText }
+    ensures back { DecimalIsReadBack }
+    ensures again { FormIsWrittenAgain }
+{}
+
+/// A law: the function of `FormOf.antt` answers the form of a number, where it has one: of 1200000 1.2 and 6.
+pub fn form_is_a_function()
+    ensures value { FormIsFunction }
+    ensures beyond { BeyondIsBelow }
+{}
+
+/// A law: where a significand is changed and reaches a higher exponent, it is divided again, keeps its value and is normal:
+/// 10 becomes 1, times ten. Where nothing is changed, the form is shown.
+pub fn carried_is_normal()
+    ensures normal { CarriedIsNormal }
+    ensures unchanged { UnchangedIsForm }
 {}

@@ -19,8 +19,8 @@ use Rattle.icu_dimension.specs.FoundUnits.{CurrencySettings, found_currency, fou
 use Rattle.icu_dimension.specs.ProvidedUnits.{AmountTexts, PercentTexts, two_digits, usual_fractions}
 use Rattle.icu_dimension.specs.UnitSources.{CurrencySource, DecimalSource}
 use Rattle.icu_dimension.specs.declared.options.CurrencyFormatterOptions.{CurrencyFormatterOptions}
-use Rattle.icu_dimension.specs.declared.options.PercentSign.{PercentSign}
-use Rattle.icu_dimension.specs.declared.options.PercentSign.TheVariants.{Percent, Permille}
+use Rattle.icu_dimension_fractions.specs.declared.PercentSign.{PercentSign}
+use Rattle.icu_dimension_fractions.specs.declared.PercentSign.TheVariants.{Percent, Permille}
 use Rattle.icu_dimension_fractions.specs.declared.CurrencyStyle.{CurrencyStyle}
 use Rattle.icu_dimension_fractions.specs.declared.CurrencyStyle.TheVariants.{Standard, Accounting}
 use Rattle.icu_dimension_fractions.specs.declared.CurrencyWidth.{CurrencyWidth}

@@ -20,8 +20,8 @@ use Rattle.icu_dimension.specs.UnitChoice.{amounts_found, fractions_found, name_
 use Rattle.icu_dimension.specs.UnitSources.{CurrencySource, DecimalSource, PercentSource}
 use Rattle.icu_dimension.specs.declared.options.CurrencyFormatterOptions.{CurrencyFormatterOptions}
 use Rattle.icu_dimension.specs.declared.options.PercentFormatterOptions.{PercentFormatterOptions}
-use Rattle.icu_dimension.specs.declared.options.PercentSign.{PercentSign}
-use Rattle.icu_dimension.specs.declared.options.PercentSign.TheVariants as sign
+use Rattle.icu_dimension_fractions.specs.declared.PercentSign.{PercentSign}
+use Rattle.icu_dimension_fractions.specs.declared.PercentSign.TheVariants as sign
 
 -- what comes of a result, where there is one
 abbrev pub then_found : {A B : Type 0} → Result A DataError → (A → Result B DataError) → Result B DataError

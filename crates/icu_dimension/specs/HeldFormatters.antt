@@ -10,8 +10,8 @@ use Rattle.icu_dimension_fractions.specs.declared.fraction.FractionInfo.{Fractio
 use Rattle.icu_dimension.specs.FoundUnits.{CurrencySettings}
 use Rattle.icu_dimension.specs.ProvidedUnits.{written_as}
 use Rattle.icu_dimension.specs.declared.currency.CurrencyFormatter.{CurrencyFormatter}
-use Rattle.icu_dimension.specs.declared.options.PercentSign.{PercentSign}
-use Rattle.icu_dimension.specs.declared.options.PercentSign.TheVariants as sign
+use Rattle.icu_dimension_fractions.specs.declared.PercentSign.{PercentSign}
+use Rattle.icu_dimension_fractions.specs.declared.PercentSign.TheVariants as sign
 use Rattle.icu_dimension.specs.declared.percent.PercentFormatter.{PercentFormatter}
 
 abbrev pub settings_of_percent : PercentFormatter → UnitSettings

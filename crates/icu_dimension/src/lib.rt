@@ -29,8 +29,8 @@ pub use icu_dimension_affixes::{
 };
 pub use icu_dimension_fractions::{
     CurrencyCode, CurrencyCodeError, CurrencyStyle, CurrencyUsage, CurrencyWidth, Fraction,
-    FractionIncrement, FractionInfo,
+    FractionIncrement, FractionInfo, PercentSign,
 };
 pub use icu_dimension_lenient::LenientUnitReader;
-pub use options::{CurrencyFormatterOptions, PercentFormatterOptions, PercentSign};
+pub use options::{CurrencyFormatterOptions, PercentFormatterOptions};
 pub use percent::PercentFormatter;

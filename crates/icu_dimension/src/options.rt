@@ -4,27 +4,15 @@ ghost use Rattle.std.specs.Prelude.{◌≡◌};
 ghost use Rattle.icu_dimension.specs.HeldFormatters.{typed_sign};
 
 use icu_decimal::options::GroupingStrategy;
-use icu_dimension_fractions::{CurrencyStyle, CurrencyWidth};
+use icu_dimension_fractions::{CurrencyStyle, CurrencyWidth, PercentSign};
 
-/// With which sign percents are written, beside the number as it is given.
-#[derive(Clone, Copy, Debug, Default, PartialEq, Eq, Hash)]
-pub enum PercentSign {
-    /// The percent sign: `12%`.
-    #[default]
-    Percent,
-    /// The permille sign: `12‰`.
-    Permille,
-}
-
-impl PercentSign {
-    // What people type for it.
-    pub(crate) fn typed(self) -> &'static str
-        ensures { result.now ≡ typed_sign self }
-    {
-        match self {
-            PercentSign::Percent => "%",
-            PercentSign::Permille => "‰",
-        }
+// What people type for a sign.
+pub(crate) fn typed(sign: PercentSign) -> &'static str
+    ensures { result.now ≡ typed_sign sign }
+{
+    match sign {
+        PercentSign::Percent => "%",
+        PercentSign::Permille => "‰",
     }
 }
 

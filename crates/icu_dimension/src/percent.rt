@@ -10,7 +10,7 @@ ghost use Rattle.icu_dimension_lenient.specs.LenientUnits.{is_leniently_unit_rea
 ghost use Rattle.icu_dimension.specs.FoundUnits.{found_percent};
 ghost use Rattle.icu_dimension.specs.HeldFormatters.{settings_of_percent, sign_of, typed_sign};
 
-use crate::options::{PercentFormatterOptions, PercentSign};
+use crate::options::{PercentFormatterOptions, typed};
 use crate::provider::{PercentEssentialsV1, load_decimals, load_percent};
 use crate::reading::read_once;
 use fixed_decimal::Decimal;
@@ -20,6 +20,7 @@ use icu_decimal::provider::{
 };
 use icu_decimal::{DecimalFormatterPreferences, DecimalTables};
 use icu_dimension_affixes::{FormattedUnit, Unit, UnitKind, UnitPattern, UnitReader, UnitTables};
+use icu_dimension_fractions::PercentSign;
 use icu_dimension_lenient::LenientUnitReader;
 use std::alloc::{AllocError, Global};
 
@@ -172,7 +173,7 @@ impl<'b> PercentFormatter<'b> {
             (is_leniently_unit_readable_by (lenient_texts (settings_of_percent self.now) (typed_sign (sign_of self.now))) ≡ true) }
         ensures value { IfOk result (λ reader. reader ≡ lenient_texts (settings_of_percent self.now) (typed_sign (sign_of self.now))) }
     {
-        let typed = self.sign.typed();
+        let typed = typed(self.sign);
         LenientUnitReader::of_parts(alloc, &self.decimals, self.pattern, self.unit(), typed)
     }
 

@@ -1,5 +1,5 @@
 //! The codes of currencies, their digits, how many an amount has after the point, and to which multiples of the last
-//! one it is rounded, and the styles of amounts.
+//! one it is rounded, the styles of amounts, and the signs of percents.
 //!
 //! A dollar has two digits, a yen none, and Swiss francs in cash are multiples of 5 of the last of two. The rules are in
 //! docs/units.md.
@@ -17,9 +17,11 @@ mod code;
 mod fraction;
 mod increment;
 pub mod laws;
+mod percent_sign;
 mod style;
 
 pub use code::{CurrencyCode, CurrencyCodeError};
 pub use fraction::{CurrencyUsage, Fraction, FractionInfo};
 pub use increment::FractionIncrement;
+pub use percent_sign::PercentSign;
 pub use style::{CurrencyStyle, CurrencyWidth};

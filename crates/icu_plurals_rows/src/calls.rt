@@ -1,6 +1,6 @@
 //! Which call a row asks for, and its answer.
 
-use crate::given::{operands_of, ranges_of, rules_of};
+use crate::given::{operands_by, operands_of, ranges_of, rules_of};
 use icu_plurals::{PluralRange, PluralRules, PluralRulesWithRanges};
 use rows::{Stop, Table, put_after, put_text};
 use std::alloc::Global;
@@ -25,6 +25,7 @@ fn answer(fields: &[&str], out: &mut String) -> Result<(), Stop> {
         [call, rules, number, exponent] if *call == "category" => {
             category(rules, number, exponent, out)
         }
+        [call, rules, i, f, v] if *call == "digits" => digits(rules, i, f, v, out),
         [call, rules] if *call == "categories" => categories(rules, out),
         [call, rules, ranges, start, end] if *call == "range" => {
             range(rules, ranges, start, end, out)
@@ -47,6 +48,25 @@ fn put_category(
 fn category(rules: &str, number: &str, exponent: &str, out: &mut String) -> Result<(), Stop> {
     let rules = rules_of(rules, out)?;
     let put = put_category(&rules, number, exponent, out);
+    drop(rules);
+    put
+}
+
+fn put_by_digits(
+    rules: &PluralRules,
+    i: &str,
+    f: &str,
+    v: &str,
+    out: &mut String,
+) -> Result<(), Stop> {
+    let operands = operands_by(i, f, v)?;
+    put_text(out, rules.category_for(&operands).as_str())
+}
+
+// The category of a number by its digits.
+fn digits(rules: &str, i: &str, f: &str, v: &str, out: &mut String) -> Result<(), Stop> {
+    let rules = rules_of(rules, out)?;
+    let put = put_by_digits(&rules, i, f, v, out);
     drop(rules);
     put
 }

@@ -100,3 +100,8 @@ pub fn operands_of(alloc: Global, number: &str, exponent: &str) -> Result<Plural
         Err(_) => Err(Stop::Unknown),
     }
 }
+
+/// The operands of a number by its digits before and after the point, each a number, and how many these are.
+pub fn operands_by(i: &str, f: &str, v: &str) -> Result<PluralOperands, Stop> {
+    Ok(PluralOperands::from_digits(number_of(i)?, number_of(f)?, number_of(v)?))
+}

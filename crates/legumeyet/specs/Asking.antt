@@ -46,8 +46,7 @@ pub record NumbersIn (found : Found) (words : NumberWords) : Type 0 where
 
 abbrev pub has_unit : NumberUnit → Bool
 has_unit unit.None = false
-has_unit unit.Percent = true
-has_unit unit.Permille = true
+has_unit (unit.Percent sign) = true
 has_unit (unit.Currency currency) = true
 
 -- ordinal rules, or the categories of ranges

@@ -5,6 +5,7 @@ ghost use Rattle.clap.specs.Matches.{first_value, found_of};
 ghost use Rattle.legumeyet.specs.Asking.{DigitsIn, NumbersIn, asks_more, has_unit, invalid_by, word_by, without_dash};
 
 use clap::ArgMatches;
+use icu_dimension_fractions::PercentSign;
 use icu_plurals::PluralRuleType;
 use legumeyet_options::{DigitWords, Invalid, NumberWords, NumbersAsked};
 use locale_numbers_formats::NumberUnit;
@@ -38,6 +39,17 @@ fn round_of<'a>(matches: &ArgMatches<'a>) -> Option<&'a str>
     match matches.get_str("round") {
         Some("-") => None,
         other => other,
+    }
+}
+
+// With which sign percents are asked for.
+fn percent_of(matches: &ArgMatches<'_>) -> Option<PercentSign> {
+    if matches.get_flag("percent") {
+        Some(PercentSign::Percent)
+    } else if matches.get_flag("permille") {
+        Some(PercentSign::Permille)
+    } else {
+        None
     }
 }
 
@@ -78,8 +90,7 @@ pub fn words_of<'a>(matches: &ArgMatches<'a>) -> NumberWords<'a>
         currency: matches.get_str("currency"),
         is_accounting: matches.get_flag("accounting"),
         is_by_code: matches.get_flag("code"),
-        is_percent: matches.get_flag("percent"),
-        is_permille: matches.get_flag("permille"),
+        percent: percent_of(matches),
         grouping: matches.get_str("grouping"),
         sign: matches.get_str("sign"),
         chosen: digits_of(matches),
@@ -93,7 +104,7 @@ fn has_unit(asked: &NumbersAsked) -> bool
 {
     match asked.format.shape.unit {
         NumberUnit::None => false,
-        NumberUnit::Percent | NumberUnit::Permille | NumberUnit::Currency(_) => true,
+        NumberUnit::Percent(_) | NumberUnit::Currency(_) => true,
     }
 }
 

@@ -97,8 +97,7 @@ fn numbers_by(skeleton: &str) -> Result<NumbersAsked, OptionFault> {
         currency: None,
         is_accounting: false,
         is_by_code: false,
-        is_percent: false,
-        is_permille: false,
+        percent: None,
         grouping: None,
         sign: None,
         chosen: DigitWords {

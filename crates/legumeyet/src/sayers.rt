@@ -7,7 +7,7 @@ ghost use Rattle.legumeyet.specs.Sayers.{rules_found, sayer_by, sayer_by_both, s
 
 use crate::fault::CallFault;
 use icu_plurals::PluralRuleType;
-use legumeyet_options::{NumbersAsked, Sayer, SayerRules};
+use legumeyet_options::{CategorySayer, NumbersAsked, Sayer, SayerRules};
 use locale_numbers_book::{Book, FormatterError};
 use locale_numbers_formatter::NumberFormatter;
 use locale_numbers_requests::Task;
@@ -38,6 +38,23 @@ fn sayer_with<'a>(
     }
 }
 
+// What categories are told by where the book has no table.
+fn categories_of_nothing<'a>(asked: &NumbersAsked) -> CategorySayer<'a>
+    ensures { result ≡ record {
+      found = None;
+      rules = None;
+      options = asked.now.format.options;
+      is_coarse = asked.now.is_coarse;
+    } }
+{
+    CategorySayer {
+        found: None,
+        rules: None,
+        options: asked.format.options,
+        is_coarse: asked.is_coarse,
+    }
+}
+
 // What texts are said by where the book has no table.
 fn sayer_of_nothing<'a>(asked: &NumbersAsked) -> Sayer<'a>
     ensures value { result ≡ sayer_with asked.now None None None }
@@ -46,10 +63,8 @@ fn sayer_of_nothing<'a>(asked: &NumbersAsked) -> Sayer<'a>
         Task::Write => Sayer::Writes(None, asked.format.options, asked.is_coarse),
         Task::WriteExact => Sayer::WritesExact(None, asked.format.options.sign),
         Task::Read | Task::ReadLenient => Sayer::NoTable,
-        Task::Category(_) => Sayer::Categories(None, None, asked.format.options, asked.is_coarse),
-        Task::RangeCategory => {
-            Sayer::RangeCategories(None, None, asked.format.options, asked.is_coarse)
-        }
+        Task::Category(_) => Sayer::Categories(categories_of_nothing(asked)),
+        Task::RangeCategory => Sayer::RangeCategories(categories_of_nothing(asked)),
     }
 }
 

@@ -8,7 +8,7 @@ use Rattle.fixed_decimal.specs.SignedValue.{SignedValue}
 use Rattle.icu_dimension_fractions.specs.declared.FractionInfo.{FractionInfo}
 use Rattle.locale_numbers_formats.specs.declared.NumberOptions.{NumberOptions}
 use Rattle.locale_numbers_formatter.specs.ExactForms.{IsFormInRange}
-use Rattle.locale_numbers_formatter.specs.FormatText.{FormatTables, compact_tables, fractions_in, plain_tables, unit_tables}
+use Rattle.locale_numbers_formatter.specs.FormatText.{FormatTables, compact_tables, digits_tables, fractions_in, plain_tables, unit_tables}
 use Rattle.legumeyet_c_values.specs.Numbers.{Given, Gives, GivesCompact, IsChangeFault, IsCompactChangeFault, IsGiven, IsGivenFault}
 use Rattle.legumeyet_c_values.specs.Putting.{IsPut}
 use Rattle.legumeyet_c_values.specs.Words.{options_of}
@@ -18,8 +18,9 @@ use Rattle.legumeyet_c_values.proofs.NumbersLemmas.{change_fault_other}
 use Rattle.legumeyet_c_values.proofs.PuttingLemmas.{put_by, put_refused}
 use Rattle.legumeyet_c.specs.Formatted.{IsFormatFault, IsFormatText, IsPartsFault}
 use Rattle.legumeyet_c.specs.HeldFormats.{HeldFormat, Plurals, Wording}
-use Rattle.legumeyet_c.specs.Worded.{IsInPartsFault, IsInPartsFaultBy, IsWordPartsFault}
+use Rattle.legumeyet_c.specs.Worded.{IsInPartsFault, IsInPartsFaultBy}
 use Rattle.legumeyet_c.specs.Writing.{Asked, GivesNumber, IsNumberRefused, IsNumberWritingFault, IsWritingFault, Writes, asked_by, asked_for, asked_of, asked_with, range_asked_by, range_asked_of}
+use Rattle.legumeyet_c.proofs.CategoryLemmas.{unseen_other}
 
 -- ---- what is asked
 
@@ -165,7 +166,8 @@ fails_given fails gives fault asked wording value (Err error) is given failed =
 -- why there is no text with its parts is not that it is too long
 in_parts_other : (plurals : Option Plurals) (f : FormatTables) (value : SignedValue Number) (error : CallError) → IsInPartsFaultBy plurals f value error → error ≢ TooSmall
 in_parts_other None f value error failed = λ same. subst (λ (e : CallError). IsPartsFault f value e) same failed
-in_parts_other (Some plurals) f value error failed = λ same. subst (λ (e : CallError). IsWordPartsFault plurals.0 f value e) same failed
+in_parts_other (Some plurals) f value error (inl memory) = λ same. absurd (cc (memory, same))
+in_parts_other (Some plurals) f value error (inr unseen) = unseen_other f value error unseen
 
 asked_parts_other : (wording : Wording) (options : Option NumberOptions) (number : Given) (error : CallError)
     → IsWritingFault IsInPartsFault (GivesNumber number) (IsNumberRefused number) (asked_by wording options) error → error ≢ TooSmall
@@ -187,4 +189,5 @@ within n m kept = lt_of_not-le (λ (above : m ≤ n). kept (λ (below : n < m). 
 pub form_in_range : (f : FormatTables) (form : CompactValue) → ¬ (¬ (IsFormInRange f form)) → IsFormInRange f form
 form_in_range (plain_tables t) form kept = tt
 form_in_range (compact_tables t) form kept = within _ _ kept
+form_in_range (digits_tables t options) form kept = within _ _ kept
 form_in_range (unit_tables u) form kept = tt

@@ -1,5 +1,5 @@
 -- Words of plural categories have no parts, and the word of a category of what is known to be shown.
-use Rattle.std.proofs.Common.{◌≡◌, ℕ, ◌+◌, List, [], ◌∷◌, Option, Some, None, refl, ap, sym, ◌∙◌}
+use Rattle.std.proofs.Common.{◌≡◌, ◌≢◌, ℕ, ◌+◌, List, [], ◌∷◌, Option, Some, None, refl, subst, ap, sym, ◌∙◌}
 use Rattle.std.specs.Prelude.{option_map}
 use Rattle.fixed_decimal.specs.CompactText.{CompactValue}
 use Rattle.fixed_decimal.specs.Number.{Number}
@@ -11,8 +11,10 @@ use Rattle.locale_numbers_formatter.specs.ExactForms.{exact_shown}
 use Rattle.locale_numbers_formatter.specs.FormatText.{FormatTables, Shown}
 use Rattle.locale_numbers_formatter.specs.ShownOperands.{shown_operands, value_operands}
 use Rattle.writeable.specs.AnnotatedText.{bytes, intervals_from}
+use Rattle.legumeyet_c_values.specs.declared.CallError.{CallError}
+use Rattle.legumeyet_c_values.specs.declared.CallError.TheVariants.{TooSmall}
 use Rattle.legumeyet_c.specs.HeldFormats.{Plurals}
-use Rattle.legumeyet_c.specs.Worded.{Ends, category_word, form_word, range_word, word_between}
+use Rattle.legumeyet_c.specs.Worded.{Ends, IsUnseen, category_word, form_word, range_word, word_between}
 
 pub no_parts : (text : List ℕ) (n : ℕ) → intervals_from n (bytes text) ≡ []
 unfolding bytes
@@ -25,8 +27,9 @@ pub word_shown : (rules : Rules) (f : FormatTables) (value : SignedValue Number)
 word_shown rules f value operands text shown is =
     ap (λ (o : Option Operands). option_map (λ operands. word (category_of rules operands)) o) (sym shown) ∙ ap Some (sym is)
 
-pub no_word : (rules : Rules) (f : FormatTables) (value : SignedValue Number) → None ≡ shown_operands f value → category_word rules f value ≡ None
-no_word rules f value shown = ap (λ (o : Option Operands). option_map (λ operands. word (category_of rules operands)) o) (sym shown)
+-- why it is not seen is not that a text is too long
+pub unseen_other : (f : FormatTables) (value : SignedValue Number) (error : CallError) → IsUnseen f value error → error ≢ TooSmall
+unseen_other f value error unseen = λ same. subst (λ (e : CallError). IsUnseen f value e) same unseen
 
 -- of a form
 pub form_word_shown : (rules : Rules) (f : FormatTables) (form : CompactValue) (shown : Option Shown) (text : List ℕ) → exact_shown f form ≡ shown → (shown ≡ None → ⊥)
@@ -36,13 +39,9 @@ form_word_shown rules f form (Some shown) text is some same =
     ap (λ (o : Option Shown). option_map (λ s. word (category_of rules (value_operands form))) o) is ∙ ap Some (sym same)
 
 -- of a range
-pub range_shown : (plurals : Plurals) (f : FormatTables) (ends : Ends) (first second : Option Operands) (word_is : Option (List ℕ)) → first ≡ shown_operands f ends.0 → second ≡ shown_operands f ends.1
-    → word_between plurals first second ≡ word_is → range_word plurals f ends ≡ word_is
-range_shown plurals f ends first second word_is start end between =
+pub range_shown : (plurals : Plurals) (f : FormatTables) (ends : Ends) (first second : Operands) (text : List ℕ) → Some first ≡ shown_operands f ends.0 → Some second ≡ shown_operands f ends.1
+    → word_between plurals (Some first) (Some second) ≡ Some text → range_word plurals f ends ≡ Some text
+range_shown plurals f ends first second text start end between =
     ap (λ (o : Option Operands). word_between plurals o (shown_operands f ends.1)) (sym start)
-    ∙ ap (λ (o : Option Operands). word_between plurals first o) (sym end)
+    ∙ ap (λ (o : Option Operands). word_between plurals (Some first) o) (sym end)
     ∙ between
-
-pub no_second : (plurals : Plurals) (first : Option Operands) → word_between plurals first None ≡ None
-no_second plurals None = refl
-no_second plurals (Some first) = refl

@@ -15,7 +15,7 @@ use Rattle.icu_plurals.specs.declared.PluralRange.{PluralRange}
 use Rattle.locale_numbers_formats.specs.Changed.{changed}
 use Rattle.locale_numbers_formats.specs.declared.NumberOptions.{NumberOptions}
 use Rattle.locale_numbers_formats.proofs.ChangedLemmas.{same_fields}
-use Rattle.locale_numbers_formatter.specs.FormatText.{FormatTables, compact_tables, fractions_in, plain_tables, unit_tables}
+use Rattle.locale_numbers_formatter.specs.FormatText.{FormatTables, compact_tables, digits_tables, fractions_in, plain_tables, unit_tables}
 use Rattle.locale_numbers_formatter.specs.ShownOperands.{shown_operands}
 use Rattle.locale_numbers_answers.proofs.NumberBounds.{reading_is_decimal}
 use Rattle.locale_numbers_answers.proofs.NumberReadingLemmas.{signed_number}
@@ -59,6 +59,7 @@ is_nothing (Some x) is = absurd (false≢true is)
 no_fractions : (f : FormatTables) → shows_as_given f ≡ true → None ≡ fractions_in f
 no_fractions (plain_tables t) is = refl
 no_fractions (compact_tables t) is = refl
+no_fractions (digits_tables t options) is = refl
 no_fractions (unit_tables u) is = is_nothing u.fractions is
 
 gives_as_given : (asked : Asked) (text : List ℕ) (value : SignedValue Number) → is_usual asked.options ≡ true → shows_as_given asked.wording.tables ≡ true → ReadsSigned text value
@@ -82,6 +83,7 @@ plainly_put tables asked text value before after was told outcome is reads put =
 shown_given : (f : FormatTables) (value : SignedValue Number) → shows_as_given f ≡ true → Some (operands_of value.absolute 0) ≡ shown_operands f value
 shown_given (plain_tables t) value is = refl
 shown_given (compact_tables t) value is = absurd (false≢true is)
+shown_given (digits_tables t options) value is = absurd (false≢true is)
 shown_given (unit_tables u) value is = refl
 
 word_given : (rules : Rules) (ranges : List PluralRange) (wording : Wording) (value : SignedValue Number) (text : List ℕ) → Some (rules, ranges) ≡ wording.plurals

@@ -27,24 +27,23 @@ use Rattle.icu_dimension.specs.UnitText.{UnitSettings}
 use Rattle.icu_dimension.specs.declared.CurrencyFormatterOptions.{CurrencyFormatterOptions}
 use Rattle.icu_dimension.specs.declared.FractionInfo.{FractionInfo}
 use Rattle.icu_dimension.specs.declared.PercentSign.{PercentSign}
-use Rattle.icu_dimension.specs.declared.PercentSign.TheVariants as sign
 use Rattle.icu_locale_core.specs.TagPreferences.{DataLocaleMeaning, Preferences}
 use Rattle.locale_numbers.specs.Book.{BookTables}
-use Rattle.locale_numbers.specs.FoundFormats.{amount_options, amounts_by, beside_second, both_found, compact_found, formats_for, found_for, in_ascii, in_latin, mapped, notation_found, percent_options, percents_with, plainly_written, second_for, standard_found, with_symbols_of}
+use Rattle.locale_numbers.specs.FoundFormats.{amount_options, amounts_by, beside_second, both_found, compact_found, formats_for, found_for, in_ascii, in_latin, mapped, notation_found, percent_options, plainly_written, second_for, standard_found, with_symbols_of}
 use Rattle.locale_numbers.specs.Tables.{chain_in, digits_under, rules_under, symbols_under}
-use Rattle.locale_numbers.specs.TagFormatters.{currencies_in, currency_found_in, found_beside, found_by, found_plain, or_no_table, patterns_under, percent_found_in, percents_in}
+use Rattle.locale_numbers.specs.TagFormatters.{currencies_in, currency_found_in, found_by, found_plain, or_no_table, patterns_under, percent_found_in, percents_in}
 use Rattle.locale_numbers.specs.Wanted.{wanted_of}
 use Rattle.locale_numbers.specs.declared.FormatterError.{FormatterError}
 use Rattle.locale_numbers.specs.declared.FormatterError.TheVariants as fault
 use Rattle.locale_numbers_formats.specs.declared.CompactWidth.{CompactWidth}
 use Rattle.locale_numbers_formats.specs.declared.CurrencyUnit.{CurrencyUnit}
 use Rattle.locale_numbers_formats.specs.declared.Notation.{Notation}
-use Rattle.locale_numbers_formats.specs.declared.Notation.TheVariants.{Standard, Compact}
+use Rattle.locale_numbers_formats.specs.declared.Notation.TheVariants.{Standard, Compact, CompactDigits}
 use Rattle.locale_numbers_formats.specs.declared.NumberOptions.{NumberOptions}
 use Rattle.locale_numbers_formats.specs.declared.NumberShape.{NumberShape}
 use Rattle.locale_numbers_formats.specs.declared.NumberUnit.{NumberUnit}
 use Rattle.locale_numbers_formats.specs.declared.NumberUnit.TheVariants as unit
-use Rattle.locale_numbers_formatter.specs.FormatText.{FormatTables, UnitFormat, compact_tables, digit_tables, plain_tables, unit_tables}
+use Rattle.locale_numbers_formatter.specs.FormatText.{FormatTables, UnitFormat, compact_tables, digit_tables, digits_tables, plain_tables, unit_tables}
 use Rattle.locale_numbers_formatter.specs.HeldFormats.{currency_format, percent_format}
 use Rattle.locale_numbers_formatter.specs.Regrouped.{regrouped}
 use Rattle.legumeyet_c.specs.HeldFormats.{HeldFormat, Plurals, held_format}
@@ -72,18 +71,21 @@ own_have (Some own) t strategy has = has
 
 -- ---- compact numbers
 
+abbrev CompactHas : GroupingStrategy → CompactTables → Type 0
+CompactHas strategy t = t.plain.strategy ≡ strategy
+
 patterns_have : (strategy : GroupingStrategy) (plain : Tables) (rules : Rules) (found : Result CompactTable DataError) → plain.strategy ≡ strategy
-    → IfOk (with_patterns plain rules found) (λ (t : CompactTables). t.plain.strategy ≡ strategy)
+    → IfOk (with_patterns plain rules found) (CompactHas strategy)
 patterns_have strategy plain rules (Ok patterns) has = has
 patterns_have strategy plain rules (Err error) has = tt
 
 rules_have : (strategy : GroupingStrategy) (plain : Tables) (rules : Result Rules DataError) (patterns : Result CompactTable DataError) → plain.strategy ≡ strategy
-    → IfOk (with_rules plain rules patterns) (λ (t : CompactTables). t.plain.strategy ≡ strategy)
+    → IfOk (with_rules plain rules patterns) (CompactHas strategy)
 rules_have strategy plain (Ok rules) patterns has = patterns_have strategy plain rules patterns has
 rules_have strategy plain (Err error) patterns has = tt
 
 plain_have : (strategy : GroupingStrategy) (plain : Result Tables DataError) (rules : Result Rules DataError) (patterns : Result CompactTable DataError) → IfOk plain (λ (t : Tables). t.strategy ≡ strategy)
-    → IfOk (with_plain plain rules patterns) (λ (t : CompactTables). t.plain.strategy ≡ strategy)
+    → IfOk (with_plain plain rules patterns) (CompactHas strategy)
 plain_have strategy (Ok plain) rules patterns has = rules_have strategy plain rules patterns has
 plain_have strategy (Err error) rules patterns has = tt
 
@@ -133,35 +135,32 @@ mapped_have : {A B : Type 0} (f : A → B) (found : Result A DataError) (P : A �
 mapped_have f (Ok a) P Q each has = each a has
 mapped_have f (Err error) P Q each has = tt
 
-signed_has : (of : PercentSign) (book : BookTables) (p : Preferences) (strategy : GroupingStrategy) → IfOk (percents_with of book p strategy) (HasStrategy strategy)
-signed_has of book p strategy =
-    mapped_have (λ settings. unit_tables (percent_format of settings)) (percent_found_in book p (percent_options of strategy)) (λ (u : UnitSettings). u.tables.strategy ≡ strategy) (HasStrategy strategy)
-    (λ u has. has) (percents_have (percents_in book) p of strategy)
-
 standard_has : (beside : NumberUnit) (book : BookTables) (p : Preferences) (strategy : GroupingStrategy) → IfOk (standard_found beside book p strategy) (HasStrategy strategy)
 standard_has unit.None book p strategy =
     mapped_have plain_tables (found_plain book p (Some strategy)) (λ (t : Tables). t.strategy ≡ strategy) (HasStrategy strategy) (λ t has. has)
     (tables_have (chain_in book) (symbols_under book) (digits_under book) p (Some strategy))
-standard_has unit.Percent book p strategy = signed_has sign.Percent book p strategy
-standard_has unit.Permille book p strategy = signed_has sign.Permille book p strategy
+standard_has (unit.Percent sign) book p strategy =
+    mapped_have (λ settings. unit_tables (percent_format sign settings)) (percent_found_in book p (percent_options sign strategy)) (λ (u : UnitSettings). u.tables.strategy ≡ strategy)
+    (HasStrategy strategy) (λ u has. has) (percents_have (percents_in book) p sign strategy)
 standard_has (unit.Currency currency) book p strategy =
     mapped_have (λ settings. unit_tables (currency_format currency.code settings)) (currency_found_in book p currency.code (amount_options currency strategy))
     (λ (u : CurrencySettings). u.unit.tables.strategy ≡ strategy) (HasStrategy strategy) (λ u has. has)
     (amounts_have (currencies_in book) p currency.code (amount_options currency strategy))
 
-compact_has : (width : CompactWidth) (beside : NumberUnit) (book : BookTables) (p : Preferences) (strategy : GroupingStrategy) → IfOk (compact_found width beside book p strategy) (HasStrategy strategy)
+compact_has : (width : CompactWidth) (beside : NumberUnit) (book : BookTables) (p : Preferences) (strategy : GroupingStrategy) → IfOk (compact_found width beside book p strategy) (CompactHas strategy)
 compact_has width unit.None book p strategy =
-    mapped_have compact_tables (found_beside (patterns_under width book) book p (Some strategy)) (λ (t : CompactTables). t.plain.strategy ≡ strategy) (HasStrategy strategy) (λ t has. has)
-    (plain_have strategy (found_tables (chain_in book) (symbols_under book) (digits_under book) p (Some strategy))
+    plain_have strategy (found_tables (chain_in book) (symbols_under book) (digits_under book) p (Some strategy))
     (first_found (rules_under book) (rules_identifiers (chain_in book) p)) (first_found (patterns_under width book) (patterns_identifiers (chain_in book) p))
-    (tables_have (chain_in book) (symbols_under book) (digits_under book) p (Some strategy)))
-compact_has width unit.Percent book p strategy = tt
-compact_has width unit.Permille book p strategy = tt
+    (tables_have (chain_in book) (symbols_under book) (digits_under book) p (Some strategy))
+compact_has width (unit.Percent sign) book p strategy = tt
 compact_has width (unit.Currency currency) book p strategy = tt
 
 notation_has : (notation : Notation) (beside : NumberUnit) (book : BookTables) (p : Preferences) (strategy : GroupingStrategy) → IfOk (notation_found notation beside book p strategy) (HasStrategy strategy)
 notation_has Standard beside book p strategy = standard_has beside book p strategy
-notation_has (Compact width) beside book p strategy = compact_has width beside book p strategy
+notation_has (Compact width) beside book p strategy =
+    mapped_have compact_tables (compact_found width beside book p strategy) (CompactHas strategy) (HasStrategy strategy) (λ t has. has) (compact_has width beside book p strategy)
+notation_has (CompactDigits width options) beside book p strategy =
+    mapped_have (λ t. digits_tables t options) (compact_found width beside book p strategy) (CompactHas strategy) (HasStrategy strategy) (λ t has. has) (compact_has width beside book p strategy)
 
 found_has : (shape : NumberShape) (book : BookTables) (p : Preferences) → IfOk (found_for shape book p) (HasStrategy shape.grouping)
 found_has shape book p = notation_has shape.notation shape.unit book p shape.grouping
@@ -189,6 +188,7 @@ symbols_of_have strategy plain u (Some fractions) has =
 amounts_by_have : (strategy : GroupingStrategy) (plain : Tables) (f : FormatTables) → plain.strategy ≡ strategy → IfSome (amounts_by plain f) (HasStrategy strategy)
 amounts_by_have strategy plain (plain_tables t) has = tt
 amounts_by_have strategy plain (compact_tables t) has = tt
+amounts_by_have strategy plain (digits_tables t options) has = tt
 amounts_by_have strategy plain (unit_tables u) has = symbols_of_have strategy plain u u.fractions has
 
 plainly_have : (strategy : GroupingStrategy) (found : Result Tables DataError) (f : FormatTables) → IfOk found (λ (t : Tables). t.strategy ≡ strategy)
@@ -222,6 +222,7 @@ formats_have shape book tag = tag_has (both_found shape book) (wanted_of tag) (B
 regrouped_same : (strategy : GroupingStrategy) (f : FormatTables) → HasStrategy strategy f → regrouped strategy f ≡ f
 regrouped_same strategy (plain_tables t) has = subst (λ (g : GroupingStrategy). regrouped g (plain_tables t) ≡ plain_tables t) has refl
 regrouped_same strategy (compact_tables t) has = subst (λ (g : GroupingStrategy). regrouped g (compact_tables t) ≡ compact_tables t) has refl
+regrouped_same strategy (digits_tables t options) has = subst (λ (g : GroupingStrategy). regrouped g (digits_tables t options) ≡ digits_tables t options) has refl
 regrouped_same strategy (unit_tables u) has = subst (λ (g : GroupingStrategy). regrouped g (unit_tables u) ≡ unit_tables u) has refl
 
 second_same : (strategy : GroupingStrategy) (second : Option FormatTables) → IfSome second (HasStrategy strategy) → option_map (regrouped strategy) second ≡ second

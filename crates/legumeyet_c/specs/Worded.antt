@@ -1,7 +1,7 @@
 -- What a formatter writes of a number or of an exact form, its text or the word of its plural category, and the word of a range, or why it writes nothing.
 -- Defined in include/legumeyet.h, `legumeyet_formatter_open` and `legumeyet_formatter_format_range`, and docs/plurals.md, "Numbers as they are shown" and "Ranges".
 -- Cited by the exports that write numbers, through Writing.antt.
-use Rattle.std.specs.Prelude.{◌≡◌, ℕ, List, [], Option, Some, None, option_map}
+use Rattle.std.specs.Prelude.{◌≡◌, ◌⊎◌, ℕ, List, [], Option, Some, None, option_map}
 use Rattle.fixed_decimal.specs.CompactText.{CompactValue}
 use Rattle.fixed_decimal.specs.Number.{Number}
 use Rattle.fixed_decimal.specs.SignedText.{ReadsSigned}
@@ -11,7 +11,7 @@ use Rattle.icu_plurals.specs.Operands.{Operands, operands_of}
 use Rattle.icu_plurals.specs.Ranges.{range_category}
 use Rattle.icu_plurals.specs.Rules.{Rules, category_of}
 use Rattle.locale_numbers_formatter.specs.ExactForms.{IsFormInRange, exact_shown}
-use Rattle.locale_numbers_formatter.specs.FormatText.{FormatTables}
+use Rattle.locale_numbers_formatter.specs.FormatText.{FormatTables, MayLengthen}
 use Rattle.locale_numbers_formatter.specs.ShownOperands.{shown_operands, value_operands}
 use Rattle.writeable.specs.AnnotatedText.{AnnotatedText}
 use Rattle.legumeyet_c_values.specs.declared.CallError.{CallError}
@@ -58,14 +58,15 @@ IsTextBy (Some plurals) f value text = category_word plurals.0 f value ≡ Some 
 abbrev pub IsText : Wording → SignedValue Number → List ℕ → Type 0
 IsText w value text = IsTextBy w.plurals w.tables value text
 
--- a word takes no memory
-abbrev pub IsWordFault : Rules → FormatTables → SignedValue Number → CallError → Type 0
-IsWordFault rules f value Range = category_word rules f value ≡ None
-IsWordFault rules f value _ = ⊥
+-- why it is not seen: it is not shown, or memory is wanted, since what is shown may be longer
+abbrev pub IsUnseen : FormatTables → SignedValue Number → CallError → Type 0
+IsUnseen f value Range = shown_operands f value ≡ None
+IsUnseen f value Memory = MayLengthen f
+IsUnseen f value _ = ⊥
 
 abbrev pub IsTextFaultBy : Option Plurals → FormatTables → SignedValue Number → CallError → Type 0
 IsTextFaultBy None f value error = IsFormatFault f value error
-IsTextFaultBy (Some plurals) f value error = IsWordFault plurals.0 f value error
+IsTextFaultBy (Some plurals) f value error = IsUnseen f value error
 
 abbrev pub IsTextFault : Wording → SignedValue Number → CallError → Type 0
 IsTextFault w value error = IsTextFaultBy w.plurals w.tables value error
@@ -84,15 +85,13 @@ IsInPartsBy (Some plurals) f value text = IsWordInParts plurals.0 f value text
 abbrev pub IsTextInParts : Wording → SignedValue Number → AnnotatedText → Type 0
 IsTextInParts w value text = IsInPartsBy w.plurals w.tables value text
 
--- memory is wanted for both
-abbrev pub IsWordPartsFault : Rules → FormatTables → SignedValue Number → CallError → Type 0
-IsWordPartsFault rules f value Range = category_word rules f value ≡ None
-IsWordPartsFault rules f value Memory = Unit {0}
-IsWordPartsFault rules f value _ = ⊥
+-- memory is wanted anyhow
+abbrev pub IsWordPartsFault : FormatTables → SignedValue Number → CallError → Type 0
+IsWordPartsFault f value error = (error ≡ Memory) ⊎ IsUnseen f value error
 
 abbrev pub IsInPartsFaultBy : Option Plurals → FormatTables → SignedValue Number → CallError → Type 0
 IsInPartsFaultBy None f value error = IsPartsFault f value error
-IsInPartsFaultBy (Some plurals) f value error = IsWordPartsFault plurals.0 f value error
+IsInPartsFaultBy (Some plurals) f value error = IsWordPartsFault f value error
 
 abbrev pub IsInPartsFault : Wording → SignedValue Number → CallError → Type 0
 IsInPartsFault w value error = IsInPartsFaultBy w.plurals w.tables value error
@@ -131,13 +130,12 @@ IsRangeBy (Some plurals) f ends text = range_word plurals f ends ≡ Some text
 abbrev pub IsRange : Wording → Ends → List ℕ → Type 0
 IsRange w ends text = IsRangeBy w.plurals w.tables ends text
 
-abbrev pub IsRangeWordFault : Plurals → FormatTables → Ends → CallError → Type 0
-IsRangeWordFault plurals f ends Range = range_word plurals f ends ≡ None
-IsRangeWordFault plurals f ends _ = ⊥
+abbrev pub IsRangeWordFault : FormatTables → Ends → CallError → Type 0
+IsRangeWordFault f ends error = IsUnseen f ends.0 error ⊎ IsUnseen f ends.1 error
 
 abbrev pub IsRangeFaultBy : Option Plurals → FormatTables → Ends → CallError → Type 0
 IsRangeFaultBy None f ends error = ⊥
-IsRangeFaultBy (Some plurals) f ends error = IsRangeWordFault plurals f ends error
+IsRangeFaultBy (Some plurals) f ends error = IsRangeWordFault f ends error
 
 abbrev pub IsRangeFault : Wording → Ends → CallError → Type 0
 IsRangeFault w ends error = IsRangeFaultBy w.plurals w.tables ends error

@@ -9,7 +9,7 @@ use Rattle.icu_decimal.specs.PlainText.{Tables}
 use Rattle.icu_plurals.specs.Rules.{Rules}
 use Rattle.icu_plurals.specs.declared.PluralRange.{PluralRange}
 use Rattle.locale_numbers_formats.specs.declared.NumberOptions.{NumberOptions}
-use Rattle.locale_numbers_formatter.specs.FormatText.{FormatTables, compact_tables, fractions_in, plain_tables, unit_tables}
+use Rattle.locale_numbers_formatter.specs.FormatText.{FormatTables, compact_tables, digits_tables, fractions_in, plain_tables, unit_tables}
 use Rattle.legumeyet_c_values.specs.Numbers.{Given, Gives, GivesCompact, IsChangeFault, IsCompactChangeFault, IsGiven, IsGivenFault}
 use Rattle.legumeyet_c_values.specs.UsualOptions.{is_usual}
 use Rattle.legumeyet_c_values.specs.Words.{options_of, usual}
@@ -47,6 +47,7 @@ asked_plainly tables = asked_for (in_numbers (plain_tables tables)) usual
 abbrev pub shows_as_given : FormatTables → Bool
 shows_as_given (plain_tables t) = true
 shows_as_given (compact_tables t) = false
+shows_as_given (digits_tables t options) = false
 shows_as_given (unit_tables u) = is_none u.fractions
 
 abbrev pub is_as_given : Asked → Bool

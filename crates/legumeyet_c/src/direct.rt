@@ -30,7 +30,10 @@ fn texts_of<'a>(formatter: &NumberFormatter<'a>) -> Option<TextTables<'a>>
             let strategy = plain.tables().strategy();
             TextTables::of(plain.symbols(), plain.digits(), strategy)
         }
-        FormatterKind::Compact(_) | FormatterKind::Percent(_) | FormatterKind::Currency(_) => None,
+        FormatterKind::Compact(_)
+        | FormatterKind::CompactDigits(_)
+        | FormatterKind::Percent(_)
+        | FormatterKind::Currency(_) => None,
     }
 }
 
@@ -73,7 +76,8 @@ fn shows_as_given(formatter: &NumberFormatter<'_>) -> bool
 {
     match formatter.kind() {
         FormatterKind::Plain(_) | FormatterKind::Percent(_) => true,
-        FormatterKind::Compact(_) | FormatterKind::Currency(_) => false,
+        FormatterKind::Compact(_) | FormatterKind::CompactDigits(_) | FormatterKind::Currency(_) =>
+            { false }
     }
 }
 

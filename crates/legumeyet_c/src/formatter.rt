@@ -44,9 +44,9 @@ pub extern "C" fn legumeyet_formatter_open(
     status_of(open(alloc, &mut book.handle, &asked, tag, &mut formatter.handle))
 }
 
-/// Opens the formatter of a skeleton for a locale tag: that of `currency/EUR` for `de` writes -1234.5 as `-1.234,50 €`. It
-/// has its own copy of the tables, unless the book is kept. What the handle had open is closed, where the call returns 0,
-/// and else the handle is as it was; the book stays open.
+/// Opens the formatter of a skeleton for a locale tag: that of `currency/EUR` for `de` writes -1234.5 as `-1.234,50 €`, and
+/// that of `compact-short .00` for `en` as `-1.23K`. It has its own copy of the tables, unless the book is kept. What the
+/// handle had open is closed, where the call returns 0, and else the handle is as it was; the book stays open.
 ///
 /// Returns 0; 2, the book is closed; 201 to 207, the text is no skeleton, and only then `place` is where the word or the
 /// part of it begins that is wrong; 5, the text is no locale tag; 6, the book lacks a table for it, or a compact number

@@ -21,6 +21,7 @@ pub(crate) fn copied<'a>(formatter: &'a NumberFormatter<'static>) -> NumberForma
     match formatter.kind() {
         FormatterKind::Plain(formatter) => NumberFormatter::from(*formatter),
         FormatterKind::Compact(formatter) => NumberFormatter::from(*formatter),
+        FormatterKind::CompactDigits(formatter) => NumberFormatter::from(*formatter),
         FormatterKind::Percent(formatter) => NumberFormatter::from(*formatter),
         FormatterKind::Currency(formatter) => NumberFormatter::of_amounts(formatter),
     }

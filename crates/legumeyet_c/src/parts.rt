@@ -85,8 +85,8 @@ pub(crate) fn answer_parts(
 
 /// Writes a decimal number that is given as text, and lists the parts of its text in order of their beginning: of
 /// `-€1,234.50` the minus sign at 0 to 1, the currency at 1 to 4, the integer at 4 to 9, the group at 5 to 6, the decimal
-/// at 9 to 10 and the fraction at 10 to 12; of compact text those of its sign alone, and of the word of a plural category
-/// none. `count` is how many.
+/// at 9 to 10 and the fraction at 10 to 12; of compact text those of its sign alone, unless it has digits of its own, and of
+/// the word of a plural category none. `count` is how many.
 ///
 /// Returns as `legumeyet_formatter_format`; 1 of any number; 3 also where the list needs more room.
 #[unsafe(no_mangle)]

@@ -98,7 +98,7 @@ pub(crate) fn answer_range(
 /// Returns 0; 2, the handle is closed; 4, an option is unknown, or the formatter has no plurals; of the first number and
 /// then of the second 7, the text is no decimal number, 8, one with a digit beyond the magnitudes -32768 to 32767, and 1,
 /// out of memory, which a number of sixteen digits at most takes only where it is rounded to multiples of 25; 9, what
-/// compact text shows of one reaches ten to the power 32768; 3, the text needs more room.
+/// compact text shows of one has such a digit; 3, the text needs more room.
 #[unsafe(no_mangle)]
 pub extern "C" fn legumeyet_formatter_format_range(
     alloc: Global,

@@ -143,9 +143,8 @@ pub(crate) fn answer_text(
 /// `-987,654.321%`, with euros as `-€987,654.32`, or as the word of its plural category, `other`.
 ///
 /// Returns 0; 2, the handle is closed; 4, an option is unknown; 7, the text is no decimal number; 8, one with a digit
-/// beyond the magnitudes -32768 to 32767; 9, what compact text shows reaches ten to the power 32768; 1, out of memory,
-/// which a number of sixteen digits at most takes only where it is rounded to multiples of 25; 3, the text needs more
-/// room.
+/// beyond the magnitudes -32768 to 32767; 9, what compact text shows has such a digit; 1, out of memory, which a number of
+/// sixteen digits at most takes only where it is rounded to multiples of 25; 3, the text needs more room.
 #[unsafe(no_mangle)]
 pub extern "C" fn legumeyet_formatter_format(
     alloc: Global,

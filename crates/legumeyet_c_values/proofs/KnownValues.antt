@@ -12,6 +12,7 @@ use Rattle.icu_dimension_fractions.specs.declared.CurrencyStyle.{CurrencyStyle}
 use Rattle.icu_dimension_fractions.specs.declared.CurrencyStyle.TheVariants as style
 use Rattle.icu_dimension_fractions.specs.declared.CurrencyWidth.{CurrencyWidth}
 use Rattle.icu_dimension_fractions.specs.declared.CurrencyWidth.TheVariants as currency_width
+use Rattle.icu_dimension_fractions.specs.declared.PercentSign.TheVariants as percent_sign
 use Rattle.icu_plurals.specs.declared.PluralRuleType.TheVariants.{Cardinal, Ordinal}
 use Rattle.locale_numbers_faults.specs.declared.BookError.TheVariants as book
 use Rattle.locale_numbers_formats.specs.declared.CompactWidth.TheVariants.{Short, Long}
@@ -434,10 +435,10 @@ notation_unknown = refl
 notation_below : shape_of (negsuc 0 ∷ []) [] ≡ Err call.UnknownOption
 notation_below = refl
 
-percents : shape_of (pos 0 ∷ pos 0 ∷ pos 1 ∷ []) [] ≡ Ok (numbers (record plain { unit = beside.Percent }))
+percents : shape_of (pos 0 ∷ pos 0 ∷ pos 1 ∷ []) [] ≡ Ok (numbers (record plain { unit = beside.Percent percent_sign.Percent }))
 percents = refl
 
-permilles : shape_of (pos 0 ∷ pos 0 ∷ pos 3 ∷ []) [] ≡ Ok (numbers (record plain { unit = beside.Permille }))
+permilles : shape_of (pos 0 ∷ pos 0 ∷ pos 3 ∷ []) [] ≡ Ok (numbers (record plain { unit = beside.Percent percent_sign.Permille }))
 permilles = refl
 
 in_euros : shape_of (pos 0 ∷ pos 0 ∷ pos 2 ∷ []) (codes "EUR") ≡ Ok (numbers (euros style.Standard currency_width.Short))

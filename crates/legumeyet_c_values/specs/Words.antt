@@ -17,6 +17,7 @@ use Rattle.icu_dimension_fractions.specs.declared.CurrencyStyle.{CurrencyStyle}
 use Rattle.icu_dimension_fractions.specs.declared.CurrencyStyle.TheVariants as style
 use Rattle.icu_dimension_fractions.specs.declared.CurrencyWidth.{CurrencyWidth}
 use Rattle.icu_dimension_fractions.specs.declared.CurrencyWidth.TheVariants as currency_width
+use Rattle.icu_dimension_fractions.specs.declared.PercentSign.TheVariants as percent_sign
 use Rattle.icu_plurals.specs.declared.PluralRuleType.{PluralRuleType}
 use Rattle.icu_plurals.specs.declared.PluralRuleType.TheVariants.{Cardinal, Ordinal}
 use Rattle.legumeyet_c_values.specs.DigitWords.{rounding_by}
@@ -231,7 +232,7 @@ abbrev pub currency_by : CurrencyStyle → CurrencyWidth → List ℕ → Result
 currency_by style width text = if is_currency_code text then Ok (beside.Currency (record { code = text; style = style; width = width })) else Err Code
 
 abbrev pub units : CurrencyStyle → CurrencyWidth → List ℕ → List (Result NumberUnit CallError)
-units style width text = unit_alone beside.None text ∷ unit_alone beside.Percent text ∷ currency_by style width text ∷ unit_alone beside.Permille text ∷ []
+units style width text = unit_alone beside.None text ∷ unit_alone (beside.Percent percent_sign.Percent) text ∷ currency_by style width text ∷ unit_alone (beside.Percent percent_sign.Permille) text ∷ []
 
 abbrev pub unit_with : Option CurrencyStyle → Option CurrencyWidth → ℤ → List ℕ → Result NumberUnit CallError
 unit_with None width word text = Err UnknownOption

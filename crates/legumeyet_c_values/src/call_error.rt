@@ -26,7 +26,7 @@ pub enum CallError {
     Number,
     /// A digit of the number is beyond the magnitudes -32768 to 32767.
     Limit,
-    /// What the number is shown as reaches ten to the power 32768.
+    /// A digit of what the number is shown as is beyond the magnitudes -32768 to 32767.
     Range,
     /// The text is not UTF-8.
     NoUtf8,
@@ -144,7 +144,7 @@ impl CallError {
             CallError::Table => "the book lacks a table for the tag",
             CallError::Number => "no decimal number",
             CallError::Limit => "a digit beyond the magnitudes -32768 to 32767",
-            CallError::Range => "what is shown reaches ten to the power 32768",
+            CallError::Range => "a digit of what is shown is beyond the magnitudes -32768 to 32767",
             CallError::NoUtf8 => "no UTF-8",
             CallError::Unreadable => "symbols under which two numbers may have one text",
             CallError::NotWritten => "no number is written so",

@@ -6,7 +6,7 @@ ghost use Rattle.legumeyet_c_values.specs.Words.{currency_by, currency_widths, g
 use crate::call_error::CallError;
 use crate::words::{is_known, word_at};
 use icu_decimal_symbols::options::GroupingStrategy;
-use icu_dimension_fractions::{CurrencyCode, CurrencyStyle, CurrencyWidth};
+use icu_dimension_fractions::{CurrencyCode, CurrencyStyle, CurrencyWidth, PercentSign};
 use icu_plurals::PluralRuleType;
 use locale_numbers_formats::{CompactWidth, CurrencyUnit, Notation, NumberShape, NumberUnit};
 
@@ -118,9 +118,9 @@ fn unit_by(words: &[i32], text: &[u8]) -> Result<NumberUnit, CallError>
     };
     match word_at(words, 2) {
         0 => unit_alone(NumberUnit::None, text),
-        1 => unit_alone(NumberUnit::Percent, text),
+        1 => unit_alone(NumberUnit::Percent(PercentSign::Percent), text),
         2 => currency_by(style, width, text),
-        3 => unit_alone(NumberUnit::Permille, text),
+        3 => unit_alone(NumberUnit::Percent(PercentSign::Permille), text),
         _ => Err(CallError::UnknownOption),
     }
 }

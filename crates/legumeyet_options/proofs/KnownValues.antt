@@ -1,15 +1,19 @@
--- Known values: names of locales, as `locale -a` lists them and POSIX has them, with their tags; what options ask.
-use Rattle.std.proofs.Common.{◌≡◌, ℕ, List, [], Option, None, Some, Bool, true, false, Result, Ok, Err, pos, negsuc, refl}
+-- Known values: what options ask.
+use Rattle.std.proofs.Common.{◌≡◌, ℕ, List, Option, None, Some, Bool, true, false, Result, Ok, Err, pos, negsuc, refl}
 use Rattle.std.specs.Prelude.{codes}
-use Rattle.std.specs.Str.{chars}
 use Rattle.fixed_decimal.specs.declared.RoundingIncrement.TheVariants.{MultiplesOf1, MultiplesOf5}
 use Rattle.fixed_decimal.specs.declared.SignedRoundingMode.TheVariants.{Unsigned, Floor}
 use Rattle.fixed_decimal.specs.declared.UnsignedRoundingMode.TheVariants.{HalfEven}
 use Rattle.icu_decimal_symbols.specs.declared.options.GroupingStrategy.TheVariants as strategy
 use Rattle.icu_dimension_fractions.specs.declared.CurrencyStyle.TheVariants as style
 use Rattle.icu_dimension_fractions.specs.declared.CurrencyWidth.TheVariants as width
+use Rattle.icu_dimension_fractions.specs.declared.PercentSign.TheVariants.{Permille}
 use Rattle.icu_plurals.specs.declared.PluralRuleType.TheVariants.{Cardinal, Ordinal}
-use Rattle.locale_numbers_formats.specs.declared.Notation.TheVariants.{Standard}
+use Rattle.locale_numbers_formats.specs.Changed.{unchanged}
+use Rattle.locale_numbers_formats.specs.declared.CompactWidth.TheVariants.{Short}
+use Rattle.locale_numbers_formats.specs.declared.Notation.{Notation}
+use Rattle.locale_numbers_formats.specs.declared.Notation.TheVariants.{Standard, Compact, CompactDigits}
+use Rattle.locale_numbers_formats.specs.declared.NumberOptions.{NumberOptions}
 use Rattle.locale_numbers_formats.specs.declared.NumberUnit.{NumberUnit}
 use Rattle.locale_numbers_formats.specs.declared.NumberUnit.TheVariants as unit
 use Rattle.locale_numbers_formats.specs.declared.Rounding.{Rounding}
@@ -21,46 +25,9 @@ use Rattle.locale_numbers_formats.specs.declared.TrailingZeros.TheVariants.{Keep
 use Rattle.locale_numbers_requests.specs.declared.Task.{Task}
 use Rattle.locale_numbers_requests.specs.declared.Task.TheVariants.{Write, Category}
 use Rattle.legumeyet_options.specs.Digits.{DigitsSaid, is_coarse, options_by, round_said}
-use Rattle.legumeyet_options.specs.LocaleName.{tag_of}
 use Rattle.legumeyet_options.specs.NumberWords.{NumbersSaid, numbers_asked}
 use Rattle.legumeyet_options.specs.declared.fault.OptionFault.TheVariants as fault
 use Rattle.legumeyet_options.specs.declared.number_words.NumbersAsked.{NumbersAsked}
-
-name_of_german : tag_of (codes "de_DE") ≡ codes "de-DE"
-unfolding chars lib.Utf8.encode
-name_of_german = refl
-
-name_with_codeset : tag_of (codes "de_DE.UTF-8") ≡ codes "de-DE"
-unfolding chars lib.Utf8.encode
-name_with_codeset = refl
-
-name_with_modifier : tag_of (codes "de_DE@euro") ≡ codes "de-DE"
-unfolding chars lib.Utf8.encode
-name_with_modifier = refl
-
-name_with_both : tag_of (codes "ca_ES.UTF-8@valencia") ≡ codes "ca-ES"
-unfolding chars lib.Utf8.encode
-name_with_both = refl
-
-name_with_script : tag_of (codes "zh_Hant_TW") ≡ codes "zh-Hant-TW"
-unfolding chars lib.Utf8.encode
-name_with_script = refl
-
-tag_itself : tag_of (codes "ar-EG-u-nu-thai") ≡ codes "ar-EG-u-nu-thai"
-unfolding chars lib.Utf8.encode
-tag_itself = refl
-
-name_of_c : tag_of (codes "C") ≡ codes "en"
-name_of_c = refl
-
-name_of_c_with_codeset : tag_of (codes "C.UTF-8") ≡ codes "en"
-name_of_c_with_codeset = refl
-
-name_of_posix : tag_of (codes "POSIX") ≡ codes "en"
-name_of_posix = refl
-
-no_name : tag_of [] ≡ codes "en"
-no_name = refl
 
 -- ---- roundings
 
@@ -108,8 +75,7 @@ nothing = record {
   currency = None;
   is_accounting = false;
   is_by_code = false;
-  is_percent = false;
-  is_permille = false;
+  percent = None;
   grouping = None;
   sign = None;
   chosen = record { is_in_cash = false; round = None; digits = None; max_digits = None; min_digits = None; significant = None; priority = None };
@@ -123,17 +89,20 @@ no_digits = nothing.chosen
 abbrev with : DigitsSaid → NumbersSaid
 with digits = record nothing { chosen = digits }
 
-abbrev written : NumberUnit → Rounding → TrailingZeros → ℕ → Bool → NumbersAsked
-written unit rounding zeros least coarse = record {
+abbrev as_form : Notation → NumberUnit → NumberOptions → Bool → NumbersAsked
+as_form notation unit options coarse = record {
   task = Write;
-  format = record { shape = record { notation = Standard; unit = unit; grouping = strategy.Auto }; options = options_by rounding zeros (pos least) };
+  format = record { shape = record { notation = notation; unit = unit; grouping = strategy.Auto }; options = options };
   is_coarse = coarse;
 }
+
+abbrev written : NumberUnit → Rounding → TrailingZeros → ℕ → Bool → NumbersAsked
+written unit rounding zeros least coarse = as_form Standard unit (options_by rounding zeros (pos least)) coarse
 
 without_options : numbers_asked nothing ≡ Ok (written unit.None Usual Keep 0 false)
 without_options = refl
 
-permilles : numbers_asked (record nothing { is_permille = true }) ≡ Ok (written unit.Permille Usual Keep 0 false)
+permilles : numbers_asked (record nothing { percent = Some Permille }) ≡ Ok (written (unit.Percent Permille) Usual Keep 0 false)
 permilles = refl
 
 amount_by_code : numbers_asked (record nothing { currency = Some (codes "EUR"); is_by_code = true })
@@ -182,6 +151,30 @@ other_priority = refl
 
 coarse : numbers_asked (with (record no_digits { round = Some (codes "2") })) ≡ Ok (written unit.None (At (pos 2) (Unsigned HalfEven) MultiplesOf1) Keep 0 true)
 coarse = refl
+
+-- ---- compact numbers
+
+-- under a short pattern, with what is made of the number before it
+abbrev short : Notation → NumberOptions → NumbersAsked
+short notation options = as_form notation unit.None options false
+
+abbrev short_with : DigitsSaid → NumbersSaid
+short_with digits = record (with digits) { form = Some (codes "short") }
+
+short_alone : numbers_asked (short_with no_digits) ≡ Ok (short (Compact Short) (options_by Usual Keep (pos 0)))
+short_alone = refl
+
+-- digits are those of what is shown
+short_digits : numbers_asked (short_with (record no_digits { max_digits = Some (codes "2") }))
+    ≡ Ok (short (CompactDigits Short (options_by (At (negsuc 1) (Unsigned HalfEven) MultiplesOf1) Trim (pos 0))) unchanged)
+short_digits = refl
+
+-- but a position is one of the number
+short_round : numbers_asked (short_with (record no_digits { round = Some (codes "-2") }))
+    ≡ Ok (short (Compact Short) (options_by (At (negsuc 1) (Unsigned HalfEven) MultiplesOf1) Keep (pos 0)))
+short_round = refl
+
+-- ---- faults
 
 small_code : numbers_asked (record nothing { currency = Some (codes "eur") }) ≡ Err fault.Code
 small_code = refl

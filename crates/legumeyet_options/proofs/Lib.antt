@@ -1,5 +1,6 @@
 pub mod DigitsLemmas
 mod KeptSayerLemmas
+mod KnownNames
 mod KnownValues
 pub mod SayingLawsLemmas
 pub mod SayingLemmas

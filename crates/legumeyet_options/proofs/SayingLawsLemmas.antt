@@ -9,7 +9,6 @@ use Rattle.fixed_decimal.specs.CompactText.{CompactValue, compact_text_of}
 use Rattle.fixed_decimal.specs.Number.{Number}
 use Rattle.fixed_decimal.specs.SignedText.{signed_text_of}
 use Rattle.fixed_decimal.specs.SignedValue.{SignedValue}
-use Rattle.icu_decimal.specs.CompactTables.{CompactTables}
 use Rattle.icu_decimal.specs.PlainReading.{PlainReading, decimal, not_written, unreadable}
 use Rattle.icu_decimal.specs.declared.error.DataError.{DataError}
 use Rattle.icu_plurals.specs.Categories.{word}
@@ -24,14 +23,15 @@ use Rattle.locale_numbers_formats.specs.declared.SignAsked.{SignAsked}
 use Rattle.locale_numbers_formatter.specs.ExactForms.{exact_format_text}
 use Rattle.locale_numbers_formatter.specs.FormatParts.{exact_format_events, format_events}
 use Rattle.locale_numbers_formatter.specs.FormatReading.{format_reading}
-use Rattle.locale_numbers_formatter.specs.FormatText.{FormatTables, compact_tables, format_text, format_value, fractions_in, plain_tables, unit_tables}
+use Rattle.locale_numbers_formatter.specs.FormatText.{FormatTables, compact_tables, digits_tables, format_text, format_value, fractions_in, plain_tables, unit_tables}
 use Rattle.locale_numbers_formatter.specs.FormatTyped.{format_typed_reading}
 use Rattle.locale_numbers_formatter.specs.Laws.{ExactFormatIsText, FormatIsText}
+use Rattle.locale_numbers_formatter.specs.ShownOperands.{is_shown}
 use Rattle.locale_numbers_answers.specs.AnswerLine.{refused, written}
 use Rattle.locale_numbers_answers.specs.Answers.{answer_by, exact_found, exact_with, read_found, typed_found, where_found, written_found, written_to}
 use Rattle.locale_numbers_answers.specs.CategoryAnswer.{answered_category, category_found, category_to, range_category_to, range_ends_to, range_found, shown_category, shown_range_category}
 use Rattle.locale_numbers_answers.specs.CompactReading.{CompactReading, compact_beyond, compact_nothing, compact_number, compact_reading_of}
-use Rattle.locale_numbers_answers.specs.NumberAnswer.{can_be_shown, exact_answer, exact_written, is_form_in_range, number_answer, signed_form, text_and_value}
+use Rattle.locale_numbers_answers.specs.NumberAnswer.{exact_answer, exact_written, is_form_in_range, number_answer, signed_form, text_and_value}
 use Rattle.locale_numbers_answers.specs.NumberReading.{Reading, beyond, nothing, number, reading_of}
 use Rattle.locale_numbers_answers.specs.ReadAnswer.{fraction_asked, own_reading, read_answer}
 use Rattle.locale_numbers_requests.specs.RangeEnds.{range_ends}
@@ -41,6 +41,7 @@ use Rattle.locale_numbers_requests.specs.declared.Task.TheVariants as task
 use Rattle.legumeyet_options.specs.Categories.{category_saying, ends_reading_saying, ends_saying, range_reading_saying, reading_category_saying, value_category_saying}
 use Rattle.legumeyet_options.specs.SayingLaws.{Agrees, SaysAsLines, alone, beside_found, no_text, with_value}
 use Rattle.legumeyet_options.specs.Sayings.{events_saying, exact_saying, form_saying, number_saying, read_saying, reading_saying, reads_by, reads_typed_by, sayer_for, saying, says, text_saying, written_saying}
+use Rattle.legumeyet_options.specs.declared.categories.CategorySayer.{CategorySayer}
 use Rattle.legumeyet_options.specs.declared.saying.NotSaid.TheVariants.{Refused}
 
 -- a text that events have
@@ -70,31 +71,34 @@ typed_agrees (Ok f) second text = read_agrees (format_typed_reading f (second f)
 
 -- ---- plural categories
 
+abbrev sayer_by : Result FormatTables DataError → Option (Rules × List PluralRange) → NumberOptions → CategorySayer
+sayer_by found rules options = record { found = where_found found; rules = rules; options = options; is_coarse = false }
+
 one_agrees : (category : Option PluralCategory) → Agrees (category_saying category) (answered_category category)
 one_agrees None = no_text refusal.Range
 one_agrees (Some category) = of_text (bytes (word category)) (word category) (text_of_bytes (word category))
 
 category_agrees : (found : Result FormatTables DataError) (rules : Option (Rules × List PluralRange)) (options : NumberOptions) (d : SignedValue Number)
-    → Agrees (value_category_saying (where_found found) rules options false d) (category_found found rules options d)
+    → Agrees (value_category_saying (sayer_by found rules options) d) (category_found found rules options d)
 category_agrees (Err error) rules options d = no_text refusal.Table
 category_agrees (Ok f) None options d = no_text refusal.Table
 category_agrees (Ok f) (Some rules) options d = one_agrees (shown_category f rules.0 (changed options (fractions_in f) d))
 
 categories_agree : (found : Result FormatTables DataError) (rules : Option (Rules × List PluralRange)) (options : NumberOptions) (reading : Reading)
-    → Agrees (reading_category_saying (where_found found) rules options false reading) (category_to found rules options reading)
+    → Agrees (reading_category_saying (sayer_by found rules options) reading) (category_to found rules options reading)
 categories_agree found rules options nothing = no_text refusal.Number
 categories_agree found rules options beyond = no_text refusal.Limit
 categories_agree found rules options (number d) = category_agrees found rules options d
 
 range_agrees : (found : Result FormatTables DataError) (rules : Option (Rules × List PluralRange)) (options : NumberOptions) (m n : SignedValue Number)
-    → Agrees (ends_saying (where_found found) rules options false m n) (range_found found rules options m n)
+    → Agrees (ends_saying (sayer_by found rules options) m n) (range_found found rules options m n)
 range_agrees (Err error) rules options m n = no_text refusal.Table
 range_agrees (Ok f) None options m n = no_text refusal.Table
 range_agrees (Ok f) (Some rules) options m n =
     one_agrees (shown_range_category f rules.0 rules.1 (changed options (fractions_in f) m) (changed options (fractions_in f) n))
 
 ends_agree : (found : Result FormatTables DataError) (rules : Option (Rules × List PluralRange)) (options : NumberOptions) (first second : Reading)
-    → Agrees (ends_reading_saying (where_found found) rules options false first second) (range_ends_to found rules options first second)
+    → Agrees (ends_reading_saying (sayer_by found rules options) first second) (range_ends_to found rules options first second)
 ends_agree found rules options nothing other = no_text refusal.Number
 ends_agree found rules options beyond other = no_text refusal.Limit
 ends_agree found rules options (number m) nothing = no_text refusal.Number
@@ -102,20 +106,23 @@ ends_agree found rules options (number m) beyond = no_text refusal.Limit
 ends_agree found rules options (number m) (number n) = range_agrees found rules options m n
 
 ranges_agree : (found : Result FormatTables DataError) (rules : Option (Rules × List PluralRange)) (options : NumberOptions) (ends : Option (List ℕ × List ℕ))
-    → Agrees (range_reading_saying (where_found found) rules options false ends) (range_category_to found rules options ends)
+    → Agrees (range_reading_saying (sayer_by found rules options) ends) (range_category_to found rules options ends)
 ranges_agree found rules options None = no_text refusal.Number
 ranges_agree found rules options (Some ends) = ends_agree found rules options (reading_of ends.0) (reading_of ends.1)
 
 module _ (texts : FormatIsText) (exacts : ExactFormatIsText) where
   -- ---- written
 
+  -- a compact number, where it can be shown
+  compact_agrees : (f : FormatTables) (d : SignedValue Number) (b : Bool)
+      → Agrees (if b then says (format_events f d) else Err (Refused refusal.Range)) (if b then written (text_and_value f d) else refused refusal.Range)
+  compact_agrees f d true = of_both (format_events f d) (format_text f d) (compact_text_of (format_value f d)) (texts f d)
+  compact_agrees f d false = no_text refusal.Range
+
   number_agrees : (f : FormatTables) (d : SignedValue Number) → Agrees (number_saying f d) (number_answer f d)
   number_agrees (plain_tables t) d = of_text (format_events (plain_tables t) d) (format_text (plain_tables t) d) (texts (plain_tables t) d)
-  number_agrees (compact_tables t) d = by (can_be_shown t d)
-    where
-      by : (b : Bool) → Agrees (if b then says (format_events (compact_tables t) d) else Err (Refused refusal.Range)) (if b then written (text_and_value t d) else refused refusal.Range)
-      by true = of_both (format_events (compact_tables t) d) (format_text (compact_tables t) d) (compact_text_of (format_value (compact_tables t) d)) (texts (compact_tables t) d)
-      by false = no_text refusal.Range
+  number_agrees (compact_tables t) d = compact_agrees (compact_tables t) d (is_shown (compact_tables t) d)
+  number_agrees (digits_tables t o) d = compact_agrees (digits_tables t o) d (is_shown (digits_tables t o) d)
   number_agrees (unit_tables u) d = of_text (format_events (unit_tables u) d) (format_text (unit_tables u) d) (texts (unit_tables u) d)
 
   written_agrees : (found : Result FormatTables DataError) (options : NumberOptions) (d : SignedValue Number)

@@ -17,6 +17,7 @@ use Rattle.locale_numbers_answers.specs.CategoryAnswer.{shown_category, shown_ra
 use Rattle.locale_numbers_answers.specs.NumberReading.{Reading, beyond, nothing, number, reading_of}
 use Rattle.locale_numbers_requests.specs.declared.Refusal.TheVariants as refusal
 use Rattle.legumeyet_options.specs.Fractions.{has_fraction}
+use Rattle.legumeyet_options.specs.declared.categories.CategorySayer.{CategorySayer}
 use Rattle.legumeyet_options.specs.declared.saying.NotSaid.{NotSaid}
 use Rattle.legumeyet_options.specs.declared.saying.NotSaid.TheVariants.{Refused, Coarse}
 
@@ -37,14 +38,14 @@ found_category None rules options value = Err (Refused refusal.Table)
 found_category (Some f) None options value = Err (Refused refusal.Table)
 found_category (Some f) (Some rules) options value = Ok (shown_category f rules.0 (changed options (fractions_in f) value))
 
-abbrev pub value_category_saying : Option FormatTables → Option (Rules × List PluralRange) → NumberOptions → Bool → SignedValue Number → Result Held NotSaid
-value_category_saying found rules options coarse value =
-    if coarse && has_fraction value.absolute then Err Coarse else category_or_why (found_category found rules options value)
+abbrev pub value_category_saying : CategorySayer → SignedValue Number → Result Held NotSaid
+value_category_saying s value =
+    if s.is_coarse && has_fraction value.absolute then Err Coarse else category_or_why (found_category s.found s.rules s.options value)
 
-abbrev pub reading_category_saying : Option FormatTables → Option (Rules × List PluralRange) → NumberOptions → Bool → Reading → Result Held NotSaid
-reading_category_saying found rules options coarse nothing = Err (Refused refusal.Number)
-reading_category_saying found rules options coarse beyond = Err (Refused refusal.Limit)
-reading_category_saying found rules options coarse (number value) = value_category_saying found rules options coarse value
+abbrev pub reading_category_saying : CategorySayer → Reading → Result Held NotSaid
+reading_category_saying s nothing = Err (Refused refusal.Number)
+reading_category_saying s beyond = Err (Refused refusal.Limit)
+reading_category_saying s (number value) = value_category_saying s value
 
 -- ---- of a range
 
@@ -58,20 +59,19 @@ found_range_category (Some f) (Some rules) options m n =
 abbrev pub have_fraction : Number → Number → Bool
 have_fraction m n = has_fraction m || has_fraction n
 
-abbrev pub ends_saying : Option FormatTables → Option (Rules × List PluralRange) → NumberOptions → Bool → SignedValue Number → SignedValue Number
-    → Result Held NotSaid
-ends_saying found rules options coarse m n =
-    if coarse && have_fraction m.absolute n.absolute then Err Coarse else category_or_why (found_range_category found rules options m n)
+abbrev pub ends_saying : CategorySayer → SignedValue Number → SignedValue Number → Result Held NotSaid
+ends_saying s m n =
+    if s.is_coarse && have_fraction m.absolute n.absolute then Err Coarse else category_or_why (found_range_category s.found s.rules s.options m n)
 
 -- the first end is refused before the second
-abbrev pub ends_reading_saying : Option FormatTables → Option (Rules × List PluralRange) → NumberOptions → Bool → Reading → Reading → Result Held NotSaid
-ends_reading_saying found rules options coarse nothing other = Err (Refused refusal.Number)
-ends_reading_saying found rules options coarse beyond other = Err (Refused refusal.Limit)
-ends_reading_saying found rules options coarse (number m) nothing = Err (Refused refusal.Number)
-ends_reading_saying found rules options coarse (number m) beyond = Err (Refused refusal.Limit)
-ends_reading_saying found rules options coarse (number m) (number n) = ends_saying found rules options coarse m n
+abbrev pub ends_reading_saying : CategorySayer → Reading → Reading → Result Held NotSaid
+ends_reading_saying s nothing other = Err (Refused refusal.Number)
+ends_reading_saying s beyond other = Err (Refused refusal.Limit)
+ends_reading_saying s (number m) nothing = Err (Refused refusal.Number)
+ends_reading_saying s (number m) beyond = Err (Refused refusal.Limit)
+ends_reading_saying s (number m) (number n) = ends_saying s m n
 
-abbrev pub range_reading_saying : Option FormatTables → Option (Rules × List PluralRange) → NumberOptions → Bool → Option (List ℕ × List ℕ) → Result Held NotSaid
-range_reading_saying found rules options coarse None = Err (Refused refusal.Number)
-range_reading_saying found rules options coarse (Some ends) =
-    ends_reading_saying found rules options coarse (reading_of ends.0) (reading_of ends.1)
+abbrev pub range_reading_saying : CategorySayer → Option (List ℕ × List ℕ) → Result Held NotSaid
+range_reading_saying s None = Err (Refused refusal.Number)
+range_reading_saying s (Some ends) =
+    ends_reading_saying s (reading_of ends.0) (reading_of ends.1)

@@ -1,7 +1,7 @@
 -- The digits that the options ask for: a rounding, whose mode and increment may be left out, so many digits of a fraction, or so many significant ones.
 -- Defined in docs/command.md, "Digits".
 -- Cited by `NumberWords::asked`.
-use Rattle.std.specs.Prelude.{ℕ, ℤ, pos, neg_ℤ, int_le, int_lt, Bool, false, ◌||◌, is_some, if◌then◌else◌, List, [], ◌∷◌, Option, Some, None, option_map, Result, Ok, Err}
+use Rattle.std.specs.Prelude.{ℕ, ℤ, pos, neg_ℤ, int_le, int_lt, Bool, false, not, ◌&&◌, ◌||◌, is_some, if◌then◌else◌, List, [], ◌∷◌, Option, Some, None, option_map, Result, Ok, Err}
 use Rattle.fixed_decimal.specs.declared.RoundingIncrement.TheVariants.{MultiplesOf1}
 use Rattle.fixed_decimal.specs.declared.SignedRoundingMode.{SignedRoundingMode}
 use Rattle.fixed_decimal.specs.declared.SignedRoundingMode.TheVariants.{Unsigned}
@@ -186,3 +186,7 @@ digits_said s =
 abbrev pub chooses_digits : DigitsSaid → Bool
 chooses_digits s =
     s.is_in_cash || is_some s.round || is_some s.digits || is_some s.max_digits || is_some s.min_digits || is_some s.significant || is_some s.priority
+
+-- they are those of what is shown: a number is rounded before that to a position, and to cash
+abbrev pub shows_digits : DigitsSaid → Bool
+shows_digits s = chooses_digits s && not (s.is_in_cash || is_some s.round)

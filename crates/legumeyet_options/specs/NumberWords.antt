@@ -8,11 +8,14 @@ use Rattle.icu_decimal_symbols.specs.declared.options.GroupingStrategy.TheVarian
 use Rattle.icu_dimension_fractions.specs.CurrencyCodes.{is_currency_code}
 use Rattle.icu_dimension_fractions.specs.declared.CurrencyStyle.TheVariants as style
 use Rattle.icu_dimension_fractions.specs.declared.CurrencyWidth.TheVariants as width
+use Rattle.icu_dimension_fractions.specs.declared.PercentSign.{PercentSign}
 use Rattle.icu_plurals.specs.declared.PluralRuleType.{PluralRuleType}
+use Rattle.locale_numbers_formats.specs.Changed.{unchanged}
 use Rattle.locale_numbers_formats.specs.SkeletonFormats.{format_of}
 use Rattle.locale_numbers_formats.specs.Skeletons.{skeleton_of}
 use Rattle.locale_numbers_formats.specs.declared.Notation.{Notation}
-use Rattle.locale_numbers_formats.specs.declared.Notation.TheVariants.{Standard}
+use Rattle.locale_numbers_formats.specs.declared.Notation.TheVariants.{Standard, Compact, CompactDigits}
+use Rattle.locale_numbers_formats.specs.declared.NumberFormat.{NumberFormat}
 use Rattle.locale_numbers_formats.specs.declared.NumberOptions.{NumberOptions}
 use Rattle.locale_numbers_formats.specs.declared.NumberShape.{NumberShape}
 use Rattle.locale_numbers_formats.specs.declared.NumberUnit.{NumberUnit}
@@ -25,7 +28,7 @@ use Rattle.locale_numbers_requests.specs.FormField.{format_read}
 use Rattle.locale_numbers_requests.specs.Request.{grouping_named, keeps_sign, sign_named}
 use Rattle.locale_numbers_requests.specs.declared.Task.{Task}
 use Rattle.locale_numbers_requests.specs.declared.Task.TheVariants.{Write, WriteExact, Read, ReadLenient, Category, RangeCategory}
-use Rattle.legumeyet_options.specs.Digits.{DigitsSaid, chooses_digits, digits_said, is_coarse, words_of}
+use Rattle.legumeyet_options.specs.Digits.{DigitsSaid, chooses_digits, digits_said, is_coarse, shows_digits, words_of}
 use Rattle.legumeyet_options.specs.NumberForms.{form_said}
 use Rattle.legumeyet_options.specs.declared.number_words.NumberWords.{NumberWords}
 use Rattle.legumeyet_options.specs.declared.number_words.NumbersAsked.{NumbersAsked}
@@ -39,8 +42,7 @@ pub record NumbersSaid : Type 0 where
   pub currency : Option (List ℕ)
   pub is_accounting : Bool
   pub is_by_code : Bool
-  pub is_percent : Bool
-  pub is_permille : Bool
+  pub percent : Option PercentSign
   pub grouping : Option (List ℕ)
   pub sign : Option (List ℕ)
   pub chosen : DigitsSaid
@@ -53,8 +55,7 @@ numbers_said w = record {
   currency = option_map (λ word. word.now) w.currency;
   is_accounting = w.is_accounting;
   is_by_code = w.is_by_code;
-  is_percent = w.is_percent;
-  is_permille = w.is_permille;
+  percent = w.percent;
   grouping = option_map (λ word. word.now) w.grouping;
   sign = option_map (λ word. word.now) w.sign;
   chosen = words_of w.chosen;
@@ -80,10 +81,15 @@ abbrev pub sign_asked : Option (List ℕ) → Result SignAsked OptionFault
 sign_asked None = Ok sign.Keep
 sign_asked (Some word) = named_or fault.Sign (sign_named word)
 
--- an amount, a percent, a permille, or none
-abbrev pub unit_asked : Option (List ℕ) → Bool → Bool → Bool → Bool → Result NumberUnit OptionFault
-unit_asked None accounting by_code percent permille = Ok (if percent then unit.Percent else if permille then unit.Permille else unit.None)
-unit_asked (Some code) accounting by_code percent permille =
+-- a percent by its sign, or none
+abbrev pub percent_unit : Option PercentSign → NumberUnit
+percent_unit None = unit.None
+percent_unit (Some sign) = unit.Percent sign
+
+-- an amount, or one of these
+abbrev pub unit_asked : Option (List ℕ) → Bool → Bool → Option PercentSign → Result NumberUnit OptionFault
+unit_asked None accounting by_code percent = Ok (percent_unit percent)
+unit_asked (Some code) accounting by_code percent =
     if is_currency_code code then Ok (unit.Currency (record {
       code = code;
       style = if accounting then style.Accounting else style.Standard;
@@ -106,10 +112,17 @@ abbrev pub is_coarse_round : Option (List ℕ) → Bool
 is_coarse_round None = false
 is_coarse_round (Some word) = is_coarse word
 
-abbrev pub asked_by : Option OptionFault → Task → NumberShape → SignAsked → NumberOptions → Bool → Result NumbersAsked OptionFault
-asked_by (Some fault) task shape sign options coarse = Err fault
-asked_by None task shape sign options coarse =
-    Ok (record { task = task; format = record { shape = shape; options = record options { sign = sign } }; is_coarse = coarse })
+-- digits that are shown are those before a compact pattern, of the number as it is given
+abbrev pub format_as : Notation → NumberShape → NumberOptions → Bool → NumberFormat
+format_as (Compact width) shape options true = record { shape = record shape { notation = CompactDigits width options }; options = unchanged }
+format_as _ shape options _ = record { shape = shape; options = options }
+
+abbrev pub format_by : NumberShape → NumberOptions → Bool → NumberFormat
+format_by shape options shown = format_as shape.notation shape options shown
+
+abbrev pub asked_by : Option OptionFault → Task → NumberFormat → Bool → Result NumbersAsked OptionFault
+asked_by (Some fault) task format coarse = Err fault
+asked_by None task format coarse = Ok (record { task = task; format = format; is_coarse = coarse })
 
 -- with what one step gives
 abbrev pub after : {A B : Type 0} → Result A OptionFault → (A → Result B OptionFault) → Result B OptionFault
@@ -120,12 +133,13 @@ after (Err fault) next = Err fault
 abbrev pub words_asked : NumbersSaid → Result NumbersAsked OptionFault
 words_asked s =
     after (form_asked s.form) (λ form.
-    after (unit_asked s.currency s.is_accounting s.is_by_code s.is_percent s.is_permille) (λ unit.
+    after (unit_asked s.currency s.is_accounting s.is_by_code s.percent) (λ unit.
     after (grouping_asked s.grouping) (λ grouping.
     after (sign_asked s.sign) (λ sign.
     after (digits_said s.chosen) (λ options.
     asked_by (task_fault form.0 sign (chooses_digits s.chosen)) form.0
-    (record { notation = form.1; unit = unit; grouping = grouping }) sign options (is_coarse_round s.chosen.round))))))
+    (format_by (record { notation = form.1; unit = unit; grouping = grouping }) (record options { sign = sign }) (shows_digits s.chosen))
+    (is_coarse_round s.chosen.round))))))
 
 -- what a skeleton asks
 abbrev pub skeleton_asked : Result Skeleton SkeletonError → Result NumbersAsked OptionFault

@@ -2,7 +2,7 @@
 -- Defined in docs/command.md, "Output" and "Refused numbers".
 -- Cited by `say`, and by what the command writes for numbers and texts.
 -- It joins readings of texts, options, formats and readers, which are defined in files of their own.
-use Rattle.std.specs.Prelude.{◌≡◌, ℕ, ◌&&◌, Bool, true, false, if◌then◌else◌, List, Option, Some, None, Result, Ok, Err}
+use Rattle.std.specs.Prelude.{◌≡◌, ℕ, ◌&&◌, Bool, if◌then◌else◌, List, Option, Some, None, Result, Ok, Err}
 use Rattle.std.specs.Str.{is_utf8}
 use Rattle.writeable.specs.AnnotatedText.{Event, bytes}
 use Rattle.writeable.specs.HeldParts.{Held, held_after}
@@ -21,10 +21,11 @@ use Rattle.locale_numbers_formats.specs.declared.Rounding.{Rounding}
 use Rattle.locale_numbers_formats.specs.declared.SignAsked.{SignAsked}
 use Rattle.locale_numbers_formatter.specs.FormatParts.{exact_format_events, format_events}
 use Rattle.locale_numbers_formatter.specs.FormatReading.{reader_of, reading_by_reader}
-use Rattle.locale_numbers_formatter.specs.FormatText.{FormatTables, compact_tables, fractions_in, plain_tables, unit_tables}
+use Rattle.locale_numbers_formatter.specs.FormatText.{FormatTables, fractions_in}
 use Rattle.locale_numbers_formatter.specs.FormatTyped.{reading_by_typed, typed_of}
+use Rattle.locale_numbers_formatter.specs.ShownOperands.{is_shown}
 use Rattle.locale_numbers_answers.specs.CompactReading.{CompactReading, compact_beyond, compact_nothing, compact_number, compact_reading_of}
-use Rattle.locale_numbers_answers.specs.NumberAnswer.{can_be_shown, is_form_in_range, signed_form}
+use Rattle.locale_numbers_answers.specs.NumberAnswer.{is_form_in_range, signed_form}
 use Rattle.locale_numbers_answers.specs.NumberReading.{Reading, beyond, nothing, number, reading_of}
 use Rattle.locale_numbers_answers.specs.ReadAnswer.{fraction_asked, own_reading}
 use Rattle.locale_numbers_requests.specs.RangeEnds.{range_ends}
@@ -47,14 +48,8 @@ says events = Ok (held_after events)
 
 -- ---- written
 
--- only what compact text shows may be no decimal
-abbrev pub can_be_written : FormatTables → SignedValue Number → Bool
-can_be_written (plain_tables t) value = true
-can_be_written (compact_tables t) value = can_be_shown t value
-can_be_written (unit_tables u) value = true
-
 abbrev pub number_saying : FormatTables → SignedValue Number → Saying
-number_saying f value = if can_be_written f value then says (format_events f value) else Err (Refused refusal.Range)
+number_saying f value = if is_shown f value then says (format_events f value) else Err (Refused refusal.Range)
 
 abbrev pub written_saying : Option FormatTables → NumberOptions → SignedValue Number → Saying
 written_saying None options value = Err (Refused refusal.Table)
@@ -107,8 +102,8 @@ text_saying (by.WritesExact found sign) text = exact_saying found sign (compact_
 text_saying by.NoTable text = Err (Refused refusal.Table)
 text_saying (by.Reads reader fraction) text = read_saying (own_reading fraction (reading_by_reader reader text))
 text_saying (by.ReadsTyped reader) text = read_saying (reading_by_typed reader text)
-text_saying (by.Categories found rules options coarse) text = reading_category_saying found rules options coarse (reading_of text)
-text_saying (by.RangeCategories found rules options coarse) text = range_reading_saying found rules options coarse (range_ends text)
+text_saying (by.Categories sayer) text = reading_category_saying sayer (reading_of text)
+text_saying (by.RangeCategories sayer) text = range_reading_saying sayer (range_ends text)
 
 -- a text that is not UTF-8 is none
 abbrev pub saying : Sayer → List ℕ → Saying
@@ -136,5 +131,5 @@ sayer_for task.Write format coarse found second rules = by.Writes found format.o
 sayer_for task.WriteExact format coarse found second rules = by.WritesExact found format.options.sign
 sayer_for task.Read format coarse found second rules = reads_by found format.options.rounding
 sayer_for task.ReadLenient format coarse found second rules = reads_typed_by found second
-sayer_for (task.Category rule_type) format coarse found second rules = by.Categories found rules format.options coarse
-sayer_for task.RangeCategory format coarse found second rules = by.RangeCategories found rules format.options coarse
+sayer_for (task.Category rule_type) format coarse found second rules = by.Categories (record { found = found; rules = rules; options = format.options; is_coarse = coarse })
+sayer_for task.RangeCategory format coarse found second rules = by.RangeCategories (record { found = found; rules = rules; options = format.options; is_coarse = coarse })

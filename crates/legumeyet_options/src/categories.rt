@@ -1,6 +1,6 @@
 //! The plural categories of numbers and of ranges, as they are shown.
 
-ghost use Rattle.std.specs.Prelude.{◌≡◌, ◌≢◌, Ok, Err, IfOk, IfErr, Some, option_map};
+ghost use Rattle.std.specs.Prelude.{◌≡◌, ◌≢◌, Ok, Err, IfOk, IfErr};
 ghost use Rattle.locale_numbers_answers.specs.CategoryAnswer.{shown_category, shown_range_category};
 ghost use Rattle.locale_numbers_answers.specs.NumberReading.{reading_of};
 ghost use Rattle.locale_numbers_formats.specs.Changed.{changed};
@@ -15,7 +15,7 @@ use locale_numbers_answers::{shown_category, shown_range_category};
 use locale_numbers_formats::NumberOptions;
 use locale_numbers_formatter::NumberFormatter;
 use locale_numbers_requests::{Refusal, cut_range};
-use std::alloc::Global;
+use std::alloc::{AllocError, Global};
 use std::marker::Model;
 use writeable::PartsSink;
 
@@ -70,138 +70,35 @@ fn say_found(alloc: Global, category: Option<PluralCategory>) -> Result<PartsSin
     }
 }
 
-// The category of a number, as the options change it.
+// The category of a number, as options change it.
 fn category_by(
     formatter: &NumberFormatter<'_>,
     rules: &SayerRules<'_>,
     options: NumberOptions,
     value: &mut Decimal,
-) -> Result<Option<PluralCategory>, NotSaid>
-    ensures value { IfOk result (λ category. category
+) -> Result<Option<PluralCategory>, AllocError>
+    ensures { IfOk result (λ category. category
         ≡ shown_category formatter.now rules.now.0 (changed options (fractions_in formatter.now) value.old)) }
-    ensures memory { IfErr result (λ why. why ≡ NotSaid.Memory) }
 {
-    match options.change(formatter.fractions(), value) {
-        Ok(()) => Ok(shown_category(formatter, rules.rules(), value)),
-        Err(_) => Err(NotSaid::Memory),
-    }
+    options.change(formatter.fractions(), value)?;
+    shown_category(formatter, rules.rules(), value)
 }
 
-// The same, where there is a formatter and there are rules.
-fn category_of(
-    found: Option<&NumberFormatter<'_>>,
-    rules: Option<&SayerRules<'_>>,
-    options: NumberOptions,
-    mut value: Decimal,
-) -> Result<Option<PluralCategory>, NotSaid>
-    ensures value { IfOk result (λ category. found_category (option_map (λ f. f.now) found.entry)
-        (option_map (λ r. r.now) rules.entry) options value ≡ Ok category) }
-    ensures refused { IfErr result (λ why. why ≢ NotSaid.Memory → found_category (option_map (λ f. f.now) found.entry)
-        (option_map (λ r. r.now) rules.entry) options value ≡ Err why) }
-{
-    let Some(formatter) = found else {
-        return Err(NotSaid::Refused(Refusal::Table));
-    };
-    let Some(rules) = rules else {
-        return Err(NotSaid::Refused(Refusal::Table));
-    };
-    match category_by(formatter, rules, options, &mut value) {
-        Ok(category) => Ok(category),
-        Err(_) => Err(NotSaid::Memory),
-    }
-}
-
-// The category of a number.
-fn say_value_category(
-    alloc: Global,
-    found: Option<&NumberFormatter<'_>>,
-    rules: Option<&SayerRules<'_>>,
-    options: NumberOptions,
-    is_coarse: bool,
-    value: Decimal,
-) -> Result<PartsSink, NotSaid>
-    ensures said { IfOk result (λ sink. value_category_saying (option_map (λ f. f.now) found.entry)
-        (option_map (λ r. r.now) rules.entry) options is_coarse value ≡ Ok sink.held) }
-    ensures refused { IfErr result (λ why. why ≢ NotSaid.Memory → value_category_saying (option_map (λ f. f.now) found.entry)
-        (option_map (λ r. r.now) rules.entry) options is_coarse value ≡ Err why) }
-{
-    if is_coarse && has_fraction(&value) {
-        return Err(NotSaid::Coarse);
-    }
-    match category_of(found, rules, options, value) {
-        Ok(category) => say_found(alloc, category),
-        Err(why) => Err(why),
-    }
-}
-
-// The category of the number that a text says.
-pub(crate) fn say_category(
-    alloc: Global,
-    found: Option<&NumberFormatter<'_>>,
-    rules: Option<&SayerRules<'_>>,
-    options: NumberOptions,
-    is_coarse: bool,
-    text: &[u8],
-) -> Result<PartsSink, NotSaid>
-    ensures said { IfOk result (λ sink. reading_category_saying (option_map (λ f. f.now) found.entry)
-        (option_map (λ r. r.now) rules.entry) options is_coarse (reading_of text.now) ≡ Ok sink.held) }
-    ensures refused { IfErr result (λ why. why ≢ NotSaid.Memory
-        → reading_category_saying (option_map (λ f. f.now) found.entry)
-        (option_map (λ r. r.now) rules.entry) options is_coarse (reading_of text.now) ≡ Err why) }
-{
-    match number_of(alloc, text) {
-        Ok(value) => say_value_category(alloc, found, rules, options, is_coarse, value),
-        Err(why) => Err(why),
-    }
-}
-
-// The category of a range of two numbers, each as the options change it.
+// The category of a range of two numbers, each as options change it.
 fn range_category_by(
     formatter: &NumberFormatter<'_>,
     rules: &SayerRules<'_>,
     options: NumberOptions,
     first: &mut Decimal,
     second: &mut Decimal,
-) -> Result<Option<PluralCategory>, NotSaid>
-    ensures value { IfOk result (λ category. category ≡ shown_range_category formatter.now rules.now.0 rules.now.1
+) -> Result<Option<PluralCategory>, AllocError>
+    ensures { IfOk result (λ category. category ≡ shown_range_category formatter.now rules.now.0 rules.now.1
         (changed options (fractions_in formatter.now) first.old)
         (changed options (fractions_in formatter.now) second.old)) }
-    ensures memory { IfErr result (λ why. why ≡ NotSaid.Memory) }
 {
-    match options.change(formatter.fractions(), first) {
-        Ok(()) => {}
-        Err(_) => return Err(NotSaid::Memory),
-    }
-    match options.change(formatter.fractions(), second) {
-        Ok(()) => Ok(shown_range_category(formatter, &rules.found(), first, second)),
-        Err(_) => Err(NotSaid::Memory),
-    }
-}
-
-// The same, where there is a formatter and there are rules.
-fn range_category_of(
-    found: Option<&NumberFormatter<'_>>,
-    rules: Option<&SayerRules<'_>>,
-    options: NumberOptions,
-    mut first: Decimal,
-    mut second: Decimal,
-) -> Result<Option<PluralCategory>, NotSaid>
-    ensures value { IfOk result (λ category. found_range_category (option_map (λ f. f.now) found.entry)
-        (option_map (λ r. r.now) rules.entry) options first second ≡ Ok category) }
-    ensures refused { IfErr result (λ why. why ≢ NotSaid.Memory
-        → found_range_category (option_map (λ f. f.now) found.entry)
-        (option_map (λ r. r.now) rules.entry) options first second ≡ Err why) }
-{
-    let Some(formatter) = found else {
-        return Err(NotSaid::Refused(Refusal::Table));
-    };
-    let Some(rules) = rules else {
-        return Err(NotSaid::Refused(Refusal::Table));
-    };
-    match range_category_by(formatter, rules, options, &mut first, &mut second) {
-        Ok(category) => Ok(category),
-        Err(_) => Err(NotSaid::Memory),
-    }
+    options.change(formatter.fractions(), first)?;
+    options.change(formatter.fractions(), second)?;
+    shown_range_category(formatter, &rules.found(), first, second)
 }
 
 // Whether a digit of one of the ends is shown below the ones.
@@ -211,75 +108,128 @@ fn have_fraction(first: &Decimal, second: &Decimal) -> bool
     has_fraction(first) || has_fraction(second)
 }
 
-// The category of a range of two numbers.
-fn say_ends_category(
-    alloc: Global,
-    found: Option<&NumberFormatter<'_>>,
-    rules: Option<&SayerRules<'_>>,
-    options: NumberOptions,
-    is_coarse: bool,
-    first: Decimal,
-    second: Decimal,
-) -> Result<PartsSink, NotSaid>
-    ensures said { IfOk result (λ sink. ends_saying (option_map (λ f. f.now) found.entry)
-        (option_map (λ r. r.now) rules.entry) options is_coarse first second ≡ Ok sink.held) }
-    ensures refused { IfErr result (λ why. why ≢ NotSaid.Memory → ends_saying (option_map (λ f. f.now) found.entry)
-        (option_map (λ r. r.now) rules.entry) options is_coarse first second ≡ Err why) }
-{
-    if is_coarse && have_fraction(&first, &second) {
-        return Err(NotSaid::Coarse);
-    }
-    match range_category_of(found, rules, options, first, second) {
-        Ok(category) => say_found(alloc, category),
-        Err(why) => Err(why),
-    }
+/// What plural categories of numbers are told by.
+#[derive(Drop)]
+pub struct CategorySayer<'a> {
+    /// What shows the numbers, where the book has it.
+    pub found: Option<NumberFormatter<'a>>,
+    /// The rules, where it has them.
+    pub rules: Option<SayerRules<'a>>,
+    /// What is made of a number before.
+    pub options: NumberOptions,
+    /// Whether one with a fraction is refused.
+    pub is_coarse: bool,
 }
 
-// The category of the range whose ends two texts say.
-fn say_texts_category(
-    alloc: Global,
-    found: Option<&NumberFormatter<'_>>,
-    rules: Option<&SayerRules<'_>>,
-    options: NumberOptions,
-    is_coarse: bool,
-    first: &[u8],
-    second: &[u8],
-) -> Result<PartsSink, NotSaid>
-    ensures said { IfOk result (λ sink. ends_reading_saying (option_map (λ f. f.now) found.entry)
-        (option_map (λ r. r.now) rules.entry) options is_coarse (reading_of first.now) (reading_of second.now)
-        ≡ Ok sink.held) }
-    ensures refused { IfErr result (λ why. why ≢ NotSaid.Memory → ends_reading_saying (option_map (λ f. f.now) found.entry)
-        (option_map (λ r. r.now) rules.entry) options is_coarse (reading_of first.now) (reading_of second.now)
-        ≡ Err why) }
-{
-    let first = match number_of(alloc, first) {
-        Ok(value) => value,
-        Err(why) => return Err(why),
-    };
-    match number_of(alloc, second) {
-        Ok(second) => say_ends_category(alloc, found, rules, options, is_coarse, first, second),
-        Err(why) => Err(why),
-    }
-}
-
-// The category of the range that a text says.
-pub(crate) fn say_range_category(
-    alloc: Global,
-    found: Option<&NumberFormatter<'_>>,
-    rules: Option<&SayerRules<'_>>,
-    options: NumberOptions,
-    is_coarse: bool,
-    text: &[u8],
-) -> Result<PartsSink, NotSaid>
-    ensures said { IfOk result (λ sink. range_reading_saying (option_map (λ f. f.now) found.entry)
-        (option_map (λ r. r.now) rules.entry) options is_coarse (range_ends text.now) ≡ Ok sink.held) }
-    ensures refused { IfErr result (λ why. why ≢ NotSaid.Memory → range_reading_saying (option_map (λ f. f.now) found.entry)
-        (option_map (λ r. r.now) rules.entry) options is_coarse (range_ends text.now) ≡ Err why) }
-{
-    match cut_range(text) {
-        Some((first, second)) => {
-            say_texts_category(alloc, found, rules, options, is_coarse, first, second)
+impl CategorySayer<'_> {
+    // The category of a number, where there is a formatter and there are rules.
+    fn category_of(&self, mut value: Decimal) -> Result<Option<PluralCategory>, NotSaid>
+        ensures value { IfOk result (λ category. found_category self.now.found self.now.rules self.now.options value
+            ≡ Ok category) }
+        ensures refused { IfErr result (λ why. why ≢ NotSaid.Memory
+            → found_category self.now.found self.now.rules self.now.options value ≡ Err why) }
+    {
+        let Some(formatter) = &self.found else {
+            return Err(NotSaid::Refused(Refusal::Table));
+        };
+        let Some(rules) = &self.rules else {
+            return Err(NotSaid::Refused(Refusal::Table));
+        };
+        match category_by(formatter, rules, self.options, &mut value) {
+            Ok(category) => Ok(category),
+            Err(_) => Err(NotSaid::Memory),
         }
-        None => Err(NotSaid::Refused(Refusal::Number)),
+    }
+
+    // What is said of a number.
+    fn say_value(&self, alloc: Global, value: Decimal) -> Result<PartsSink, NotSaid>
+        ensures said { IfOk result (λ sink. value_category_saying self.now value ≡ Ok sink.held) }
+        ensures refused { IfErr result (λ why. why ≢ NotSaid.Memory → value_category_saying self.now value ≡ Err why) }
+    {
+        if self.is_coarse && has_fraction(&value) {
+            return Err(NotSaid::Coarse);
+        }
+        match self.category_of(value) {
+            Ok(category) => say_found(alloc, category),
+            Err(why) => Err(why),
+        }
+    }
+
+    // What is said of the number that a text says.
+    pub(crate) fn say(&self, alloc: Global, text: &[u8]) -> Result<PartsSink, NotSaid>
+        ensures said { IfOk result (λ sink. reading_category_saying self.now (reading_of text.now) ≡ Ok sink.held) }
+        ensures refused { IfErr result (λ why. why ≢ NotSaid.Memory
+            → reading_category_saying self.now (reading_of text.now) ≡ Err why) }
+    {
+        match number_of(alloc, text) {
+            Ok(value) => self.say_value(alloc, value),
+            Err(why) => Err(why),
+        }
+    }
+
+    // The category of a range of two numbers, where there is a formatter and there are rules.
+    fn range_category_of(
+        &self,
+        mut first: Decimal,
+        mut second: Decimal,
+    ) -> Result<Option<PluralCategory>, NotSaid>
+        ensures value { IfOk result (λ category.
+            found_range_category self.now.found self.now.rules self.now.options first second ≡ Ok category) }
+        ensures refused { IfErr result (λ why. why ≢ NotSaid.Memory
+            → found_range_category self.now.found self.now.rules self.now.options first second ≡ Err why) }
+    {
+        let Some(formatter) = &self.found else {
+            return Err(NotSaid::Refused(Refusal::Table));
+        };
+        let Some(rules) = &self.rules else {
+            return Err(NotSaid::Refused(Refusal::Table));
+        };
+        match range_category_by(formatter, rules, self.options, &mut first, &mut second) {
+            Ok(category) => Ok(category),
+            Err(_) => Err(NotSaid::Memory),
+        }
+    }
+
+    // What is said of a range of two numbers.
+    fn say_ends(&self, alloc: Global, first: Decimal, second: Decimal) -> Result<PartsSink, NotSaid>
+        ensures said { IfOk result (λ sink. ends_saying self.now first second ≡ Ok sink.held) }
+        ensures refused { IfErr result (λ why. why ≢ NotSaid.Memory → ends_saying self.now first second ≡ Err why) }
+    {
+        if self.is_coarse && have_fraction(&first, &second) {
+            return Err(NotSaid::Coarse);
+        }
+        match self.range_category_of(first, second) {
+            Ok(category) => say_found(alloc, category),
+            Err(why) => Err(why),
+        }
+    }
+
+    // What is said of the range whose ends two texts say.
+    fn say_texts(&self, alloc: Global, first: &[u8], second: &[u8]) -> Result<PartsSink, NotSaid>
+        ensures said { IfOk result (λ sink.
+            ends_reading_saying self.now (reading_of first.now) (reading_of second.now) ≡ Ok sink.held) }
+        ensures refused { IfErr result (λ why. why ≢ NotSaid.Memory
+            → ends_reading_saying self.now (reading_of first.now) (reading_of second.now) ≡ Err why) }
+    {
+        let first = match number_of(alloc, first) {
+            Ok(value) => value,
+            Err(why) => return Err(why),
+        };
+        match number_of(alloc, second) {
+            Ok(second) => self.say_ends(alloc, first, second),
+            Err(why) => Err(why),
+        }
+    }
+
+    // What is said of the range that a text says.
+    pub(crate) fn say_range(&self, alloc: Global, text: &[u8]) -> Result<PartsSink, NotSaid>
+        ensures said { IfOk result (λ sink. range_reading_saying self.now (range_ends text.now) ≡ Ok sink.held) }
+        ensures refused { IfErr result (λ why. why ≢ NotSaid.Memory
+            → range_reading_saying self.now (range_ends text.now) ≡ Err why) }
+    {
+        match cut_range(text) {
+            Some((first, second)) => self.say_texts(alloc, first, second),
+            None => Err(NotSaid::Refused(Refusal::Number)),
+        }
     }
 }

@@ -3,7 +3,7 @@
 ghost use Rattle.std.specs.Prelude.{◌≡◌, ◌∷◌, option_map};
 ghost use Rattle.locale_numbers_formats.specs.Cutting.{cut_at};
 ghost use Rattle.locale_numbers_requests.specs.RoundingField.{comma, position_named};
-ghost use Rattle.legumeyet_options.specs.Digits.{at_least, between, chooses_digits, counts_said, digits_by, digits_said, exactly, fraction_said, is_coarse, options_by, round_by, round_in, round_said, rounded_at, rounded_options, words_of};
+ghost use Rattle.legumeyet_options.specs.Digits.{at_least, between, chooses_digits, counts_said, digits_by, digits_said, exactly, fraction_said, is_coarse, options_by, round_by, round_in, round_said, rounded_at, rounded_options, shows_digits, words_of};
 
 use crate::fault::OptionFault;
 use crate::significant::with_significant;
@@ -232,5 +232,12 @@ impl DigitWords<'_> {
             || self.min_digits.is_some()
             || self.significant.is_some()
             || self.priority.is_some()
+    }
+
+    // Whether they are those of what is shown, and no rounding before that.
+    pub(crate) fn are_shown(&self) -> bool
+        ensures { result ≡ shows_digits (words_of self.now) }
+    {
+        self.are_chosen() && !(self.is_in_cash || self.round.is_some())
     }
 }

@@ -56,7 +56,8 @@ Digits:
   needed; --min-digits 2 two at least. The last two may be given together. --significant 3 shows three
   digits from the first one that is not zero on, and --significant 1-3 three at most; beside --digits or
   --max-digits --priority more takes what shows more digits, and less what shows fewer. They round half
-  to even.
+  to even. With --form short and long they are the digits of what is shown, 1.23M by --max-digits 2,
+  and --round rounds the number before.
   --round -2 rounds to hundredths and shows both digits, 0 rounds to whole numbers, 3 to thousands. A
   mode may follow, and then an increment: -2,floor and -2,half-even,5. The modes are expand, trunc,
   ceil, floor, half-expand, half-trunc, half-ceil, half-floor and half-even, the increments 1, 2, 5, 10,
@@ -111,6 +112,9 @@ Examples:
 
   $ legumeyet --tag de --form long 1234567
   1,2 Millionen
+
+  $ legumeyet --tag de --form long --max-digits 2 1234567
+  1,23 Millionen
 
   $ legumeyet --tag de --currency EUR 1234.5
   1.234,50 €

@@ -62,7 +62,10 @@ fn texts_of<'a>(formatter: &NumberFormatter<'a>) -> Option<TextTables<'a>>
         FormatterKind::Plain(plain) => {
             TextTables::of(plain.symbols(), plain.digits(), plain.tables().strategy())
         }
-        FormatterKind::Compact(_) | FormatterKind::Percent(_) | FormatterKind::Currency(_) => None,
+        FormatterKind::Compact(_)
+        | FormatterKind::CompactDigits(_)
+        | FormatterKind::Percent(_)
+        | FormatterKind::Currency(_) => None,
     }
 }
 

@@ -16,7 +16,7 @@ mod options;
 mod saying;
 mod significant;
 
-pub use categories::SayerRules;
+pub use categories::{CategorySayer, SayerRules};
 pub use digits::DigitWords;
 pub use fault::OptionFault;
 pub use invalid::Invalid;

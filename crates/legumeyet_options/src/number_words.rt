@@ -3,12 +3,12 @@
 ghost use Rattle.std.specs.Prelude.{◌≡◌, option_map};
 ghost use Rattle.locale_numbers_formats.specs.Skeletons.{skeleton_of};
 ghost use Rattle.legumeyet_options.specs.NumberForms.{form_said};
-ghost use Rattle.legumeyet_options.specs.NumberWords.{after, asked_by, asked_for, categories_asked, form_asked, grouping_asked, is_coarse_round, numbers_asked, numbers_said, reading_asked, sign_asked, skeleton_asked, task_fault, unit_asked, words_asked};
+ghost use Rattle.legumeyet_options.specs.NumberWords.{after, asked_by, asked_for, categories_asked, form_asked, format_by, grouping_asked, is_coarse_round, numbers_asked, numbers_said, percent_unit, reading_asked, sign_asked, skeleton_asked, task_fault, unit_asked, words_asked};
 
 use crate::digits::{DigitWords, is_coarse};
 use crate::fault::OptionFault;
 use icu_decimal_symbols::options::GroupingStrategy;
-use icu_dimension_fractions::{CurrencyCode, CurrencyStyle, CurrencyWidth};
+use icu_dimension_fractions::{CurrencyCode, CurrencyStyle, CurrencyWidth, PercentSign};
 use icu_plurals::PluralRuleType;
 use locale_numbers_formats::{
     CompactWidth, CurrencyUnit, Notation, NumberFormat, NumberOptions, NumberShape, NumberUnit,
@@ -29,10 +29,8 @@ pub struct NumberWords<'a> {
     pub is_accounting: bool,
     /// Whether `--code` is.
     pub is_by_code: bool,
-    /// Whether `--percent` is.
-    pub is_percent: bool,
-    /// Whether `--permille` is.
-    pub is_permille: bool,
+    /// With which sign percents are written: that of permilles with `--permille`.
+    pub percent: Option<PercentSign>,
     /// That of `--grouping`: `min2`.
     pub grouping: Option<&'a str>,
     /// That of `--sign`: `always`.
@@ -165,24 +163,27 @@ fn sign_asked(word: Option<&str>) -> Result<SignAsked, OptionFault>
     }
 }
 
-// What `--currency` and the options beside it ask, or `--percent` or `--permille`.
+// What a sign of percents asks.
+fn percent_unit(percent: Option<PercentSign>) -> NumberUnit
+    ensures { result ≡ percent_unit percent }
+{
+    match percent {
+        None => NumberUnit::None,
+        Some(sign) => NumberUnit::Percent(sign),
+    }
+}
+
+// What `--currency` and the options beside it ask, or a sign of percents.
 fn unit_asked(
     code: Option<&str>,
     accounting: bool,
     by_code: bool,
-    percent: bool,
-    permille: bool,
+    percent: Option<PercentSign>,
 ) -> Result<NumberUnit, OptionFault>
-    ensures { result ≡ unit_asked (option_map (λ word. word.now) code.entry) accounting by_code percent permille }
+    ensures { result ≡ unit_asked (option_map (λ word. word.now) code.entry) accounting by_code percent }
 {
     let Some(code) = code else {
-        return Ok(if percent {
-            NumberUnit::Percent
-        } else if permille {
-            NumberUnit::Permille
-        } else {
-            NumberUnit::None
-        });
+        return Ok(percent_unit(percent));
     };
     match CurrencyCode::try_from_str(code) {
         Ok(code) => Ok(NumberUnit::Currency(CurrencyUnit {
@@ -232,28 +233,41 @@ fn is_coarse_round(word: Option<&str>) -> bool
     }
 }
 
-// What a task, a shape and options make, where nothing is wrong with them.
+// The format of a shape and options: digits that are shown are those before a compact pattern.
+fn format_by(shape: NumberShape, options: NumberOptions, are_shown: bool) -> NumberFormat
+    ensures { result ≡ format_by shape options are_shown }
+{
+    match shape.notation {
+        Notation::Compact(width) if are_shown => NumberFormat {
+            shape: NumberShape {
+                notation: Notation::CompactDigits(width, options),
+                ..shape
+            },
+            options: NumberOptions::unchanged(),
+        },
+        Notation::Standard | Notation::Compact(_) | Notation::CompactDigits(_, _) => {
+            NumberFormat { shape, options }
+        }
+    }
+}
+
+// What a task and a format make, where nothing is wrong with them.
 fn asked_by(
     fault: Option<OptionFault>,
     task: Task,
-    shape: NumberShape,
-    sign: SignAsked,
-    options: NumberOptions,
+    format: NumberFormat,
     is_coarse: bool,
 ) -> Result<NumbersAsked, OptionFault>
-    ensures { result ≡ asked_by fault task shape sign options is_coarse }
+    ensures { result ≡ asked_by fault task format is_coarse }
 {
-    if let Some(fault) = fault {
-        return Err(fault);
+    match fault {
+        Some(fault) => Err(fault),
+        None => Ok(NumbersAsked {
+            task,
+            format,
+            is_coarse,
+        }),
     }
-    Ok(NumbersAsked {
-        task,
-        format: NumberFormat {
-            shape,
-            options: NumberOptions { sign, ..options },
-        },
-        is_coarse,
-    })
 }
 
 // What a skeleton asks.
@@ -306,8 +320,7 @@ impl NumberWords<'_> {
             self.currency,
             self.is_accounting,
             self.is_by_code,
-            self.is_percent,
-            self.is_permille,
+            self.percent,
         )?;
         let grouping = grouping_asked(self.grouping)?;
         let sign = sign_asked(self.sign)?;
@@ -317,15 +330,10 @@ impl NumberWords<'_> {
             unit,
             grouping,
         };
+        let options = NumberOptions { sign, ..options };
         let fault = task_fault(task, sign, self.chosen.are_chosen());
-        asked_by(
-            fault,
-            task,
-            shape,
-            sign,
-            options,
-            is_coarse_round(self.chosen.round),
-        )
+        let format = format_by(shape, options, self.chosen.are_shown());
+        asked_by(fault, task, format, is_coarse_round(self.chosen.round))
     }
 
     /// What the words ask of numbers: of `--currency EUR --digits 3` that they are written as amounts in euros, to

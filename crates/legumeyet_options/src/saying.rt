@@ -13,10 +13,11 @@ ghost use Rattle.locale_numbers_formatter.specs.FormatReading.{reading_by_reader
 ghost use Rattle.locale_numbers_formatter.specs.FormatText.{CanFormat};
 ghost use Rattle.locale_numbers_formatter.specs.FormatParts.{format_events};
 ghost use Rattle.locale_numbers_formatter.specs.FormatTyped.{reading_by_typed};
+ghost use Rattle.locale_numbers_formatter.specs.ShownOperands.{is_shown};
 ghost use Rattle.legumeyet_options.specs.Fractions.{has_fraction};
-ghost use Rattle.legumeyet_options.specs.Sayings.{can_be_written, exact_saying, form_saying, IsNoReading, number_saying, read_saying, reading_saying, reads_by, reads_typed_by, sayer_for, saying, text_saying, value_saying, written_saying};
+ghost use Rattle.legumeyet_options.specs.Sayings.{exact_saying, form_saying, IsNoReading, number_saying, read_saying, reading_saying, reads_by, reads_typed_by, sayer_for, saying, text_saying, value_saying, written_saying};
 
-use crate::categories::{SayerRules, say_category, say_range_category};
+use crate::categories::{CategorySayer, SayerRules};
 use fixed_decimal::{CompactDecimal, Decimal, ParseError};
 use icu_decimal::error::ReadError;
 use icu_dimension_fractions::{Fraction, FractionInfo};
@@ -43,11 +44,10 @@ pub enum Sayer<'a> {
     Reads(NumberReader<'a>, Option<Fraction>),
     /// Texts are read that people typed.
     ReadsTyped(LenientNumberReader<'a>),
-    /// Plural categories of numbers as they are shown, with these options, by a formatter and by rules where the book has
-    /// both. One with a fraction is refused where numbers are written so.
-    Categories(Option<NumberFormatter<'a>>, Option<SayerRules<'a>>, NumberOptions, bool),
+    /// Plural categories of numbers as they are shown.
+    Categories(CategorySayer<'a>),
     /// The same of ranges, as `1..5`.
-    RangeCategories(Option<NumberFormatter<'a>>, Option<SayerRules<'a>>, NumberOptions, bool),
+    RangeCategories(CategorySayer<'a>),
 }
 
 /// Why nothing is said of a text.
@@ -73,9 +73,9 @@ pub(crate) fn held<T: Writeable>(alloc: Global, value: &T) -> Result<PartsSink, 
     }
 }
 
-// Whether a number can be written.
-fn can_be_written(formatter: &NumberFormatter<'_>, value: &Decimal) -> bool
-    ensures value { result ≡ can_be_written formatter.now value.now }
+// Whether a number has a text.
+fn is_shown(formatter: &NumberFormatter<'_>, value: &Decimal) -> bool
+    ensures value { result ≡ is_shown formatter.now value.now }
     ensures can { IsTrue result → CanFormat formatter.now value.now }
 {
     formatter.can_format(value)
@@ -106,7 +106,7 @@ fn say_number(
     ensures said { IfOk result (λ sink. number_saying formatter.now value.now ≡ Ok sink.held) }
     ensures refused { IfErr result (λ why. why ≢ NotSaid.Memory → number_saying formatter.now value.now ≡ Err why) }
 {
-    if can_be_written(formatter, value) {
+    if is_shown(formatter, value) {
         say_formatted(alloc, formatter, value)
     } else {
         Err(NotSaid::Refused(Refusal::Range))
@@ -370,10 +370,18 @@ impl<'a> Sayer<'a> {
             Task::WriteExact => Ok(Sayer::WritesExact(found, format.options.sign)),
             Task::Read => reads_by(alloc, found.as_ref(), format.options.rounding),
             Task::ReadLenient => reads_typed_by(alloc, found.as_ref(), second),
-            Task::Category(_) => Ok(Sayer::Categories(found, rules, format.options, is_coarse)),
-            Task::RangeCategory => {
-                Ok(Sayer::RangeCategories(found, rules, format.options, is_coarse))
-            }
+            Task::Category(_) => Ok(Sayer::Categories(CategorySayer {
+                found,
+                rules,
+                options: format.options,
+                is_coarse,
+            })),
+            Task::RangeCategory => Ok(Sayer::RangeCategories(CategorySayer {
+                found,
+                rules,
+                options: format.options,
+                is_coarse,
+            })),
         }
     }
 
@@ -391,22 +399,8 @@ impl<'a> Sayer<'a> {
             Sayer::WritesExact(found, sign) => say_exact(alloc, found.as_ref(), *sign, text),
             Sayer::Reads(reader, fraction) => say_read(alloc, reader, *fraction, text),
             Sayer::ReadsTyped(reader) => say_typed(alloc, reader, text),
-            Sayer::Categories(found, rules, options, is_coarse) => say_category(
-                alloc,
-                found.as_ref(),
-                rules.as_ref(),
-                *options,
-                *is_coarse,
-                text.as_bytes(),
-            ),
-            Sayer::RangeCategories(found, rules, options, is_coarse) => say_range_category(
-                alloc,
-                found.as_ref(),
-                rules.as_ref(),
-                *options,
-                *is_coarse,
-                text.as_bytes(),
-            ),
+            Sayer::Categories(sayer) => sayer.say(alloc, text.as_bytes()),
+            Sayer::RangeCategories(sayer) => sayer.say_range(alloc, text.as_bytes()),
         }
     }
 

@@ -3,7 +3,6 @@ use Rattle.std.proofs.Common.{◌≡◌, Some, Result, Ok, Err, refl, subst}
 use Rattle.icu_decimal.specs.PlainText.{Tables}
 use Rattle.icu_decimal.specs.declared.error.DataError.{DataError}
 use Rattle.icu_dimension.specs.UnitReading.{AreReaderTexts, reader_texts}
-use Rattle.icu_dimension.specs.declared.PercentSign.TheVariants as sign
 use Rattle.locale_numbers_book.specs.FoundFormats.{amount_options, mapped, percent_options}
 use Rattle.locale_numbers_book.specs.Laws.{FoundAmountsAreTexts, FoundPercentsAreTexts}
 use Rattle.locale_numbers_book.specs.TagFormatters.{currency_found_in, found_plain, percent_found_in}
@@ -38,12 +37,9 @@ found_units_are_texts percents amounts value book is unit.None preferences group
     none : (r : Result Tables DataError) → mapped plain_tables r ≡ Ok (unit_tables found) → HasTexts found
     none (Ok tables) same = absurd (cc)
     none (Err error) same = absurd (cc)
-found_units_are_texts percents amounts value book is unit.Percent preferences grouping found coded same =
-    units_by (percent_format sign.Percent) (percent_found_in book preferences (percent_options sign.Percent grouping)) found
-    (λ settings there. percents value book is preferences (percent_options sign.Percent grouping) settings there) same
-found_units_are_texts percents amounts value book is unit.Permille preferences grouping found coded same =
-    units_by (percent_format sign.Permille) (percent_found_in book preferences (percent_options sign.Permille grouping)) found
-    (λ settings there. percents value book is preferences (percent_options sign.Permille grouping) settings there) same
+found_units_are_texts percents amounts value book is (unit.Percent sign) preferences grouping found coded same =
+    units_by (percent_format sign) (percent_found_in book preferences (percent_options sign grouping)) found
+    (λ settings there. percents value book is preferences (percent_options sign grouping) settings there) same
 found_units_are_texts percents amounts value book is (unit.Currency currency) preferences grouping found coded same =
     units_by (currency_format currency.code) (currency_found_in book preferences currency.code (amount_options currency grouping)) found
     (λ settings there. amounts value book is preferences currency.code (amount_options currency grouping) settings coded there) same

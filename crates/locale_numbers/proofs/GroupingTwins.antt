@@ -1,5 +1,5 @@
 -- The groupings `auto` and `always` have one answer: `specs/Laws.antt`.
-use Rattle.std.proofs.Common.{◌≡◌, ◌==◌, ℕ, Bool, true, false, List, Option, Some, None, Result, Ok, Err, refl, ap, ◌∙◌}
+use Rattle.std.proofs.Common.{◌≡◌, ◌==◌, ℕ, Bool, true, false, cond, List, Option, Some, None, Result, Ok, Err, refl, sym, ap, ap₂, ◌∙◌}
 use Rattle.std.specs.Prelude.{if◌then◌else◌, option_and_then, option_map}
 use Rattle.std.specs.Result.{result_ok}
 use Rattle.std.specs.Str.{bytes_eq}
@@ -17,24 +17,21 @@ use Rattle.icu_decimal.specs.FoundTables.{with_digits, with_symbols}
 use Rattle.icu_decimal.specs.Identifiers.{digits_identifiers, symbols_identifiers}
 use Rattle.icu_decimal.specs.KeptEntries.{CompactTable}
 use Rattle.icu_decimal.specs.Folding.{plain_digits}
+use Rattle.icu_decimal.specs.Pattern.{PatternText}
 use Rattle.icu_decimal.specs.PlainText.{Tables}
 use Rattle.icu_decimal.specs.Rules.{Rules}
 use Rattle.icu_decimal.specs.ShownChoice.{exact_entry}
 use Rattle.icu_decimal.specs.SameSymbols.{same_symbols}
 use Rattle.icu_decimal.specs.Symbols.{Symbols}
-use Rattle.icu_dimension.specs.FoundUnits.{amount_settings, percent_settings, sign_found, then_found, unit_locales, with_own}
-use Rattle.icu_dimension.specs.HeldFormatters.{typed_sign}
+use Rattle.icu_dimension.specs.FoundUnits.{CurrencySettings, amount_settings, percent_settings, sign_found, then_found, unit_locales, with_own}
 use Rattle.icu_dimension.specs.ProvidedUnits.{AmountTexts, PercentTexts, SymbolText}
 use Rattle.icu_dimension.specs.UnitChoice.{amounts_found, fractions_found, name_found, percent_found}
-use Rattle.icu_dimension.specs.UnitPatterns.{PatternTexts, chosen}
-use Rattle.icu_dimension.specs.UnitText.{UnitName}
+use Rattle.icu_dimension.specs.UnitPatterns.{chosen}
 use Rattle.icu_dimension.specs.declared.FractionInfo.{FractionInfo}
 use Rattle.icu_dimension.specs.declared.PercentSign.{PercentSign}
-use Rattle.icu_dimension.specs.declared.PercentSign.TheVariants as sign
 use Rattle.icu_dimension.specs.declared.UnitKind.TheVariants as kind
 use Rattle.icu_locale_core.specs.TagPreferences.{Preferences}
 use Rattle.icu_plurals.specs.declared.PluralRange.{PluralRange}
-use Rattle.icu_plurals.specs.declared.PluralRuleType.{PluralRuleType}
 use Rattle.icu_plurals.specs.declared.PluralRuleType.TheVariants.{Cardinal}
 use Rattle.locale_numbers_answers.specs.Answers.{answer_by, exact_found, read_found, typed_found, written_to}
 use Rattle.locale_numbers_answers.specs.CategoryAnswer.{category_found, category_to, range_category_to, range_ends_to, range_found}
@@ -43,22 +40,25 @@ use Rattle.locale_numbers_answers.specs.NumberAnswer.{exact_written, is_form_in_
 use Rattle.locale_numbers_answers.specs.NumberReading.{Reading, beyond, nothing, number, reading_of}
 use Rattle.locale_numbers_answers.specs.ReadAnswer.{read_answer}
 use Rattle.locale_numbers_book.specs.Book.{BookTables}
-use Rattle.locale_numbers_book.specs.FoundFormats.{amounts_by, in_latin, mapped, notation_found, percents_with, second_for, with_symbols_of}
+use Rattle.locale_numbers_book.specs.FoundFormats.{amount_options, amounts_by, compact_found, in_ascii, in_latin, mapped, notation_found, percent_options, plainly_written, second_for, with_symbols_of}
 use Rattle.locale_numbers_book.specs.Tables.{chain_in, digits_under, rules_under, symbols_under}
-use Rattle.locale_numbers_book.specs.TagFormatters.{currencies_in, found_plain, patterns_under, percents_in}
+use Rattle.locale_numbers_book.specs.TagFormatters.{currencies_in, currency_found_in, found_plain, patterns_under, percent_found_in, percents_in}
 use Rattle.locale_numbers_book.specs.Wanted.{wanted_of}
+use Rattle.locale_numbers_formats.specs.declared.CompactWidth.{CompactWidth}
+use Rattle.locale_numbers_formats.specs.declared.CurrencyUnit.{CurrencyUnit}
 use Rattle.locale_numbers_formats.specs.declared.Notation.{Notation}
-use Rattle.locale_numbers_formats.specs.declared.Notation.TheVariants.{Standard, Compact}
-use Rattle.locale_numbers_formats.specs.declared.NumberFormat.{NumberFormat}
+use Rattle.locale_numbers_formats.specs.declared.Notation.TheVariants.{Standard, Compact, CompactDigits}
 use Rattle.locale_numbers_formats.specs.declared.NumberOptions.{NumberOptions}
+use Rattle.locale_numbers_formats.specs.declared.NumberShape.{NumberShape}
 use Rattle.locale_numbers_formats.specs.declared.NumberUnit.{NumberUnit}
 use Rattle.locale_numbers_formats.specs.declared.NumberUnit.TheVariants as unit
 use Rattle.locale_numbers_formats.specs.declared.Rounding.{Rounding}
 use Rattle.locale_numbers_formats.specs.declared.SignAsked.{SignAsked}
-use Rattle.locale_numbers_formatter.specs.ExactForms.{under_entry}
-use Rattle.locale_numbers_formatter.specs.FormatText.{FormatTables, UnitFormat, compact_tables, plain_tables, shown_as_it_is, text_of_shown, unit_tables}
-use Rattle.locale_numbers_formatter.specs.FormatTyped.{plain_in, typed_unit, unit_in, units_in_turn}
+use Rattle.locale_numbers_formatter.specs.ExactForms.{exact_format_text, under_entry}
+use Rattle.locale_numbers_formatter.specs.FormatText.{FormatTables, UnitFormat, compact_tables, digit_tables, digits_tables, plain_tables, shown_as_it_is, shown_in, text_of_shown, unit_tables}
+use Rattle.locale_numbers_formatter.specs.FormatTyped.{format_typed_reading, plain_in, typed_unit, unit_in, units_in_turn}
 use Rattle.locale_numbers_formatter.specs.HeldFormats.{currency_format, percent_format}
+use Rattle.locale_numbers_formatter.specs.Regrouped.{compact_regrouped, plain_regrouped, regrouped, unit_regrouped}
 use Rattle.locale_numbers_formatter.specs.TypedPlain.{reading_by}
 use Rattle.locale_numbers_formatter.specs.TypedUnits.{lenient_unit_reading, unit_reading_by}
 use Rattle.locale_numbers_formatter.proofs.LenientUnitLemmas.{in_turn_same}
@@ -70,355 +70,294 @@ use Rattle.locale_numbers_requests.specs.declared.Task.TheVariants.{Write, Write
 use Rattle.locale_numbers.specs.Answer.{answer_tagged, plural_rules_for, refused}
 use Rattle.locale_numbers.specs.Laws.{AutoIsAnsweredAsAlways, grouped_by}
 
--- ---- what is found
+-- ---- what is found with any grouping: what is found with `auto`, regrouped
 
--- tables of the two groupings, which differ in nothing else
-data AreTwins : Result Tables DataError → Result Tables DataError → Type 0 where
-  found : (symbols : Symbols) (digits : List ℕ)
-      → AreTwins (Ok (record { symbols = symbols; digits = digits; strategy = Auto })) (Ok (record { symbols = symbols; digits = digits; strategy = Always }))
-  failed : (error : DataError) → AreTwins (Err error) (Err error)
+-- amounts with another grouping
+abbrev amount_regrouped : GroupingStrategy → CurrencySettings → CurrencySettings
+amount_regrouped by settings = record settings { unit = unit_regrouped by settings.unit }
 
-twin_digits : (symbols : Symbols) (answer : Result (List ℕ) DataError) → AreTwins (with_digits Auto symbols answer) (with_digits Always symbols answer)
-twin_digits symbols (Ok digits) = found symbols digits
-twin_digits symbols (Err error) = failed error
+module _ (by : GroupingStrategy) where
+  -- what is made of what is found
+  through : {A : Type 0} (f : A → FormatTables) (regroup : A → A) → ((a : A) → f (regroup a) ≡ regrouped by (f a)) → (one two : Result A DataError) → one ≡ mapped regroup two
+      → mapped f one ≡ mapped (regrouped by) (mapped f two)
+  through {A = A} f regroup same one two is = ap (mapped f) is ∙ past two
+    where
+      past : (r : Result A DataError) → mapped f (mapped regroup r) ≡ mapped (regrouped by) (mapped f r)
+      past (Ok a) = ap (λ g. Ok g) (same a)
+      past (Err error) = refl
 
-twin_symbols : (book : BookTables) (p : Preferences) (answer : Result Symbols DataError)
-    → AreTwins (with_symbols Auto (digits_under book) p answer) (with_symbols Always (digits_under book) p answer)
-twin_symbols book p (Ok symbols) = twin_digits symbols (first_found (digits_under book) (digits_identifiers p.numbering_system symbols.strings.numsys))
-twin_symbols book p (Err error) = failed error
+  digits_by : (symbols : Symbols) (r : Result (List ℕ) DataError) → with_digits by symbols r ≡ mapped (plain_regrouped by) (with_digits Auto symbols r)
+  digits_by symbols (Ok digits) = refl
+  digits_by symbols (Err error) = refl
 
-twins_of : (book : BookTables) (p : Preferences) → AreTwins (found_plain book p (Some Auto)) (found_plain book p (Some Always))
-twins_of book p = twin_symbols book p (first_found (symbols_under book) (symbols_identifiers (chain_in book) p))
+  symbols_by : (book : BookTables) (p : Preferences) (r : Result Symbols DataError) → with_symbols by (digits_under book) p r ≡ mapped (plain_regrouped by) (with_symbols Auto (digits_under book) p r)
+  symbols_by book p (Ok symbols) = digits_by symbols (first_found (digits_under book) (digits_identifiers p.numbering_system symbols.strings.numsys))
+  symbols_by book p (Err error) = refl
 
--- the same of formats
-data AreFormatTwins : Result FormatTables DataError → Result FormatTables DataError → Type 0 where
-  plain_found : (symbols : Symbols) (digits : List ℕ)
-      → AreFormatTwins
-      (Ok (plain_tables (record { symbols = symbols; digits = digits; strategy = Auto })))
-      (Ok (plain_tables (record { symbols = symbols; digits = digits; strategy = Always })))
-  shown_found : (symbols : Symbols) (digits : List ℕ) (rules : Rules) (patterns : CompactTable)
-      → AreFormatTwins
-      (Ok (compact_tables (record { plain = record { symbols = symbols; digits = digits; strategy = Auto }; rules = rules; patterns = patterns })))
-      (Ok (compact_tables (record { plain = record { symbols = symbols; digits = digits; strategy = Always }; rules = rules; patterns = patterns })))
-  unit_found : (symbols : Symbols) (digits : List ℕ) (pattern : PatternTexts) (name : UnitName) (code : List ℕ) (fractions : Option FractionInfo)
-      → AreFormatTwins
-      (Ok (unit_tables (record { settings = record { tables = record { symbols = symbols; digits = digits; strategy = Auto }; pattern = pattern; unit = name }; code = code; fractions = fractions })))
-      (Ok (unit_tables (record { settings = record { tables = record { symbols = symbols; digits = digits; strategy = Always }; pattern = pattern; unit = name }; code = code; fractions = fractions })))
-  none_found : (error : DataError) → AreFormatTwins (Err error) (Err error)
+  plain_by : (book : BookTables) (p : Preferences) → found_plain book p (Some by) ≡ mapped (plain_regrouped by) (found_plain book p (Some Auto))
+  plain_by book p = symbols_by book p (first_found (symbols_under book) (symbols_identifiers (chain_in book) p))
 
-plain_twins : (one two : Result Tables DataError) → AreTwins one two → AreFormatTwins (mapped plain_tables one) (mapped plain_tables two)
-plain_twins one two (found symbols digits) = plain_found symbols digits
-plain_twins one two (failed error) = none_found error
+  patterns_by : (plain : Result Tables DataError) (rules : Result Rules DataError) (patterns : Result CompactTable DataError)
+      → with_plain (mapped (plain_regrouped by) plain) rules patterns ≡ mapped (compact_regrouped by) (with_plain plain rules patterns)
+  patterns_by (Ok plain) (Ok rules) (Ok patterns) = refl
+  patterns_by _ _ _ = refl
 
-compact_twins : (one two : Result Tables DataError) → AreTwins one two → (rules : Result Rules DataError) (patterns : Result CompactTable DataError)
-    → AreFormatTwins (mapped compact_tables (with_plain one rules patterns)) (mapped compact_tables (with_plain two rules patterns))
-compact_twins one two (found symbols digits) (Ok rules) (Ok patterns) = shown_found symbols digits rules patterns
-compact_twins one two (found symbols digits) (Ok rules) (Err error) = none_found error
-compact_twins one two (found symbols digits) (Err error) patterns = none_found error
-compact_twins one two (failed error) rules patterns = none_found error
+  compact_by : (width : CompactWidth) (of : NumberUnit) (book : BookTables) (p : Preferences) → compact_found width of book p by ≡ mapped (compact_regrouped by) (compact_found width of book p Auto)
+  compact_by width unit.None book p =
+      let rules = first_found (rules_under book) (rules_identifiers (chain_in book) p) in
+      let patterns = first_found (patterns_under width book) (patterns_identifiers (chain_in book) p) in
+      ap (λ plain. with_plain plain rules patterns) (plain_by book p) ∙ patterns_by (found_plain book p (Some Auto)) rules patterns
+  compact_by width _ book p = refl
 
--- with the symbols of an entry's own, or those of plain text
-own_twins : (own : Option Symbols) (symbols : Symbols) (digits : List ℕ) (pattern : PatternTexts) (name : UnitName) (code : List ℕ) (fractions : Option FractionInfo)
-    → AreFormatTwins
-    (Ok (unit_tables (record { settings = record { tables = with_own own (record { symbols = symbols; digits = digits; strategy = Auto }); pattern = pattern; unit = name }; code = code; fractions = fractions })))
-    (Ok (unit_tables (record { settings = record { tables = with_own own (record { symbols = symbols; digits = digits; strategy = Always }); pattern = pattern; unit = name }; code = code; fractions = fractions })))
-own_twins None symbols digits pattern name code fractions = unit_found symbols digits pattern name code fractions
-own_twins (Some own) symbols digits pattern name code fractions = unit_found own digits pattern name code fractions
+  -- what comes of plain tables
+  past_plain : {S : Type 0} (regroup : S → S) (next : Tables → Result S DataError) → ((t : Tables) → next (plain_regrouped by t) ≡ mapped regroup (next t)) → (book : BookTables) (p : Preferences)
+      → then_found (found_plain book p (Some by)) next ≡ mapped regroup (then_found (found_plain book p (Some Auto)) next)
+  past_plain regroup next same book p = ap (λ plain. then_found plain next) (plain_by book p) ∙ past (found_plain book p (Some Auto))
+    where
+      past : (r : Result Tables DataError) → then_found (mapped (plain_regrouped by) r) next ≡ mapped regroup (then_found r next)
+      past (Ok t) = same t
+      past (Err error) = refl
 
--- what is found of a text of the sign
-abbrev found_with : PercentSign → Tables → PercentTexts → Result (List ℕ) DataError → Result FormatTables DataError
-found_with of t e text = mapped (λ settings. unit_tables (percent_format of settings)) (then_found text (λ text. Ok (percent_settings t e text)))
+  -- with the symbols of an entry's own, or those of plain text
+  own_by : (own : Option Symbols) (t : Tables) → with_own own (plain_regrouped by t) ≡ plain_regrouped by (with_own own t)
+  own_by None t = refl
+  own_by (Some own) t = refl
 
-sign_twins : (of : PercentSign) (symbols : Symbols) (digits : List ℕ) (e : PercentTexts) (text : Result (List ℕ) DataError)
-    → AreFormatTwins
-    (found_with of (record { symbols = symbols; digits = digits; strategy = Auto }) e text)
-    (found_with of (record { symbols = symbols; digits = digits; strategy = Always }) e text)
-sign_twins of symbols digits e (Ok text) = own_twins e.symbols symbols digits e.pattern (record { kind = kind.Percent; text = text }) (typed_sign of) None
-sign_twins of symbols digits e (Err error) = none_found error
+  sign_by : (e : PercentTexts) (t : Tables) (text : Result (List ℕ) DataError)
+      → then_found text (λ text. Ok (percent_settings (plain_regrouped by t) e text)) ≡ mapped (unit_regrouped by) (then_found text (λ text. Ok (percent_settings t e text)))
+  sign_by e t (Ok text) = ap (λ tables. Ok (record { tables = tables; pattern = e.pattern; unit = record { kind = kind.Percent; text = text } })) (own_by e.symbols t)
+  sign_by e t (Err error) = refl
 
-percent_twins : (of : PercentSign) (one two : Result Tables DataError) → AreTwins one two → (percents : Result PercentTexts DataError)
-    → AreFormatTwins
-    (mapped (λ settings. unit_tables (percent_format of settings)) (then_found one (λ t. then_found percents (λ e. then_found (sign_found of e) (λ text. Ok (percent_settings t e text))))))
-    (mapped (λ settings. unit_tables (percent_format of settings)) (then_found two (λ t. then_found percents (λ e. then_found (sign_found of e) (λ text. Ok (percent_settings t e text))))))
-percent_twins of one two (found symbols digits) (Ok e) = sign_twins of symbols digits e (sign_found of e)
-percent_twins of one two (found symbols digits) (Err error) = none_found error
-percent_twins of one two (failed error) percents = none_found error
+  percents_by : (of : PercentSign) (percents : Result PercentTexts DataError) (t : Tables)
+      → then_found percents (λ e. then_found (sign_found of e) (λ text. Ok (percent_settings (plain_regrouped by t) e text)))
+      ≡ mapped (unit_regrouped by) (then_found percents (λ e. then_found (sign_found of e) (λ text. Ok (percent_settings t e text))))
+  percents_by of (Ok e) t = sign_by e t (sign_found of e)
+  percents_by of (Err error) t = refl
 
-signed_twins : (of : PercentSign) (book : BookTables) (p : Preferences) → AreFormatTwins (percents_with of book p Auto) (percents_with of book p Always)
-signed_twins of book p =
-    percent_twins of (found_plain book p (Some Auto)) (found_plain book p (Some Always)) (twins_of book p)
-    (percent_found (percents_in book).percents (unit_locales (percents_in book).decimals p) p.numbering_system)
+  amounts_by_turn : (amounts : Result AmountTexts DataError) (name : Result SymbolText DataError) (fractions : Result FractionInfo DataError) (t : Tables)
+      → then_found amounts (λ e. then_found name (λ n. then_found fractions (λ f. Ok (record { unit = amount_settings (plain_regrouped by t) e n; fractions = f }))))
+      ≡ mapped (amount_regrouped by) (then_found amounts (λ e. then_found name (λ n. then_found fractions (λ f. Ok (record { unit = amount_settings t e n; fractions = f })))))
+  amounts_by_turn (Ok e) (Ok n) (Ok f) t =
+      ap (λ tables. Ok (record { unit = record { tables = tables; pattern = chosen e.patterns n.ends; unit = record { kind = kind.Currency; text = n.text } }; fractions = f })) (own_by e.symbols t)
+  amounts_by_turn _ _ _ t = refl
 
-amount_twins : (code : List ℕ) (one two : Result Tables DataError) → AreTwins one two → (amounts : Result AmountTexts DataError) (name : Result SymbolText DataError) (fractions : Result FractionInfo DataError)
-    → AreFormatTwins
-    (mapped (λ settings. unit_tables (currency_format code settings)) (then_found one (λ t. then_found amounts (λ e. then_found name (λ n. then_found fractions (λ f. Ok (record { unit = amount_settings t e n; fractions = f })))))))
-    (mapped (λ settings. unit_tables (currency_format code settings)) (then_found two (λ t. then_found amounts (λ e. then_found name (λ n. then_found fractions (λ f. Ok (record { unit = amount_settings t e n; fractions = f })))))))
-amount_twins code one two (found symbols digits) (Ok e) (Ok n) (Ok f) = own_twins e.symbols symbols digits (chosen e.patterns n.ends) (record { kind = kind.Currency; text = n.text }) code (Some f)
-amount_twins code one two (found symbols digits) (Ok e) (Ok n) (Err error) = none_found error
-amount_twins code one two (found symbols digits) (Ok e) (Err error) fractions = none_found error
-amount_twins code one two (found symbols digits) (Err error) name fractions = none_found error
-amount_twins code one two (failed error) amounts name fractions = none_found error
+  percent_by : (of : PercentSign) (book : BookTables) (p : Preferences)
+      → percent_found_in book p (percent_options of by) ≡ mapped (unit_regrouped by) (percent_found_in book p (percent_options of Auto))
+  percent_by of book p =
+      let percents = percent_found (percents_in book).percents (unit_locales (percents_in book).decimals p) p.numbering_system in
+      past_plain (unit_regrouped by) (λ t. then_found percents (λ e. then_found (sign_found of e) (λ text. Ok (percent_settings t e text)))) (percents_by of percents) book p
 
-format_twins : (notation : Notation) (of : NumberUnit) (book : BookTables) (p : Preferences) → AreFormatTwins (notation_found notation of book p Auto) (notation_found notation of book p Always)
-format_twins Standard unit.None book p = plain_twins (found_plain book p (Some Auto)) (found_plain book p (Some Always)) (twins_of book p)
-format_twins Standard unit.Percent book p = signed_twins sign.Percent book p
-format_twins Standard unit.Permille book p = signed_twins sign.Permille book p
-format_twins Standard (unit.Currency currency) book p =
-    amount_twins currency.code (found_plain book p (Some Auto)) (found_plain book p (Some Always)) (twins_of book p)
-    (amounts_found currency.style (currencies_in book).currencies (currencies_in book).accounts (unit_locales (currencies_in book).decimals p) p.numbering_system currency.code)
-    (name_found currency.width (currencies_in book).symbols (unit_locales (currencies_in book).decimals p) currency.code)
-    (fractions_found (currencies_in book).fractions currency.code)
-format_twins (Compact width) unit.None book p =
-    compact_twins (found_plain book p (Some Auto)) (found_plain book p (Some Always)) (twins_of book p)
-    (first_found (rules_under book) (rules_identifiers (chain_in book) p)) (first_found (patterns_under width book) (patterns_identifiers (chain_in book) p))
-format_twins (Compact width) unit.Percent book p = none_found DataError.IdentifierNotFound
-format_twins (Compact width) unit.Permille book p = none_found DataError.IdentifierNotFound
-format_twins (Compact width) (unit.Currency currency) book p = none_found DataError.IdentifierNotFound
+  currency_by : (currency : CurrencyUnit) (book : BookTables) (p : Preferences)
+      → currency_found_in book p currency.code (amount_options currency by) ≡ mapped (amount_regrouped by) (currency_found_in book p currency.code (amount_options currency Auto))
+  currency_by currency book p =
+      let s = currencies_in book in
+      let amounts = amounts_found currency.style s.currencies s.accounts (unit_locales s.decimals p) p.numbering_system currency.code in
+      let name = name_found currency.width s.symbols (unit_locales s.decimals p) currency.code in
+      let fractions = fractions_found s.fractions currency.code in
+      past_plain (amount_regrouped by)
+      (λ t. then_found amounts (λ e. then_found name (λ n. then_found fractions (λ f. Ok (record { unit = amount_settings t e n; fractions = f })))))
+      (amounts_by_turn amounts name fractions) book p
 
--- numbers with a unit, by a grouping
-abbrev unit_under : Symbols → List ℕ → PatternTexts → UnitName → List ℕ → Option FractionInfo → GroupingStrategy → UnitFormat
-unit_under symbols digits pattern name code fractions strategy =
-    record { settings = record { tables = record { symbols = symbols; digits = digits; strategy = strategy }; pattern = pattern; unit = name }; code = code; fractions = fractions }
+  -- of any format
+  format_by : (notation : Notation) (of : NumberUnit) (book : BookTables) (p : Preferences) → notation_found notation of book p by ≡ mapped (regrouped by) (notation_found notation of book p Auto)
+  format_by Standard unit.None book p = through plain_tables (plain_regrouped by) (λ t. refl) (found_plain book p (Some by)) (found_plain book p (Some Auto)) (plain_by book p)
+  format_by Standard (unit.Percent sign) book p =
+      through (λ settings. unit_tables (percent_format sign settings)) (unit_regrouped by) (λ settings. refl)
+      (percent_found_in book p (percent_options sign by)) (percent_found_in book p (percent_options sign Auto)) (percent_by sign book p)
+  format_by Standard (unit.Currency currency) book p =
+      through (λ settings. unit_tables (currency_format currency.code settings)) (amount_regrouped by) (λ settings. refl)
+      (currency_found_in book p currency.code (amount_options currency by)) (currency_found_in book p currency.code (amount_options currency Auto)) (currency_by currency book p)
+  format_by (Compact width) of book p = through compact_tables (compact_regrouped by) (λ t. refl) (compact_found width of book p by) (compact_found width of book p Auto) (compact_by width of book p)
+  format_by (CompactDigits width options) of book p =
+      through (λ t. digits_tables t options) (compact_regrouped by) (λ t. refl) (compact_found width of book p by) (compact_found width of book p Auto) (compact_by width of book p)
 
--- they answer alike
-twins_write : (one two : Result FormatTables DataError) → AreFormatTwins one two → (options : NumberOptions) (reading : Reading) → written_to one options reading ≡ written_to two options reading
-twins_write one two twins options nothing = refl
-twins_write one two twins options beyond = refl
-twins_write one two (plain_found symbols digits) options (number value) = refl
-twins_write one two (shown_found symbols digits rules patterns) options (number value) = refl
-twins_write one two (unit_found symbols digits pattern name code fractions) options (number value) = refl
-twins_write one two (none_found error) options (number value) = refl
+  -- ---- what typed texts are read with beside it
 
--- a form under an entry of compact tables, by a grouping
-abbrev compact_under : Symbols → List ℕ → Rules → CompactTable → GroupingStrategy → CompactTables
-compact_under symbols digits rules patterns strategy =
-    record { plain = record { symbols = symbols; digits = digits; strategy = strategy }; rules = rules; patterns = patterns }
+  same_digits : (f : FormatTables) → (digit_tables (regrouped by f)).digits ≡ (digit_tables f).digits
+  same_digits (plain_tables t) = refl
+  same_digits _ = refl
 
-entry_twins : (symbols : Symbols) (digits : List ℕ) (rules : Rules) (patterns : CompactTable) (form : CompactValue) (entry : Option (Option CompactEntry))
-    → option_map text_of_shown (option_map (under_entry (compact_under symbols digits rules patterns Auto) form) entry)
-    ≡ option_map text_of_shown (option_map (under_entry (compact_under symbols digits rules patterns Always) form) entry)
-entry_twins symbols digits rules patterns form None = refl
-entry_twins symbols digits rules patterns form (Some entry) = refl
+  -- amounts by the symbols of plain numbers
+  with_symbols_by : (t : Tables) (u : UnitFormat) (fractions : Option FractionInfo)
+      → with_symbols_of (plain_regrouped by t) (record u { settings = unit_regrouped by u.settings }) fractions ≡ option_map (regrouped by) (with_symbols_of t u fractions)
+  with_symbols_by t u None = refl
+  with_symbols_by t u (Some f) = at (same_symbols t.symbols u.settings.tables.symbols)
+    where
+      at : (b : Bool)
+          → (if b then None else Some (unit_tables (record u { settings = record u.settings { tables = plain_regrouped by t } })))
+          ≡ option_map (regrouped by) (if b then None else Some (unit_tables (record u { settings = record u.settings { tables = t } })))
+      at true = refl
+      at false = refl
 
-twins_exact : (one two : Result FormatTables DataError) → AreFormatTwins one two → (sign : SignAsked) (reading : CompactReading) → exact_found one sign reading ≡ exact_found two sign reading
-twins_exact one two twins sign compact_nothing = refl
-twins_exact one two twins sign compact_beyond = refl
-twins_exact one two (plain_found symbols digits) sign (compact_number form) = at (form.exponent == 0)
-  where
-    at : (b : Bool) → exact_written (option_map text_of_shown (if b then Some (shown_as_it_is (plain_tables (record { symbols = symbols; digits = digits; strategy = Auto })) (signed_form sign form).significand) else None))
-        ≡ exact_written (option_map text_of_shown (if b then Some (shown_as_it_is (plain_tables (record { symbols = symbols; digits = digits; strategy = Always })) (signed_form sign form).significand) else None))
-    at true = refl
-    at false = refl
-twins_exact one two (shown_found symbols digits rules patterns) sign (compact_number form) =
-    let of : GroupingStrategy → CompactTables = compact_under symbols digits rules patterns in
-    let signed = signed_form sign form in
-    ap (λ text. if is_form_in_range (compact_tables (of Auto)) signed then exact_written text else refused refusal.Range)
-    (entry_twins symbols digits rules patterns signed (exact_entry 32768 patterns.entries signed.significand.absolute.count signed.exponent))
-twins_exact one two (unit_found symbols digits pattern name code fractions) sign (compact_number form) = at (form.exponent == 0)
-  where
-    at : (b : Bool) → exact_written (option_map text_of_shown (if b then Some (shown_as_it_is (unit_tables (unit_under symbols digits pattern name code fractions Auto)) (signed_form sign form).significand) else None))
-        ≡ exact_written (option_map text_of_shown (if b then Some (shown_as_it_is (unit_tables (unit_under symbols digits pattern name code fractions Always)) (signed_form sign form).significand) else None))
-    at true = refl
-    at false = refl
-twins_exact one two (none_found error) sign (compact_number form) = refl
+  amounts_of : (f : FormatTables) (t : Tables) → amounts_by (plain_regrouped by t) (regrouped by f) ≡ option_map (regrouped by) (amounts_by t f)
+  amounts_of (unit_tables u) t = with_symbols_by t u u.fractions
+  amounts_of _ t = refl
 
-twins_read : (one two : Result FormatTables DataError) → AreFormatTwins one two → (rounding : Rounding) (text : List ℕ) → read_found one rounding text ≡ read_found two rounding text
-twins_read one two (plain_found symbols digits) rounding text = refl
-twins_read one two (shown_found symbols digits rules patterns) rounding text = refl
-twins_read one two (unit_found symbols digits pattern name code fractions) rounding text = refl
-twins_read one two (none_found error) rounding text = refl
+  plainly_by : (f : FormatTables) (r : Result Tables DataError)
+      → option_and_then (λ plain. amounts_by plain (regrouped by f)) (result_ok (mapped (plain_regrouped by) r)) ≡ option_map (regrouped by) (option_and_then (λ plain. amounts_by plain f) (result_ok r))
+  plainly_by f (Ok t) = amounts_of f t
+  plainly_by f (Err error) = refl
 
--- ---- what typed texts are read with beside it
+  ascii_by : (r : Result FormatTables DataError) → result_ok (mapped (regrouped by) r) ≡ option_map (regrouped by) (result_ok r)
+  ascii_by (Ok f) = refl
+  ascii_by (Err error) = refl
 
--- second formats of the two groupings
-data AreSecondTwins : Option FormatTables → Option FormatTables → Type 0 where
-  plain_second : (symbols : Symbols) (digits : List ℕ)
-      → AreSecondTwins
-      (Some (plain_tables (record { symbols = symbols; digits = digits; strategy = Auto })))
-      (Some (plain_tables (record { symbols = symbols; digits = digits; strategy = Always })))
-  shown_second : (symbols : Symbols) (digits : List ℕ) (rules : Rules) (patterns : CompactTable)
-      → AreSecondTwins
-      (Some (compact_tables (record { plain = record { symbols = symbols; digits = digits; strategy = Auto }; rules = rules; patterns = patterns })))
-      (Some (compact_tables (record { plain = record { symbols = symbols; digits = digits; strategy = Always }; rules = rules; patterns = patterns })))
-  unit_second : (symbols : Symbols) (digits : List ℕ) (pattern : PatternTexts) (name : UnitName) (code : List ℕ) (fractions : Option FractionInfo)
-      → AreSecondTwins
-      (Some (unit_tables (unit_under symbols digits pattern name code fractions Auto)))
-      (Some (unit_tables (unit_under symbols digits pattern name code fractions Always)))
-  no_second : AreSecondTwins None None
+  either_by : (b : Bool) (one two m n : Option FormatTables) → one ≡ option_map (regrouped by) m → two ≡ option_map (regrouped by) n
+      → (if b then one else two) ≡ option_map (regrouped by) (if b then m else n)
+  either_by true one two m n first second = first
+  either_by false one two m n first second = second
 
--- those that are found
-seconds_of : (one two : Result FormatTables DataError) → AreFormatTwins one two → AreSecondTwins (result_ok one) (result_ok two)
-seconds_of one two (plain_found symbols digits) = plain_second symbols digits
-seconds_of one two (shown_found symbols digits rules patterns) = shown_second symbols digits rules patterns
-seconds_of one two (unit_found symbols digits pattern name code fractions) = unit_second symbols digits pattern name code fractions
-seconds_of one two (none_found error) = no_second
+  module _ (notation : Notation) (of : NumberUnit) (book : BookTables) (p : Preferences) where
+    abbrev shape : GroupingStrategy → NumberShape
+    shape grouping = record { notation = notation; unit = of; grouping = grouping }
 
--- one of two choices
-either_second : (b : Bool) (first first_two second second_two : Option FormatTables) → AreSecondTwins first first_two → AreSecondTwins second second_two
-    → AreSecondTwins (if b then first else second) (if b then first_two else second_two)
-either_second true first first_two second second_two twins others = twins
-either_second false first first_two second second_two twins others = others
+    second_by : (f : FormatTables) → second_for (shape by) book p (regrouped by f) ≡ option_map (regrouped by) (second_for (shape Auto) book p f)
+    second_by f =
+        ap (λ digits. if bytes_eq digits plain_digits then plainly_written (shape by) book p (regrouped by f) else in_ascii (shape by) book p) (same_digits f)
+        ∙ either_by (bytes_eq (digit_tables f).digits plain_digits)
+        (plainly_written (shape by) book p (regrouped by f)) (in_ascii (shape by) book p) (plainly_written (shape Auto) book p f) (in_ascii (shape Auto) book p)
+        (ap (λ r. option_and_then (λ plain. amounts_by plain (regrouped by f)) (result_ok r)) (plain_by book p) ∙ plainly_by f (found_plain book p (Some Auto)))
+        (ap result_ok (format_by notation of book (in_latin p)) ∙ ascii_by (notation_found notation of book (in_latin p) Auto))
 
--- amounts by the symbols of plain numbers
-amount_seconds : (fractions : Option FractionInfo) (s symbols : Symbols) (d digits : List ℕ) (pattern : PatternTexts) (name : UnitName) (code : List ℕ)
-    → AreSecondTwins
-    (with_symbols_of (record { symbols = s; digits = d; strategy = Auto }) (unit_under symbols digits pattern name code fractions Auto) fractions)
-    (with_symbols_of (record { symbols = s; digits = d; strategy = Always }) (unit_under symbols digits pattern name code fractions Always) fractions)
-amount_seconds None s symbols d digits pattern name code = no_second
-amount_seconds (Some f) s symbols d digits pattern name code =
-    either_second (same_symbols s symbols) None None _ _ no_second (unit_second s d pattern name code (Some f))
+-- ---- it is answered alike
 
-plain_seconds : (one two : Result Tables DataError) → AreTwins one two → (symbols : Symbols) (digits : List ℕ) (pattern : PatternTexts) (name : UnitName) (code : List ℕ) (fractions : Option FractionInfo)
-    → AreSecondTwins
-    (option_and_then (λ plain. amounts_by plain (unit_tables (unit_under symbols digits pattern name code fractions Auto))) (result_ok one))
-    (option_and_then (λ plain. amounts_by plain (unit_tables (unit_under symbols digits pattern name code fractions Always))) (result_ok two))
-plain_seconds one two (found s d) symbols digits pattern name code fractions = amount_seconds fractions s symbols d digits pattern name code
-plain_seconds one two (failed error) symbols digits pattern name code fractions = no_second
+-- what is found with a grouping
+abbrev by_grouping : GroupingStrategy → Result FormatTables DataError → Result FormatTables DataError
+by_grouping grouping = mapped (regrouped grouping)
 
--- no plain or compact numbers
-nothing_seconds : (f g : FormatTables) → ((plain : Tables) → amounts_by plain f ≡ None) → ((plain : Tables) → amounts_by plain g ≡ None) → (one two : Result Tables DataError)
-    → AreSecondTwins (option_and_then (λ plain. amounts_by plain f) (result_ok one)) (option_and_then (λ plain. amounts_by plain g) (result_ok two))
-nothing_seconds f g first second (Ok one) (Ok two) = rw (first one, second two) no_second
-nothing_seconds f g first second (Ok one) (Err error) = rw (first one) no_second
-nothing_seconds f g first second (Err error) (Ok two) = rw (second two) no_second
-nothing_seconds f g first second (Err error) (Err other) = no_second
+same_written : (r : Result FormatTables DataError) (options : NumberOptions) (reading : Reading) → written_to (by_grouping Auto r) options reading ≡ written_to (by_grouping Always r) options reading
+same_written r options nothing = refl
+same_written r options beyond = refl
+same_written (Ok (plain_tables t)) options (number value) = refl
+same_written _ options (number value) = refl
 
--- the second that each of the two has beside it
-abbrev HaveSecondTwins : (FormatTables → Option FormatTables) → (FormatTables → Option FormatTables) → Result FormatTables DataError → Result FormatTables DataError → Type 0
-HaveSecondTwins beside beside_two (Ok f) (Ok g) = AreSecondTwins (beside f) (beside_two g)
-HaveSecondTwins beside beside_two (Ok f) (Err error) = Unit {0}
-HaveSecondTwins beside beside_two (Err error) two = Unit {0}
+same_shown : (f : FormatTables) (d : SignedValue Number) (exponent : ℕ) (pattern : Option PatternText)
+    → text_of_shown (shown_in (regrouped Auto f) d exponent pattern) ≡ text_of_shown (shown_in (regrouped Always f) d exponent pattern)
+same_shown (plain_tables t) d exponent pattern = refl
+same_shown _ d exponent pattern = refl
 
-module _ (notation : Notation) (of : NumberUnit) (book : BookTables) (p : Preferences) where
-  abbrev beside : GroupingStrategy → FormatTables → Option FormatTables
-  beside grouping = second_for (record { notation = notation; unit = of; grouping = grouping }) book p
+-- an exact form that is shown or not, without an exponent and under an entry
+same_if_shown : (f : FormatTables) (d : SignedValue Number) (b : Bool)
+    → option_map text_of_shown (cond b (Some (shown_as_it_is (regrouped Auto f) d)) None) ≡ option_map text_of_shown (cond b (Some (shown_as_it_is (regrouped Always f) d)) None)
+same_if_shown f d true = ap (λ text. Some text) (same_shown f d 0 None)
+same_if_shown f d false = refl
 
-  in_ascii_twins : AreSecondTwins (result_ok (notation_found notation of book (in_latin p) Auto)) (result_ok (notation_found notation of book (in_latin p) Always))
-  in_ascii_twins = seconds_of (notation_found notation of book (in_latin p) Auto) (notation_found notation of book (in_latin p) Always) (format_twins notation of book (in_latin p))
+same_under : (t : CompactTables) (form : CompactValue) (entry : Option (Option CompactEntry))
+    → option_map text_of_shown (option_map (under_entry (compact_regrouped Auto t) form) entry) ≡ option_map text_of_shown (option_map (under_entry (compact_regrouped Always t) form) entry)
+same_under t form None = refl
+same_under t form (Some entry) = refl
 
-  second_twins : (one two : Result FormatTables DataError) → AreFormatTwins one two → HaveSecondTwins (beside Auto) (beside Always) one two
-  second_twins one two (plain_found symbols digits) =
-      either_second (bytes_eq digits plain_digits) _ _ _ _
-      (nothing_seconds (plain_tables (record { symbols = symbols; digits = digits; strategy = Auto })) (plain_tables (record { symbols = symbols; digits = digits; strategy = Always }))
-      (λ plain. refl) (λ plain. refl) (found_plain book p (Some Auto)) (found_plain book p (Some Always)))
-      in_ascii_twins
-  second_twins one two (shown_found symbols digits rules patterns) =
-      either_second (bytes_eq digits plain_digits) _ _ _ _
-      (nothing_seconds
-      (compact_tables (record { plain = record { symbols = symbols; digits = digits; strategy = Auto }; rules = rules; patterns = patterns }))
-      (compact_tables (record { plain = record { symbols = symbols; digits = digits; strategy = Always }; rules = rules; patterns = patterns }))
-      (λ plain. refl) (λ plain. refl) (found_plain book p (Some Auto)) (found_plain book p (Some Always)))
-      in_ascii_twins
-  second_twins one two (unit_found symbols digits pattern name code fractions) =
-      either_second (bytes_eq digits plain_digits) _ _ _ _
-      (plain_seconds (found_plain book p (Some Auto)) (found_plain book p (Some Always)) (twins_of book p) symbols digits pattern name code fractions)
-      in_ascii_twins
-  second_twins one two (none_found error) = tt
+same_exact : (f : FormatTables) (form : CompactValue) → exact_format_text (regrouped Auto f) form ≡ exact_format_text (regrouped Always f) form
+same_exact (plain_tables t) form = same_if_shown (plain_tables t) form.significand (form.exponent == 0)
+same_exact (compact_tables t) form = same_under t form (exact_entry 32768 t.patterns.entries form.significand.absolute.count form.exponent)
+same_exact (digits_tables t o) form = same_under t form (exact_entry 32768 t.patterns.entries form.significand.absolute.count form.exponent)
+same_exact (unit_tables u) form = same_if_shown (unit_tables u) form.significand (form.exponent == 0)
 
--- typed texts are read alike
-plain_in_turn : (second second_two : Option FormatTables) → AreSecondTwins second second_two → (symbols : Symbols) (digits text : List ℕ)
-    → reading_by (record { symbols = symbols; digits = digits; strategy = Auto }) (plain_in second) text
-    ≡ reading_by (record { symbols = symbols; digits = digits; strategy = Always }) (plain_in second_two) text
-plain_in_turn second second_two (plain_second s d) symbols digits text = refl
-plain_in_turn second second_two (shown_second s d r p) symbols digits text = refl
-plain_in_turn second second_two (unit_second s d p n c f) symbols digits text = refl
-plain_in_turn second second_two no_second symbols digits text = refl
+same_range : (f : FormatTables) (form : CompactValue) → is_form_in_range (regrouped Auto f) form ≡ is_form_in_range (regrouped Always f) form
+same_range (plain_tables t) form = refl
+same_range _ form = refl
 
-unit_in_turn : (second second_two : Option FormatTables) → AreSecondTwins second second_two → (symbols : Symbols) (digits : List ℕ) (pattern : PatternTexts) (name : UnitName) (code : List ℕ) (fractions : Option FractionInfo) (text : List ℕ)
-    → unit_reading_by (typed_unit (unit_under symbols digits pattern name code fractions Auto)) (option_map typed_unit (unit_in second)) text
-    ≡ unit_reading_by (typed_unit (unit_under symbols digits pattern name code fractions Always)) (option_map typed_unit (unit_in second_two)) text
+same_forms : (r : Result FormatTables DataError) (sign : SignAsked) (reading : CompactReading) → exact_found (by_grouping Auto r) sign reading ≡ exact_found (by_grouping Always r) sign reading
+same_forms r sign compact_nothing = refl
+same_forms r sign compact_beyond = refl
+same_forms (Ok f) sign (compact_number form) =
+    ap₂ (λ b text. if b then exact_written text else refused refusal.Range) (same_range f (signed_form sign form)) (same_exact f (signed_form sign form))
+same_forms (Err error) sign (compact_number form) = refl
+
+same_read : (r : Result FormatTables DataError) (rounding : Rounding) (text : List ℕ) → read_found (by_grouping Auto r) rounding text ≡ read_found (by_grouping Always r) rounding text
+same_read (Ok (plain_tables t)) rounding text = refl
+same_read _ rounding text = refl
+
+same_plain : (t : Tables) (second : Option FormatTables) (text : List ℕ)
+    → reading_by (plain_regrouped Auto t) (plain_in (option_map (regrouped Auto) second)) text ≡ reading_by (plain_regrouped Always t) (plain_in (option_map (regrouped Always) second)) text
+same_plain t (Some (plain_tables s)) text = refl
+same_plain t _ text = refl
+
+abbrev unit_by : GroupingStrategy → UnitFormat → UnitFormat
+unit_by grouping u = record u { settings = unit_regrouped grouping u.settings }
+
+same_unit : (u : UnitFormat) (second : Option FormatTables) (text : List ℕ)
+    → unit_reading_by (typed_unit (unit_by Auto u)) (option_map typed_unit (unit_in (option_map (regrouped Auto) second))) text
+    ≡ unit_reading_by (typed_unit (unit_by Always u)) (option_map typed_unit (unit_in (option_map (regrouped Always) second))) text
 unfolding lenient_unit_reading
-unit_in_turn second second_two (plain_second s d) symbols digits pattern name code fractions text = refl
-unit_in_turn second second_two (shown_second s d r p) symbols digits pattern name code fractions text = refl
-unit_in_turn second second_two (unit_second s d p n c f) symbols digits pattern name code fractions text = refl
-unit_in_turn second second_two no_second symbols digits pattern name code fractions text = refl
+same_unit u (Some (plain_tables s)) text = refl
+same_unit u _ text = refl
 
-twins_typed : (one two : Result FormatTables DataError) (second second_two : FormatTables → Option FormatTables) → AreFormatTwins one two → HaveSecondTwins second second_two one two → (text : List ℕ)
-    → typed_found one second text ≡ typed_found two second_two text
-twins_typed one two second second_two (plain_found symbols digits) seconds text = ap read_answer (plain_in_turn _ _ seconds symbols digits text)
-twins_typed one two second second_two (shown_found symbols digits rules patterns) seconds text = refl
-twins_typed one two second second_two (unit_found symbols digits pattern name code fractions) seconds text =
-    let by : GroupingStrategy → UnitFormat = unit_under symbols digits pattern name code fractions in
-    ap read_answer
-    (in_turn_same
-    (units_in_turn (by Auto) (unit_in (second (unit_tables (by Auto)))))
-    (units_in_turn (by Always) (unit_in (second_two (unit_tables (by Always)))))
-    (λ some. unit_in_turn _ _ seconds symbols digits pattern name code fractions some)
-    (λ some. refl) text)
-twins_typed one two second second_two (none_found error) seconds text = refl
+same_typed : (f : FormatTables) (second : Option FormatTables) (text : List ℕ)
+    → format_typed_reading (regrouped Auto f) (option_map (regrouped Auto) second) text ≡ format_typed_reading (regrouped Always f) (option_map (regrouped Always) second) text
+same_typed (plain_tables t) second text = same_plain t second text
+same_typed (compact_tables t) second text = refl
+same_typed (digits_tables t o) second text = refl
+same_typed (unit_tables u) second text =
+    in_turn_same (units_in_turn (unit_by Auto u) (unit_in (option_map (regrouped Auto) second))) (units_in_turn (unit_by Always u) (unit_in (option_map (regrouped Always) second)))
+    (λ some. same_unit u second some) (λ some. refl) text
 
--- ---- categories
+same_category : (r : Result FormatTables DataError) (rules : Option (Rules × List PluralRange)) (options : NumberOptions) (value : SignedValue Number)
+    → category_found (by_grouping Auto r) rules options value ≡ category_found (by_grouping Always r) rules options value
+same_category (Err error) rules options value = refl
+same_category (Ok f) None options value = refl
+same_category (Ok (plain_tables t)) (Some held) options value = refl
+same_category (Ok _) (Some held) options value = refl
 
--- they do not go by the grouping
-twins_category : (one two : Result FormatTables DataError) → AreFormatTwins one two → (rules : Option (Rules × List PluralRange)) (options : NumberOptions) (value : SignedValue Number)
-    → category_found one rules options value ≡ category_found two rules options value
-twins_category one two (plain_found symbols digits) None options value = refl
-twins_category one two (plain_found symbols digits) (Some held) options value = refl
-twins_category one two (shown_found symbols digits rules patterns) None options value = refl
-twins_category one two (shown_found symbols digits rules patterns) (Some held) options value = refl
-twins_category one two (unit_found symbols digits pattern name code fractions) None options value = refl
-twins_category one two (unit_found symbols digits pattern name code fractions) (Some held) options value = refl
-twins_category one two (none_found error) held options value = refl
+same_told : (r : Result FormatTables DataError) (rules : Option (Rules × List PluralRange)) (options : NumberOptions) (reading : Reading)
+    → category_to (by_grouping Auto r) rules options reading ≡ category_to (by_grouping Always r) rules options reading
+same_told r rules options (number value) = same_category r rules options value
+same_told r rules options _ = refl
 
-twins_tell : (one two : Result FormatTables DataError) → AreFormatTwins one two → (rules : Option (Rules × List PluralRange)) (options : NumberOptions) (reading : Reading)
-    → category_to one rules options reading ≡ category_to two rules options reading
-twins_tell one two twins rules options nothing = refl
-twins_tell one two twins rules options beyond = refl
-twins_tell one two twins rules options (number value) = twins_category one two twins rules options value
+same_ranges : (r : Result FormatTables DataError) (rules : Option (Rules × List PluralRange)) (options : NumberOptions) (first second : SignedValue Number)
+    → range_found (by_grouping Auto r) rules options first second ≡ range_found (by_grouping Always r) rules options first second
+same_ranges (Err error) rules options first second = refl
+same_ranges (Ok f) None options first second = refl
+same_ranges (Ok (plain_tables t)) (Some held) options first second = refl
+same_ranges (Ok _) (Some held) options first second = refl
 
-twins_range : (one two : Result FormatTables DataError) → AreFormatTwins one two → (rules : Option (Rules × List PluralRange)) (options : NumberOptions) (first second : SignedValue Number)
-    → range_found one rules options first second ≡ range_found two rules options first second
-twins_range one two (plain_found symbols digits) None options first second = refl
-twins_range one two (plain_found symbols digits) (Some held) options first second = refl
-twins_range one two (shown_found symbols digits rules patterns) None options first second = refl
-twins_range one two (shown_found symbols digits rules patterns) (Some held) options first second = refl
-twins_range one two (unit_found symbols digits pattern name code fractions) None options first second = refl
-twins_range one two (unit_found symbols digits pattern name code fractions) (Some held) options first second = refl
-twins_range one two (none_found error) held options first second = refl
+same_ends : (r : Result FormatTables DataError) (rules : Option (Rules × List PluralRange)) (options : NumberOptions) (first second : Reading)
+    → range_ends_to (by_grouping Auto r) rules options first second ≡ range_ends_to (by_grouping Always r) rules options first second
+same_ends r rules options (number first) (number second) = same_ranges r rules options first second
+same_ends r rules options _ _ = refl
 
-twins_ends : (one two : Result FormatTables DataError) → AreFormatTwins one two → (rules : Option (Rules × List PluralRange)) (options : NumberOptions) (first second : Reading)
-    → range_ends_to one rules options first second ≡ range_ends_to two rules options first second
-twins_ends one two twins rules options nothing second = refl
-twins_ends one two twins rules options beyond second = refl
-twins_ends one two twins rules options (number first) nothing = refl
-twins_ends one two twins rules options (number first) beyond = refl
-twins_ends one two twins rules options (number first) (number second) = twins_range one two twins rules options first second
+same_told_range : (r : Result FormatTables DataError) (rules : Option (Rules × List PluralRange)) (options : NumberOptions) (ends : Option (List ℕ × List ℕ))
+    → range_category_to (by_grouping Auto r) rules options ends ≡ range_category_to (by_grouping Always r) rules options ends
+same_told_range r rules options None = refl
+same_told_range r rules options (Some ends) = same_ends r rules options (reading_of ends.0) (reading_of ends.1)
 
-twins_tell_range : (one two : Result FormatTables DataError) → AreFormatTwins one two → (rules : Option (Rules × List PluralRange)) (options : NumberOptions) (ends : Option (List ℕ × List ℕ))
-    → range_category_to one rules options ends ≡ range_category_to two rules options ends
-twins_tell_range one two twins rules options None = refl
-twins_tell_range one two twins rules options (Some ends) = twins_ends one two twins rules options (reading_of ends.0) (reading_of ends.1)
+-- ---- the law
 
--- ---- all tasks
+module _ (book : BookTables) (asked : Asked) (p : Preferences) where
+  abbrev of_auto : Result FormatTables DataError
+  of_auto = notation_found asked.format.shape.notation asked.format.shape.unit book p Auto
 
-abbrev RulesOf : Type 0
-RulesOf = PluralRuleType → Option (Rules × List PluralRange)
+  -- the answer to a task by what is found
+  abbrev answer_with : GroupingStrategy → (FormatTables → Option FormatTables) → Task → Result FormatTables DataError → List ℕ
+  answer_with grouping second task found =
+      answer_by task (grouped_by grouping asked).format found second (λ rule_type. plural_rules_for rule_type book p) asked.text
 
-twins_answer : (task : Task) (one two : NumberFormat) → one.options ≡ two.options → (held held_two : Result FormatTables DataError) (second second_two : FormatTables → Option FormatTables) (rules : RulesOf)
-    → AreFormatTwins held held_two → HaveSecondTwins second second_two held held_two → (text : List ℕ)
-    → answer_by task one held second rules text ≡ answer_by task two held_two second_two rules text
-twins_answer Write one two same held held_two second second_two rules twins seconds text =
-    ap (λ options. written_to held options (reading_of text)) same ∙ twins_write held held_two twins two.options (reading_of text)
-twins_answer WriteExact one two same held held_two second second_two rules twins seconds text =
-    ap (λ (options : NumberOptions). exact_found held options.sign (compact_reading_of text)) same ∙ twins_exact held held_two twins two.options.sign (compact_reading_of text)
-twins_answer Read one two same held held_two second second_two rules twins seconds text =
-    ap (λ (options : NumberOptions). read_found held options.rounding text) same ∙ twins_read held held_two twins two.options.rounding text
-twins_answer ReadLenient one two same held held_two second second_two rules twins seconds text = twins_typed held held_two second second_two twins seconds text
-twins_answer (Category rule_type) one two same held held_two second second_two rules twins seconds text =
-    ap (λ options. category_to held (rules rule_type) options (reading_of text)) same ∙ twins_tell held held_two twins (rules rule_type) two.options (reading_of text)
-twins_answer RangeCategory one two same held held_two second second_two rules twins seconds text =
-    ap (λ options. range_category_to held (rules Cardinal) options (range_ends text)) same ∙ twins_tell_range held held_two twins (rules Cardinal) two.options (range_ends text)
+  abbrev beside : GroupingStrategy → FormatTables → Option FormatTables
+  beside grouping = second_for (record asked.format.shape { grouping = grouping }) book p
+
+  same_lenient : (r : Result FormatTables DataError) → typed_found (by_grouping Auto r) (beside Auto) asked.text ≡ typed_found (by_grouping Always r) (beside Always) asked.text
+  same_lenient (Ok f) =
+      ap (λ second. read_answer (format_typed_reading (regrouped Auto f) second asked.text)) (second_by Auto asked.format.shape.notation asked.format.shape.unit book p f)
+      ∙ ap read_answer (same_typed f (beside Auto f) asked.text)
+      ∙ sym (ap (λ second. read_answer (format_typed_reading (regrouped Always f) second asked.text)) (second_by Always asked.format.shape.notation asked.format.shape.unit book p f))
+  same_lenient (Err error) = refl
+
+  same_answer : (task : Task) → answer_with Auto (beside Auto) task (by_grouping Auto of_auto) ≡ answer_with Always (beside Always) task (by_grouping Always of_auto)
+  same_answer Write = same_written of_auto asked.format.options (reading_of asked.text)
+  same_answer WriteExact = same_forms of_auto asked.format.options.sign (compact_reading_of asked.text)
+  same_answer Read = same_read of_auto asked.format.options.rounding asked.text
+  same_answer ReadLenient = same_lenient of_auto
+  same_answer (Category rule_type) = same_told of_auto (plural_rules_for rule_type book p) asked.format.options (reading_of asked.text)
+  same_answer RangeCategory = same_told_range of_auto (plural_rules_for Cardinal book p) asked.format.options (range_ends asked.text)
 
 auto_tagged : (book : BookTables) (asked : Asked) (p : Option Preferences)
     → answer_tagged book p (grouped_by Auto asked) ≡ answer_tagged book p (grouped_by Always asked)
 auto_tagged book asked None = refl
 auto_tagged book asked (Some p) =
     let shape = asked.format.shape in
-    let found : GroupingStrategy → Result FormatTables DataError = notation_found shape.notation shape.unit book p in
-    let twins = format_twins shape.notation shape.unit book p in
-    twins_answer asked.task (grouped_by Auto asked).format (grouped_by Always asked).format refl (found Auto) (found Always)
-    (beside shape.notation shape.unit book p Auto) (beside shape.notation shape.unit book p Always) (λ rule_type. plural_rules_for rule_type book p)
-    twins (second_twins shape.notation shape.unit book p (found Auto) (found Always) twins) asked.text
+    ap (answer_with book asked p Auto (beside book asked p Auto) asked.task) (format_by Auto shape.notation shape.unit book p)
+    ∙ same_answer book asked p asked.task
+    ∙ sym (ap (answer_with book asked p Always (beside book asked p Always) asked.task) (format_by Always shape.notation shape.unit book p))
 
 pub auto_is_always : AutoIsAnsweredAsAlways
 auto_is_always book asked = auto_tagged book asked (wanted_of asked.tag)

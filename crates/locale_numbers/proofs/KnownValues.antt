@@ -1,5 +1,5 @@
 -- Known values of the definitions: what tags ask for, fields as a line, keys of formatters, the words and the lines of the program.
-use Rattle.std.proofs.Common.{◌≡◌, [], ◌∷◌, ◌++◌, codes, true, false, Option, option_map, Some, None, refl}
+use Rattle.std.proofs.Common.{◌≡◌, [], ◌∷◌, ◌++◌, Bool, codes, true, false, Option, option_map, Some, None, refl}
 use Rattle.locale_numbers_lines.specs.declared.RunError.TheVariants as run
 use Rattle.locale_numbers_book.specs.declared.BookError.TheVariants as book
 use Rattle.locale_numbers.specs.declared.fault.ProgramFault.TheVariants.{Usage, Book, Run}
@@ -10,26 +10,29 @@ use Rattle.icu_locale_core.specs.Subtags.{Text}
 use Rattle.icu_locale_core.specs.TagPreferences.{DataLocaleMeaning, Preferences, language_priority}
 use Rattle.locale_numbers_book.specs.TagReading.{tag_of}
 use Rattle.locale_numbers_book.specs.Wanted.{wanted_of}
-use Rattle.locale_numbers.specs.AskedFormats.{options_of, plain_shape}
-use Rattle.locale_numbers.specs.FormatterKeys.{purpose_of, same_grouping, same_notation, same_purpose, same_unit}
+use Rattle.locale_numbers.specs.AskedFormats.{compact_shape, options_of, plain_shape, shape_with}
+use Rattle.locale_numbers.specs.FormatterKeys.{key_with, same_keys}
 use Rattle.locale_numbers.specs.Front.{is_as_it_is}
 use Rattle.locale_numbers.specs.Laws.{joined_fields}
 use Rattle.locale_numbers.specs.Words.{words_said, capacity_named}
 use Rattle.std.specs.Prelude.{pos}
 use Rattle.fixed_decimal.specs.declared.RoundingIncrement.TheVariants.{MultiplesOf1}
-use Rattle.fixed_decimal.specs.declared.SignedRoundingMode.TheVariants.{Ceil}
+use Rattle.fixed_decimal.specs.declared.SignedRoundingMode.TheVariants.{Ceil, Floor}
 use Rattle.icu_decimal.specs.declared.options.GroupingStrategy.TheVariants.{Auto, Always}
 use Rattle.icu_dimension.specs.declared.CurrencyStyle.{CurrencyStyle}
 use Rattle.icu_dimension.specs.declared.CurrencyStyle.TheVariants.{Standard, Accounting}
 use Rattle.icu_dimension.specs.declared.CurrencyWidth.{CurrencyWidth}
 use Rattle.icu_dimension.specs.declared.CurrencyWidth.TheVariants as width
+use Rattle.icu_dimension.specs.declared.PercentSign.TheVariants.{Percent, Permille}
 use Rattle.icu_plurals.specs.declared.PluralRuleType.TheVariants.{Cardinal, Ordinal}
 use Rattle.locale_numbers_formats.specs.declared.CompactWidth.TheVariants.{Short, Long}
-use Rattle.locale_numbers_formats.specs.declared.Notation.TheVariants.{Compact}
-use Rattle.locale_numbers_formats.specs.declared.NumberUnit.{NumberUnit}
+use Rattle.locale_numbers_formats.specs.declared.Notation.TheVariants.{CompactDigits}
+use Rattle.locale_numbers_formats.specs.declared.NumberShape.{NumberShape}
 use Rattle.locale_numbers_formats.specs.declared.NumberUnit.TheVariants as unit
+use Rattle.locale_numbers_formats.specs.declared.Rounding.{Rounding}
 use Rattle.locale_numbers_formats.specs.declared.Rounding.TheVariants.{Usual, At}
 use Rattle.locale_numbers_formats.specs.declared.SignAsked.TheVariants.{Keep}
+use Rattle.locale_numbers_requests.specs.declared.Task.{Task}
 use Rattle.locale_numbers_requests.specs.declared.Task.TheVariants.{Write, Read, ReadLenient, Category, RangeCategory}
 
 -- ---- what tags ask for
@@ -131,53 +134,79 @@ one_field = refl
 three_fields : joined_fields (codes "en" ∷ [] ∷ codes "1" ∷ []) ≡ codes "en" ++ 9 ∷ 9 ∷ codes "1"
 three_fields = refl
 
+-- keys of two shapes, and for two tasks
+abbrev english : Preferences
+english = record {
+  locale = record { language = codes "en"; script = None; region = None; variant = None; subdivision = None; region_override = None };
+  numbering_system = None;
+}
+
+abbrev same_shapes : NumberShape → NumberShape → Bool
+same_shapes one other = same_keys (key_with Write one english) (key_with Write other english)
+
+abbrev same_tasks : Task → Task → Bool
+same_tasks one other = same_keys (key_with one (plain_shape Auto) english) (key_with other (plain_shape Auto) english)
+
 -- `auto` and `always` group alike, and are two all the same
-two_groupings : same_grouping Auto Always ≡ false
+two_groupings : same_shapes (plain_shape Auto) (plain_shape Always) ≡ false
 two_groupings = refl
 
 -- two ways of writing an amount are two
-abbrev euros : CurrencyStyle → CurrencyWidth → NumberUnit
-euros style width = unit.Currency (record { code = codes "EUR"; style = style; width = width })
+abbrev euros : CurrencyStyle → CurrencyWidth → NumberShape
+euros style width = shape_with (unit.Currency (record { code = codes "EUR"; style = style; width = width })) Auto
 
-two_ways : same_unit (euros Standard width.Short) (euros Standard width.IsoCode) ≡ false
+two_ways : same_shapes (euros Standard width.Short) (euros Standard width.IsoCode) ≡ false
 two_ways = refl
 
-two_styles : same_unit (euros Standard width.Short) (euros Accounting width.Short) ≡ false
+two_styles : same_shapes (euros Standard width.Short) (euros Accounting width.Short) ≡ false
 two_styles = refl
 
-one_way : same_unit (euros Standard width.Short) (euros Standard width.Short) ≡ true
+one_way : same_shapes (euros Standard width.Short) (euros Standard width.Short) ≡ true
 one_way = refl
 
-two_codes : same_unit (euros Standard width.Short) (unit.Currency (record { code = codes "USD"; style = Standard; width = width.Short })) ≡ false
+two_codes : same_shapes (euros Standard width.Short) (shape_with (unit.Currency (record { code = codes "USD"; style = Standard; width = width.Short })) Auto) ≡ false
 two_codes = refl
 
-two_units : same_unit unit.Percent unit.None ≡ false
+two_units : same_shapes (shape_with (unit.Percent Percent) Auto) (plain_shape Auto) ≡ false
 two_units = refl
 
-two_signs : same_unit unit.Percent unit.Permille ≡ false
+two_signs : same_shapes (shape_with (unit.Percent Percent) Auto) (shape_with (unit.Percent Permille) Auto) ≡ false
 two_signs = refl
 
--- what is read back has the formatter of what is written, and what was typed one of its own; a range has that of cardinal categories
-one_formatter : purpose_of Read ≡ purpose_of Write
-one_formatter = refl
-
-typed_apart : same_purpose (purpose_of ReadLenient) (purpose_of Write) ≡ false
-typed_apart = refl
-
-categories_apart : same_purpose (purpose_of (Category Cardinal)) (purpose_of Write) ≡ false
-categories_apart = refl
-
-ordinals_apart : same_purpose (purpose_of (Category Ordinal)) (purpose_of (Category Cardinal)) ≡ false
-ordinals_apart = refl
-
-ranges_beside : purpose_of RangeCategory ≡ purpose_of (Category Cardinal)
-ranges_beside = refl
-
-two_lengths : same_notation (Compact Short) (Compact Long) ≡ false
+two_lengths : same_shapes (compact_shape Short Auto) (compact_shape Long Auto) ≡ false
 two_lengths = refl
 
-one_length : same_notation (Compact Long) (Compact Long) ≡ true
+one_length : same_shapes (compact_shape Long Auto) (compact_shape Long Auto) ≡ true
 one_length = refl
+
+-- compact numbers with digits of their own have a key for each choice of these
+abbrev digits_shape : Rounding → NumberShape
+digits_shape rounding = record { notation = CompactDigits Short (options_of rounding Keep); unit = unit.None; grouping = Auto }
+
+own_digits : same_shapes (digits_shape Usual) (compact_shape Short Auto) ≡ false
+own_digits = refl
+
+two_digits : same_shapes (digits_shape (At (pos 0) Ceil MultiplesOf1)) (digits_shape (At (pos 0) Floor MultiplesOf1)) ≡ false
+two_digits = refl
+
+one_digit : same_shapes (digits_shape (At (pos 0) Ceil MultiplesOf1)) (digits_shape (At (pos 0) Ceil MultiplesOf1)) ≡ true
+one_digit = refl
+
+-- what is read back has the formatter of what is written, and what was typed one of its own; a range has that of cardinal categories
+one_formatter : same_tasks Read Write ≡ true
+one_formatter = refl
+
+typed_apart : same_tasks ReadLenient Write ≡ false
+typed_apart = refl
+
+categories_apart : same_tasks (Category Cardinal) Write ≡ false
+categories_apart = refl
+
+ordinals_apart : same_tasks (Category Ordinal) (Category Cardinal) ≡ false
+ordinals_apart = refl
+
+ranges_beside : same_tasks RangeCategory (Category Cardinal) ≡ true
+ranges_beside = refl
 
 -- plain numbers as they are given, and not with a rounding
 given : is_as_it_is (record { shape = plain_shape Auto; options = options_of Usual Keep }) ≡ true

@@ -15,7 +15,6 @@ use Rattle.icu_dimension.specs.NativeUnits.{lenient_unit_reading as dimension_re
 use Rattle.icu_dimension.specs.OwnUnitTexts.{reader_under}
 use Rattle.icu_dimension.specs.UnitReading.{AreReaderTexts, IsUnitText, ReaderTexts, is_unit_readable_by, reader_texts}
 use Rattle.icu_dimension.specs.UnitReadings.{unit_reading}
-use Rattle.icu_dimension.specs.declared.PercentSign.TheVariants as sign
 use Rattle.icu_locale_core.specs.TagPreferences.{Preferences}
 use Rattle.locale_numbers_answers.specs.Answers.{read_found, typed_found}
 use Rattle.locale_numbers_answers.specs.ReadAnswer.{fraction_asked, own_reading, read_answer}
@@ -68,10 +67,8 @@ read_leniently f (Ok t) second rounding text digits same =
 read_found_so : (of : NumberUnit) → HasUnit of → (book : BookTables) (asked : Asked) (p : Preferences) (rounding other : Rounding) (text digits : List ℕ)
     → answer_tagged book (Some p) (unit_reading_request asked of rounding text) ≡ written digits → answer_tagged book (Some p) (lenient_unit_request asked of other text) ≡ written digits
 read_found_so unit.None has book asked p rounding other text digits same = absurd has
-read_found_so unit.Percent has book asked p rounding other text digits same =
-    read_leniently (percent_format sign.Percent) (percent_found_in book p (percent_options sign.Percent (grouping_in asked))) (second_for (shape_with unit.Percent (grouping_in asked)) book p) rounding text digits same
-read_found_so unit.Permille has book asked p rounding other text digits same =
-    read_leniently (percent_format sign.Permille) (percent_found_in book p (percent_options sign.Permille (grouping_in asked))) (second_for (shape_with unit.Permille (grouping_in asked)) book p) rounding text digits same
+read_found_so (unit.Percent sign) has book asked p rounding other text digits same =
+    read_leniently (percent_format sign) (percent_found_in book p (percent_options sign (grouping_in asked))) (second_for (shape_with (unit.Percent sign) (grouping_in asked)) book p) rounding text digits same
 read_found_so (unit.Currency currency) has book asked p rounding other text digits same =
     read_leniently (currency_format currency.code) (currency_found_in book p currency.code (amount_options currency (grouping_in asked)))
     (second_for (shape_with (unit.Currency currency) (grouping_in asked)) book p) rounding text digits same

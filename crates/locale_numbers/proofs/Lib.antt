@@ -22,7 +22,6 @@ pub mod PrintedLemmas
 pub mod PrintedSizes
 pub mod ReadingTrips
 pub mod SecondLemmas
-pub mod SameKeyLemmas
 pub mod ServingLemmas
 pub mod SelectionLemmas
 pub use Rattle.locale_numbers_answers.proofs.CompactAnswerLemmas

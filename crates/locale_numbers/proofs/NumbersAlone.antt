@@ -17,7 +17,7 @@ use Rattle.locale_numbers_book.specs.FoundRules.{cardinals_for, ranges_for}
 use Rattle.locale_numbers_book.specs.Wanted.{wanted_of}
 use Rattle.locale_numbers_formats.specs.declared.CompactWidth.TheVariants.{Short, Long}
 use Rattle.locale_numbers_formats.specs.declared.Notation.{Notation}
-use Rattle.locale_numbers_formats.specs.declared.Notation.TheVariants.{Standard, Compact}
+use Rattle.locale_numbers_formats.specs.declared.Notation.TheVariants.{Standard, Compact, CompactDigits}
 use Rattle.locale_numbers_formats.specs.declared.NumberFormat.{NumberFormat}
 use Rattle.locale_numbers_formats.specs.declared.NumberOptions.{NumberOptions}
 use Rattle.locale_numbers_formats.specs.declared.NumberUnit.{NumberUnit}
@@ -50,9 +50,9 @@ module _ (book : BookTables) where
   found_alone Standard unit.None p grouping h = refl
   found_alone (Compact Short) unit.None p grouping h = refl
   found_alone (Compact Long) unit.None p grouping h = refl
-  found_alone notation unit.Percent p grouping h = absurd (cc)
-  found_alone notation unit.Permille p grouping h = absurd (cc)
-  found_alone notation (unit.Currency currency) p grouping h = absurd (cc)
+  found_alone (CompactDigits Short options) unit.None p grouping h = refl
+  found_alone (CompactDigits Long options) unit.None p grouping h = refl
+  found_alone _ _ p grouping h = absurd (cc)
 
   abbrev rules_of : BookTables → Preferences → PluralRuleType → Ruled
   rules_of tables p rule_type = plural_rules_for rule_type tables p

@@ -3,7 +3,7 @@ use Rattle.std.proofs.Common.{◌≡◌, ℕ, Bool, true, false, ◌||◌, List,
 use Rattle.icu_locale_core.specs.TagPreferences.{Preferences}
 use Rattle.locale_numbers_book.specs.Book.{BookTables}
 use Rattle.locale_numbers_book.specs.Wanted.{wanted_of}
-use Rattle.locale_numbers_requests.specs.OldRequests.{OldRequestsStay, StaysRequest, same, none, added, is_added, is_added_grouping, is_added_task, old_request_of, trims}
+use Rattle.locale_numbers_requests.specs.OldRequests.{OldRequestsStay, StaysRequest, same, none, added, is_added, is_added_shape, is_added_task, old_request_of, trims}
 use Rattle.locale_numbers_requests.specs.Request.{Asked, request_of}
 use Rattle.locale_numbers_requests.specs.declared.Task.{Task}
 use Rattle.locale_numbers_requests.specs.declared.Task.TheVariants.{Write, WriteExact, Read, ReadLenient, Category, RangeCategory}
@@ -24,7 +24,7 @@ was_added task asked new old =
     let trimmed = trims asked.format.options.leading_zeros asked.format.options.zeros in
     let or_new : (trimmed || is_added_task task asked.format.shape.unit) ≡ true = ap (λ (b : Bool). trimmed || b) new ∙ or_true trimmed in
     let adds : is_added (by_task task asked) ≡ true =
-    ap (λ (b : Bool). is_added_grouping asked.format.shape.grouping || b) or_new ∙ or_true (is_added_grouping asked.format.shape.grouping) in
+    ap (λ (b : Bool). is_added_shape asked.format.shape || b) or_new ∙ or_true (is_added_shape asked.format.shape) in
     true≢false (sym adds ∙ old)
 
 in_task : (task : Task) (book : BookTables) (preferences : Preferences) (asked : Asked) → is_added (by_task task asked) ≡ false

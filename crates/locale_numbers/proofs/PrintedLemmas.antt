@@ -17,7 +17,7 @@ use Rattle.icu_decimal.specs.ShownChoice.{CanShow, entry_at, exponent_of, shown_
 use Rattle.icu_decimal.specs.ShownValue.{magnitude}
 use Rattle.locale_numbers_answers.specs.Answers.{answer_by, exact_found, written_found, written_to}
 use Rattle.locale_numbers_answers.specs.CompactReading.{compact_number, compact_reading_of}
-use Rattle.locale_numbers_answers.specs.NumberAnswer.{can_be_shown, exact_written, number_answer, text_and_value}
+use Rattle.locale_numbers_answers.specs.NumberAnswer.{exact_written, number_answer, text_and_value}
 use Rattle.locale_numbers_answers.specs.NumberReading.{reading_of}
 use Rattle.locale_numbers_answers.proofs.CompactReadingLemmas.{reads_compact}
 use Rattle.locale_numbers_answers.proofs.NumberBounds.{changed_is_decimal, reading_is_decimal}
@@ -25,6 +25,7 @@ use Rattle.locale_numbers_book.specs.Book.{BookTables}
 use Rattle.locale_numbers_formats.specs.declared.CompactWidth.{CompactWidth}
 use Rattle.locale_numbers_formats.specs.declared.SignAsked.TheVariants.{Keep}
 use Rattle.locale_numbers_formatter.specs.ExactForms.{exact_format_text}
+use Rattle.locale_numbers_formatter.specs.ShownOperands.{is_shown}
 use Rattle.locale_numbers_formatter.specs.FormatText.{compact_tables, format_text}
 use Rattle.locale_numbers_formatter.specs.Laws.{CompactIsLayered, ExactIsLayered}
 use Rattle.locale_numbers_requests.specs.Request.{Asked, tab}
@@ -46,12 +47,12 @@ record IsPrinted (tables : CompactTables) (value : SignedValue Number) (text pri
 
 printed_by : (tables : CompactTables) (value : SignedValue Number) (text printed : List ℕ) → HasNoTab printed
     → number_answer (compact_tables tables) value ≡ written (text ++ tab ∷ printed) → IsPrinted tables value text printed
-printed_by tables value text printed last same = go (can_be_shown tables value) refl same
+printed_by tables value text printed last same = go (is_shown (compact_tables tables) value) refl same
   where
-    go : (b : Bool) → can_be_shown tables value ≡ b → cond b (written (text_and_value tables value)) (refused refusal.Range) ≡ written (text ++ tab ∷ printed) → IsPrinted tables value text printed
+    go : (b : Bool) → is_shown (compact_tables tables) value ≡ b → cond b (written (text_and_value (compact_tables tables) value)) (refused refusal.Range) ≡ written (text ++ tab ∷ printed) → IsPrinted tables value text printed
     go true can is =
         let s = split_last (format_text (compact_tables tables) value) (compact_text_of (value_shown tables value)) text printed (printed_has_no_tab (value_shown tables value)) last
-        (one_text (text_and_value tables value) (text ++ tab ∷ printed) is) in
+        (one_text (text_and_value (compact_tables tables) value) (text ++ tab ∷ printed) is) in
         record {
           can = record { below = ltb-true (shown_under 32768 tables.patterns.entries value.absolute.count) count_limit can };
           front = s.front;

@@ -21,7 +21,6 @@ use Rattle.icu_dimension.specs.declared.CurrencyWidth.{CurrencyWidth}
 use Rattle.icu_dimension.specs.declared.CurrencyWidth.TheVariants as width
 use Rattle.icu_dimension.specs.declared.FractionInfo.{FractionInfo}
 use Rattle.icu_dimension.specs.declared.PercentSign.{PercentSign}
-use Rattle.icu_dimension.specs.declared.PercentSign.TheVariants as sign
 use Rattle.icu_dimension.specs.UnitText.{UnitSettings}
 use Rattle.icu_locale_core.specs.DataLocales.{unknown_data}
 use Rattle.icu_locale_core.specs.Subtags.{Text}
@@ -40,11 +39,11 @@ use Rattle.locale_numbers_book.specs.Wanted.{wanted_of}
 use Rattle.locale_numbers_formats.specs.declared.CompactWidth.{CompactWidth}
 use Rattle.locale_numbers_formats.specs.declared.CompactWidth.TheVariants as patterns
 use Rattle.locale_numbers_formats.specs.declared.Notation.{Notation}
-use Rattle.locale_numbers_formats.specs.declared.Notation.TheVariants.{Standard, Compact}
+use Rattle.locale_numbers_formats.specs.declared.Notation.TheVariants.{Standard, Compact, CompactDigits}
 use Rattle.locale_numbers_formats.specs.declared.NumberShape.{NumberShape}
 use Rattle.locale_numbers_formats.specs.declared.NumberUnit.{NumberUnit}
 use Rattle.locale_numbers_formats.specs.declared.NumberUnit.TheVariants as unit
-use Rattle.locale_numbers_formatter.specs.FormatText.{compact_tables, plain_tables, unit_tables}
+use Rattle.locale_numbers_formatter.specs.FormatText.{compact_tables, digits_tables, plain_tables, unit_tables}
 use Rattle.locale_numbers_formatter.specs.HeldFormats.{currency_format, percent_format}
 use Rattle.locale_numbers_requests.specs.Request.{Asked, request_of}
 use Rattle.locale_numbers.specs.Answer.{answer_asked, answer_of, answer_tagged, plural_rules_for, second_for}
@@ -154,20 +153,18 @@ module _ (small whole : BookTables) (p : Preferences) (serves : Serves small who
 
   standard_same : (of : NumberUnit) (grouping : GroupingStrategy) → standard_found of small p grouping ≡ standard_found of whole p grouping
   standard_same unit.None grouping = ap (mapped plain_tables) (plain_same grouping)
-  standard_same unit.Percent grouping = ap (mapped (λ settings. unit_tables (percent_format sign.Percent settings))) (percents_same sign.Percent grouping)
-  standard_same unit.Permille grouping = ap (mapped (λ settings. unit_tables (percent_format sign.Permille settings))) (percents_same sign.Permille grouping)
+  standard_same (unit.Percent sign) grouping = ap (mapped (λ settings. unit_tables (percent_format sign settings))) (percents_same sign grouping)
   standard_same (unit.Currency currency) grouping =
       ap (mapped (λ settings. unit_tables (currency_format currency.code settings))) (currency_same currency.code (amount_options currency grouping) grouping refl)
 
   compact_found_same : (wide : CompactWidth) (of : NumberUnit) (grouping : GroupingStrategy) → compact_found wide of small p grouping ≡ compact_found wide of whole p grouping
-  compact_found_same wide unit.None grouping = ap (mapped compact_tables) (compact_same wide grouping)
-  compact_found_same wide unit.Percent grouping = refl
-  compact_found_same wide unit.Permille grouping = refl
-  compact_found_same wide (unit.Currency currency) grouping = refl
+  compact_found_same wide unit.None grouping = compact_same wide grouping
+  compact_found_same wide _ grouping = refl
 
   notation_same : (notation : Notation) (of : NumberUnit) (grouping : GroupingStrategy) → notation_found notation of small p grouping ≡ notation_found notation of whole p grouping
   notation_same Standard of grouping = standard_same of grouping
-  notation_same (Compact wide) of grouping = compact_found_same wide of grouping
+  notation_same (Compact wide) of grouping = ap (mapped compact_tables) (compact_found_same wide of grouping)
+  notation_same (CompactDigits wide options) of grouping = ap (mapped (λ tables. digits_tables tables options)) (compact_found_same wide of grouping)
 
   shape_same : (shape : NumberShape) → found_for shape small p ≡ found_for shape whole p
   shape_same shape = notation_same shape.notation shape.unit shape.grouping

@@ -23,7 +23,7 @@ use Rattle.locale_numbers_formats.specs.Changed.{changed, changed_by, end_padded
 use Rattle.locale_numbers_formats.specs.declared.LeadingZeros.{LeadingZeros}
 use Rattle.locale_numbers_formats.specs.declared.LeadingZeros.TheVariants as leading
 use Rattle.locale_numbers_formats.specs.declared.Notation.{Notation}
-use Rattle.locale_numbers_formats.specs.declared.Notation.TheVariants.{Standard, Compact}
+use Rattle.locale_numbers_formats.specs.declared.Notation.TheVariants.{Standard}
 use Rattle.locale_numbers_formats.specs.declared.NumberFormat.{NumberFormat}
 use Rattle.locale_numbers_formats.specs.declared.NumberOptions.{NumberOptions}
 use Rattle.locale_numbers_formats.specs.declared.NumberUnit.{NumberUnit}
@@ -167,10 +167,7 @@ changes_none format h value is =
 finds_plain : (notation : Notation) (of : NumberUnit) (book : BookTables) (p : Preferences) (format : NumberFormat) → is_plain notation of ≡ true
     → notation_found notation of book p format.shape.grouping ≡ mapped plain_tables (found_plain book p (Some format.shape.grouping))
 finds_plain Standard unit.None book p format h = refl
-finds_plain Standard unit.Percent book p format h = absurd (cc)
-finds_plain Standard unit.Permille book p format h = absurd (cc)
-finds_plain Standard (unit.Currency currency) book p format h = absurd (cc)
-finds_plain (Compact width) of book p format h = absurd (cc)
+finds_plain _ _ book p format h = absurd (cc)
 
 no_fractions : (found : Result Tables DataError) (format : FormatTables) → mapped plain_tables found ≡ Ok format → fractions_in format ≡ None
 no_fractions (Ok tables) format is = let one : plain_tables tables ≡ format = cc in ap fractions_in (sym one)

@@ -20,7 +20,6 @@ use Rattle.icu_dimension.specs.UnitReadingLaws.{ReadersReadWhatIsWritten}
 use Rattle.icu_dimension.specs.UnitReadings.{unit_reading}
 use Rattle.icu_dimension.specs.UnitText.{UnitSettings, unit_decimal_text}
 use Rattle.icu_dimension.specs.declared.PercentSign.{PercentSign}
-use Rattle.icu_dimension.specs.declared.PercentSign.TheVariants as sign
 use Rattle.icu_locale_core.specs.TagPreferences.{Preferences}
 use Rattle.locale_numbers_answers.specs.Answers.{answer_by, read_found, written_found, written_to}
 use Rattle.locale_numbers_answers.specs.Laws.{ChoosesNone, FitDecimals, IsAtMagnitude}
@@ -54,30 +53,14 @@ use Rattle.locale_numbers.proofs.ReadingTrips.{one_text, plain_options, refused_
 usual : (of : NumberUnit) (rounding : Rounding) → TakesRounding of rounding → (keeps_digits rounding || is_cash rounding) ≡ true
 usual of Usual takes = refl
 usual of Cash takes = refl
-usual unit.None AsGiven takes = absurd (cc)
-usual unit.Percent AsGiven takes = absurd (cc)
-usual unit.Permille AsGiven takes = absurd (cc)
-usual (unit.Currency currency) AsGiven takes = absurd (cc)
-usual unit.None (At position mode increment) takes = absurd (cc)
-usual unit.Percent (At position mode increment) takes = absurd (cc)
-usual unit.Permille (At position mode increment) takes = absurd (cc)
-usual (unit.Currency currency) (At position mode increment) takes = absurd (cc)
-usual unit.None (Significant digits mode) takes = absurd (cc)
-usual unit.Percent (Significant digits mode) takes = absurd (cc)
-usual unit.Permille (Significant digits mode) takes = absurd (cc)
-usual (unit.Currency currency) (Significant digits mode) takes = absurd (cc)
-usual unit.None (Either priority position digits mode) takes = absurd (cc)
-usual unit.Percent (Either priority position digits mode) takes = absurd (cc)
-usual unit.Permille (Either priority position digits mode) takes = absurd (cc)
-usual (unit.Currency currency) (Either priority position digits mode) takes = absurd (cc)
+usual unit.None _ takes = absurd (cc)
+usual (unit.Percent sign) _ takes = absurd (cc)
+usual (unit.Currency currency) _ takes = absurd (cc)
 
 at_magnitude : (rounding : Rounding) → (keeps_digits rounding || is_cash rounding) ≡ true → IsAtMagnitude rounding
 at_magnitude Usual takes = tt
 at_magnitude Cash takes = tt
-at_magnitude AsGiven takes = absurd (cc)
-at_magnitude (At position mode increment) takes = absurd (cc)
-at_magnitude (Significant digits mode) takes = absurd (cc)
-at_magnitude (Either priority position digits mode) takes = absurd (cc)
+at_magnitude _ takes = absurd (cc)
 
 chooses_none : (rounding : Rounding) → (keeps_digits rounding || is_cash rounding) ≡ true → ChoosesNone rounding
 chooses_none Usual takes = tt
@@ -193,8 +176,7 @@ no_digits of (Err error) found is = absurd (cc)
 signs_have_none : (of : NumberUnit) → HasSign of → (book : BookTables) (p : Preferences) (grouping : GroupingStrategy) (found : UnitFormat) → found_for (shape_with of grouping) book p ≡ Ok (unit_tables found)
     → found.fractions ≡ None
 signs_have_none unit.None signed book p grouping found is = absurd signed
-signs_have_none unit.Percent signed book p grouping found is = no_digits sign.Percent (percent_found_in book p (percent_options sign.Percent grouping)) found is
-signs_have_none unit.Permille signed book p grouping found is = no_digits sign.Permille (percent_found_in book p (percent_options sign.Permille grouping)) found is
+signs_have_none (unit.Percent sign) signed book p grouping found is = no_digits sign (percent_found_in book p (percent_options sign grouping)) found is
 signs_have_none (unit.Currency currency) signed book p grouping found is = absurd signed
 
 pub percent_reads_back : FoundUnitsAreTexts → HasOneExactReading → ReadersReadWhatIsWritten → WrittenPercentReadsBack

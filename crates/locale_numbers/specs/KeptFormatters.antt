@@ -1,8 +1,9 @@
 -- Which formatter is the one of a key, and what it knows to put texts with, to read with and to tell categories by.
 -- Defined in docs/requests.md, "What a cache keeps".
 -- Cited by the private steps of `answer` and `run`.
-use Rattle.std.specs.Prelude.{◌≡◌, Bool, true, false, List, Option, None, Some, IfSome, Ok}
+use Rattle.std.specs.Prelude.{◌≡◌, Bool, true, false, List, Option, None, Some, IfSome, Result, Ok}
 use Rattle.icu_decimal.specs.Rules.{Rules}
+use Rattle.icu_decimal.specs.declared.error.DataError.{DataError}
 use Rattle.icu_decimal_direct.specs.TextTables.{text_tables}
 use Rattle.icu_decimal_direct.specs.declared.text_tables.TextTables.{TextTables}
 use Rattle.icu_dimension.specs.UnitReading.{ReaderTexts}
@@ -50,12 +51,26 @@ abbrev pub rules_found : BookTables → Preferences → Option PluralRuleType �
 rules_found book preferences None = None
 rules_found book preferences (Some rule_type) = plural_rules_for rule_type book preferences
 
+-- what a book has under a key: the tables of its shape, the second ones beside these, and the rules that are needed
+abbrev pub found_by : BookTables → FormatterKey → Result FormatTables DataError
+found_by book key = found_for key.shape book key.preferences
+
+abbrev pub second_by : BookTables → FormatterKey → FormatTables → Option FormatTables
+second_by book key = second_for key.shape book key.preferences
+
+abbrev pub rules_by : BookTables → FormatterKey → Option (Rules × List PluralRange)
+rules_by book key = rules_found book key.preferences (rules_for key.purpose)
+
 -- the formatter is the one of the key: it has what is found, and no rules are missing
 pub record IsMadeFor (book : BookTables) (key : FormatterKey) (kept : Kept) : Type 0 where
-  pub found : found_for key.shape book key.preferences ≡ Ok kept.formatter
-  pub second : key.purpose ≡ ReadsTyped → kept.second ≡ second_for key.shape book key.preferences kept.formatter
-  pub rules : kept.rules ≡ rules_found book key.preferences (rules_for key.purpose)
+  pub found : found_by book key ≡ Ok kept.formatter
+  pub second : key.purpose ≡ ReadsTyped → kept.second ≡ second_by book key kept.formatter
+  pub rules : kept.rules ≡ rules_by book key
   pub there : finds_rules book key.preferences (rules_for key.purpose) ≡ true
+
+-- what was kept for a key is kept for it still, where the formatter of the key can be had without making it
+abbrev pub StillKeeps : (FormatterKey → Option Kept) → (FormatterKey → Type 0) → (FormatterKey → Option Kept) → Type 0
+StillKeeps before takes after = (key : FormatterKey) (kept : Kept) → before key ≡ Some kept → ¬ (takes key) → after key ≡ Some kept
 
 -- the same formatter, whatever it keeps to read with
 pub record IsSameFormatter (old new : Kept) : Type 0 where

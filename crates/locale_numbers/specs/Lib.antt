@@ -84,9 +84,11 @@ pub use Rattle.locale_numbers_requests.specs.RangeEnds
 pub use Rattle.locale_numbers_requests.specs.Refusal
 pub use Rattle.locale_numbers_requests.specs.Request
 pub use Rattle.locale_numbers_requests.specs.RoundingField
+pub use Rattle.locale_numbers_requests.specs.UnitWord
 -- Of the inner crates: formats, and what numbers of each are written and read with.
 pub use Rattle.locale_numbers_formats.specs.AmountRounding
 pub use Rattle.locale_numbers_formats.specs.Changed
+pub use Rattle.locale_numbers_formats.specs.IncrementWords
 pub use Rattle.locale_numbers_formats.specs.Marks
 pub use Rattle.locale_numbers_formats.specs.Rounded
 pub use Rattle.locale_numbers_formats.specs.SkeletonErrors
@@ -94,6 +96,7 @@ pub use Rattle.locale_numbers_formats.specs.SkeletonFormats
 pub use Rattle.locale_numbers_formats.specs.Skeletons
 pub use Rattle.locale_numbers_formats.specs.Stems
 pub use Rattle.locale_numbers_formats.specs.WordTable
+pub use Rattle.locale_numbers_formatter.specs.CompactDigits
 pub use Rattle.locale_numbers_formatter.specs.ExactForms
 pub use Rattle.locale_numbers_formatter.specs.FormatReading
 pub use Rattle.locale_numbers_formatter.specs.FormatText

@@ -115,8 +115,7 @@ SelectedParentsAreParents = (value : Data) (whole : BookTables) → IsBook value
 -- whether a request asks for units
 abbrev pub asks_units : NumberUnit → Bool
 asks_units unit.None = false
-asks_units unit.Percent = true
-asks_units unit.Permille = true
+asks_units (unit.Percent sign) = true
 asks_units (unit.Currency currency) = true
 
 -- whether a task asks for what a book has of plurals beside cardinal rules

@@ -41,15 +41,13 @@ unit_reading_request asked unit rounding text = request_like asked Read (shape_w
 -- it is one
 abbrev pub HasUnit : NumberUnit → Type 0
 HasUnit unit.None = ⊥
-HasUnit unit.Percent = Unit {0}
-HasUnit unit.Permille = Unit {0}
+HasUnit (unit.Percent sign) = Unit {0}
 HasUnit (unit.Currency currency) = Unit {0}
 
 -- it is a sign
 abbrev pub HasSign : NumberUnit → Type 0
 HasSign unit.None = ⊥
-HasSign unit.Percent = Unit {0}
-HasSign unit.Permille = Unit {0}
+HasSign (unit.Percent sign) = Unit {0}
 HasSign (unit.Currency currency) = ⊥
 
 -- the word that reads it takes this rounding: none, or of amounts that of cash

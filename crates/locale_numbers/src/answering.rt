@@ -7,6 +7,7 @@ ghost use Rattle.locale_numbers_answers.specs.AnswerSink.{HasRoom};
 ghost use Rattle.locale_numbers.specs.Front.{FitsKey, HasKeyThat, MayTakeAfter, answer_after, key_after};
 ghost use Rattle.locale_numbers.specs.LineMemory.{MayTakeTag, TakesNone, no_number};
 ghost use Rattle.locale_numbers_requests.specs.Request.{Asked, request_of};
+ghost use Rattle.locale_numbers.specs.KeptFormatters.{StillKeeps};
 ghost use Rattle.locale_numbers.specs.declared.formatter_key.FormatterKey.{FormatterKey};
 
 use crate::category_line::answer_category;
@@ -45,13 +46,15 @@ pub(crate) fn answer_after_front<'a, F: Formatters<'a>>(
 
     // Where there is room for the answer, and handing out the formatter of the front's key takes none, only a text of
     // more than sixteen digits may be out of memory, to write a number only one of more than `value` had, and a
-    // rounding to multiples of 25 that may lengthen one of sixteen.
+    // rounding to multiples of 25 that may lengthen one of sixteen, or that is of a compact number's own digits.
     ensures room { HasRoom out.old (answer_after (F.book formatters.old) front.now text.now)
         → HasKeyThat (λ key. ¬ (F.may_take_memory formatters.old key)) front.now
         → ¬ (MayTakeAfter (F.book formatters.old) (F.kept_for formatters.old) front.now text.now value.old)
         → IsOk result }
     ensures counted { OnOk result ((more : List (Option FormatterKey)) →
-        F.counted_over formatters.old (key_after front.now text.now ∷ more) ≡ F.counted_over formatters.new more) }
+        F.keeping_over formatters.old (key_after front.now text.now ∷ more) ≡ F.keeping_over formatters.new more) }
+    ensures kept { StillKeeps (F.kept_for formatters.old) (F.may_take_memory formatters.new)
+        (F.kept_for formatters.new) }
     ensures same { F.book formatters.new ≡ F.book formatters.old }
     ensures ready { F.is_ready formatters.new }
     ensures right { HasKeyThat (F.is_right_for formatters.new) front.now }

@@ -3,15 +3,13 @@
 ghost use Rattle.std.specs.Prelude.{◌≡◌, ◌≤◌, ◌∷◌, ◌++◌, [], ℕ, List, IfOk, OnOk, OnErr, string_bytes};
 ghost use Rattle.locale_numbers_lines.specs.Growth.{Grows};
 ghost use Rattle.locale_numbers.specs.Answer.{answer_of};
-ghost use Rattle.locale_numbers.specs.KeptAnswers.{keeping, makes_after};
+ghost use Rattle.locale_numbers.specs.KeptAnswers.{keeping, keeps_after, makes_after};
 
 use crate::cached_formatters::CachedFormatters;
-use crate::formatter_key::FormatterKey;
 use crate::kept_formatter::FormatterMaker;
 use crate::line_answerer::LineAnswerer;
 use fixed_decimal::Decimal;
 use locale_numbers_book::Tables;
-use locale_numbers_cache::laws::equal_keys_are_one;
 use locale_numbers_cache::{FormatterCache, ReadKeys};
 use locale_numbers_lines::Answerer;
 use std::alloc::{AllocError, Global};
@@ -67,7 +65,8 @@ impl<'a, T: Tables> Answers<'a, T> {
     }
 
     /// Writes the answer to a line, without a line feed, after what `out` holds: that of [`answer`](crate::answer). A
-    /// formatter is made for it only where the one of its key is not kept, as in a [`run`](crate::run).
+    /// formatter is made for it only where the one of its key is not kept, as in a [`run`](crate::run); it is then the one
+    /// used last, and where there are too many the one used longest ago is dropped.
     ///
     /// Of the sample book `en`, `plain`, `auto`, `keep`, `-` and `1234.5` with tabs between give `ok`, a tab and
     /// `1,234.5`. Allocates where the formatter is not kept, and for the text. `AllocError`: out of memory; a part of the
@@ -76,10 +75,11 @@ impl<'a, T: Tables> Answers<'a, T> {
         ensures text { OnOk result (string_bytes out.new ≡ string_bytes out.old ++ answer_of self.old.book line.now) }
         ensures made { OnOk result ((more : List (List ℕ)) →
             makes_after self.old (line.now ∷ more) ≡ makes_after self.new more) }
+        ensures recent { OnOk result (self.new.recent ≡ keeps_after self.old (line.now ∷ [])) }
+        ensures capacity { OnOk result (self.new.capacity ≡ self.old.capacity) }
         ensures same { self.new.book ≡ self.old.book }
         ensures err { OnErr result (Grows (string_bytes out.old) (string_bytes out.new)) }
     {
-        equal_keys_are_one::<FormatterKey>();
         self.answerer.answer_line(line, out)
     }
 
@@ -88,7 +88,6 @@ impl<'a, T: Tables> Answers<'a, T> {
     pub fn made(&self) -> u64
         ensures { result ≡ makes_after self.now [] }
     {
-        equal_keys_are_one::<FormatterKey>();
         self.answerer.made()
     }
 }

@@ -37,9 +37,10 @@ fn latest_of<K: CacheKey, F: Drop>(formatters: &FormatterCache<K, F>) -> &F
 
 impl<'a, T: Tables> Formatters<'a> for CachedFormatters<'a, T> {
     ghost use Rattle.std.specs.Prelude.{IsTrue, refl};
-    ghost use Rattle.locale_numbers_cache.specs.Cached.{IsLatest, IsSound, kept_for, made_over, recent_of};
+    ghost use Rattle.locale_numbers_cache.specs.Cached.{IsLatest, IsSound, kept_for, recent_of};
     ghost use Rattle.locale_numbers_cache.specs.Recent.{has};
     ghost use Rattle.locale_numbers.specs.FormatterKeys.{finds};
+    ghost use Rattle.locale_numbers.specs.KeptAnswers.{keeping_in, keeping_over};
     ghost use Rattle.locale_numbers.specs.KeptFormatters.{IsMadeFor};
 
     ghost book = { λ s. T.book s.maker.tables.now };
@@ -47,8 +48,7 @@ impl<'a, T: Tables> Formatters<'a> for CachedFormatters<'a, T> {
     ghost is_ready = { λ s. IsSound (finds (T.book s.maker.tables.now)) (IsMadeFor (T.book s.maker.tables.now))
         s.formatters };
 
-    ghost counted_over = { λ s keys. made_over ⟦<FormatterKey as PartialEq>⟧.eq (finds (T.book s.maker.tables.now))
-        s.formatters keys };
+    ghost keeping_over = { λ s keys. keeping_over (keeping_in (T.book s.maker.tables.now) s.formatters) keys };
 
     // Only of a key that is not kept.
     ghost may_take_memory = { λ s key. ¬ (IsTrue (has ⟦<FormatterKey as PartialEq>⟧.eq key (recent_of s.formatters))) };
@@ -73,5 +73,5 @@ impl<'a, T: Tables> Formatters<'a> for CachedFormatters<'a, T> {
         latest_of(&self.formatters)
     }
 
-    ghost counts_none = { λ s more. refl };
+    ghost changes_none = { λ s more. refl };
 }

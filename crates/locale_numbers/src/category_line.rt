@@ -2,16 +2,15 @@
 
 ghost use Rattle.std.specs.Prelude.{◌≡◌, ◌∷◌, ◌++◌, List, Ok, Option, Some, IsOk, OnOk, OnErr, string_bytes};
 ghost use Rattle.locale_numbers_lines.specs.Growth.{Grows};
-ghost use Rattle.locale_numbers_answers.specs.AnswerMemory.{MayGrowFound, ReadsMore};
+ghost use Rattle.locale_numbers_answers.specs.AnswerMemory.{MayGrowFound, MayLengthenFound, ReadsMore};
 ghost use Rattle.locale_numbers_answers.specs.AnswerSink.{HasRoom};
 ghost use Rattle.locale_numbers_answers.specs.CategoryAnswer.{category_found, category_to};
 ghost use Rattle.locale_numbers_answers.specs.NumberReading.{number, reading_of};
-ghost use Rattle.locale_numbers_book.specs.FoundFormats.{found_for};
 ghost use Rattle.locale_numbers_formats.specs.Changed.{MayGrowBy};
-ghost use Rattle.locale_numbers_formatter.specs.FormatText.{fractions_in};
-ghost use Rattle.locale_numbers.specs.FormatterKeys.{key_text, rules_for};
+ghost use Rattle.locale_numbers_formatter.specs.FormatText.{MayLengthen, fractions_in};
+ghost use Rattle.locale_numbers.specs.FormatterKeys.{key_text};
 ghost use Rattle.locale_numbers.specs.Front.{if_text, key_if_text};
-ghost use Rattle.locale_numbers.specs.KeptFormatters.{rules_found};
+ghost use Rattle.locale_numbers.specs.KeptFormatters.{StillKeeps, found_by, rules_by};
 ghost use Rattle.locale_numbers.specs.declared.formatter_key.FormatterKey.{FormatterKey};
 
 use crate::formatter_key::FormatterKey;
@@ -38,7 +37,8 @@ fn write_category_by_formatter(
         ++ category_found (Ok kept.now.formatter) kept.now.rules options value.old) }
     ensures err { OnErr result (Grows (string_bytes out.old) (string_bytes out.new)) }
     ensures room { HasRoom out.old (category_found (Ok kept.now.formatter) kept.now.rules options value.old)
-        → ¬ (MayGrowBy options.rounding (fractions_in kept.now.formatter) value.old) → IsOk result }
+        → ¬ (MayGrowBy options.rounding (fractions_in kept.now.formatter) value.old)
+        → ¬ (MayLengthen kept.now.formatter) → IsOk result }
 {
     let Some(rules) = &kept.rules else {
         return write_refusal(out, Refusal::Table);
@@ -61,18 +61,18 @@ fn write_category_by_key<'a, F: Formatters<'a>>(
     requires ready { F.is_ready formatters.old }
     requires right { F.is_right_for formatters.old key.now }
     ensures text { OnOk result (string_bytes out.new ≡ string_bytes out.old
-        ++ category_found (found_for key.now.shape (F.book formatters.old) key.now.preferences)
-        (rules_found (F.book formatters.old) key.now.preferences (rules_for key.now.purpose)) options value.old) }
+        ++ category_found (found_by (F.book formatters.old) key.now)
+        (rules_by (F.book formatters.old) key.now) options value.old) }
     ensures err { OnErr result (Grows (string_bytes out.old) (string_bytes out.new)) }
     ensures room { HasRoom out.old
-        (category_found (found_for key.now.shape (F.book formatters.old) key.now.preferences)
-        (rules_found (F.book formatters.old) key.now.preferences (rules_for key.now.purpose)) options value.old)
-        → ¬ (F.may_take_memory formatters.old key.now)
-        → ¬ (MayGrowFound (found_for key.now.shape (F.book formatters.old) key.now.preferences) options.rounding
-        (number value.old))
-        → IsOk result }
+        (category_found (found_by (F.book formatters.old) key.now)
+        (rules_by (F.book formatters.old) key.now) options value.old) → ¬ (F.may_take_memory formatters.old key.now)
+        → ¬ (MayGrowFound (found_by (F.book formatters.old) key.now) options.rounding (number value.old))
+        → ¬ (MayLengthenFound (found_by (F.book formatters.old) key.now)) → IsOk result }
     ensures counted { OnOk result ((more : List (Option FormatterKey)) →
-        F.counted_over formatters.old (Some key.now ∷ more) ≡ F.counted_over formatters.new more) }
+        F.keeping_over formatters.old (Some key.now ∷ more) ≡ F.keeping_over formatters.new more) }
+    ensures kept { StillKeeps (F.kept_for formatters.old) (F.may_take_memory formatters.new)
+        (F.kept_for formatters.new) }
     ensures same { F.book formatters.new ≡ F.book formatters.old }
     ensures ready { F.is_ready formatters.new }
     ensures right { F.is_right_for formatters.new key.now }
@@ -99,27 +99,25 @@ pub(crate) fn answer_category<'a, F: Formatters<'a>>(
 ) -> Result<(), AllocError>
     requires ready { F.is_ready formatters.old }
     requires right { F.is_right_for formatters.old key.now }
-    ensures text { OnOk result (string_bytes out.new ≡ string_bytes out.old ++ if_text text.now
-        (category_to (found_for key.now.shape (F.book formatters.old) key.now.preferences)
-        (rules_found (F.book formatters.old) key.now.preferences (rules_for key.now.purpose)) options
-        (reading_of text.now))) }
+    ensures text { OnOk result (string_bytes out.new ≡ string_bytes out.old
+        ++ if_text text.now (category_to (found_by (F.book formatters.old) key.now)
+        (rules_by (F.book formatters.old) key.now) options (reading_of text.now))) }
     ensures err { OnErr result (Grows (string_bytes out.old) (string_bytes out.new)) }
 
     // Where there is room for the answer, and handing out the formatter of the key takes none, only a number of more
     // than sixteen digits, and of more than `value` had, may be out of memory, and a rounding to multiples of 25 that
-    // may lengthen one of sixteen.
-    ensures room { HasRoom out.old (if_text text.now
-        (category_to (found_for key.now.shape (F.book formatters.old) key.now.preferences)
-        (rules_found (F.book formatters.old) key.now.preferences (rules_for key.now.purpose)) options
-        (reading_of text.now)))
-        → ¬ (F.may_take_memory formatters.old key.now)
-        → ¬ (ReadsMore text.now value.old)
-        → ¬ (MayGrowFound (found_for key.now.shape (F.book formatters.old) key.now.preferences) options.rounding
-        (reading_of text.now))
-        → IsOk result }
+    // may lengthen one of sixteen, or that is of a compact number's own digits.
+    ensures room { HasRoom out.old
+        (if_text text.now (category_to (found_by (F.book formatters.old) key.now)
+        (rules_by (F.book formatters.old) key.now) options (reading_of text.now)))
+        → ¬ (F.may_take_memory formatters.old key.now) → ¬ (ReadsMore text.now value.old)
+        → ¬ (MayGrowFound (found_by (F.book formatters.old) key.now) options.rounding (reading_of text.now))
+        → ¬ (MayLengthenFound (found_by (F.book formatters.old) key.now)) → IsOk result }
     ensures counted { OnOk result ((more : List (Option FormatterKey)) →
-        F.counted_over formatters.old (key_if_text text.now (key_text key.now (reading_of text.now)) ∷ more)
-        ≡ F.counted_over formatters.new more) }
+        F.keeping_over formatters.old (key_if_text text.now (key_text key.now (reading_of text.now)) ∷ more)
+        ≡ F.keeping_over formatters.new more) }
+    ensures kept { StillKeeps (F.kept_for formatters.old) (F.may_take_memory formatters.new)
+        (F.kept_for formatters.new) }
     ensures same { F.book formatters.new ≡ F.book formatters.old }
     ensures ready { F.is_ready formatters.new }
     ensures right { F.is_right_for formatters.new key.now }

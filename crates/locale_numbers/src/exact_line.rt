@@ -7,8 +7,8 @@ ghost use Rattle.locale_numbers_answers.specs.AnswerSink.{HasRoom};
 ghost use Rattle.locale_numbers_answers.specs.Answers.{exact_found, exact_with};
 ghost use Rattle.locale_numbers_answers.specs.CompactReading.{compact_reading_of};
 ghost use Rattle.locale_numbers_answers.specs.NumberAnswer.{signed_form};
-ghost use Rattle.locale_numbers_book.specs.FoundFormats.{found_for};
 ghost use Rattle.locale_numbers.specs.FormatterKeys.{key_exact, rules_for};
+ghost use Rattle.locale_numbers.specs.KeptFormatters.{StillKeeps, found_by};
 ghost use Rattle.locale_numbers.specs.declared.formatter_key.FormatterKey.{FormatterKey};
 
 use crate::formatter_key::FormatterKey;
@@ -33,17 +33,16 @@ fn write_exact_by_key<'a, F: Formatters<'a>>(
     requires right { F.is_right_for formatters.old key.now }
     requires ruleless { rules_for key.now.purpose ≡ None }
     ensures text { OnOk result (string_bytes out.new ≡ string_bytes out.old
-        ++ exact_with (found_for key.now.shape (F.book formatters.old) key.now.preferences)
-        (signed_form sign value)) }
+        ++ exact_with (found_by (F.book formatters.old) key.now) (signed_form sign value)) }
     ensures err { OnErr result (Grows (string_bytes out.old) (string_bytes out.new)) }
 
     // Where there is room for the answer, and handing out the formatter of the key takes none, it does not allocate.
-    ensures room { HasRoom out.old
-        (exact_with (found_for key.now.shape (F.book formatters.old) key.now.preferences)
-        (signed_form sign value))
+    ensures room { HasRoom out.old (exact_with (found_by (F.book formatters.old) key.now) (signed_form sign value))
         → ¬ (F.may_take_memory formatters.old key.now) → IsOk result }
     ensures counted { OnOk result ((more : List (Option FormatterKey)) →
-        F.counted_over formatters.old (Some key.now ∷ more) ≡ F.counted_over formatters.new more) }
+        F.keeping_over formatters.old (Some key.now ∷ more) ≡ F.keeping_over formatters.new more) }
+    ensures kept { StillKeeps (F.kept_for formatters.old) (F.may_take_memory formatters.new)
+        (F.kept_for formatters.new) }
     ensures same { F.book formatters.new ≡ F.book formatters.old }
     ensures ready { F.is_ready formatters.new }
     ensures right { F.is_right_for formatters.new key.now }
@@ -71,19 +70,19 @@ pub(crate) fn answer_exact<'a, F: Formatters<'a>>(
     requires right { F.is_right_for formatters.old key.now }
     requires ruleless { rules_for key.now.purpose ≡ None }
     ensures text { OnOk result (string_bytes out.new ≡ string_bytes out.old
-        ++ exact_found (found_for key.now.shape (F.book formatters.old) key.now.preferences) sign
-        (compact_reading_of text.now)) }
+        ++ exact_found (found_by (F.book formatters.old) key.now) sign (compact_reading_of text.now)) }
     ensures err { OnErr result (Grows (string_bytes out.old) (string_bytes out.new)) }
 
     // Where there is room for the answer, and handing out the formatter of the key takes none, only a number of more
     // than sixteen digits may be out of memory.
     ensures room { HasRoom out.old
-        (exact_found (found_for key.now.shape (F.book formatters.old) key.now.preferences) sign
-        (compact_reading_of text.now))
+        (exact_found (found_by (F.book formatters.old) key.now) sign (compact_reading_of text.now))
         → ¬ (F.may_take_memory formatters.old key.now) → ¬ (ReadsLongCompact text.now) → IsOk result }
     ensures counted { OnOk result ((more : List (Option FormatterKey)) →
-        F.counted_over formatters.old (key_exact key.now (compact_reading_of text.now) ∷ more)
-        ≡ F.counted_over formatters.new more) }
+        F.keeping_over formatters.old (key_exact key.now (compact_reading_of text.now) ∷ more)
+        ≡ F.keeping_over formatters.new more) }
+    ensures kept { StillKeeps (F.kept_for formatters.old) (F.may_take_memory formatters.new)
+        (F.kept_for formatters.new) }
     ensures same { F.book formatters.new ≡ F.book formatters.old }
     ensures ready { F.is_ready formatters.new }
     ensures right { F.is_right_for formatters.new key.now }

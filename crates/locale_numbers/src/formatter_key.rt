@@ -4,10 +4,9 @@ ghost use Rattle.std.specs.Prelude.{◌≡◌};
 ghost use Rattle.locale_numbers.specs.FormatterKeys.{purpose_of};
 
 use icu_decimal::DecimalFormatterPreferences;
-use icu_decimal::options::GroupingStrategy;
 use icu_plurals::PluralRuleType;
 use locale_numbers_cache::CacheKey;
-use locale_numbers_formats::{Notation, NumberShape};
+use locale_numbers_formats::NumberShape;
 use locale_numbers_requests::Task;
 
 // What a formatter is for.
@@ -35,13 +34,9 @@ pub(crate) struct FormatterKey {
 }
 
 impl CacheKey for FormatterKey {
-    ghost use Rattle.std.specs.Cmp.Rules.{comparing};
-    ghost use Rattle.std.proofs.Common.{rules};
     ghost use Rattle.locale_numbers.specs.SameKeys.{keys_are};
 
-    ghost same = { keys_are
-        ⟦<Notation as PartialEq>⟧.eq ⟦<GroupingStrategy as PartialEq>⟧.eq ⟦<Purpose as PartialEq>⟧.eq
-        (Prim.search (comparing, rules)) (Prim.search (comparing, rules)) (Prim.search (comparing, rules)) };
+    ghost same = { keys_are };
 }
 
 // What the formatter of a task is for.

@@ -1,9 +1,10 @@
 //! What hands out the formatter of a line, made now or kept from earlier lines.
 
-ghost use Rattle.std.specs.Prelude.{◌≡◌, ◌∷◌, ℕ, List, Option, Some, None, IfOk, IsTrue, OnOk, OnErr};
+ghost use Rattle.std.specs.Prelude.{◌≡◌, ◌∷◌, List, Option, Some, None, IfOk, IsTrue, OnOk, OnErr};
 ghost use Rattle.locale_numbers_book.specs.Book.{BookTables};
 ghost use Rattle.locale_numbers.specs.FormatterKeys.{finds};
-ghost use Rattle.locale_numbers.specs.KeptFormatters.{IsMadeFor, Kept};
+ghost use Rattle.locale_numbers.specs.KeptAnswers.{Keeping};
+ghost use Rattle.locale_numbers.specs.KeptFormatters.{IsMadeFor, Kept, StillKeeps};
 ghost use Rattle.locale_numbers.specs.declared.formatter_key.FormatterKey.{FormatterKey};
 
 use crate::formatter_key::FormatterKey;
@@ -20,8 +21,8 @@ pub(crate) trait Formatters<'a> {
     // What it needs so that it can hand one out; it has it again after each call.
     ghost is_ready: { Self → Type 0 };
 
-    // How many formatters it will have counted once lines with these keys are answered too.
-    ghost counted_over: { Self → List (Option FormatterKey) → ℕ };
+    // Which formatters it will keep, and how many it will have made, once lines with these keys are answered too.
+    ghost keeping_over: { Self → List (Option FormatterKey) → Keeping };
 
     // Finding the formatter of a key may allocate.
     ghost may_take_memory: { Self → FormatterKey → Type 0 };
@@ -47,8 +48,10 @@ pub(crate) trait Formatters<'a> {
         // What is kept for the key is what was kept for it.
         ensures held { IfOk result (λ found. IsTrue found → (kept : Kept) →
             kept_for self.old key.now ≡ Some kept → kept_for self.new key.now ≡ Some kept) }
+        // All that was kept is kept on, but what was dropped to make room; also where memory is refused.
+        ensures kept { StillKeeps (kept_for self.old) (may_take_memory self.new) (kept_for self.new) }
         ensures counted { OnOk result ((more : List (Option FormatterKey)) →
-            counted_over self.old (Some key.now ∷ more) ≡ counted_over self.new more) }
+            keeping_over self.old (Some key.now ∷ more) ≡ keeping_over self.new more) }
         ensures same { book self.new ≡ book self.old }
         ensures ready { is_ready self.new }
         ensures right { is_right_for self.new key.now }
@@ -59,11 +62,11 @@ pub(crate) trait Formatters<'a> {
         requires { holds self.now key.now }
         ensures made { IsMadeFor (book self.now) key.now result.now }
         ensures held { (kept : Kept) → kept_for self.now key.now ≡ Some kept → kept ≡ result.now }
-        // To find it again would count nothing.
-        ensures again { (more : List (Option FormatterKey)) → counted_over self.now (Some key.now ∷ more)
-            ≡ counted_over self.now more };
+        // To find it again would change nothing.
+        ensures again { (more : List (Option FormatterKey)) → keeping_over self.now (Some key.now ∷ more)
+            ≡ keeping_over self.now more };
 
-    // A line that asks for none counts none.
-    ghost counts_none: { (s : Self) (more : List (Option FormatterKey))
-        → counted_over s (None ∷ more) ≡ counted_over s more };
+    // A line that asks for none changes nothing.
+    ghost changes_none: { (s : Self) (more : List (Option FormatterKey))
+        → keeping_over s (None ∷ more) ≡ keeping_over s more };
 }

@@ -65,7 +65,10 @@ fn kept_texts<'a>(formatter: &NumberFormatter<'a>) -> Option<TextTables<'a>>
             let tables = plain.tables();
             TextTables::of(tables.symbols(), tables.digits(), tables.strategy())
         }
-        FormatterKind::Compact(_) | FormatterKind::Percent(_) | FormatterKind::Currency(_) => None,
+        FormatterKind::Compact(_)
+        | FormatterKind::CompactDigits(_)
+        | FormatterKind::Percent(_)
+        | FormatterKind::Currency(_) => None,
     }
 }
 

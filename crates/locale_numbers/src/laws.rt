@@ -13,6 +13,7 @@ ghost use Rattle.locale_numbers.specs.Serving.{ServedBooksAnswerAlike};
 ghost use Rattle.locale_numbers.specs.LenientUnitLaws.{EachUnitGroupingIsReadLeniently, ReadUnitIsReadLeniently};
 ghost use Rattle.locale_numbers.specs.UnitLaws.{FoundUnitsAreTexts, ReadUnitIsWrittenAgain, WrittenPercentReadsBack, WrittenUnitIsUtf8, WrittenUnitReadsBack};
 
+use crate::formatter_key::FormatterKey;
 use icu_decimal::laws::compact::{
     held_entries_are_sound, shown_forms_are_answered, shown_values_are_compact,
 };
@@ -34,6 +35,7 @@ pub use locale_numbers_book::laws::{
     sample_book_is_known, sample_units_book_is_known, symbols_are_of_found_locales, tags_are_read,
 };
 use locale_numbers_book::{Tables, find_formatter};
+use locale_numbers_cache::laws::equal_keys_are_one;
 pub use locale_numbers_cache::laws::{last_used_are_kept, unused_keys_miss};
 use locale_numbers_formats::{CompactWidth, Notation, NumberShape, NumberUnit};
 use locale_numbers_formatter::FormatterKind;
@@ -137,9 +139,10 @@ pub fn found_tables_are_texts<T: Tables>(
             FormatterKind::Plain(plain) => {
                 let _ = is_readable(plain);
             }
-            FormatterKind::Compact(_) | FormatterKind::Percent(_) | FormatterKind::Currency(_) => {
-                ()
-            }
+            FormatterKind::Compact(_)
+            | FormatterKind::CompactDigits(_)
+            | FormatterKind::Percent(_)
+            | FormatterKind::Currency(_) => (),
         },
         Err(_) => (),
     }
@@ -272,7 +275,9 @@ pub fn written_percent_reads_back()
 /// is for differ: `en` and `en-x-foo` have one key under `plain` and `auto`, another under `min2`, and another for `plural`.
 pub fn keys_are_told_apart()
     ensures { TellsKeys same_keys }
-{}
+{
+    equal_keys_are_one::<FormatterKey>();
+}
 
 /// The value that a compact answer prints, sent back in the exact form with the same tag and grouping, `keep` and no
 /// rounding, is refused by `exponent` exactly where the entry of its magnitude has another exponent, and by no other
@@ -345,7 +350,10 @@ fn found_tables_are_sound<T: Tables>(
     match find_formatter(tables, preferences, &shape) {
         Ok(formatter) => match formatter.kind() {
             FormatterKind::Compact(compact) => held_entries_are_sound(compact),
-            FormatterKind::Plain(_) | FormatterKind::Percent(_) | FormatterKind::Currency(_) => (),
+            FormatterKind::Plain(_)
+            | FormatterKind::CompactDigits(_)
+            | FormatterKind::Percent(_)
+            | FormatterKind::Currency(_) => (),
         },
         Err(_) => (),
     }

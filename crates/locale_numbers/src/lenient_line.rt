@@ -6,11 +6,10 @@ ghost use Rattle.locale_numbers_answers.specs.AnswerSink.{HasRoom};
 ghost use Rattle.locale_numbers_answers.specs.AnswerMemory.{TypedFoundAllocates};
 ghost use Rattle.locale_numbers_answers.specs.Answers.{typed_found};
 ghost use Rattle.locale_numbers_answers.specs.ReadAnswer.{read_answer};
-ghost use Rattle.locale_numbers_book.specs.FoundFormats.{found_for, second_for};
 ghost use Rattle.locale_numbers_formatter.specs.FormatText.{HasNoUnit};
 ghost use Rattle.locale_numbers_formatter.specs.FormatTyped.{TypedAllocates, format_typed_reading, typed_of};
 ghost use Rattle.locale_numbers.specs.Front.{PutsTogether};
-ghost use Rattle.locale_numbers.specs.KeptFormatters.{typed_is_kept};
+ghost use Rattle.locale_numbers.specs.KeptFormatters.{StillKeeps, found_by, second_by, typed_is_kept};
 ghost use Rattle.locale_numbers.specs.declared.formatter_key.FormatterKey.{FormatterKey};
 ghost use Rattle.locale_numbers.specs.declared.formatter_key.Purpose.{Purpose};
 
@@ -23,7 +22,8 @@ use locale_numbers_requests::Refusal;
 use std::alloc::{AllocError, Global};
 
 // Writes the answer to a text that was typed, by a formatter, after what `out` holds. What reads it is put together now,
-// where it is not kept.
+// where it is not kept. It is apart, so that this takes no room on the stack where a formatter is made.
+#[inline(never)]
 fn read_typed_by_formatter(
     alloc: Global,
     kept: &KeptFormatter<'_>,
@@ -69,24 +69,24 @@ pub(crate) fn answer_lenient<'a, F: Formatters<'a>>(
     requires right { F.is_right_for formatters.old key.now }
     requires typed { key.now.purpose ≡ Purpose.ReadsTyped }
     ensures text { OnOk result (string_bytes out.new ≡ string_bytes out.old
-        ++ typed_found (found_for key.now.shape (F.book formatters.old) key.now.preferences)
-        (second_for key.now.shape (F.book formatters.old) key.now.preferences) text.now) }
+        ++ typed_found (found_by (F.book formatters.old) key.now)
+        (second_by (F.book formatters.old) key.now) text.now) }
     ensures err { OnErr result (Grows (string_bytes out.old) (string_bytes out.new)) }
 
     // Where there is room for the answer, and handing out the formatter of the key takes none, only a text that is
     // folded, or one of more than sixteen digits, may be out of memory, and what is put together of a unit where nothing
     // is kept.
     ensures room { HasRoom out.old
-        (typed_found (found_for key.now.shape (F.book formatters.old) key.now.preferences)
-        (second_for key.now.shape (F.book formatters.old) key.now.preferences) text.now)
+        (typed_found (found_by (F.book formatters.old) key.now) (second_by (F.book formatters.old) key.now) text.now)
         → ¬ (F.may_take_memory formatters.old key.now)
-        → ¬ (TypedFoundAllocates (found_for key.now.shape (F.book formatters.old) key.now.preferences)
-        (second_for key.now.shape (F.book formatters.old) key.now.preferences) text.now)
+        → ¬ (TypedFoundAllocates (found_by (F.book formatters.old) key.now)
+        (second_by (F.book formatters.old) key.now) text.now)
         → ¬ (PutsTogether (typed_is_kept (F.kept_for formatters.old key.now))
-        (found_for key.now.shape (F.book formatters.old) key.now.preferences))
-        → IsOk result }
+        (found_by (F.book formatters.old) key.now)) → IsOk result }
     ensures counted { OnOk result ((more : List (Option FormatterKey)) →
-        F.counted_over formatters.old (Some key.now ∷ more) ≡ F.counted_over formatters.new more) }
+        F.keeping_over formatters.old (Some key.now ∷ more) ≡ F.keeping_over formatters.new more) }
+    ensures kept { StillKeeps (F.kept_for formatters.old) (F.may_take_memory formatters.new)
+        (F.kept_for formatters.new) }
     ensures same { F.book formatters.new ≡ F.book formatters.old }
     ensures ready { F.is_ready formatters.new }
     ensures right { F.is_right_for formatters.new key.now }

@@ -1,13 +1,14 @@
 //! The answerer of a run: it keeps formatters, and the fronts that were read, from line to line.
 
-ghost use Rattle.std.specs.Prelude.{◌≡◌, ◌++◌, ◌∷◌, ℕ, List, Some, IsOk, IsTrue, OnErr, OnOk, map, string_bytes};
+ghost use Rattle.std.specs.Prelude.{◌≡◌, ◌++◌, ◌∷◌, [], ℕ, List, Some, IsOk, IsTrue, OnErr, OnOk, map, string_bytes};
 ghost use Rattle.locale_numbers_answers.specs.AnswerSink.{HasRoom};
-ghost use Rattle.locale_numbers_cache.specs.Cached.{kept_for, made_over, recent_of};
+ghost use Rattle.locale_numbers_cache.specs.Cached.{StillKept, kept_for, made_over, recent_of};
 ghost use Rattle.locale_numbers_cache.specs.Recent.{has};
 ghost use Rattle.locale_numbers_lines.specs.Growth.{Grows};
 ghost use Rattle.locale_numbers_requests.specs.Request.{Asked, request_of};
 ghost use Rattle.locale_numbers.specs.Answer.{answer_of};
 ghost use Rattle.locale_numbers.specs.FormatterKeys.{finds, key_of};
+ghost use Rattle.locale_numbers.specs.KeptAnswers.{keeping_in, keeps_after};
 ghost use Rattle.locale_numbers.specs.LineMemory.{IsRemembered, TakesNone, front_before};
 ghost use Rattle.locale_numbers.specs.LineState.{IsSoundState};
 
@@ -46,6 +47,11 @@ impl<'a, T: Tables> LineAnswerer<'a, T> {
             self.old.kept.formatters (map key_of (line.now ∷ more))
             ≡ made_over ⟦<FormatterKey as PartialEq>⟧.eq (finds (T.book self.new.kept.maker.tables.now))
             self.new.kept.formatters (map key_of more)) }
+        ensures recent { OnOk result (recent_of self.new.kept.formatters
+            ≡ keeps_after (keeping_in (T.book self.old.kept.maker.tables.now) self.old.kept.formatters) (line.now ∷ [])) }
+        ensures capacity { OnOk result (self.new.kept.formatters.capacity ≡ self.old.kept.formatters.capacity) }
+        // What was kept for a key is kept for it still, but where it was dropped to make room; also after an error.
+        ensures kept { StillKept ⟦<FormatterKey as PartialEq>⟧.eq self.old.kept.formatters self.new.kept.formatters }
         ensures same { T.book self.new.kept.maker.tables.now ≡ T.book self.old.kept.maker.tables.now }
         ensures ready { IsSoundState (T.book self.new.kept.maker.tables.now) self.new.kept.formatters self.new.read
             self.new.kept.is_held }

@@ -4,15 +4,15 @@ ghost use Rattle.std.specs.Prelude.{◌≡◌, true, ◌∷◌, ◌++◌, List, 
 ghost use Rattle.icu_decimal_direct.specs.TextDigits.{number_spelled};
 ghost use Rattle.locale_numbers_lines.specs.Growth.{Grows};
 ghost use Rattle.locale_numbers_answers.specs.AnswerSink.{HasRoom};
-ghost use Rattle.locale_numbers_answers.specs.AnswerMemory.{MayGrowFound, ReadsMore};
+ghost use Rattle.locale_numbers_answers.specs.AnswerMemory.{MayGrowFound, MayLengthenFound, ReadsMore};
 ghost use Rattle.locale_numbers_answers.specs.Answers.{written_found, written_to};
 ghost use Rattle.locale_numbers_answers.specs.NumberAnswer.{number_answer};
 ghost use Rattle.locale_numbers_answers.specs.NumberReading.{number, reading_of};
-ghost use Rattle.locale_numbers_book.specs.FoundFormats.{found_for};
 ghost use Rattle.locale_numbers_formats.specs.Changed.{MayGrowBy, changed};
-ghost use Rattle.locale_numbers_formatter.specs.FormatText.{fractions_in};
+ghost use Rattle.locale_numbers_formatter.specs.FormatText.{MayLengthen, fractions_in};
 ghost use Rattle.locale_numbers.specs.FormatterKeys.{key_text, rules_for};
 ghost use Rattle.locale_numbers.specs.Front.{if_text, is_as_it_is, key_if_text};
+ghost use Rattle.locale_numbers.specs.KeptFormatters.{StillKeeps, found_by};
 ghost use Rattle.locale_numbers.specs.declared.formatter_key.FormatterKey.{FormatterKey};
 
 use crate::formatter_key::FormatterKey;
@@ -40,7 +40,8 @@ fn write_by_formatter(
     ensures err { OnErr result (Grows (string_bytes out.old) (string_bytes out.new)) }
     ensures room { HasRoom out.old
         (number_answer kept.now.formatter (changed options (fractions_in kept.now.formatter) value.old))
-        → ¬ (MayGrowBy options.rounding (fractions_in kept.now.formatter) value.old) → IsOk result }
+        → ¬ (MayGrowBy options.rounding (fractions_in kept.now.formatter) value.old)
+        → ¬ (MayLengthen kept.now.formatter) → IsOk result }
 {
     match options.change(kept.formatter.fractions(), value) {
         Ok(()) => write_number_answer(&kept.formatter, kept.reader.as_ref(), value, out),
@@ -61,16 +62,16 @@ fn write_by_key<'a, F: Formatters<'a>>(
     requires right { F.is_right_for formatters.old key.now }
     requires ruleless { rules_for key.now.purpose ≡ None }
     ensures text { OnOk result (string_bytes out.new ≡ string_bytes out.old
-        ++ written_found (found_for key.now.shape (F.book formatters.old) key.now.preferences) options value.old) }
+        ++ written_found (found_by (F.book formatters.old) key.now) options value.old) }
     ensures err { OnErr result (Grows (string_bytes out.old) (string_bytes out.new)) }
-    ensures room { HasRoom out.old
-        (written_found (found_for key.now.shape (F.book formatters.old) key.now.preferences) options value.old)
+    ensures room { HasRoom out.old (written_found (found_by (F.book formatters.old) key.now) options value.old)
         → ¬ (F.may_take_memory formatters.old key.now)
-        → ¬ (MayGrowFound (found_for key.now.shape (F.book formatters.old) key.now.preferences) options.rounding
-        (number value.old))
-        → IsOk result }
+        → ¬ (MayGrowFound (found_by (F.book formatters.old) key.now) options.rounding (number value.old))
+        → ¬ (MayLengthenFound (found_by (F.book formatters.old) key.now)) → IsOk result }
     ensures counted { OnOk result ((more : List (Option FormatterKey)) →
-        F.counted_over formatters.old (Some key.now ∷ more) ≡ F.counted_over formatters.new more) }
+        F.keeping_over formatters.old (Some key.now ∷ more) ≡ F.keeping_over formatters.new more) }
+    ensures kept { StillKeeps (F.kept_for formatters.old) (F.may_take_memory formatters.new)
+        (F.kept_for formatters.new) }
     ensures same { F.book formatters.new ≡ F.book formatters.old }
     ensures ready { F.is_ready formatters.new }
     ensures right { F.is_right_for formatters.new key.now }
@@ -96,7 +97,7 @@ fn write_digits_by_formatter(
         ≡ string_bytes out.old ++ number_answer kept.now.formatter (number_spelled digits.now)) }
     ensures err { OnErr result (Grows (string_bytes out.old) (string_bytes out.new)) }
     ensures room { HasRoom out.old (number_answer kept.now.formatter (number_spelled digits.now))
-        → ¬ (ReadsMore text.now value.old) → IsOk result }
+        → ¬ (ReadsMore text.now value.old) → ¬ (MayLengthen kept.now.formatter) → IsOk result }
 {
     if let Some(tables) = &kept.texts {
         return write_digits_answer(tables, digits, out);
@@ -125,15 +126,16 @@ fn answer_digits<'a, F: Formatters<'a>>(
     requires plain { is_as_it_is (record { shape = key.now.shape; options = _options }) ≡ true }
     requires reads { reading_of text.now ≡ number (number_spelled digits.now) }
     ensures text { OnOk result (string_bytes out.new ≡ string_bytes out.old
-        ++ written_found (found_for key.now.shape (F.book formatters.old) key.now.preferences) _options
-        (number_spelled digits.now)) }
+        ++ written_found (found_by (F.book formatters.old) key.now) _options (number_spelled digits.now)) }
     ensures err { OnErr result (Grows (string_bytes out.old) (string_bytes out.new)) }
     ensures room { HasRoom out.old
-        (written_found (found_for key.now.shape (F.book formatters.old) key.now.preferences) _options
-        (number_spelled digits.now))
-        → ¬ (F.may_take_memory formatters.old key.now) → ¬ (ReadsMore text.now value.old) → IsOk result }
+        (written_found (found_by (F.book formatters.old) key.now) _options (number_spelled digits.now))
+        → ¬ (F.may_take_memory formatters.old key.now) → ¬ (ReadsMore text.now value.old)
+        → ¬ (MayLengthenFound (found_by (F.book formatters.old) key.now)) → IsOk result }
     ensures counted { OnOk result ((more : List (Option FormatterKey)) →
-        F.counted_over formatters.old (Some key.now ∷ more) ≡ F.counted_over formatters.new more) }
+        F.keeping_over formatters.old (Some key.now ∷ more) ≡ F.keeping_over formatters.new more) }
+    ensures kept { StillKeeps (F.kept_for formatters.old) (F.may_take_memory formatters.new)
+        (F.kept_for formatters.new) }
     ensures same { F.book formatters.new ≡ F.book formatters.old }
     ensures ready { F.is_ready formatters.new }
     ensures right { F.is_right_for formatters.new key.now }
@@ -170,25 +172,23 @@ pub(crate) fn answer_number<'a, F: Formatters<'a>>(
     requires right { F.is_right_for formatters.old key.now }
     requires ruleless { rules_for key.now.purpose ≡ None }
     requires plain { is_plain ≡ is_as_it_is (record { shape = key.now.shape; options = options }) }
-    ensures text { OnOk result (string_bytes out.new ≡ string_bytes out.old ++ if_text text.now
-        (written_to (found_for key.now.shape (F.book formatters.old) key.now.preferences) options
-        (reading_of text.now))) }
+    ensures text { OnOk result (string_bytes out.new ≡ string_bytes out.old
+        ++ if_text text.now (written_to (found_by (F.book formatters.old) key.now) options (reading_of text.now))) }
     ensures err { OnErr result (Grows (string_bytes out.old) (string_bytes out.new)) }
 
     // Where there is room for the answer, and handing out the formatter of the key takes none, only a number of more
     // than sixteen digits, and of more than `value` had, may be out of memory, and a rounding to multiples of 25 that
-    // may lengthen one of sixteen.
-    ensures room { HasRoom out.old (if_text text.now
-        (written_to (found_for key.now.shape (F.book formatters.old) key.now.preferences) options
-        (reading_of text.now)))
-        → ¬ (F.may_take_memory formatters.old key.now)
-        → ¬ (ReadsMore text.now value.old)
-        → ¬ (MayGrowFound (found_for key.now.shape (F.book formatters.old) key.now.preferences) options.rounding
-        (reading_of text.now))
-        → IsOk result }
+    // may lengthen one of sixteen, or that is of a compact number's own digits.
+    ensures room { HasRoom out.old
+        (if_text text.now (written_to (found_by (F.book formatters.old) key.now) options (reading_of text.now)))
+        → ¬ (F.may_take_memory formatters.old key.now) → ¬ (ReadsMore text.now value.old)
+        → ¬ (MayGrowFound (found_by (F.book formatters.old) key.now) options.rounding (reading_of text.now))
+        → ¬ (MayLengthenFound (found_by (F.book formatters.old) key.now)) → IsOk result }
     ensures counted { OnOk result ((more : List (Option FormatterKey)) →
-        F.counted_over formatters.old (key_if_text text.now (key_text key.now (reading_of text.now)) ∷ more)
-        ≡ F.counted_over formatters.new more) }
+        F.keeping_over formatters.old (key_if_text text.now (key_text key.now (reading_of text.now)) ∷ more)
+        ≡ F.keeping_over formatters.new more) }
+    ensures kept { StillKeeps (F.kept_for formatters.old) (F.may_take_memory formatters.new)
+        (F.kept_for formatters.new) }
     ensures same { F.book formatters.new ≡ F.book formatters.old }
     ensures ready { F.is_ready formatters.new }
     ensures right { F.is_right_for formatters.new key.now }

@@ -18,14 +18,15 @@ pub(crate) struct OneFormatter<'a, T: Tables> {
 
 /// It is made when it is asked for first.
 impl<'a, T: Tables> Formatters<'a> for OneFormatter<'a, T> {
-    ghost use Rattle.std.specs.Prelude.{⊤, IfSome, MatchOption, refl};
+    ghost use Rattle.std.specs.Prelude.{[], ⊤, IfSome, MatchOption, refl};
+    ghost use Rattle.locale_numbers.specs.KeptAnswers.{keeping};
     ghost use Rattle.locale_numbers.specs.KeptFormatters.{IsMadeFor};
 
     ghost book = { λ s. T.book s.tables.now };
 
     ghost is_ready = { λ s. ⊤ };
 
-    ghost counted_over = { λ s keys. 0 };
+    ghost keeping_over = { λ s keys. keeping (T.book s.tables.now) 0 [] 0 };
 
     ghost may_take_memory = { λ s key. ⊥ };
 
@@ -54,5 +55,5 @@ impl<'a, T: Tables> Formatters<'a> for OneFormatter<'a, T> {
         }
     }
 
-    ghost counts_none = { λ s more. refl };
+    ghost changes_none = { λ s more. refl };
 }

@@ -3,16 +3,15 @@
 ghost use Rattle.std.specs.Prelude.{◌≡◌, ◌∷◌, ◌++◌, List, Ok, Option, Some, IsOk, OnOk, OnErr, string_bytes};
 ghost use Rattle.fixed_decimal.specs.SignedText.{ReadsLongSigned};
 ghost use Rattle.locale_numbers_lines.specs.Growth.{Grows};
-ghost use Rattle.locale_numbers_answers.specs.AnswerMemory.{MayGrowFound, RangeAllocates};
+ghost use Rattle.locale_numbers_answers.specs.AnswerMemory.{MayGrowFound, MayLengthenFound, RangeAllocates};
 ghost use Rattle.locale_numbers_answers.specs.AnswerSink.{HasRoom};
 ghost use Rattle.locale_numbers_answers.specs.CategoryAnswer.{range_category_to, range_ends_to, range_found};
 ghost use Rattle.locale_numbers_answers.specs.NumberReading.{number, reading_of};
-ghost use Rattle.locale_numbers_book.specs.FoundFormats.{found_for};
 ghost use Rattle.locale_numbers_formats.specs.Changed.{MayGrowBy};
-ghost use Rattle.locale_numbers_formatter.specs.FormatText.{fractions_in};
+ghost use Rattle.locale_numbers_formatter.specs.FormatText.{MayLengthen, fractions_in};
 ghost use Rattle.locale_numbers_requests.specs.RangeEnds.{range_ends};
-ghost use Rattle.locale_numbers.specs.FormatterKeys.{key_range, key_text, rules_for};
-ghost use Rattle.locale_numbers.specs.KeptFormatters.{rules_found};
+ghost use Rattle.locale_numbers.specs.FormatterKeys.{key_range, key_text};
+ghost use Rattle.locale_numbers.specs.KeptFormatters.{StillKeeps, found_by, rules_by};
 ghost use Rattle.locale_numbers.specs.declared.formatter_key.FormatterKey.{FormatterKey};
 
 use crate::formatter_key::FormatterKey;
@@ -39,7 +38,8 @@ fn write_range_by_formatter(
     ensures err { OnErr result (Grows (string_bytes out.old) (string_bytes out.new)) }
     ensures room { HasRoom out.old (range_found (Ok kept.now.formatter) kept.now.rules options first.old second.old)
         → ¬ (MayGrowBy options.rounding (fractions_in kept.now.formatter) first.old)
-        → ¬ (MayGrowBy options.rounding (fractions_in kept.now.formatter) second.old) → IsOk result }
+        → ¬ (MayGrowBy options.rounding (fractions_in kept.now.formatter) second.old)
+        → ¬ (MayLengthen kept.now.formatter) → IsOk result }
 {
     let Some(rules) = &kept.rules else {
         return write_refusal(out, Refusal::Table);
@@ -67,23 +67,21 @@ fn write_range_by_key<'a, F: Formatters<'a>>(
     requires ready { F.is_ready formatters.old }
     requires right { F.is_right_for formatters.old key.now }
     ensures text { OnOk result (string_bytes out.new ≡ string_bytes out.old
-        ++ range_found (found_for key.now.shape (F.book formatters.old) key.now.preferences)
-        (rules_found (F.book formatters.old) key.now.preferences (rules_for key.now.purpose)) options
-        first.old second.old) }
+        ++ range_found (found_by (F.book formatters.old) key.now)
+        (rules_by (F.book formatters.old) key.now) options first.old second.old) }
     ensures err { OnErr result (Grows (string_bytes out.old) (string_bytes out.new)) }
     ensures room { HasRoom out.old
-        (range_found (found_for key.now.shape (F.book formatters.old) key.now.preferences)
-        (rules_found (F.book formatters.old) key.now.preferences (rules_for key.now.purpose)) options
-        first.old second.old)
+        (range_found (found_by (F.book formatters.old) key.now)
+        (rules_by (F.book formatters.old) key.now) options first.old second.old)
         → ¬ (F.may_take_memory formatters.old key.now)
-        → ¬ (MayGrowFound (found_for key.now.shape (F.book formatters.old) key.now.preferences) options.rounding
-        (number first.old))
-        → ¬ (MayGrowFound (found_for key.now.shape (F.book formatters.old) key.now.preferences) options.rounding
-        (number second.old))
-        → IsOk result }
+        → ¬ (MayGrowFound (found_by (F.book formatters.old) key.now) options.rounding (number first.old))
+        → ¬ (MayGrowFound (found_by (F.book formatters.old) key.now) options.rounding (number second.old))
+        → ¬ (MayLengthenFound (found_by (F.book formatters.old) key.now)) → IsOk result }
     ensures counted { OnOk result ((more : List (Option FormatterKey)) →
-        F.counted_over formatters.old (Some key.now ∷ more)
-        ≡ F.counted_over formatters.new more) }
+        F.keeping_over formatters.old (Some key.now ∷ more)
+        ≡ F.keeping_over formatters.new more) }
+    ensures kept { StillKeeps (F.kept_for formatters.old) (F.may_take_memory formatters.new)
+        (F.kept_for formatters.new) }
     ensures same { F.book formatters.new ≡ F.book formatters.old }
     ensures ready { F.is_ready formatters.new }
     ensures right { F.is_right_for formatters.new key.now }
@@ -109,24 +107,21 @@ fn answer_to_end<'a, F: Formatters<'a>>(
     requires ready { F.is_ready formatters.old }
     requires right { F.is_right_for formatters.old key.now }
     ensures text { OnOk result (string_bytes out.new ≡ string_bytes out.old
-        ++ range_ends_to (found_for key.now.shape (F.book formatters.old) key.now.preferences)
-        (rules_found (F.book formatters.old) key.now.preferences (rules_for key.now.purpose)) options
+        ++ range_ends_to (found_by (F.book formatters.old) key.now) (rules_by (F.book formatters.old) key.now) options
         (number first.old) (reading_of text.now)) }
     ensures err { OnErr result (Grows (string_bytes out.old) (string_bytes out.new)) }
     ensures room { HasRoom out.old
-        (range_ends_to (found_for key.now.shape (F.book formatters.old) key.now.preferences)
-        (rules_found (F.book formatters.old) key.now.preferences (rules_for key.now.purpose)) options
-        (number first.old) (reading_of text.now))
-        → ¬ (F.may_take_memory formatters.old key.now)
-        → ¬ (MayGrowFound (found_for key.now.shape (F.book formatters.old) key.now.preferences) options.rounding
-        (number first.old))
+        (range_ends_to (found_by (F.book formatters.old) key.now) (rules_by (F.book formatters.old) key.now) options
+        (number first.old) (reading_of text.now)) → ¬ (F.may_take_memory formatters.old key.now)
+        → ¬ (MayGrowFound (found_by (F.book formatters.old) key.now) options.rounding (number first.old))
         → ¬ (ReadsLongSigned text.now)
-        → ¬ (MayGrowFound (found_for key.now.shape (F.book formatters.old) key.now.preferences) options.rounding
-        (reading_of text.now))
-        → IsOk result }
+        → ¬ (MayGrowFound (found_by (F.book formatters.old) key.now) options.rounding (reading_of text.now))
+        → ¬ (MayLengthenFound (found_by (F.book formatters.old) key.now)) → IsOk result }
     ensures counted { OnOk result ((more : List (Option FormatterKey)) →
-        F.counted_over formatters.old (key_text key.now (reading_of text.now) ∷ more)
-        ≡ F.counted_over formatters.new more) }
+        F.keeping_over formatters.old (key_text key.now (reading_of text.now) ∷ more)
+        ≡ F.keeping_over formatters.new more) }
+    ensures kept { StillKeeps (F.kept_for formatters.old) (F.may_take_memory formatters.new)
+        (F.kept_for formatters.new) }
     ensures same { F.book formatters.new ≡ F.book formatters.old }
     ensures ready { F.is_ready formatters.new }
     ensures right { F.is_right_for formatters.new key.now }
@@ -157,24 +152,23 @@ pub(crate) fn answer_range<'a, F: Formatters<'a>>(
     requires ready { F.is_ready formatters.old }
     requires right { F.is_right_for formatters.old key.now }
     ensures text { OnOk result (string_bytes out.new ≡ string_bytes out.old
-        ++ range_category_to (found_for key.now.shape (F.book formatters.old) key.now.preferences)
-        (rules_found (F.book formatters.old) key.now.preferences (rules_for key.now.purpose)) options
-        (range_ends text.now)) }
+        ++ range_category_to (found_by (F.book formatters.old) key.now)
+        (rules_by (F.book formatters.old) key.now) options (range_ends text.now)) }
     ensures err { OnErr result (Grows (string_bytes out.old) (string_bytes out.new)) }
 
     // Where there is room for the answer, and handing out the formatter of the key takes none, only ends of more than
-    // sixteen digits may be out of memory, and a rounding of one to multiples of 25 that may lengthen it.
+    // sixteen digits may be out of memory, and a rounding of one to multiples of 25 that may lengthen it, or that is of a
+    // compact number's own digits.
     ensures room { HasRoom out.old
-        (range_category_to (found_for key.now.shape (F.book formatters.old) key.now.preferences)
-        (rules_found (F.book formatters.old) key.now.preferences (rules_for key.now.purpose)) options
-        (range_ends text.now))
-        → ¬ (F.may_take_memory formatters.old key.now)
-        → ¬ (RangeAllocates (found_for key.now.shape (F.book formatters.old) key.now.preferences) options.rounding
-        (range_ends text.now) first.old)
-        → IsOk result }
+        (range_category_to (found_by (F.book formatters.old) key.now) (rules_by (F.book formatters.old) key.now) options
+        (range_ends text.now)) → ¬ (F.may_take_memory formatters.old key.now)
+        → ¬ (RangeAllocates (found_by (F.book formatters.old) key.now) options.rounding (range_ends text.now) first.old)
+        → ¬ (MayLengthenFound (found_by (F.book formatters.old) key.now)) → IsOk result }
     ensures counted { OnOk result ((more : List (Option FormatterKey)) →
-        F.counted_over formatters.old (key_range key.now (range_ends text.now) ∷ more)
-        ≡ F.counted_over formatters.new more) }
+        F.keeping_over formatters.old (key_range key.now (range_ends text.now) ∷ more)
+        ≡ F.keeping_over formatters.new more) }
+    ensures kept { StillKeeps (F.kept_for formatters.old) (F.may_take_memory formatters.new)
+        (F.kept_for formatters.new) }
     ensures same { F.book formatters.new ≡ F.book formatters.old }
     ensures ready { F.is_ready formatters.new }
     ensures right { F.is_right_for formatters.new key.now }

@@ -5,12 +5,11 @@ ghost use Rattle.locale_numbers_lines.specs.Growth.{Grows};
 ghost use Rattle.locale_numbers_answers.specs.AnswerSink.{HasRoom};
 ghost use Rattle.locale_numbers_answers.specs.AnswerMemory.{ReadAllocates};
 ghost use Rattle.locale_numbers_answers.specs.Answers.{read_found};
-ghost use Rattle.locale_numbers_book.specs.FoundFormats.{found_for};
 ghost use Rattle.locale_numbers_formatter.specs.FormatReading.{ReaderAllocates, reader_of};
 ghost use Rattle.locale_numbers_formatter.specs.FormatText.{HasNoUnit};
 ghost use Rattle.locale_numbers.specs.FormatterKeys.{rules_for};
 ghost use Rattle.locale_numbers.specs.Front.{PutsTogether};
-ghost use Rattle.locale_numbers.specs.KeptFormatters.{reader_is_kept};
+ghost use Rattle.locale_numbers.specs.KeptFormatters.{StillKeeps, found_by, reader_is_kept};
 ghost use Rattle.locale_numbers.specs.declared.formatter_key.FormatterKey.{FormatterKey};
 
 use crate::formatter_key::FormatterKey;
@@ -23,7 +22,8 @@ use locale_numbers_requests::Refusal;
 use std::alloc::{AllocError, Global};
 
 // Writes the answer to a text that a formatter reads back after what `out` holds. What reads it is put together now,
-// where it is not kept.
+// where it is not kept. It is apart, so that this takes no room on the stack where a formatter is made.
+#[inline(never)]
 fn read_by_formatter(
     alloc: Global,
     kept: &KeptFormatter<'_>,
@@ -67,20 +67,20 @@ pub(crate) fn answer_read<'a, F: Formatters<'a>>(
     requires right { F.is_right_for formatters.old key.now }
     requires ruleless { rules_for key.now.purpose ≡ None }
     ensures text { OnOk result (string_bytes out.new ≡ string_bytes out.old
-        ++ read_found (found_for key.now.shape (F.book formatters.old) key.now.preferences) rounding text.now) }
+        ++ read_found (found_by (F.book formatters.old) key.now) rounding text.now) }
     ensures err { OnErr result (Grows (string_bytes out.old) (string_bytes out.new)) }
 
     // Where there is room for the answer, and handing out the formatter of the key takes none, only a text of more than
     // sixteen digits may be out of memory, and the affixes of a unit that are put together where none are kept.
-    ensures room { HasRoom out.old
-        (read_found (found_for key.now.shape (F.book formatters.old) key.now.preferences) rounding text.now)
+    ensures room { HasRoom out.old (read_found (found_by (F.book formatters.old) key.now) rounding text.now)
         → ¬ (F.may_take_memory formatters.old key.now)
-        → ¬ (ReadAllocates (found_for key.now.shape (F.book formatters.old) key.now.preferences) text.now)
+        → ¬ (ReadAllocates (found_by (F.book formatters.old) key.now) text.now)
         → ¬ (PutsTogether (reader_is_kept (F.kept_for formatters.old key.now))
-        (found_for key.now.shape (F.book formatters.old) key.now.preferences))
-        → IsOk result }
+        (found_by (F.book formatters.old) key.now)) → IsOk result }
     ensures counted { OnOk result ((more : List (Option FormatterKey)) →
-        F.counted_over formatters.old (Some key.now ∷ more) ≡ F.counted_over formatters.new more) }
+        F.keeping_over formatters.old (Some key.now ∷ more) ≡ F.keeping_over formatters.new more) }
+    ensures kept { StillKeeps (F.kept_for formatters.old) (F.may_take_memory formatters.new)
+        (F.kept_for formatters.new) }
     ensures same { F.book formatters.new ≡ F.book formatters.old }
     ensures ready { F.is_ready formatters.new }
     ensures right { F.is_right_for formatters.new key.now }

@@ -7,12 +7,10 @@ ghost use Rattle.locale_numbers.specs.Answer.{answer_of};
 ghost use Rattle.locale_numbers.specs.FormatterKeys.{makes};
 
 use crate::cached_formatters::CachedFormatters;
-use crate::formatter_key::FormatterKey;
 use crate::kept_formatter::FormatterMaker;
 use crate::line_answerer::LineAnswerer;
 use fixed_decimal::Decimal;
 use locale_numbers_book::Tables;
-use locale_numbers_cache::laws::equal_keys_are_one;
 use locale_numbers_cache::{FormatterCache, ReadKeys};
 use locale_numbers_lines::{ByteReader, ByteWriter, Report, RunError, run_with};
 use std::alloc::Global;
@@ -31,9 +29,9 @@ use std::alloc::Global;
 /// of 1 line.
 ///
 /// `capacity` is how many formatters are kept, 1 at least: those that were used last. A line uses the
-/// formatter of what its tag prefers, of its form's tables and rules and of its grouping, once its tag
-/// and its number were read and where these are found; `made` counts the uses whose formatter was not
-/// kept. Of neither `reader` nor `writer` a call may have failed before. Allocates; that it takes
+/// formatter of what its tag prefers, of its form's tables, rules and own digits and of its grouping,
+/// once its tag and its number were read and where these are found; `made` counts the uses whose
+/// formatter was not kept. Of neither `reader` nor `writer` a call may have failed before. Allocates; that it takes
 /// no more memory for more lines is measured by bench/, and not proved.
 ///
 /// A line is answered as soon as it is whole: `reader` is read where each whole line that it gave is
@@ -83,7 +81,6 @@ pub fn run<T: Tables, R: ByteReader, W: ByteWriter>(
     ensures memory_only { IsErrOf result RunError.Memory →
         (R.failed reader.new ≡ false) × (W.failed writer.new ≡ false) }
 {
-    equal_keys_are_one::<FormatterKey>();
     let formatters = FormatterCache::new(alloc, capacity)?;
     let kept = CachedFormatters {
         maker: FormatterMaker { alloc, tables },

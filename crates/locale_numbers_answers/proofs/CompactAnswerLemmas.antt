@@ -6,19 +6,20 @@ use Rattle.fixed_decimal.specs.Number.{Number}
 use Rattle.fixed_decimal.specs.Rounding.{count_limit}
 use Rattle.fixed_decimal.specs.SignedValue.{SignedValue}
 use Rattle.icu_decimal.specs.CompactTables.{CompactTables}
-use Rattle.icu_decimal.specs.ExactForms.{exact_place}
+use Rattle.icu_decimal.specs.ExactForms.{IsInRange, exact_place}
 use Rattle.icu_decimal.specs.ShownChoice.{CanShow, shown_under}
 pub use Rattle.icu_decimal.proofs.CompactTextLemmas.{compact_is_text as compact_is}
 use Rattle.locale_numbers_answers.specs.AnswerLine.{refused, written}
-use Rattle.locale_numbers_answers.specs.NumberAnswer.{can_be_shown, exact_answer, exact_written, is_form_in_range}
+use Rattle.locale_numbers_answers.specs.NumberAnswer.{exact_answer, exact_written, is_form_in_range}
 use Rattle.locale_numbers_formatter.specs.ExactForms.{IsFormInRange, exact_format_text, exact_shown}
 use Rattle.locale_numbers_formatter.specs.FormatParts.{exact_format_events}
-use Rattle.locale_numbers_formatter.specs.FormatText.{FormatTables, compact_tables, plain_tables, text_of_shown, unit_tables}
+use Rattle.locale_numbers_formatter.specs.FormatText.{FormatTables, compact_tables, digits_tables, plain_tables, text_of_shown, unit_tables}
 use Rattle.locale_numbers_formatter.specs.Laws.{ExactFormatIsText}
+use Rattle.locale_numbers_formatter.specs.ShownOperands.{is_shown}
 use Rattle.locale_numbers_requests.specs.declared.Refusal.TheVariants as refusal
 use Rattle.std.proofs.lemmas.Bool.{false≢true, lt-ltb, ltb-true}
 
-pub can_test : (t : CompactTables) (d : SignedValue Number) → CanShow t.patterns.entries d.absolute.count → can_be_shown t d ≡ true
+pub can_test : (t : CompactTables) (d : SignedValue Number) → CanShow t.patterns.entries d.absolute.count → is_shown (compact_tables t) d ≡ true
 can_test t d can = lt-ltb (shown_under 32768 t.patterns.entries d.absolute.count) count_limit can.below
 
 pub by_test : (b : Bool) (text other : List ℕ) → b ≡ true → text ≡ cond b text other
@@ -29,6 +30,7 @@ by_test false text other is = absurd (cc)
 form_test : (f : FormatTables) (form : CompactValue) → IsFormInRange f form → is_form_in_range f form ≡ true
 form_test (plain_tables t) form within = refl
 form_test (compact_tables t) form within = lt-ltb (exact_place form.significand.absolute.count form.exponent) 65536 within
+form_test (digits_tables t o) form within = lt-ltb (exact_place form.significand.absolute.count form.exponent) 65536 within
 form_test (unit_tables u) form within = refl
 
 -- a form that is not beyond the limits is within them
@@ -40,13 +42,17 @@ form_within f form never = at (is_form_in_range f form) refl
     at false is = absurd (never (λ within. false≢true (sym is ∙ form_test f form within)))
 
 -- and one that is beyond them
-form_fails : (f : FormatTables) (form : CompactValue) → (IsFormInRange f form → ⊥) → is_form_in_range f form ≡ false
-form_fails (plain_tables t) form beyond = absurd (beyond tt)
-form_fails (compact_tables t) form beyond = at (nat_lt (exact_place form.significand.absolute.count form.exponent) 65536) refl
+place_fails : (form : CompactValue) → (IsInRange form.significand.absolute.count form.exponent → ⊥) → nat_lt (exact_place form.significand.absolute.count form.exponent) 65536 ≡ false
+place_fails form beyond = at (nat_lt (exact_place form.significand.absolute.count form.exponent) 65536) refl
   where
     at : (b : Bool) → nat_lt (exact_place form.significand.absolute.count form.exponent) 65536 ≡ b → b ≡ false
     at true is = absurd (beyond (ltb-true (exact_place form.significand.absolute.count form.exponent) 65536 is))
     at false is = refl
+
+form_fails : (f : FormatTables) (form : CompactValue) → (IsFormInRange f form → ⊥) → is_form_in_range f form ≡ false
+form_fails (plain_tables t) form beyond = absurd (beyond tt)
+form_fails (compact_tables t) form beyond = place_fails form beyond
+form_fails (digits_tables t o) form beyond = place_fails form beyond
 form_fails (unit_tables u) form beyond = absurd (beyond tt)
 
 by_failed : (b : Bool) (text other : List ℕ) → b ≡ false → other ≡ cond b text other

@@ -3,6 +3,10 @@ use Rattle.std.proofs.Common.{◌≡◌, ℕ, List, [], ◌∷◌, ◌++◌, cod
 use Rattle.fixed_decimal.specs.Number.{Number}
 use Rattle.fixed_decimal.specs.Rounding.{count_limit}
 use Rattle.fixed_decimal.specs.SignedValue.{SignedValue}
+use Rattle.std.specs.Prelude.{pos, negsuc}
+use Rattle.fixed_decimal.specs.declared.RoundingIncrement.TheVariants.{MultiplesOf1}
+use Rattle.fixed_decimal.specs.declared.SignedRoundingMode.TheVariants.{Unsigned}
+use Rattle.fixed_decimal.specs.declared.UnsignedRoundingMode.TheVariants.{HalfEven}
 use Rattle.fixed_decimal.specs.declared.Sign.TheVariants.{None as NoSign, Negative}
 use Rattle.fixed_decimal.specs.declared.SignDisplay.TheVariants as display
 use Rattle.icu_decimal.specs.CompactTables.{CompactTables}
@@ -13,8 +17,13 @@ use Rattle.icu_decimal.specs.Pattern.{around}
 use Rattle.icu_decimal.specs.Symbols.{english_symbols}
 use Rattle.icu_decimal.specs.declared.error.DataError.{DataError}
 use Rattle.icu_decimal.specs.declared.options.GroupingStrategy.TheVariants.{Auto}
-use Rattle.locale_numbers_formatter.specs.FormatText.{compact_tables, plain_tables}
-use Rattle.locale_numbers_formats.specs.declared.SignAsked.TheVariants.{Show}
+use Rattle.locale_numbers_formatter.specs.CompactDigits.{changed_under, digits_shown}
+use Rattle.locale_numbers_formatter.specs.FormatText.{compact_tables, digits_tables, plain_tables}
+use Rattle.locale_numbers_formats.specs.declared.LeadingZeros.TheVariants as leading
+use Rattle.locale_numbers_formats.specs.declared.NumberOptions.{NumberOptions}
+use Rattle.locale_numbers_formats.specs.declared.Rounding.TheVariants.{At}
+use Rattle.locale_numbers_formats.specs.declared.SignAsked.TheVariants.{Keep, Show}
+use Rattle.locale_numbers_formats.specs.declared.TrailingZeros.TheVariants as trailing
 use Rattle.locale_numbers_answers.specs.Answers.{exact_found, exact_with}
 use Rattle.locale_numbers_answers.specs.NumberAnswer.{exact_answer, number_answer}
 use Rattle.locale_numbers_answers.specs.CompactReading.{compact_beyond, compact_nothing, compact_number, compact_reading_of}
@@ -69,6 +78,21 @@ zero_of = record { sign = Negative; absolute = record { count = 0; low = 32768; 
 zero_shown : number_answer (compact_tables english) zero_of ≡ codes "ok" ++ tab ∷ codes "-0" ++ tab ∷ codes "-0"
 unfolding count_limit lowest_place lib.Utf8.encode
 zero_shown = refl
+
+-- digits of its own: two fraction digits
+abbrev hundredths : NumberOptions
+hundredths = record {
+  rounding = At (negsuc 1) (Unsigned HalfEven) MultiplesOf1;
+  leading_zeros = leading.Keep;
+  zeros = trailing.Trim;
+  integer_digits = pos 0;
+  fraction_digits = pos 2;
+  sign = Keep;
+}
+
+zero_hundredths : number_answer (digits_tables english hundredths) zero_of ≡ codes "ok" ++ tab ∷ codes "-0.00" ++ tab ∷ codes "-0.00"
+unfolding changed_under count_limit digits_shown lowest_place lib.Utf8.encode
+zero_hundredths = refl
 
 zero_millions : exact_found (Ok (compact_tables english)) (Show display.Negative) (compact_number (record { significand = zero_of; exponent = 6 })) ≡ codes "ok" ++ tab ∷ codes "0M"
 unfolding lib.Utf8.encode

@@ -31,7 +31,7 @@ use Rattle.icu_dimension_fractions.specs.declared.CurrencyUsage.{CurrencyUsage}
 use Rattle.icu_dimension_fractions.specs.declared.CurrencyUsage.TheVariants as usage
 use Rattle.icu_dimension_fractions.specs.declared.CurrencyUsage.TheVariants.{Standard}
 use Rattle.icu_dimension_fractions.specs.declared.FractionInfo.{FractionInfo}
-use Rattle.locale_numbers_formats.specs.Changed.{amount_by, changed, changed_by, end_padded, end_trimmed, fraction_trimmed, front_padded, front_trimmed, is_above_ones, last_of, last_place as digits_end, padded_down, rounded_by, settled_rounding, shown, signed_as, start_trimmed, takes_digits, whole_shown, whole_trimmed, zeros_by}
+use Rattle.locale_numbers_formats.specs.Changed.{amount_by, changed, changed_by, end_padded, end_trimmed, fraction_trimmed, front_padded, front_trimmed, is_above_ones, last_of, last_place as digits_end, least_place, padded_down, rounded_by, settled_rounding, shown, signed_as, start_trimmed, takes_digits, whole_shown, whole_trimmed, zeros_by}
 use Rattle.locale_numbers_formats.specs.declared.LeadingZeros.{LeadingZeros}
 use Rattle.locale_numbers_formats.specs.declared.LeadingZeros.TheVariants as leading
 use Rattle.locale_numbers_formats.specs.declared.NumberOptions.{NumberOptions}
@@ -283,7 +283,7 @@ end_padded_is_number Usual digits n is = padded_end (place (neg_ℤ digits)) n i
 end_padded_is_number rounding.Cash digits n is = padded_end (place (neg_ℤ digits)) n is
 end_padded_is_number AsGiven digits n is = padded_end (place (neg_ℤ digits)) n is
 end_padded_is_number (At position mode increment) digits n is = padded_end (place (neg_ℤ digits)) n is
-end_padded_is_number (Significant significant mode) digits n is = padded_end (last_of significant.least n) n is
+end_padded_is_number (Significant significant mode) digits n is = padded_end (least_place significant.least digits n) n is
 end_padded_is_number (Either priority position significant mode) digits n is = padded_end (place (neg_ℤ digits)) n is
 
 -- of so many integer digits as a decimal can have

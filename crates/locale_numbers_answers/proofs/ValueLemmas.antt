@@ -1,5 +1,6 @@
 -- Texts put one after the other: the whole is put, and where it fits each fits.
 use Rattle.std.proofs.Common.{◌≡◌, ◌≤◌, ◌+◌, List, ◌∷◌, ◌++◌, ℕ, length, map, sym, ap, ◌∙◌, subst}
+use Rattle.std.proofs.lemmas.Bool.{eq-eqb}
 use Rattle.std.proofs.lemmas.List.{append_assoc}
 use Rattle.writeable.specs.AnnotatedText.{bytes, text_of as written_text}
 use Rattle.fixed_decimal.specs.CompactText.{CompactValue, compact_text_of}
@@ -13,8 +14,11 @@ use Rattle.icu_decimal.specs.CompactText.{compact_decimal_text, value_shown}
 use Rattle.icu_decimal.specs.ShownChoice.{CanShow}
 use Rattle.locale_numbers_lines.specs.Growth.{Grows}
 use Rattle.locale_numbers_answers.specs.AnswerLine.{refused, written}
-use Rattle.locale_numbers_answers.specs.NumberAnswer.{can_be_shown, number_answer, text_and_value}
-use Rattle.locale_numbers_formatter.specs.FormatText.{compact_tables, format_text}
+use Rattle.locale_numbers_answers.specs.NumberAnswer.{number_answer, text_and_value}
+use Rattle.locale_numbers_formats.specs.declared.NumberOptions.{NumberOptions}
+use Rattle.locale_numbers_formatter.specs.CompactDigits.{below_exponent}
+use Rattle.locale_numbers_formatter.specs.FormatText.{compact_tables, digits_tables, format_text, format_value}
+use Rattle.locale_numbers_formatter.specs.ShownOperands.{is_shown}
 use Rattle.locale_numbers_formatter.specs.Laws.{CompactIsLayered, CompactValueIsShown}
 use Rattle.locale_numbers_requests.specs.Request.{tab}
 use Rattle.locale_numbers_requests.specs.declared.Refusal.TheVariants as refusal
@@ -47,4 +51,12 @@ compact_whole texts values t d shown can is =
     two_texts (compact_decimal_text t d) (compact_text_of shown)
     ∙ ap (λ text. written (text ++ tab ∷ compact_text_of shown)) (sym (texts t d))
     ∙ ap (λ v. written (format_text (compact_tables t) d ++ tab ∷ compact_text_of v)) (is ∙ sym (values t d))
-    ∙ by_test (can_be_shown t d) (written (text_and_value t d)) (refused refusal.Range) (can_test t d can)
+    ∙ by_test (is_shown (compact_tables t) d) (written (text_and_value (compact_tables t) d)) (refused refusal.Range) (can_test t d can)
+
+-- and of digits of its own
+pub digits_whole : (t : CompactTables) (o : NumberOptions) (d : SignedValue Number) (shown : CompactValue) → below_exponent t.patterns.entries d ≡ 0 → shown ≡ format_value (digits_tables t o) d
+    → written (format_text (digits_tables t o) d) ++ tab ∷ compact_text_of shown ≡ number_answer (digits_tables t o) d
+digits_whole t o d shown whole is =
+    two_texts (format_text (digits_tables t o) d) (compact_text_of shown)
+    ∙ ap (λ v. written (format_text (digits_tables t o) d ++ tab ∷ compact_text_of v)) is
+    ∙ by_test (is_shown (digits_tables t o) d) (written (text_and_value (digits_tables t o) d)) (refused refusal.Range) (eq-eqb (below_exponent t.patterns.entries d) 0 whole)

@@ -11,7 +11,7 @@ use Rattle.icu_dimension_fractions.specs.declared.FractionInfo.{FractionInfo}
 use Rattle.locale_numbers_formats.specs.Changed.{MayGrowBy}
 use Rattle.locale_numbers_formats.specs.declared.Rounding.{Rounding}
 use Rattle.locale_numbers_formatter.specs.FormatReading.{ReaderAllocates, reader_of}
-use Rattle.locale_numbers_formatter.specs.FormatText.{FormatTables, fractions_in}
+use Rattle.locale_numbers_formatter.specs.FormatText.{FormatTables, MayLengthen, fractions_in}
 use Rattle.locale_numbers_formatter.specs.FormatTyped.{TypedAllocates, typed_of}
 use Rattle.locale_numbers_answers.specs.NumberReading.{Reading, beyond, nothing, number, reading_of}
 use Rattle.locale_numbers_requests.specs.RangeEnds.{range_ends}
@@ -31,6 +31,11 @@ MayGrowRead rounding fractions nothing = ⊥
 abbrev pub MayGrowFound : Result FormatTables DataError → Rounding → Reading → Type 0
 MayGrowFound (Err error) rounding reading = ⊥
 MayGrowFound (Ok f) rounding reading = MayGrowRead rounding (fractions_in f) reading
+
+-- what is shown may be longer than the number
+abbrev pub MayLengthenFound : Result FormatTables DataError → Type 0
+MayLengthenFound (Err error) = ⊥
+MayLengthenFound (Ok f) = MayLengthen f
 
 abbrev pub ReadAllocates : Result FormatTables DataError → List ℕ → Type 0
 ReadAllocates (Err error) text = ⊥
@@ -52,9 +57,9 @@ RangeAllocates found rounding (Some ends) value =
 
 -- by what is done with it, beside the number of the text before
 abbrev pub AnswerAllocates : Task → Rounding → Result FormatTables DataError → (FormatTables → Option FormatTables) → List ℕ → SignedValue Number → Type 0
-AnswerAllocates task.Write rounding found second text value = NumberAllocates found rounding text value
+AnswerAllocates task.Write rounding found second text value = NumberAllocates found rounding text value ⊎ MayLengthenFound found
 AnswerAllocates task.WriteExact rounding found second text value = ReadsLongCompact text
 AnswerAllocates task.Read rounding found second text value = ReadAllocates found text
 AnswerAllocates task.ReadLenient rounding found second text value = TypedFoundAllocates found second text
-AnswerAllocates (task.Category rule_type) rounding found second text value = NumberAllocates found rounding text value
-AnswerAllocates task.RangeCategory rounding found second text value = RangeAllocates found rounding (range_ends text) value
+AnswerAllocates (task.Category rule_type) rounding found second text value = NumberAllocates found rounding text value ⊎ MayLengthenFound found
+AnswerAllocates task.RangeCategory rounding found second text value = RangeAllocates found rounding (range_ends text) value ⊎ MayLengthenFound found

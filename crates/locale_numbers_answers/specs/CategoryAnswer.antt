@@ -21,7 +21,7 @@ use Rattle.locale_numbers_requests.specs.declared.Refusal.TheVariants as refusal
 
 -- ---- by a formatter
 
--- the word of a category, or why there is none: what is shown would be no decimal
+-- the word of a category, or why there is none: the number can't be shown
 abbrev pub answered_category : Option PluralCategory → List ℕ
 answered_category None = refused refusal.Range
 answered_category (Some category) = written (word category)

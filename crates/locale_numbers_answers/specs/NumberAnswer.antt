@@ -5,32 +5,31 @@
 use Rattle.std.specs.Prelude.{ℕ, nat_lt, Bool, true, if◌then◌else◌, List, ◌∷◌, ◌++◌, Option, Some, None}
 use Rattle.fixed_decimal.specs.CompactText.{CompactValue, compact_text_of}
 use Rattle.fixed_decimal.specs.Number.{Number}
-use Rattle.fixed_decimal.specs.Rounding.{count_limit}
 use Rattle.fixed_decimal.specs.SignedValue.{SignedValue}
-use Rattle.icu_decimal.specs.CompactTables.{CompactTables}
 use Rattle.icu_decimal.specs.ExactForms.{exact_place}
-use Rattle.icu_decimal.specs.ShownChoice.{shown_under}
 use Rattle.locale_numbers_formats.specs.Changed.{signed_as}
 use Rattle.locale_numbers_formats.specs.declared.SignAsked.{SignAsked}
 use Rattle.locale_numbers_formatter.specs.ExactForms.{exact_format_text}
-use Rattle.locale_numbers_formatter.specs.FormatText.{FormatTables, compact_tables, format_text, format_value, plain_tables, unit_tables}
+use Rattle.locale_numbers_formatter.specs.FormatText.{FormatTables, compact_tables, digits_tables, format_text, format_value, plain_tables, unit_tables}
+use Rattle.locale_numbers_formatter.specs.ShownOperands.{is_shown}
 use Rattle.locale_numbers_answers.specs.AnswerLine.{refused, written}
 use Rattle.locale_numbers_requests.specs.Request.{tab}
 use Rattle.locale_numbers_requests.specs.declared.Refusal.TheVariants as refusal
 
 -- ---- a number
 
--- whether the value that a number is shown as is one of a decimal
-abbrev pub can_be_shown : CompactTables → SignedValue Number → Bool
-can_be_shown t d = nat_lt (shown_under 32768 t.patterns.entries d.absolute.count) count_limit
+-- the text, and the value shown after a tab
+abbrev pub text_and_value : FormatTables → SignedValue Number → List ℕ
+text_and_value f d = format_text f d ++ tab ∷ compact_text_of (format_value f d)
 
--- the compact text, and the value shown after a tab
-abbrev pub text_and_value : CompactTables → SignedValue Number → List ℕ
-text_and_value t d = format_text (compact_tables t) d ++ tab ∷ compact_text_of (format_value (compact_tables t) d)
+-- of a compact number, where it can be shown
+abbrev pub compact_answer : FormatTables → SignedValue Number → List ℕ
+compact_answer f d = if is_shown f d then written (text_and_value f d) else refused refusal.Range
 
 abbrev pub number_answer : FormatTables → SignedValue Number → List ℕ
 number_answer (plain_tables t) d = written (format_text (plain_tables t) d)
-number_answer (compact_tables t) d = if can_be_shown t d then written (text_and_value t d) else refused refusal.Range
+number_answer (compact_tables t) d = compact_answer (compact_tables t) d
+number_answer (digits_tables t o) d = compact_answer (digits_tables t o) d
 number_answer (unit_tables u) d = written (format_text (unit_tables u) d)
 
 -- ---- an exact form
@@ -43,6 +42,7 @@ signed_form sign form = record { significand = signed_as sign form.significand; 
 abbrev pub is_form_in_range : FormatTables → CompactValue → Bool
 is_form_in_range (plain_tables t) form = true
 is_form_in_range (compact_tables t) form = nat_lt (exact_place form.significand.absolute.count form.exponent) 65536
+is_form_in_range (digits_tables t o) form = nat_lt (exact_place form.significand.absolute.count form.exponent) 65536
 is_form_in_range (unit_tables u) form = true
 
 -- a text, where the exponent is the one of its magnitude

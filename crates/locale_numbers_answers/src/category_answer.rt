@@ -1,9 +1,10 @@
 //! The tasks that tell plural categories: of a number, and of a range.
 
-ghost use Rattle.std.specs.Prelude.{◌≡◌, ◌++◌, IsOk, OnOk, OnErr, string_bytes};
+ghost use Rattle.std.specs.Prelude.{◌≡◌, ◌++◌, IfOk, IsOk, OnOk, OnErr, string_bytes};
+ghost use Rattle.locale_numbers_formatter.specs.FormatText.{MayLengthen};
 ghost use Rattle.locale_numbers_lines.specs.Growth.{Grows};
 ghost use Rattle.locale_numbers_answers.specs.AnswerSink.{HasRoom};
-ghost use Rattle.locale_numbers_answers.specs.CategoryAnswer.{answered_category, category_answer, range_category_answer, shown_category, shown_range_category};
+ghost use Rattle.locale_numbers_answers.specs.CategoryAnswer.{answered_category, category_answer, category_between, range_category_answer, shown_category, shown_range_category};
 
 use crate::answer_line::{write_refusal, write_word};
 use fixed_decimal::Decimal;
@@ -14,35 +15,53 @@ use std::alloc::AllocError;
 
 /// The plural category of a number as a formatter shows it: by the rules of `en` `One` of 1 and `Other` of 1.0.
 ///
-/// By a compact formatter the number becomes the one that is shown. `None`: what is shown would be no decimal, as
-/// `can_format` of the formatter says. It does not allocate.
+/// By a compact formatter the number becomes the one that is shown. `None`: it can't be shown, as `can_format` of the
+/// formatter says. It may allocate only by digits of its own that are rounded to multiples of 25. `AllocError`: out of
+/// memory.
 pub fn shown_category(
     formatter: &NumberFormatter<'_>,
     rules: &PluralRules,
     value: &mut Decimal,
-) -> Option<PluralCategory>
-    ensures { result ≡ shown_category formatter.now rules.now value.old }
+) -> Result<Option<PluralCategory>, AllocError>
+    ensures value { IfOk result (λ category. category ≡ shown_category formatter.now rules.now value.old) }
+    ensures room { OnErr result (MayLengthen formatter.now) }
 {
-    let operands = formatter.plural_operands(value)?;
-    Some(rules.category_for(&operands))
+    match formatter.plural_operands(value) {
+        Ok(Some(operands)) => Ok(Some(rules.category_for(&operands))),
+        Ok(None) => Ok(None),
+        Err(refused) => Err(refused),
+    }
+}
+
+// The category of a range, by those of its ends, where both are there.
+fn category_between(
+    rules: &PluralRulesWithRanges<'_>,
+    start: Option<PluralCategory>,
+    end: Option<PluralCategory>,
+) -> Option<PluralCategory>
+    ensures { result ≡ category_between rules.now.ranges.now start end }
+{
+    Some(rules.resolve_range(start?, end?))
 }
 
 /// The plural category of a range of two numbers as a formatter shows them: by the rules and the ranges of `en` `Other` of 0
 /// and 1.
 ///
-/// By a compact formatter the numbers become those that are shown. `None`: what is shown of one of them would be no
-/// decimal. It does not allocate.
+/// By a compact formatter the numbers become those that are shown. `None`: one of them can't be shown. It allocates as
+/// `shown_category`. `AllocError`: out of memory.
 pub fn shown_range_category(
     formatter: &NumberFormatter<'_>,
     rules: &PluralRulesWithRanges<'_>,
     first: &mut Decimal,
     second: &mut Decimal,
-) -> Option<PluralCategory>
-    ensures { result ≡ shown_range_category formatter.now rules.now.rules.now rules.now.ranges.now first.old second.old }
+) -> Result<Option<PluralCategory>, AllocError>
+    ensures value { IfOk result (λ category. category
+        ≡ shown_range_category formatter.now rules.now.rules.now rules.now.ranges.now first.old second.old) }
+    ensures room { OnErr result (MayLengthen formatter.now) }
 {
     let start = shown_category(formatter, rules.rules, first)?;
     let end = shown_category(formatter, rules.rules, second)?;
-    Some(rules.resolve_range(start, end))
+    Ok(category_between(rules, start, end))
 }
 
 // Writes the answer that is a category, where there is one, after what `out` holds.
@@ -58,11 +77,11 @@ fn write_category(category: Option<PluralCategory>, out: &mut String) -> Result<
 }
 
 /// Writes the plural category of a number, as a formatter shows it, after what `out` holds: `ok`, a tab and the word of the
-/// category, or the word `range` where what is shown would be no decimal.
+/// category, or the word `range` where the number can't be shown.
 ///
 /// By the formatter and the rules of `en` 1 is answered by `ok`, a tab and `one`, and 1.0 by `other`; by a short formatter of
 /// `fr` and its rules 1000000 by `many`, and the number becomes what is shown. The number is taken as it is given. Where
-/// there is room, it does not allocate. `AllocError`: out of memory; a part of the answer may then be there.
+/// there is room, it allocates as `shown_category`. `AllocError`: out of memory; a part of the answer may then be there.
 pub fn write_category_answer(
     formatter: &NumberFormatter<'_>,
     rules: &PluralRules,
@@ -72,17 +91,21 @@ pub fn write_category_answer(
     ensures text { OnOk result (string_bytes out.new
         ≡ string_bytes out.old ++ category_answer formatter.now rules.now value.old) }
     ensures err { OnErr result (Grows (string_bytes out.old) (string_bytes out.new)) }
-    ensures room { HasRoom out.old (category_answer formatter.now rules.now value.old) → IsOk result }
+    ensures room { HasRoom out.old (category_answer formatter.now rules.now value.old)
+        → ¬ (MayLengthen formatter.now) → IsOk result }
 {
-    write_category(shown_category(formatter, rules, value), out)
+    match shown_category(formatter, rules, value) {
+        Ok(category) => write_category(category, out),
+        Err(refused) => Err(refused),
+    }
 }
 
 /// Writes the plural category of a range of two numbers, as a formatter shows them, after what `out` holds: `ok`, a tab and
-/// the word of the category, or the word `range` where what is shown of one of them would be no decimal.
+/// the word of the category, or the word `range` where one of them can't be shown.
 ///
 /// By the formatter, the rules and the ranges of `en` 0 and 1 are answered by `ok`, a tab and `other`. The numbers are taken
-/// as they are given. Where there is room, it does not allocate. `AllocError`: out of memory; a part of the answer may then
-/// be there.
+/// as they are given. Where there is room, it allocates as `shown_category`. `AllocError`: out of memory; a part of the
+/// answer may then be there.
 pub fn write_range_category_answer(
     formatter: &NumberFormatter<'_>,
     rules: &PluralRulesWithRanges<'_>,
@@ -94,7 +117,10 @@ pub fn write_range_category_answer(
         rules.now.rules.now rules.now.ranges.now first.old second.old) }
     ensures err { OnErr result (Grows (string_bytes out.old) (string_bytes out.new)) }
     ensures room { HasRoom out.old (range_category_answer formatter.now rules.now.rules.now rules.now.ranges.now first.old
-        second.old) → IsOk result }
+        second.old) → ¬ (MayLengthen formatter.now) → IsOk result }
 {
-    write_category(shown_range_category(formatter, rules, first, second), out)
+    match shown_range_category(formatter, rules, first, second) {
+        Ok(category) => write_category(category, out),
+        Err(refused) => Err(refused),
+    }
 }

@@ -12,15 +12,17 @@ ghost use Rattle.icu_decimal.specs.ShownChoice.{CanShow};
 ghost use Rattle.locale_numbers_lines.specs.Growth.{Grows};
 ghost use Rattle.locale_numbers_answers.specs.AnswerLine.{written};
 ghost use Rattle.locale_numbers_answers.specs.AnswerSink.{HasRoom};
-ghost use Rattle.locale_numbers_formatter.specs.FormatText.{compact_tables};
+ghost use Rattle.locale_numbers_formatter.specs.FormatText.{MayLengthen, compact_tables, format_text, format_value};
+ghost use Rattle.locale_numbers_formatter.specs.HeldDigits.{digits_format};
 ghost use Rattle.locale_numbers_answers.specs.NumberAnswer.{number_answer};
 ghost use Rattle.locale_numbers_requests.specs.Request.{tab};
 
-use crate::answer_line::write_refusal;
+use crate::answer_line::{write_ok, write_refusal};
 use crate::answer_sink::{write_number_shown, write_text_of};
 use fixed_decimal::{Decimal, Sign};
 use icu_decimal::CompactDecimalFormatter;
-use locale_numbers_formatter::laws::compact_is_layered;
+use locale_numbers_formatter::CompactDigitsFormatter;
+use locale_numbers_formatter::laws::{compact_is_layered, format_is_text};
 use locale_numbers_requests::Refusal;
 use std::alloc::AllocError;
 
@@ -138,5 +140,47 @@ pub(crate) fn write_compact(
         return write_refusal(out, Refusal::Range);
     }
     let exponent = write_ok_and_number_shown(formatter, value, out)?;
+    write_tab_and_value_shown(out, value, exponent)
+}
+
+// Writes `ok`, a tab and a number, as a compact formatter with digits of its own writes it, after what `out` holds, makes
+// the number what is before the pattern, and returns the exponent shown.
+fn write_ok_and_digits(
+    formatter: &CompactDigitsFormatter<'_>,
+    value: &mut Decimal,
+    out: &mut String,
+) -> Result<u8, AllocError>
+    ensures value { IfOk result (λ exponent. record { significand = value.new; exponent = exponent }
+        ≡ format_value (digits_format formatter.now) value.old) }
+    ensures text { OnOk result (string_bytes out.new
+        ≡ string_bytes out.old ++ written (format_text (digits_format formatter.now) value.old)) }
+    ensures err { OnErr result (Grows (string_bytes out.old) (string_bytes out.new)) }
+    ensures room { HasRoom out.old (written (format_text (digits_format formatter.now) value.old))
+        → ¬ (MayLengthen (digits_format formatter.now)) → IsOk result }
+    ensures capacity { OnOk result (string_capacity out.old ≤ string_capacity out.new) }
+{
+    format_is_text();
+    let under = formatter.show(value)?;
+    write_ok(out, &formatter.format_shown(value, under))?;
+    Ok(under.exponent)
+}
+
+// Writes the answer that is a compact number with digits of its own, and the value shown after a tab, after what `out`
+// holds. The number becomes what is before the pattern. The word `range` is there where it can't be shown.
+pub(crate) fn write_compact_digits(
+    formatter: &CompactDigitsFormatter<'_>,
+    value: &mut Decimal,
+    out: &mut String,
+) -> Result<(), AllocError>
+    ensures text { OnOk result (string_bytes out.new
+        ≡ string_bytes out.old ++ number_answer (digits_format formatter.now) value.old) }
+    ensures err { OnErr result (Grows (string_bytes out.old) (string_bytes out.new)) }
+    ensures room { HasRoom out.old (number_answer (digits_format formatter.now) value.old)
+        → ¬ (MayLengthen (digits_format formatter.now)) → IsOk result }
+{
+    if !formatter.can_show(value) {
+        return write_refusal(out, Refusal::Range);
+    }
+    let exponent = write_ok_and_digits(formatter, value, out)?;
     write_tab_and_value_shown(out, value, exponent)
 }

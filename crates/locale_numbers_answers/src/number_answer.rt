@@ -8,7 +8,7 @@ ghost use Rattle.icu_decimal_direct.specs.TextTables.{text_tables};
 ghost use Rattle.icu_dimension.specs.HeldFormatters.{code_of, currency_settings_of, settings_of_percent, sign_of};
 ghost use Rattle.locale_numbers_lines.specs.Growth.{Grows};
 ghost use Rattle.locale_numbers_formatter.specs.FormatReading.{reader_of};
-ghost use Rattle.locale_numbers_formatter.specs.FormatText.{plain_tables, unit_tables};
+ghost use Rattle.locale_numbers_formatter.specs.FormatText.{MayLengthen, plain_tables, unit_tables};
 ghost use Rattle.locale_numbers_formatter.specs.HeldFormats.{currency_format, percent_format};
 ghost use Rattle.locale_numbers_answers.specs.AnswerMemory.{ReadsMore};
 ghost use Rattle.locale_numbers_answers.specs.AnswerSink.{HasRoom};
@@ -17,7 +17,7 @@ ghost use Rattle.locale_numbers_answers.specs.NumberReading.{number, beyond, not
 
 use crate::answer_line::{write_joined, write_ok};
 use crate::answer_sink::write_piece;
-use crate::compact_answer::write_compact;
+use crate::compact_answer::{write_compact, write_compact_digits};
 use fixed_decimal::{Decimal, ParseError};
 use icu_decimal::DecimalFormatter;
 use icu_decimal_direct::{TextDigits, TextTables};
@@ -113,13 +113,13 @@ fn write_amount(
 }
 
 /// Writes the answer to a number by a formatter after what `out` holds: `ok`, a tab and its text, and of a compact format
-/// a tab and the value shown, or the word `range` where that would be no decimal.
+/// a tab and the value shown, or the word `range` where it can't be shown.
 ///
 /// By the formatter of `en` -987654.321 is answered by `ok`, a tab and `-987,654.321`; by a short one 1650 by `ok`, `1.6K`
 /// and `1.6c3`, with tabs between, and the number becomes what is shown. The number is written as it is given. With a
 /// reader of the formatter's its affixes are written, which were put together once; the condition is that it is the
-/// formatter's. Where there is room, it does not allocate. `AllocError`: out of memory; a part of the answer may then be
-/// there.
+/// formatter's. Where there is room, it may allocate only by digits of its own that are rounded to multiples of 25.
+/// `AllocError`: out of memory; a part of the answer may then be there.
 pub fn write_number_answer(
     formatter: &NumberFormatter<'_>,
     reader: Option<&NumberReader<'_>>,
@@ -129,11 +129,13 @@ pub fn write_number_answer(
     requires { IfSome reader (λ reader. reader.now ≡ reader_of formatter.now) }
     ensures text { OnOk result (string_bytes out.new ≡ string_bytes out.old ++ number_answer formatter.now value.old) }
     ensures err { OnErr result (Grows (string_bytes out.old) (string_bytes out.new)) }
-    ensures room { HasRoom out.old (number_answer formatter.now value.old) → IsOk result }
+    ensures room { HasRoom out.old (number_answer formatter.now value.old) → ¬ (MayLengthen formatter.now)
+        → IsOk result }
 {
     match formatter.kind() {
         FormatterKind::Plain(formatter) => write_plain(formatter, value, out),
         FormatterKind::Compact(formatter) => write_compact(formatter, value, out),
+        FormatterKind::CompactDigits(formatter) => write_compact_digits(formatter, value, out),
         FormatterKind::Percent(formatter) => write_percents(formatter, reader, value, out),
         FormatterKind::Currency(formatter) => write_amount(formatter, reader, value, out),
     }

@@ -14,20 +14,19 @@ use Rattle.icu_dimension.specs.UnitSources.{CurrencySource, PercentSource}
 use Rattle.icu_dimension.specs.UnitText.{UnitSettings}
 use Rattle.icu_dimension.specs.declared.CurrencyFormatterOptions.{CurrencyFormatterOptions}
 use Rattle.icu_dimension.specs.declared.PercentSign.{PercentSign}
-use Rattle.icu_dimension.specs.declared.PercentSign.TheVariants.{Percent, Permille}
 use Rattle.icu_locale_core.specs.Subtags.{Text}
 use Rattle.icu_locale_core.specs.TagPreferences.{DataLocaleMeaning, Preferences, language_priority}
 use Rattle.locale_numbers_book.specs.Book.{BookTables}
-use Rattle.locale_numbers_book.specs.FoundFormats.{amount_options, found_for, mapped, notation_found, percent_options, percents_with}
+use Rattle.locale_numbers_book.specs.FoundFormats.{amount_options, compact_found, found_for, mapped, notation_found, percent_options, standard_found}
 use Rattle.locale_numbers_book.specs.TagFormatters.{currencies_in, currency_found_in, found_beside, found_plain, patterns_under, percent_found_in, percents_in}
 use Rattle.locale_numbers_book.specs.Tables.{chain_in, digits_under, parent_under, rules_under, steps_in, symbols_under}
 use Rattle.locale_numbers_formats.specs.declared.CompactWidth.{CompactWidth}
 use Rattle.locale_numbers_formats.specs.declared.Notation.{Notation}
-use Rattle.locale_numbers_formats.specs.declared.Notation.TheVariants.{Standard, Compact}
+use Rattle.locale_numbers_formats.specs.declared.Notation.TheVariants.{Standard, Compact, CompactDigits}
 use Rattle.locale_numbers_formats.specs.declared.NumberShape.{NumberShape}
 use Rattle.locale_numbers_formats.specs.declared.NumberUnit.{NumberUnit}
 use Rattle.locale_numbers_formats.specs.declared.NumberUnit.TheVariants as unit
-use Rattle.locale_numbers_formatter.specs.FormatText.{compact_tables, plain_tables, unit_tables}
+use Rattle.locale_numbers_formatter.specs.FormatText.{compact_tables, digits_tables, plain_tables, unit_tables}
 use Rattle.locale_numbers_formatter.specs.HeldFormats.{currency_format, percent_format}
 
 -- ---- what is found, by the tables of plain text, the locales and the system
@@ -86,19 +85,21 @@ module _ (book : BookTables) (p q : Preferences) (locales : language_priority p.
       ∙ ap (λ locale. amounts_by (currencies_in book) code options (decimals_found (currencies_in book).decimals q options.grouping_strategy) (along locale) p.numbering_system) locales
       ∙ ap (amounts_by (currencies_in book) code options (decimals_found (currencies_in book).decimals q options.grouping_strategy) (along (language_priority q.locale))) systems
 
-  with_sign_alike : (sign : PercentSign) → percents_with sign book p grouping ≡ percents_with sign book q grouping
-  with_sign_alike sign = ap (mapped (λ settings. unit_tables (percent_format sign settings))) (percents_alike sign)
+  standard_alike : (beside : NumberUnit) → standard_found beside book p grouping ≡ standard_found beside book q grouping
+  standard_alike unit.None = ap (mapped plain_tables) plain_alike
+  standard_alike (unit.Percent sign) = ap (mapped (λ settings. unit_tables (percent_format sign settings))) (percents_alike sign)
+  standard_alike (unit.Currency currency) =
+      ap (mapped (λ settings. unit_tables (currency_format currency.code settings))) (amounts_alike currency.code (amount_options currency grouping) refl)
+
+  compact_found_alike : (width : CompactWidth) (beside : NumberUnit) → compact_found width beside book p grouping ≡ compact_found width beside book q grouping
+  compact_found_alike width unit.None = compact_alike width
+  compact_found_alike width (unit.Percent sign) = refl
+  compact_found_alike width (unit.Currency currency) = refl
 
   notation_alike : (notation : Notation) (beside : NumberUnit) → notation_found notation beside book p grouping ≡ notation_found notation beside book q grouping
-  notation_alike Standard unit.None = ap (mapped plain_tables) plain_alike
-  notation_alike Standard unit.Percent = with_sign_alike Percent
-  notation_alike Standard unit.Permille = with_sign_alike Permille
-  notation_alike Standard (unit.Currency currency) =
-      ap (mapped (λ settings. unit_tables (currency_format currency.code settings))) (amounts_alike currency.code (amount_options currency grouping) refl)
-  notation_alike (Compact width) unit.None = ap (mapped compact_tables) (compact_alike width)
-  notation_alike (Compact width) unit.Percent = refl
-  notation_alike (Compact width) unit.Permille = refl
-  notation_alike (Compact width) (unit.Currency currency) = refl
+  notation_alike Standard beside = standard_alike beside
+  notation_alike (Compact width) beside = ap (mapped compact_tables) (compact_found_alike width beside)
+  notation_alike (CompactDigits width options) beside = ap (mapped (λ tables. digits_tables tables options)) (compact_found_alike width beside)
 
 -- what is found for a shape
 pub shape_alike : (book : BookTables) (p q : Preferences) → language_priority p.locale ≡ language_priority q.locale → p.numbering_system ≡ q.numbering_system

@@ -5,6 +5,7 @@ use Rattle.icu_decimal.specs.Identifiers.{of_both, of_locale}
 use Rattle.icu_decimal.specs.declared.options.GroupingStrategy.TheVariants.{Auto}
 use Rattle.icu_dimension.specs.declared.CurrencyStyle.TheVariants as style
 use Rattle.icu_dimension.specs.declared.CurrencyWidth.TheVariants as width
+use Rattle.icu_dimension.specs.declared.PercentSign.TheVariants as sign
 use Rattle.icu_locale_core.specs.TagPreferences.{DataLocaleMeaning, Preferences}
 use Rattle.locale_numbers_book.specs.Book.{BookTables}
 use Rattle.locale_numbers_book.specs.FoundFormats.{found_for, second_for}
@@ -75,7 +76,7 @@ german_euros = refl
 plain : second_group (of_unit unit.None) (preferring (codes "de") (Some (codes "AT")) None) ≡ None
 plain = refl
 
-percents : second_group (of_unit unit.Percent) (preferring (codes "de") (Some (codes "AT")) None) ≡ None
+percents : second_group (of_unit (unit.Percent sign.Percent)) (preferring (codes "de") (Some (codes "AT")) None) ≡ None
 percents = refl
 
 -- in Thai digits the second is the one in those of ASCII, with symbols of its own too

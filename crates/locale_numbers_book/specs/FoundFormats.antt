@@ -7,6 +7,7 @@ use Rattle.std.specs.Prelude.{Option, None, Some, Result, Ok, Err, codes, if◌t
 use Rattle.std.specs.Option.{option_and_then}
 use Rattle.std.specs.Result.{result_ok}
 use Rattle.std.specs.Str.{bytes_eq}
+use Rattle.icu_decimal.specs.CompactTables.{CompactTables}
 use Rattle.icu_decimal.specs.Folding.{plain_digits}
 use Rattle.icu_decimal.specs.PlainText.{Tables}
 use Rattle.icu_decimal.specs.SameSymbols.{same_symbols}
@@ -16,7 +17,6 @@ use Rattle.icu_dimension.specs.declared.CurrencyFormatterOptions.{CurrencyFormat
 use Rattle.icu_dimension.specs.declared.FractionInfo.{FractionInfo}
 use Rattle.icu_dimension.specs.declared.PercentFormatterOptions.{PercentFormatterOptions}
 use Rattle.icu_dimension.specs.declared.PercentSign.{PercentSign}
-use Rattle.icu_dimension.specs.declared.PercentSign.TheVariants.{Percent, Permille}
 use Rattle.icu_locale_core.specs.Subtags.{Text}
 use Rattle.icu_locale_core.specs.TagPreferences.{Preferences}
 use Rattle.locale_numbers_book.specs.Book.{BookTables}
@@ -26,11 +26,11 @@ use Rattle.locale_numbers_book.specs.declared.formatter_error.FormatterError.{Fo
 use Rattle.locale_numbers_formats.specs.declared.CompactWidth.{CompactWidth}
 use Rattle.locale_numbers_formats.specs.declared.CurrencyUnit.{CurrencyUnit}
 use Rattle.locale_numbers_formats.specs.declared.Notation.{Notation}
-use Rattle.locale_numbers_formats.specs.declared.Notation.TheVariants.{Standard, Compact}
+use Rattle.locale_numbers_formats.specs.declared.Notation.TheVariants.{Standard, Compact, CompactDigits}
 use Rattle.locale_numbers_formats.specs.declared.NumberShape.{NumberShape}
 use Rattle.locale_numbers_formats.specs.declared.NumberUnit.{NumberUnit}
 use Rattle.locale_numbers_formats.specs.declared.NumberUnit.TheVariants as unit
-use Rattle.locale_numbers_formatter.specs.FormatText.{FormatTables, UnitFormat, compact_tables, digit_tables, plain_tables, unit_tables}
+use Rattle.locale_numbers_formatter.specs.FormatText.{FormatTables, UnitFormat, compact_tables, digit_tables, digits_tables, plain_tables, unit_tables}
 use Rattle.locale_numbers_formatter.specs.HeldFormats.{currency_format, percent_format}
 
 -- ---- for preferences
@@ -53,26 +53,25 @@ abbrev pub amount_options : CurrencyUnit → GroupingStrategy → CurrencyFormat
 amount_options currency grouping =
     record { style = currency.style; width = currency.width; grouping_strategy = Some grouping }
 
--- with all digits: plain numbers, percents, permille and amounts
+-- with all digits: plain numbers, percents and amounts
 abbrev pub standard_found : NumberUnit → BookTables → Preferences → GroupingStrategy → Result FormatTables DataError
 standard_found unit.None book preferences grouping = mapped plain_tables (found_plain book preferences (Some grouping))
-standard_found unit.Percent book preferences grouping = percents_with Percent book preferences grouping
-standard_found unit.Permille book preferences grouping = percents_with Permille book preferences grouping
+standard_found (unit.Percent sign) book preferences grouping = percents_with sign book preferences grouping
 standard_found (unit.Currency currency) book preferences grouping =
     mapped (λ settings. unit_tables (currency_format currency.code settings))
     (currency_found_in book preferences currency.code (amount_options currency grouping))
 
--- compact numbers; there are no patterns of those with a unit
-abbrev pub compact_found : CompactWidth → NumberUnit → BookTables → Preferences → GroupingStrategy → Result FormatTables DataError
-compact_found width unit.None book preferences grouping =
-    mapped compact_tables (found_beside (patterns_under width book) book preferences (Some grouping))
-compact_found width unit.Percent book preferences grouping = Err DataError.IdentifierNotFound
-compact_found width unit.Permille book preferences grouping = Err DataError.IdentifierNotFound
+-- the tables of compact numbers; there are no patterns of those with a unit
+abbrev pub compact_found : CompactWidth → NumberUnit → BookTables → Preferences → GroupingStrategy → Result CompactTables DataError
+compact_found width unit.None book preferences grouping = found_beside (patterns_under width book) book preferences (Some grouping)
+compact_found width (unit.Percent sign) book preferences grouping = Err DataError.IdentifierNotFound
 compact_found width (unit.Currency currency) book preferences grouping = Err DataError.IdentifierNotFound
 
 abbrev pub notation_found : Notation → NumberUnit → BookTables → Preferences → GroupingStrategy → Result FormatTables DataError
 notation_found Standard unit book preferences grouping = standard_found unit book preferences grouping
-notation_found (Compact width) unit book preferences grouping = compact_found width unit book preferences grouping
+notation_found (Compact width) unit book preferences grouping = mapped compact_tables (compact_found width unit book preferences grouping)
+notation_found (CompactDigits width options) unit book preferences grouping =
+    mapped (λ tables. digits_tables tables options) (compact_found width unit book preferences grouping)
 
 -- what numbers of a shape are written with
 abbrev pub found_for : NumberShape → BookTables → Preferences → Result FormatTables DataError
@@ -101,6 +100,7 @@ with_symbols_of plain u (Some fractions) =
 abbrev pub amounts_by : Tables → FormatTables → Option FormatTables
 amounts_by plain (plain_tables t) = None
 amounts_by plain (compact_tables t) = None
+amounts_by plain (digits_tables t options) = None
 amounts_by plain (unit_tables u) = with_symbols_of plain u u.fractions
 
 -- those that plain numbers of the same preferences are written with

@@ -6,9 +6,9 @@ ghost use Rattle.std.specs.Result.{result_map_both, result_ok};
 ghost use Rattle.icu_decimal.specs.HeldCompact.{compact_tables_of};
 ghost use Rattle.icu_decimal.specs.HeldTables.{tables_of};
 ghost use Rattle.icu_dimension.specs.HeldFormatters.{code_of, currency_settings_of, settings_of_percent, sign_of};
-ghost use Rattle.locale_numbers_book.specs.FoundFormats.{amount_options, amounts_by, both_found, compact_found, found_for, in_ascii, in_latin, percent_options, percents_with, second_for, standard_found};
+ghost use Rattle.locale_numbers_book.specs.FoundFormats.{amount_options, amounts_by, both_found, compact_found, found_for, in_ascii, in_latin, mapped, percent_options, second_for, standard_found};
 ghost use Rattle.locale_numbers_book.specs.TagFormatters.{currency_found_in, found_beside, found_plain, patterns_under, percent_found_in};
-ghost use Rattle.locale_numbers_formatter.specs.FormatText.{unit_tables};
+ghost use Rattle.locale_numbers_formatter.specs.FormatText.{compact_tables, digits_tables, unit_tables};
 ghost use Rattle.locale_numbers_formatter.specs.HeldFormats.{currency_format};
 
 use crate::tables::Tables;
@@ -23,8 +23,10 @@ use icu_dimension::{
 };
 use icu_locale_core::preferences::extensions::unicode::keywords::NumberingSystem;
 use icu_locale_core::subtags::Subtag;
-use locale_numbers_formats::{CompactWidth, CurrencyUnit, Notation, NumberShape, NumberUnit};
-use locale_numbers_formatter::{FormatterKind, NumberFormatter};
+use locale_numbers_formats::{
+    CompactWidth, CurrencyUnit, Notation, NumberOptions, NumberShape, NumberUnit,
+};
+use locale_numbers_formatter::{CompactDigitsFormatter, FormatterKind, NumberFormatter};
 
 // The formatter of plain numbers.
 fn find_plain<'a, T: Tables>(
@@ -38,8 +40,8 @@ fn find_plain<'a, T: Tables>(
     DecimalFormatter::try_new_unstable(tables, preferences, DecimalFormatterOptions::from(grouping))
 }
 
-// The formatter of compact numbers, with the patterns of a width.
-fn find_compact<'a, T: Tables>(
+// The formatter of compact numbers with the patterns of a width.
+fn find_patterns<'a, T: Tables>(
     tables: &'a T,
     preferences: DecimalFormatterPreferences,
     width: CompactWidth,
@@ -78,21 +80,6 @@ fn find_percents<'a, T: Tables>(
             sign,
         },
     )
-}
-
-// The same, as a formatter of numbers.
-fn find_with_sign<'a, T: Tables>(
-    tables: &'a T,
-    preferences: DecimalFormatterPreferences,
-    sign: PercentSign,
-    grouping: GroupingStrategy,
-) -> Result<NumberFormatter<'a>, DataError>
-    ensures { result ≡ percents_with sign (T.book tables.now) preferences grouping }
-{
-    match find_percents(tables, preferences, sign, grouping) {
-        Ok(formatter) => Ok(NumberFormatter::from(formatter)),
-        Err(error) => Err(error),
-    }
 }
 
 // How amounts are written, as their unit says.
@@ -141,13 +128,10 @@ fn find_standard<'a, T: Tables>(
             Ok(formatter) => Ok(NumberFormatter::from(formatter)),
             Err(error) => Err(error),
         },
-        NumberUnit::Percent => find_with_sign(tables, preferences, PercentSign::Percent, grouping),
-        NumberUnit::Permille => find_with_sign(
-            tables,
-            preferences,
-            PercentSign::Permille,
-            grouping,
-        ),
+        NumberUnit::Percent(sign) => match find_percents(tables, preferences, sign, grouping) {
+            Ok(formatter) => Ok(NumberFormatter::from(formatter)),
+            Err(error) => Err(error),
+        },
         NumberUnit::Currency(currency) => {
             match find_amounts(tables, preferences, currency, grouping) {
                 Ok(formatter) => Ok(NumberFormatter::of_amounts(&formatter)),
@@ -158,6 +142,23 @@ fn find_standard<'a, T: Tables>(
 }
 
 // The formatter of compact numbers, of which none has a unit.
+fn find_compact<'a, T: Tables>(
+    tables: &'a T,
+    preferences: DecimalFormatterPreferences,
+    width: CompactWidth,
+    unit: NumberUnit,
+    grouping: GroupingStrategy,
+) -> Result<CompactDecimalFormatter<'a>, DataError>
+    ensures { result_map_both compact_tables_of (λ error. error) result
+        ≡ compact_found width unit (T.book tables.now) preferences grouping }
+{
+    match unit {
+        NumberUnit::None => find_patterns(tables, preferences, width, grouping),
+        NumberUnit::Percent(_) | NumberUnit::Currency(_) => Err(DataError::IdentifierNotFound),
+    }
+}
+
+// The same, as a formatter of numbers.
 #[inline(never)]
 fn find_short_or_long<'a, T: Tables>(
     tables: &'a T,
@@ -166,16 +167,31 @@ fn find_short_or_long<'a, T: Tables>(
     unit: NumberUnit,
     grouping: GroupingStrategy,
 ) -> Result<NumberFormatter<'a>, DataError>
-    ensures { result ≡ compact_found width unit (T.book tables.now) preferences grouping }
+    ensures { result
+        ≡ mapped compact_tables (compact_found width unit (T.book tables.now) preferences grouping) }
 {
-    match unit {
-        NumberUnit::None => match find_compact(tables, preferences, width, grouping) {
-            Ok(formatter) => Ok(NumberFormatter::from(formatter)),
-            Err(error) => Err(error),
-        },
-        NumberUnit::Percent | NumberUnit::Permille | NumberUnit::Currency(_) => {
-            Err(DataError::IdentifierNotFound)
-        }
+    match find_compact(tables, preferences, width, unit, grouping) {
+        Ok(formatter) => Ok(NumberFormatter::from(formatter)),
+        Err(error) => Err(error),
+    }
+}
+
+// The same, with digits of their own.
+#[inline(never)]
+fn find_with_digits<'a, T: Tables>(
+    tables: &'a T,
+    preferences: DecimalFormatterPreferences,
+    width: CompactWidth,
+    options: NumberOptions,
+    unit: NumberUnit,
+    grouping: GroupingStrategy,
+) -> Result<NumberFormatter<'a>, DataError>
+    ensures { result ≡ mapped (λ compact. digits_tables compact options)
+        (compact_found width unit (T.book tables.now) preferences grouping) }
+{
+    match find_compact(tables, preferences, width, unit, grouping) {
+        Ok(formatter) => Ok(NumberFormatter::from(CompactDigitsFormatter::new(formatter, options))),
+        Err(error) => Err(error),
     }
 }
 
@@ -195,6 +211,16 @@ pub fn find_formatter<'a, T: Tables>(
         Notation::Standard => find_standard(tables, preferences, shape.unit, shape.grouping),
         Notation::Compact(width) => {
             find_short_or_long(tables, preferences, width, shape.unit, shape.grouping)
+        }
+        Notation::CompactDigits(width, options) => {
+            find_with_digits(
+                tables,
+                preferences,
+                width,
+                options,
+                shape.unit,
+                shape.grouping,
+            )
         }
     }
 }
@@ -265,7 +291,10 @@ fn amounts_by<'a>(
     ensures { result ≡ amounts_by (tables_of plain.now) formatter.now }
 {
     match formatter.kind() {
-        FormatterKind::Plain(_) | FormatterKind::Compact(_) | FormatterKind::Percent(_) => None,
+        FormatterKind::Plain(_)
+        | FormatterKind::Compact(_)
+        | FormatterKind::CompactDigits(_)
+        | FormatterKind::Percent(_) => None,
         FormatterKind::Currency(amounts) => with_symbols_of(plain, amounts),
     }
 }

@@ -1,5 +1,5 @@
 -- What trims and pads of `fixed_decimal` leave is what the functions of `specs/Changed.antt` answer.
-use Rattle.std.proofs.Common.{◌≡◌, ℕ, zero, suc, ℤ, ◌+◌, ◌-◌, ◌*◌, ◌/◌, ◌%◌, ◌^◌, ◌==◌, ◌<◌, ◌≤◌, Bool, true, false, cond, max, min, refl, sym, ap, subst, ◌∙◌, arith, ⊎_elim}
+use Rattle.std.proofs.Common.{◌≡◌, ℕ, zero, suc, ℤ, ◌+◌, ◌-◌, ◌*◌, ◌/◌, ◌%◌, ◌^◌, ◌==◌, ◌<◌, ◌≤◌, Bool, true, false, cond, max, min, Option, refl, sym, ap, subst, ◌∙◌, arith, ⊎_elim}
 use Rattle.std.proofs.Math.Nat.{lt_of_lt_of_le, mul-mod_left, mul_assoc, pow-le-pow_right}
 use Rattle.std.proofs.lemmas.Nat.{div-add-mod', pow-add}
 use Rattle.std.proofs.lemmas.Bool.{cases_lt, eq-eqb, eqb-true, false≢true}
@@ -7,7 +7,9 @@ use Rattle.std.proofs.lemmas.Bool.Decides.{nat_tests}
 use Rattle.fixed_decimal.specs.Number.{IsNumber, Number, place}
 use Rattle.fixed_decimal.specs.Range.{IsHighest, IsLowest}
 use Rattle.fixed_decimal.specs.Shifts.{PadsEnd, PadsStart, TrimsEnd, TrimsStart, TrimsWhole}
-use Rattle.locale_numbers_formats.specs.Changed.{fraction_trimmed, front_padded, padded_down, start_trimmed, whole_from, whole_trimmed}
+use Rattle.fixed_decimal.specs.SignedValue.{SignedValue}
+use Rattle.icu_dimension_fractions.specs.declared.FractionInfo.{FractionInfo}
+use Rattle.locale_numbers_formats.specs.Changed.{changed, fraction_trimmed, front_padded, padded_down, shown, start_trimmed, unchanged, whole_from, whole_trimmed}
 use Rattle.locale_numbers_formats.specs.Rounded.{holding_from}
 use Rattle.locale_numbers_formats.proofs.RoundedLemmas.{holding_holds, holding_keeps, holding_lowest}
 
@@ -118,3 +120,11 @@ pub pads_down_is : (at : ℕ) (old new : Number) → IsNumber old → at ≤ old
 pads_down_is at old new number under pads =
     same_fields new (padded_down at old) pads.count
     (padded_lowest at old.count old.low new.low number.whole under (pads.low (omega (arith, number.low, under)))) pads.high
+
+-- ---- options that change nothing
+
+pub unchanged_shows : (n : Number) → IsNumber n → shown unchanged.rounding unchanged n ≡ n
+unchanged_shows n number = same_fields (shown unchanged.rounding unchanged n) n refl (omega (arith, number.low)) (omega (arith, number.ones))
+
+pub unchanged_changes_nothing : (fractions : Option FractionInfo) (value : SignedValue Number) → IsNumber value.absolute → changed unchanged fractions value ≡ value
+unchanged_changes_nothing fractions value number = λ i. record { sign = value.sign; absolute = unchanged_shows value.absolute number i }

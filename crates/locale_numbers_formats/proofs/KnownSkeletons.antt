@@ -1,33 +1,40 @@
 -- Spellings of skeletons, and faults, as ICU4C 72 has them but for docs/skeletons.md, "Where ICU differs", so that a wrong definition does not pass.
-use Rattle.std.proofs.Common.{◌≡◌, codes, Ok, Err, refl}
+use Rattle.std.proofs.Common.{◌≡◌, ℕ, codes, List, Result, Ok, Err, refl}
 use Rattle.std.specs.Prelude.{pos, negsuc}
+use Rattle.std.specs.Result.{result_map_both}
 use Rattle.fixed_decimal.specs.declared.RoundingIncrement.TheVariants.{MultiplesOf1, MultiplesOf2, MultiplesOf5, MultiplesOf25}
 use Rattle.fixed_decimal.specs.declared.SignDisplay.TheVariants as display
 use Rattle.fixed_decimal.specs.declared.SignedRoundingMode.TheVariants.{Unsigned}
-use Rattle.fixed_decimal.specs.declared.UnsignedRoundingMode.TheVariants.{Expand, HalfEven}
+use Rattle.fixed_decimal.specs.declared.UnsignedRoundingMode.TheVariants.{Expand, Trunc, HalfEven}
 use Rattle.icu_decimal_symbols.specs.declared.options.GroupingStrategy.TheVariants as strategy
 use Rattle.icu_dimension_fractions.specs.declared.CurrencyStyle.TheVariants as style
 use Rattle.icu_dimension_fractions.specs.declared.CurrencyStyle.TheVariants.{Accounting}
 use Rattle.icu_dimension_fractions.specs.declared.CurrencyUsage.TheVariants.{Standard, Cash}
 use Rattle.icu_dimension_fractions.specs.declared.CurrencyWidth.TheVariants.{IsoCode}
+use Rattle.icu_dimension_fractions.specs.declared.PercentSign.TheVariants as signs
+use Rattle.locale_numbers_formats.specs.Changed.{unchanged}
 use Rattle.locale_numbers_formats.specs.NormalText.{skeleton_text}
 use Rattle.locale_numbers_formats.specs.SkeletonFormats.{format_of}
 use Rattle.locale_numbers_formats.specs.Skeletons.{no_words, settled, skeleton_of}
 use Rattle.locale_numbers_formats.specs.declared.options.LeadingZeros.TheVariants as leading
+use Rattle.locale_numbers_formats.specs.declared.options.NumberOptions.{NumberOptions}
 use Rattle.locale_numbers_formats.specs.declared.options.Rounding.TheVariants as rounding
 use Rattle.locale_numbers_formats.specs.declared.options.RoundingPriority.TheVariants.{MorePrecision, LessPrecision}
 use Rattle.locale_numbers_formats.specs.declared.options.SignAsked.TheVariants.{Show}
 use Rattle.locale_numbers_formats.specs.declared.options.TrailingZeros.TheVariants.{Keep, Trim, TrimAll}
+use Rattle.locale_numbers_formats.specs.declared.shape.CompactWidth.{CompactWidth}
 use Rattle.locale_numbers_formats.specs.declared.shape.CompactWidth.TheVariants.{Short, Long}
 use Rattle.locale_numbers_formats.specs.declared.shape.Notation.TheVariants as notation
-use Rattle.locale_numbers_formats.specs.declared.shape.Notation.TheVariants.{Compact}
+use Rattle.locale_numbers_formats.specs.declared.shape.NumberFormat.{NumberFormat}
 use Rattle.locale_numbers_formats.specs.declared.shape.NumberUnit.TheVariants as beside
 use Rattle.locale_numbers_formats.specs.declared.skeleton.Skeleton.{Skeleton}
+use Rattle.locale_numbers_formats.specs.declared.skeleton_error.SkeletonError.{SkeletonError}
 use Rattle.locale_numbers_formats.specs.declared.skeleton_error.SkeletonError.TheVariants.{Unknown, Twice, Code, Pair, System, Later, Unsupported}
 use Rattle.locale_numbers_formats.specs.declared.stems.Precision.TheVariants as precision
 use Rattle.locale_numbers_formats.specs.declared.stems.Precision.TheVariants.{Unlimited, Fraction, AtLeast, Whole, Significant, SignificantAtLeast, Either, Increment, WholeCurrency}
 use Rattle.locale_numbers_formats.specs.declared.stems.SkeletonGrouping.TheVariants as grouping
-use Rattle.locale_numbers_formats.specs.declared.stems.SkeletonUnit.TheVariants.{Percent, Permille, Currency}
+use Rattle.locale_numbers_formats.specs.declared.stems.SkeletonNotation.TheVariants.{Compact}
+use Rattle.locale_numbers_formats.specs.declared.stems.SkeletonUnit.TheVariants.{Percent, Currency}
 use Rattle.locale_numbers_formats.specs.declared.stems.WholeZeros.TheVariants.{Shown, Hidden}
 
 -- what no word asks for
@@ -39,10 +46,10 @@ plain = settled no_words
 is_nothing : skeleton_of (codes "") ≡ Ok plain
 is_nothing = refl
 
-is_spaced : skeleton_of (codes " percent  .00 ") ≡ Ok (record plain { unit = Percent; precision = Fraction 2 0 })
+is_spaced : skeleton_of (codes " percent  .00 ") ≡ Ok (record plain { unit = Percent signs.Percent; precision = Fraction 2 0 })
 is_spaced = refl
 
-is_permille : skeleton_of (codes "permille .0") ≡ Ok (record plain { unit = Permille; precision = Fraction 1 0 })
+is_permille : skeleton_of (codes "permille .0") ≡ Ok (record plain { unit = Percent signs.Permille; precision = Fraction 1 0 })
 is_permille = refl
 
 is_franc : skeleton_of (codes "currency/CHF precision-currency-cash") ≡ Ok (record plain { unit = Currency (codes "CHF"); precision = precision.Currency Cash })
@@ -123,11 +130,11 @@ is_strict = refl
 is_relaxed_integer : skeleton_of (codes "precision-integer/@@r") ≡ Ok (record plain { precision = Either 0 0 2 0 MorePrecision Shown })
 is_relaxed_integer = refl
 
--- three significant digits at least are one of at most three, where more digits count
-is_at_least_significant : skeleton_of (codes ".##/@@@+") ≡ Ok (record plain { precision = Either 0 2 1 2 MorePrecision Shown })
+-- without a priority no significant digit is shown at least: three at least are three at most, where more digits count
+is_at_least_significant : skeleton_of (codes ".##/@@@+") ≡ Ok (record plain { precision = Either 0 2 0 3 MorePrecision Shown })
 is_at_least_significant = refl
 
-is_at_most_significant : skeleton_of (codes ".##/@##/w") ≡ Ok (record plain { precision = Either 0 2 1 2 LessPrecision Hidden })
+is_at_most_significant : skeleton_of (codes ".0#/@##/w") ≡ Ok (record plain { precision = Either 1 1 0 3 LessPrecision Hidden })
 is_at_most_significant = refl
 
 is_increment : skeleton_of (codes "precision-increment/0.05") ≡ Ok (record plain { precision = Increment MultiplesOf5 0 2 Shown })
@@ -148,7 +155,7 @@ is_pointed_increment = refl
 is_bare_increment : skeleton_of (codes "precision-increment/.1") ≡ Ok (record plain { precision = Increment MultiplesOf1 0 1 Shown })
 is_bare_increment = refl
 
-is_usual_point : skeleton_of (codes "decimal-auto percent") ≡ Ok (record plain { unit = Percent })
+is_usual_point : skeleton_of (codes "decimal-auto percent") ≡ Ok (record plain { unit = Percent signs.Percent })
 is_usual_point = refl
 
 is_up : skeleton_of (codes ".0 rounding-mode-up") ≡ Ok (record plain { precision = Fraction 1 0; mode = Unsigned Expand })
@@ -231,9 +238,6 @@ is_two_points = refl
 is_other_increment : skeleton_of (codes "precision-increment/0.3") ≡ Err (Unsupported 0)
 is_other_increment = refl
 
-is_compact_increment : skeleton_of (codes "K precision-increment/50") ≡ Err (Later 2)
-is_compact_increment = refl
-
 is_no_currency : skeleton_of (codes "percent sign-accounting") ≡ Err (Pair 8)
 is_no_currency = refl
 
@@ -270,24 +274,20 @@ is_no_priority = refl
 is_endless_priority : skeleton_of (codes ".00/@@*r") ≡ Err (Unknown 0)
 is_endless_priority = refl
 
--- ICU shows the fraction's digits in any case
-is_old_most : skeleton_of (codes ".00/@##") ≡ Err (Later 0)
-is_old_most = refl
-
-is_old_least : skeleton_of (codes ".00/@@@*") ≡ Err (Later 0)
-is_old_least = refl
-
 is_digits_twice : skeleton_of (codes ".00 @@") ≡ Err (Twice 4)
 is_digits_twice = refl
-
-is_compact_significant : skeleton_of (codes "K @@#") ≡ Err (Later 2)
-is_compact_significant = refl
 
 is_scaled : skeleton_of (codes "percent scale/100") ≡ Err (Later 8)
 is_scaled = refl
 
-is_compact_digits : skeleton_of (codes "compact-short .00") ≡ Err (Later 14)
-is_compact_digits = refl
+is_compact_amount : skeleton_of (codes "compact-short currency/EUR .00") ≡ Err (Later 27)
+is_compact_amount = refl
+
+is_compact_currency_digits : skeleton_of (codes "K precision-currency-standard") ≡ Err (Later 2)
+is_compact_currency_digits = refl
+
+is_compact_amount_mode : skeleton_of (codes "currency/EUR rounding-mode-up K") ≡ Err (Later 13)
+is_compact_amount_mode = refl
 
 is_amount_mode : skeleton_of (codes "currency/EUR rounding-mode-up") ≡ Err (Later 13)
 is_amount_mode = refl
@@ -334,7 +334,7 @@ amount_format : format_of (record plain { unit = Currency (codes "EUR") }) ≡ r
 }
 amount_format = refl
 
-permille_shape : (format_of (record plain { unit = Permille })).shape.unit ≡ beside.Permille
+permille_shape : (format_of (record plain { unit = Percent signs.Permille })).shape.unit ≡ beside.Percent signs.Permille
 permille_shape = refl
 
 -- `.00##`: four digits after the point at most, and two at least
@@ -364,6 +364,11 @@ either_rounding = refl
 either_least : (format_of (record plain { precision = Either 1 1 2 0 MorePrecision Shown })).options.fraction_digits ≡ pos 1
 either_least = refl
 
+-- `.00/@@@*` is as `.00/@@@r`, but pads to two digits after the point wherever the significant ones end
+endless_rounding : (format_of (record plain { precision = Either 2 0 0 3 MorePrecision Shown })).options.rounding
+    ≡ rounding.Either MorePrecision (negsuc 1) (record { least = 0; most = 3 }) (Unsigned HalfEven)
+endless_rounding = refl
+
 -- `precision-increment/0.50`: multiples of 5 tenths, and two digits after the point
 increment_rounding : (format_of (record plain { precision = Increment MultiplesOf5 1 2 Shown })).options.rounding ≡ rounding.At (negsuc 0) (Unsigned HalfEven) MultiplesOf5
 increment_rounding = refl
@@ -379,14 +384,63 @@ large_rounding = refl
 aligned_grouping : (format_of (record plain { grouping = grouping.OnAligned })).shape.grouping ≡ strategy.OnAligned
 aligned_grouping = refl
 
+-- ---- compact numbers
+
 -- a compact pattern rounds by itself
 compact_rounding : (format_of (record plain { notation = Compact Short })).options.rounding ≡ rounding.AsGiven
 compact_rounding = refl
 
+-- the format of a text
+abbrev format_in : List ℕ → Result NumberFormat SkeletonError
+format_in text = result_map_both format_of (λ error. error) (skeleton_of text)
+
+-- options of what is before the pattern, and none of the number
+abbrev with_digits : CompactWidth → NumberOptions → NumberFormat
+with_digits width digits = record { shape = record { notation = notation.CompactDigits width digits; unit = beside.None; grouping = strategy.Min2 }; options = unchanged }
+
+abbrev digits : NumberOptions
+digits = record { rounding = rounding.AsGiven; leading_zeros = leading.Trim; zeros = Trim; integer_digits = pos 0; fraction_digits = pos 0; sign = Show display.Auto }
+
+compact_hundredths : format_in (codes "compact-short .00") ≡ Ok (with_digits Short (record digits { rounding = rounding.At (negsuc 1) (Unsigned HalfEven) MultiplesOf1; fraction_digits = pos 2 }))
+compact_hundredths = refl
+
+compact_tenths : format_in (codes "KK .0") ≡ Ok (with_digits Long (record digits { rounding = rounding.At (negsuc 0) (Unsigned HalfEven) MultiplesOf1; fraction_digits = pos 1 }))
+compact_tenths = refl
+
+compact_at_most : format_in (codes "compact-long .##") ≡ Ok (with_digits Long (record digits { rounding = rounding.At (negsuc 1) (Unsigned HalfEven) MultiplesOf1 }))
+compact_at_most = refl
+
+compact_ones : format_in (codes "compact-short precision-integer") ≡ Ok (with_digits Short (record digits { rounding = rounding.At (pos 0) (Unsigned HalfEven) MultiplesOf1 }))
+compact_ones = refl
+
+compact_significant : format_in (codes "@@@ K") ≡ Ok (with_digits Short (record digits { rounding = rounding.Significant (record { least = 3; most = 3 }) (Unsigned HalfEven) }))
+compact_significant = refl
+
+compact_unlimited : format_in (codes "compact-short precision-unlimited") ≡ Ok (with_digits Short digits)
+compact_unlimited = refl
+
+compact_increment : format_in (codes "K precision-increment/50") ≡ Ok (with_digits Short (record digits { rounding = rounding.At (pos 1) (Unsigned HalfEven) MultiplesOf5 }))
+compact_increment = refl
+
+-- a mode alone rounds as a compact pattern does, but by that mode: `1.9K` of 1999
+compact_down : format_in (codes "compact-short rounding-mode-down")
+    ≡ Ok (with_digits Short (record digits { rounding = rounding.Either MorePrecision (pos 0) (record { least = 1; most = 2 }) (Unsigned Trunc) }))
+compact_down = refl
+
+compact_hundredths_up : format_in (codes "K .00 rounding-mode-up +!")
+    ≡ Ok (with_digits Short (record digits { rounding = rounding.At (negsuc 1) (Unsigned Expand) MultiplesOf1; fraction_digits = pos 2; sign = Show display.Always }))
+compact_hundredths_up = refl
+
 -- ---- normal texts
 
-permille_text : skeleton_text (record plain { unit = Permille }) ≡ codes "permille"
+permille_text : skeleton_text (record plain { unit = Percent signs.Permille }) ≡ codes "permille"
 permille_text = refl
+
+endless_text : skeleton_text (record plain { precision = Either 2 0 0 3 MorePrecision Shown }) ≡ codes ".00/@@@*"
+endless_text = refl
+
+strict_text : skeleton_text (record plain { precision = Either 1 1 0 3 LessPrecision Hidden }) ≡ codes ".0#/@##/w"
+strict_text = refl
 
 increment_text : skeleton_text (record plain { precision = Increment MultiplesOf5 1 2 Hidden }) ≡ codes "precision-increment/0.50/w"
 increment_text = refl

@@ -11,7 +11,7 @@ use Rattle.fixed_decimal.specs.declared.UnsignedRoundingMode.TheVariants.{HalfEv
 use Rattle.icu_dimension_fractions.specs.declared.FractionIncrement.TheVariants as increment
 use Rattle.icu_dimension_fractions.specs.declared.FractionInfo.{FractionInfo}
 use Rattle.locale_numbers_formats.specs.AmountRounding.{amount_rounded}
-use Rattle.locale_numbers_formats.specs.Changed.{changed, rounded_by, settled_by, shown, shown_signed, significant_place}
+use Rattle.locale_numbers_formats.specs.Changed.{changed, end_padded, rounded_by, settled_by, shown, shown_signed, significant_place}
 use Rattle.locale_numbers_formats.specs.Rounded.{rounded}
 use Rattle.locale_numbers_formats.specs.declared.options.LeadingZeros.TheVariants as leading
 use Rattle.locale_numbers_formats.specs.declared.options.NumberOptions.{NumberOptions}
@@ -151,6 +151,16 @@ less_of_same : settled_by LessPrecision 32766 (negsuc 1) three_at_most (Unsigned
 less_of_same = refl
 
 -- ---- pads
+
+-- where no significant digit is shown at least, fraction digits are: two of 0.5 are `0.50`, of 5 `5.00`
+abbrev at_most_three : Rounding
+at_most_three = rounding.Significant (record { least = 0; most = 3 }) (Unsigned HalfEven)
+
+fraction_pad : end_padded at_most_three (pos 2) (number 5 1 1) ≡ number 50 2 1
+fraction_pad = refl
+
+whole_pad : end_padded at_most_three (pos 2) (number 5 0 1) ≡ number 500 2 1
+whole_pad = refl
 
 -- 7 with three digits before the point and two after it is `007.00`
 padded : changed (record (asked rounding.Usual) { integer_digits = pos 3; fraction_digits = pos 2 }) None (plain 7 0 1) ≡ plain 700 2 3

@@ -4,7 +4,7 @@ use Rattle.std.specs.List.{list_all}
 use Rattle.std.specs.Str.{bytes_eq}
 use Rattle.std.specs.Char.{is_ascii_digit, to_ascii_uppercase}
 use Rattle.std.specs.Prelude.{slice_index}
-use Rattle.std.proofs.lemmas.Bool.{and_parts, false≢true, le-leb, leb-true, lt-ltb, ltb-false, ltb-true}
+use Rattle.std.proofs.lemmas.Bool.{and_parts, eqb-true, false≢true, le-leb, leb-true, lt-ltb, ltb-false, ltb-true}
 use Rattle.fixed_decimal.specs.declared.RoundingIncrement.{RoundingIncrement}
 use Rattle.fixed_decimal.specs.declared.SignDisplay.{SignDisplay}
 use Rattle.fixed_decimal.specs.declared.SignDisplay.TheVariants as display
@@ -13,7 +13,7 @@ use Rattle.icu_dimension_fractions.specs.declared.CurrencyStyle.{CurrencyStyle}
 use Rattle.icu_dimension_fractions.specs.declared.CurrencyStyle.TheVariants as style
 use Rattle.locale_numbers_formats.specs.Cutting.{cut_at, is_separator}
 use Rattle.locale_numbers_formats.specs.IncrementWords.{from_first, increment_at, increment_setting, number_setting, other_step, point, pointed_at, step_of, step_setting}
-use Rattle.locale_numbers_formats.specs.Marks.{digits_end, digits_setting, either_end, either_setting, exponent_digits, exponent_setting, exponent_sign, exponent_signed, fraction_end, fraction_setting, leading, marked, old_end, old_form, option_setting, padded_setting, zeros_or}
+use Rattle.locale_numbers_formats.specs.Marks.{digits_end, digits_setting, either_end, either_setting, exponent_digits, exponent_setting, exponent_sign, exponent_signed, fraction_end, fraction_setting, leading, marked, old_end, option_setting, padded_setting, zeros_or}
 use Rattle.locale_numbers_formats.specs.SkeletonLaws.{HasCode, HasMarks, IsSkeleton}
 use Rattle.locale_numbers_formats.specs.Skeletons.{at_place, checked, checked_by, no_words, once, pair_fault, read_word, read_words, set, settled, skeleton_of, space, then_read}
 use Rattle.locale_numbers_formats.specs.Stems.{capital_code, coded, fronts, optioned, or_marked, or_slashed, or_unknown, setting_named, slashed_at, slash, stems}
@@ -40,8 +40,7 @@ use Rattle.locale_numbers_formats.specs.declared.stems.WholeZeros.TheVariants.{S
 
 abbrev is_unit : SkeletonUnit → Bool
 is_unit unit.None = true
-is_unit unit.Percent = true
-is_unit unit.Permille = true
+is_unit (unit.Percent sign) = true
 is_unit (unit.Currency code) = is_currency_code code
 
 abbrev is_precision : Precision → Bool
@@ -52,7 +51,7 @@ is_precision (precision.AtLeast least) = nat_lt 0 least && nat_le least 100
 is_precision (precision.Whole least more) = nat_le (least + more) 100
 is_precision (precision.Significant least more zeros) = nat_lt 0 least && nat_le (least + more) 100
 is_precision (precision.SignificantAtLeast least zeros) = nat_lt 0 least && nat_le least 100
-is_precision (precision.Either least more digits others priority zeros) = nat_le (least + more) 100 && (nat_lt 0 digits && nat_le (digits + others) 100)
+is_precision (precision.Either least more digits others priority zeros) = nat_le (least + more) 100 && (nat_lt 0 (digits + others) && nat_le (digits + others) 100)
 is_precision (precision.Increment step zeros digits whole) = nat_le zeros 100 && nat_le digits 100
 is_precision (precision.Currency usage) = true
 is_precision (precision.WholeCurrency usage) = true
@@ -164,41 +163,46 @@ digits_setting_is marks = at (nat_lt 100 (signs + leading 35 rest)) refl
     at true is = refl
     at false is = digits_end_is signs (leading 35 rest) (drop (leading 35 rest) rest) (omega arith) (ltb-false 100 (signs + leading 35 rest) is)
 
-old_form_is : (least : ℕ) (setting : Setting) → is_setting setting ≡ true → is_setting (old_form least setting) ≡ true
-old_form_is least setting is = at (least == 0)
-  where
-    at : (b : Bool) → is_setting (cond b setting (Refused fault.Later)) ≡ true
-    at true = is
-    at false = refl
+module _ (least more digits others : ℕ) (few : least + more ≤ 100) (some : 0 < digits + others) (most : digits + others ≤ 100) where
+  either_has : (one rest : ℕ) (p : RoundingPriority) (z : WholeZeros) → one + rest ≡ digits + others → is_setting (OfPrecision (precision.Either least more one rest p z)) ≡ true
+  either_has one rest p z same =
+      both (nat_le (least + more) 100) (nat_lt 0 (one + rest) && nat_le (one + rest) 100) (le-leb (least + more) 100 few) (some_of (one + rest) (one + rest) (omega (arith, some, same)) (omega (arith, most, same)))
 
-module _ (least more digits others : ℕ) (few : least + more ≤ 100) (some : 0 < digits) (most : digits + others ≤ 100) where
-  either_has : (one rest : ℕ) (p : RoundingPriority) (z : WholeZeros) → 0 < one → one + rest ≤ 100 → is_setting (OfPrecision (precision.Either least more one rest p z)) ≡ true
-  either_has one rest p z first last = both (nat_le (least + more) 100) (nat_lt 0 one && nat_le (one + rest) 100) (le-leb (least + more) 100 few) (some_of one (one + rest) first last)
+  -- at least so many digits, with no other ones
+  endless_has : (b : Bool) (z : WholeZeros) → (b && (others == 0)) ≡ true → is_setting (OfPrecision (precision.Either least more 0 digits MorePrecision z)) ≡ true
+  endless_has b z is = either_has 0 digits MorePrecision z (let none = eqb-true others 0 (and_parts b (others == 0) is).1 in omega (arith, none))
+
+  strict_has : (z : WholeZeros) → is_setting (OfPrecision (precision.Either least more 0 (digits + others) LessPrecision z)) ≡ true
+  strict_has z = either_has 0 (digits + others) LessPrecision z (omega arith)
 
   old_end_is : (end : List ℕ) → is_setting (old_end least more digits others end) ≡ true
-  old_end_is end =
-      at ((others == 0) && (bytes_eq end (codes "*") || bytes_eq end (codes "+"))) ((others == 0) && (bytes_eq end (codes "*/w") || bytes_eq end (codes "+/w"))) ((digits == 1) && bytes_eq end []) refl
-      ((digits == 1) && bytes_eq end (codes "/w")) refl
+  old_end_is end = at ((endless || plus) && (others == 0)) refl ((whole || whole_plus) && (others == 0)) refl (bytes_eq end [] && (digits == 1)) (bytes_eq end (codes "/w") && (digits == 1))
     where
+      endless : Bool
+      endless = bytes_eq end (codes "*")
+
+      plus : Bool
+      plus = bytes_eq end (codes "+")
+
+      whole : Bool
+      whole = bytes_eq end (codes "*/w")
+
+      whole_plus : Bool
+      whole_plus = bytes_eq end (codes "+/w")
+
       relaxed : WholeZeros → Setting
-      relaxed z = old_form least (OfPrecision (precision.Either least more 1 (digits - 1) MorePrecision z))
+      relaxed z = OfPrecision (precision.Either least more 0 digits MorePrecision z)
 
       strict : WholeZeros → Setting
-      strict z = old_form least (OfPrecision (precision.Either least more 1 others LessPrecision z))
+      strict z = OfPrecision (precision.Either least more 0 (digits + others) LessPrecision z)
 
-      fits : 1 + (digits - 1) ≤ 100
-      fits = omega (arith, some, most)
-
-      fits_strict : 1 + others ≤ 100
-      fits_strict = omega (arith, some, most)
-
-      at : (a b d : Bool) → ((digits == 1) && bytes_eq end []) ≡ d → (e : Bool) → ((digits == 1) && bytes_eq end (codes "/w")) ≡ e
+      at : (a : Bool) → ((endless || plus) && (others == 0)) ≡ a → (b : Bool) → ((whole || whole_plus) && (others == 0)) ≡ b → (d e : Bool)
           → is_setting (cond a (relaxed Shown) (cond b (relaxed Hidden) (cond d (strict Shown) (cond e (strict Hidden) (Refused fault.Unknown))))) ≡ true
-      at true b d _ e _ = old_form_is least _ (either_has 1 (digits - 1) MorePrecision Shown (omega arith) fits)
-      at false true d _ e _ = old_form_is least _ (either_has 1 (digits - 1) MorePrecision Hidden (omega arith) fits)
-      at false false true _ e _ = old_form_is least _ (either_has 1 others LessPrecision Shown (omega arith) fits_strict)
-      at false false false _ true _ = old_form_is least _ (either_has 1 others LessPrecision Hidden (omega arith) fits_strict)
-      at false false false _ false _ = refl
+      at true is b _ d e = endless_has (endless || plus) Shown is
+      at false _ true is d e = endless_has (whole || whole_plus) Hidden is
+      at false _ false _ true e = strict_has Shown
+      at false _ false _ false true = strict_has Hidden
+      at false _ false _ false false = refl
 
   either_end_is : (end : List ℕ) → is_setting (either_end least more digits others end) ≡ true
   either_end_is end = at (bytes_eq end (codes "r")) (bytes_eq end (codes "r/w")) (bytes_eq end (codes "s")) (bytes_eq end (codes "s/w"))
@@ -206,10 +210,10 @@ module _ (least more digits others : ℕ) (few : least + more ≤ 100) (some : 0
       at : (a b d e : Bool)
           → is_setting (cond a (OfPrecision (precision.Either least more digits others MorePrecision Shown)) (cond b (OfPrecision (precision.Either least more digits others MorePrecision Hidden))
           (cond d (OfPrecision (precision.Either least more digits others LessPrecision Shown)) (cond e (OfPrecision (precision.Either least more digits others LessPrecision Hidden)) (old_end least more digits others end))))) ≡ true
-      at true b d e = either_has digits others MorePrecision Shown some most
-      at false true d e = either_has digits others MorePrecision Hidden some most
-      at false false true e = either_has digits others LessPrecision Shown some most
-      at false false false true = either_has digits others LessPrecision Hidden some most
+      at true b d e = either_has digits others MorePrecision Shown refl
+      at false true d e = either_has digits others MorePrecision Hidden refl
+      at false false true e = either_has digits others LessPrecision Shown refl
+      at false false false true = either_has digits others LessPrecision Hidden refl
       at false false false false = old_end_is end
 
 either_setting_is : (least more : ℕ) (marks : List ℕ) → least + more ≤ 100 → is_setting (either_setting least more marks) ≡ true
@@ -422,8 +426,7 @@ none_are = record { unit = λ x some. absurd (cc); precision = λ x some. absurd
 unit_has : (o : Option SkeletonUnit) → ((x : SkeletonUnit) → o ≡ Some x → is_unit x ≡ true) → HasCode (unwrap_or o unit.None)
 unit_has None is = tt
 unit_has (Some unit.None) is = tt
-unit_has (Some unit.Percent) is = tt
-unit_has (Some unit.Permille) is = tt
+unit_has (Some (unit.Percent sign)) is = tt
 unit_has (Some (unit.Currency code)) is = is (unit.Currency code) refl
 
 some_from : (least most : ℕ) → (nat_lt 0 least && nat_le most 100) ≡ true → (0 < least) × (most ≤ 100)
@@ -439,8 +442,8 @@ precision_has (Some (precision.Whole least more)) is = leb-true (least + more) 1
 precision_has (Some (precision.Significant least more z)) is = some_from least (least + more) (is (precision.Significant least more z) refl)
 precision_has (Some (precision.SignificantAtLeast least z)) is = some_from least least (is (precision.SignificantAtLeast least z) refl)
 precision_has (Some (precision.Either least more digits others p z)) is =
-    let q = and_parts (nat_le (least + more) 100) (nat_lt 0 digits && nat_le (digits + others) 100) (is (precision.Either least more digits others p z) refl) in
-    (leb-true (least + more) 100 q.0, some_from digits (digits + others) q.1)
+    let q = and_parts (nat_le (least + more) 100) (nat_lt 0 (digits + others) && nat_le (digits + others) 100) (is (precision.Either least more digits others p z) refl) in
+    (leb-true (least + more) 100 q.0, some_from (digits + others) (digits + others) q.1)
 precision_has (Some (precision.Increment step zeros digits whole)) is =
     let p = and_parts (nat_le zeros 100) (nat_le digits 100) (is (precision.Increment step zeros digits whole) refl) in
     (leb-true zeros 100 p.0, leb-true digits 100 p.1)

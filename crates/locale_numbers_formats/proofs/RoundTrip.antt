@@ -17,18 +17,18 @@ use Rattle.icu_dimension_fractions.specs.declared.CurrencyStyle.TheVariants as s
 use Rattle.icu_dimension_fractions.specs.declared.CurrencyUsage.TheVariants.{Standard, Cash}
 use Rattle.icu_dimension_fractions.specs.declared.CurrencyWidth.{CurrencyWidth}
 use Rattle.icu_dimension_fractions.specs.declared.CurrencyWidth.TheVariants as width
+use Rattle.icu_dimension_fractions.specs.declared.PercentSign.{PercentSign}
+use Rattle.icu_dimension_fractions.specs.declared.PercentSign.TheVariants as sign
 use Rattle.locale_numbers_formats.proofs.IncrementReads.{increment_read, length_marks, number_lacks}
 use Rattle.locale_numbers_formats.specs.Cutting.{cut_at, is_separator}
 use Rattle.locale_numbers_formats.specs.Marks.{digits_counted, digits_end, digits_hashes, digits_setting, either_counted, either_end, either_hashes, either_setting, fraction_counted, fraction_end, fraction_hashes, fraction_setting, leading, option_setting, zeros_or}
-use Rattle.locale_numbers_formats.specs.NormalText.{digits_word, grouping_word, joined, marks, mode_word, normal_words, notation_word, number_text, pointed, precision_word, priority_mark, sign_word, sign_word_by, at_signs, skeleton_text, unit_word, whole_mark, width_word}
+use Rattle.locale_numbers_formats.specs.NormalText.{digits_word, either_mark, grouping_word, joined, marks, mode_word, normal_words, notation_word, number_text, percent_word, pointed, precision_word, priority_mark, sign_word, sign_word_by, at_signs, skeleton_text, unit_word, whole_mark, width_word}
 use Rattle.locale_numbers_formats.specs.SkeletonLaws.{HasCode, HasMarks, IsSkeleton, NormalTextReadsBack}
 use Rattle.locale_numbers_formats.specs.Skeletons.{at_place, checked, checked_by, no_words, pair_fault, read_words, set, settled, skeleton_of, space, then_read, usual_grouping}
 use Rattle.locale_numbers_formats.specs.Stems.{capital_code, coded, setting_named, slashed_at}
 use Rattle.locale_numbers_formats.specs.declared.options.RoundingPriority.{RoundingPriority}
 use Rattle.locale_numbers_formats.specs.declared.options.RoundingPriority.TheVariants.{MorePrecision, LessPrecision}
 use Rattle.locale_numbers_formats.specs.declared.shape.CompactWidth.TheVariants.{Short, Long}
-use Rattle.locale_numbers_formats.specs.declared.shape.Notation.{Notation}
-use Rattle.locale_numbers_formats.specs.declared.shape.Notation.TheVariants as notation
 use Rattle.locale_numbers_formats.specs.declared.skeleton.Skeleton.{Skeleton}
 use Rattle.locale_numbers_formats.specs.declared.skeleton.SettingKind.{SettingKind}
 use Rattle.locale_numbers_formats.specs.declared.skeleton.Words.{Words}
@@ -40,6 +40,8 @@ use Rattle.locale_numbers_formats.specs.declared.stems.Setting.{Setting}
 use Rattle.locale_numbers_formats.specs.declared.stems.Setting.TheVariants.{OfPrecision, OfUnit, OfWhole, Refused}
 use Rattle.locale_numbers_formats.specs.declared.stems.SkeletonGrouping.{SkeletonGrouping}
 use Rattle.locale_numbers_formats.specs.declared.stems.SkeletonGrouping.TheVariants as grouping
+use Rattle.locale_numbers_formats.specs.declared.stems.SkeletonNotation.{SkeletonNotation}
+use Rattle.locale_numbers_formats.specs.declared.stems.SkeletonNotation.TheVariants as notation
 use Rattle.locale_numbers_formats.specs.declared.stems.SkeletonSign.{SkeletonSign}
 use Rattle.locale_numbers_formats.specs.declared.stems.SkeletonUnit.{SkeletonUnit}
 use Rattle.locale_numbers_formats.specs.declared.stems.SkeletonUnit.TheVariants as unit
@@ -143,19 +145,27 @@ clear_priority : (p : RoundingPriority) (z : WholeZeros) → is_clear_word (prio
 clear_priority MorePrecision z = clear_whole z
 clear_priority LessPrecision z = clear_whole z
 
+clear_either : (digits others : ℕ) (p : RoundingPriority) (z : WholeZeros) → is_clear_word (either_mark digits others p z) ≡ true
+clear_either zero others MorePrecision z = clear_at_signs others 0 (codes "*" ++ whole_mark z) (clear_whole z)
+clear_either zero others LessPrecision z = clear_at_signs 1 (others - 1) (whole_mark z) (clear_whole z)
+clear_either (suc digits) others p z = clear_at_signs (suc digits) others (priority_mark p ++ whole_mark z) (clear_priority p z)
+
 clear_pointed : (zeros hashes : ℕ) (behind : List ℕ) → is_clear_word behind ≡ true → is_clear_word (pointed zeros hashes behind) ≡ true
 clear_pointed zeros hashes behind clear =
     clear_append (marks zeros (48 ∷ [])) (marks hashes (35 ∷ []) ++ behind) (clear_zeros zeros) (clear_append (marks hashes (35 ∷ [])) behind (clear_hashes hashes) clear)
 
-clear_notation : (n : Notation) → is_clear_option (notation_word n) ≡ true
+clear_notation : (n : SkeletonNotation) → is_clear_option (notation_word n) ≡ true
 clear_notation notation.Standard = refl
 clear_notation (notation.Compact Short) = refl
 clear_notation (notation.Compact Long) = refl
 
+clear_percent : (s : PercentSign) → is_clear_word (percent_word s) ≡ true
+clear_percent sign.Percent = refl
+clear_percent sign.Permille = refl
+
 clear_unit : (u : SkeletonUnit) → HasCode u → is_clear_option (unit_word u) ≡ true
 clear_unit unit.None has = refl
-clear_unit unit.Percent has = refl
-clear_unit unit.Permille has = refl
+clear_unit (unit.Percent s) has = clear_percent s
 clear_unit (unit.Currency code) has = clear_capitals code (and_parts (length code == 3) (list_all is_ascii_uppercase code) has).1
 
 clear_precision : (p : Precision) → is_clear_option (precision_word p) ≡ true
@@ -170,8 +180,7 @@ clear_precision (precision.AtLeast least) = clear_pointed least 0 (codes "*") re
 clear_precision (precision.Whole least more) = clear_pointed least more (codes "/w") refl
 clear_precision (precision.Significant least more z) = clear_at_signs least more (whole_mark z) (clear_whole z)
 clear_precision (precision.SignificantAtLeast least z) = clear_at_signs least 0 (codes "*" ++ whole_mark z) (clear_whole z)
-clear_precision (precision.Either least more digits others p z) =
-    clear_pointed least more (codes "/" ++ at_signs digits others (priority_mark p ++ whole_mark z)) (clear_at_signs digits others (priority_mark p ++ whole_mark z) (clear_priority p z))
+clear_precision (precision.Either least more digits others p z) = clear_pointed least more (codes "/" ++ either_mark digits others p z) (clear_either digits others p z)
 clear_precision (precision.Increment step zeros digits z) =
     clear_append (number_text step zeros digits) (whole_mark z) (number_lacks space refl step zeros digits) (clear_whole z)
 clear_precision (precision.Currency Standard) = refl
@@ -190,7 +199,7 @@ clear_mode Floor = refl
 clear_mode HalfCeil = refl
 clear_mode HalfFloor = refl
 
-clear_grouping : (n : Notation) (g : SkeletonGrouping) → is_clear_option (grouping_word n g) ≡ true
+clear_grouping : (n : SkeletonNotation) (g : SkeletonGrouping) → is_clear_option (grouping_word n g) ≡ true
 clear_grouping notation.Standard grouping.Auto = refl
 clear_grouping notation.Standard grouping.Off = refl
 clear_grouping notation.Standard grouping.Min2 = refl
@@ -405,32 +414,47 @@ endless_named signs Shown few = digits_is signs 0 (codes "*") refl refl (omega (
 endless_named signs Hidden few = digits_is signs 0 (codes "*/w") refl refl (omega (arith, few))
 
 -- behind a slash
-option_named : (least more signs others : ℕ) (p : RoundingPriority) (z : WholeZeros) → suc signs + others ≤ 100
-    → option_setting least more (at_signs (suc signs) others (priority_mark p ++ whole_mark z)) ≡ OfPrecision (precision.Either least more (suc signs) others p z)
-option_named least more signs others MorePrecision Shown few = either_is least more signs others (codes "r") refl refl few
-option_named least more signs others MorePrecision Hidden few = either_is least more signs others (codes "r/w") refl refl few
-option_named least more signs others LessPrecision Shown few = either_is least more signs others (codes "s") refl refl few
-option_named least more signs others LessPrecision Hidden few = either_is least more signs others (codes "s/w") refl refl few
+module _ (least more : ℕ) where
+  relaxed_named : (others : ℕ) (z : WholeZeros) → suc others ≤ 100
+      → option_setting least more (at_signs (suc others) 0 (codes "*" ++ whole_mark z)) ≡ OfPrecision (precision.Either least more 0 (suc others) MorePrecision z)
+  relaxed_named others Shown few = either_is least more others 0 (codes "*") refl refl (omega (arith, few))
+  relaxed_named others Hidden few = either_is least more others 0 (codes "*/w") refl refl (omega (arith, few))
 
-either_named : (least more signs others : ℕ) (p : RoundingPriority) (z : WholeZeros) → least + more ≤ 100 → suc signs + others ≤ 100
-    → setting_named (pointed least more (codes "/" ++ at_signs (suc signs) others (priority_mark p ++ whole_mark z))) ≡ OfPrecision (precision.Either least more (suc signs) others p z)
-either_named zero zero signs others p z few digits =
-    fraction_is zero zero (codes "/" ++ at_signs (suc signs) others (priority_mark p ++ whole_mark z)) refl refl few ∙ option_named zero zero signs others p z digits
-either_named zero (suc more) signs others p z few digits =
-    fraction_is zero (suc more) (codes "/" ++ at_signs (suc signs) others (priority_mark p ++ whole_mark z)) refl refl few ∙ option_named zero (suc more) signs others p z digits
-either_named (suc least) more signs others p z few digits =
-    fraction_is (suc least) more (codes "/" ++ at_signs (suc signs) others (priority_mark p ++ whole_mark z)) refl refl few ∙ option_named (suc least) more signs others p z digits
+  strict_named : (others : ℕ) (z : WholeZeros) → 1 + others ≤ 100
+      → option_setting least more (at_signs 1 others (whole_mark z)) ≡ OfPrecision (precision.Either least more 0 (1 + others) LessPrecision z)
+  strict_named others Shown few = either_is least more 0 others [] refl refl few
+  strict_named others Hidden few = either_is least more 0 others (codes "/w") refl refl few
+
+  option_named : (digits others : ℕ) (p : RoundingPriority) (z : WholeZeros) → 0 < digits + others → digits + others ≤ 100
+      → option_setting least more (either_mark digits others p z) ≡ OfPrecision (precision.Either least more digits others p z)
+  option_named zero zero p z some few = absurd (omega (arith, some))
+  option_named zero (suc others) MorePrecision z some few = relaxed_named others z (omega (arith, few))
+  option_named zero (suc others) LessPrecision z some few =
+      let whole : 1 + (suc others - 1) ≡ suc others = omega arith in
+      strict_named (suc others - 1) z (omega (arith, few)) ∙ ap (λ (n : ℕ). OfPrecision (precision.Either least more 0 n LessPrecision z)) whole
+  option_named (suc signs) others MorePrecision Shown some few = either_is least more signs others (codes "r") refl refl few
+  option_named (suc signs) others MorePrecision Hidden some few = either_is least more signs others (codes "r/w") refl refl few
+  option_named (suc signs) others LessPrecision Shown some few = either_is least more signs others (codes "s") refl refl few
+  option_named (suc signs) others LessPrecision Hidden some few = either_is least more signs others (codes "s/w") refl refl few
+
+either_named : (least more digits others : ℕ) (p : RoundingPriority) (z : WholeZeros) → least + more ≤ 100 → 0 < digits + others → digits + others ≤ 100
+    → setting_named (pointed least more (codes "/" ++ either_mark digits others p z)) ≡ OfPrecision (precision.Either least more digits others p z)
+either_named zero zero digits others p z few some most =
+    fraction_is zero zero (codes "/" ++ either_mark digits others p z) refl refl few ∙ option_named zero zero digits others p z some most
+either_named zero (suc more) digits others p z few some most =
+    fraction_is zero (suc more) (codes "/" ++ either_mark digits others p z) refl refl few ∙ option_named zero (suc more) digits others p z some most
+either_named (suc least) more digits others p z few some most =
+    fraction_is (suc least) more (codes "/" ++ either_mark digits others p z) refl refl few ∙ option_named (suc least) more digits others p z some most
 
 -- ---- what each word sets, where it is not usual
 
-abbrev asked_notation : Notation → Option Notation
+abbrev asked_notation : SkeletonNotation → Option SkeletonNotation
 asked_notation notation.Standard = None
 asked_notation (notation.Compact p) = Some (notation.Compact p)
 
 abbrev asked_unit : SkeletonUnit → Option SkeletonUnit
 asked_unit unit.None = None
-asked_unit unit.Percent = Some unit.Percent
-asked_unit unit.Permille = Some unit.Permille
+asked_unit (unit.Percent s) = Some (unit.Percent s)
 asked_unit (unit.Currency code) = Some (unit.Currency code)
 
 abbrev asked_precision : Precision → Option Precision
@@ -457,7 +481,7 @@ asked_mode Floor = Some Floor
 asked_mode HalfCeil = Some HalfCeil
 asked_mode HalfFloor = Some HalfFloor
 
-abbrev asked_grouping : Notation → SkeletonGrouping → Option SkeletonGrouping
+abbrev asked_grouping : SkeletonNotation → SkeletonGrouping → Option SkeletonGrouping
 asked_grouping notation.Standard grouping.Auto = None
 asked_grouping notation.Standard grouping.Off = Some grouping.Off
 asked_grouping notation.Standard grouping.Min2 = Some grouping.Min2
@@ -487,7 +511,7 @@ asked_sign style.Accounting display.Always = Some (record { display = display.Al
 asked_sign style.Accounting display.ExceptZero = Some (record { display = display.ExceptZero; style = style.Accounting })
 asked_sign style.Accounting display.Negative = Some (record { display = display.Negative; style = style.Accounting })
 
-abbrev asked : Option Notation → Option SkeletonUnit → Option Precision → Option SignedRoundingMode → Option SkeletonGrouping → Option ℕ → Option CurrencyWidth → Option SkeletonSign → Words
+abbrev asked : Option SkeletonNotation → Option SkeletonUnit → Option Precision → Option SignedRoundingMode → Option SkeletonGrouping → Option ℕ → Option CurrencyWidth → Option SkeletonSign → Words
 asked n u p m g d w s = record { notation = n; unit = u; precision = p; mode = m; grouping = g; integer_digits = d; width = w; sign = s; point = None }
 
 -- the place after a word that is there
@@ -501,17 +525,17 @@ read_known : (place : ℕ) (c : ℕ) (cs : List ℕ) (words : List (List ℕ)) (
 read_known place c cs words w setting named =
     ap (λ (x : Setting). then_read (λ (v : Words). read_words (place + (length (c ∷ cs) + 1)) words v) (at_place place (set w x))) named
 
-step_notation : (place : ℕ) (n : Notation) (rest : List (Option (List ℕ)))
+step_notation : (place : ℕ) (n : SkeletonNotation) (rest : List (Option (List ℕ)))
     → read_words place (present (notation_word n ∷ rest)) no_words ≡ read_words (after place (notation_word n)) (present rest) (asked (asked_notation n) None None None None None None None)
 step_notation place notation.Standard rest = refl
 step_notation place (notation.Compact Short) rest = refl
 step_notation place (notation.Compact Long) rest = refl
 
-step_unit : (place : ℕ) (n : Option Notation) (u : SkeletonUnit) (rest : List (Option (List ℕ))) → HasCode u
+step_unit : (place : ℕ) (n : Option SkeletonNotation) (u : SkeletonUnit) (rest : List (Option (List ℕ))) → HasCode u
     → read_words place (present (unit_word u ∷ rest)) (asked n None None None None None None None) ≡ read_words (after place (unit_word u)) (present rest) (asked n (asked_unit u) None None None None None None)
 step_unit place n unit.None rest has = refl
-step_unit place n unit.Percent rest has = refl
-step_unit place n unit.Permille rest has = refl
+step_unit place n (unit.Percent sign.Percent) rest has = refl
+step_unit place n (unit.Percent sign.Permille) rest has = refl
 step_unit place n (unit.Currency code) rest has =
     read_known place 99 (codes "urrency/" ++ code) (present rest) (asked n None None None None None None None) (OfUnit (unit.Currency code)) (code_named code has)
 
@@ -521,7 +545,7 @@ not_none zero zero some = absurd (omega (arith, some))
 not_none zero (suc more) some = ne_eqb (suc more) 0 (λ none. omega (arith, none))
 not_none (suc least) more some = ap (λ (b : Bool). b && (more == 0)) (ne_eqb (suc least) 0 (λ none. omega (arith, none)))
 
-step_fraction : (place : ℕ) (n : Option Notation) (u : Option SkeletonUnit) (least more : ℕ) (rest : List (Option (List ℕ))) → 0 < least + more → least + more ≤ 100
+step_fraction : (place : ℕ) (n : Option SkeletonNotation) (u : Option SkeletonUnit) (least more : ℕ) (rest : List (Option (List ℕ))) → 0 < least + more → least + more ≤ 100
     → read_words place (present (precision_word (precision.Fraction least more) ∷ rest)) (asked n u None None None None None None)
     ≡ read_words (after place (precision_word (precision.Fraction least more))) (present rest) (asked n u (Some (precision.Fraction least more)) None None None None None)
 step_fraction place n u least more rest some few =
@@ -531,7 +555,7 @@ step_fraction place n u least more rest some few =
     (read_known place 46 (marks least (48 ∷ []) ++ (marks more (35 ∷ []) ++ [])) (present rest) (asked n u None None None None None None) (OfPrecision (precision.Fraction least more))
     (fraction_named least more some few))
 
-step_precision : (place : ℕ) (n : Option Notation) (u : Option SkeletonUnit) (p : Precision) (rest : List (Option (List ℕ))) → HasMarks p
+step_precision : (place : ℕ) (n : Option SkeletonNotation) (u : Option SkeletonUnit) (p : Precision) (rest : List (Option (List ℕ))) → HasMarks p
     → read_words place (present (precision_word p ∷ rest)) (asked n u None None None None None None) ≡ read_words (after place (precision_word p)) (present rest) (asked n u (asked_precision p) None None None None None)
 step_precision place n u precision.Usual rest has = refl
 step_precision place n u precision.Unlimited rest has = refl
@@ -548,10 +572,9 @@ step_precision place n u (precision.Significant (suc signs) more z) rest has =
 step_precision place n u (precision.SignificantAtLeast zero z) rest has = absurd (omega (arith, has.0))
 step_precision place n u (precision.SignificantAtLeast (suc signs) z) rest has =
     read_known place 64 (at_signs signs 0 (codes "*" ++ whole_mark z)) (present rest) (asked n u None None None None None None) (OfPrecision (precision.SignificantAtLeast (suc signs) z)) (endless_named signs z has.1)
-step_precision place n u (precision.Either least more zero others p z) rest has = absurd (omega (arith, has.1.0))
-step_precision place n u (precision.Either least more (suc signs) others p z) rest has =
-    read_known place 46 (marks least (48 ∷ []) ++ (marks more (35 ∷ []) ++ (codes "/" ++ at_signs (suc signs) others (priority_mark p ++ whole_mark z)))) (present rest) (asked n u None None None None None None)
-    (OfPrecision (precision.Either least more (suc signs) others p z)) (either_named least more signs others p z has.0 has.1.1)
+step_precision place n u (precision.Either least more digits others p z) rest has =
+    read_known place 46 (marks least (48 ∷ []) ++ (marks more (35 ∷ []) ++ (codes "/" ++ either_mark digits others p z))) (present rest) (asked n u None None None None None None)
+    (OfPrecision (precision.Either least more digits others p z)) (either_named least more digits others p z has.0 has.1.0 has.1.1)
 step_precision place n u (precision.Increment step zeros digits z) rest has =
     read_known place 112 (codes "recision-increment/" ++ (number_text step zeros digits ++ whole_mark z)) (present rest) (asked n u None None None None None None)
     (OfPrecision (precision.Increment step zeros digits z)) (increment_named step zeros digits z has.0 has.1)
@@ -560,7 +583,7 @@ step_precision place n u (precision.Currency Cash) rest has = refl
 step_precision place n u (precision.WholeCurrency Standard) rest has = refl
 step_precision place n u (precision.WholeCurrency Cash) rest has = refl
 
-module _ (place : ℕ) (n : Option Notation) (u : Option SkeletonUnit) (p : Option Precision) (rest : List (Option (List ℕ))) where
+module _ (place : ℕ) (n : Option SkeletonNotation) (u : Option SkeletonUnit) (p : Option Precision) (rest : List (Option (List ℕ))) where
   step_mode : (m : SignedRoundingMode)
       → read_words place (present (mode_word m ∷ rest)) (asked n u p None None None None None) ≡ read_words (after place (mode_word m)) (present rest) (asked n u p (asked_mode m) None None None None)
   step_mode (Unsigned HalfEven) = refl
@@ -573,7 +596,7 @@ module _ (place : ℕ) (n : Option Notation) (u : Option SkeletonUnit) (p : Opti
   step_mode HalfCeil = refl
   step_mode HalfFloor = refl
 
-  step_grouping : (m : Option SignedRoundingMode) (o : Notation) (g : SkeletonGrouping)
+  step_grouping : (m : Option SignedRoundingMode) (o : SkeletonNotation) (g : SkeletonGrouping)
       → read_words place (present (grouping_word o g ∷ rest)) (asked n u p m None None None None) ≡ read_words (after place (grouping_word o g)) (present rest) (asked n u p m (asked_grouping o g) None None None)
   step_grouping m notation.Standard grouping.Auto = refl
   step_grouping m notation.Standard grouping.Off = refl
@@ -610,14 +633,13 @@ module _ (place : ℕ) (n : Option Notation) (u : Option SkeletonUnit) (p : Opti
 
 -- ---- what is asked for so is the skeleton
 
-notation_back : (n : Notation) → unwrap_or (asked_notation n) notation.Standard ≡ n
+notation_back : (n : SkeletonNotation) → unwrap_or (asked_notation n) notation.Standard ≡ n
 notation_back notation.Standard = refl
 notation_back (notation.Compact p) = refl
 
 unit_back : (u : SkeletonUnit) → unwrap_or (asked_unit u) unit.None ≡ u
 unit_back unit.None = refl
-unit_back unit.Percent = refl
-unit_back unit.Permille = refl
+unit_back (unit.Percent s) = refl
 unit_back (unit.Currency code) = refl
 
 precision_back : (p : Precision) → unwrap_or (asked_precision p) precision.Usual ≡ p
@@ -644,7 +666,7 @@ mode_back Floor = refl
 mode_back HalfCeil = refl
 mode_back HalfFloor = refl
 
-grouping_back : (n : Notation) (g : SkeletonGrouping) → unwrap_or (asked_grouping n g) (usual_grouping (unwrap_or (asked_notation n) notation.Standard)) ≡ g
+grouping_back : (n : SkeletonNotation) (g : SkeletonGrouping) → unwrap_or (asked_grouping n g) (usual_grouping (unwrap_or (asked_notation n) notation.Standard)) ≡ g
 grouping_back notation.Standard grouping.Auto = refl
 grouping_back notation.Standard grouping.Off = refl
 grouping_back notation.Standard grouping.Min2 = refl
@@ -714,7 +736,7 @@ module _ (s : Skeleton) (is : IsSkeleton s) where
   abbrev place7 : ℕ
   place7 = after place6 (width_word s.width)
 
-  abbrev n1 : Option Notation
+  abbrev n1 : Option SkeletonNotation
   n1 = asked_notation s.notation
 
   abbrev u1 : Option SkeletonUnit

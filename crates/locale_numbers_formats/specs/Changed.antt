@@ -2,7 +2,7 @@
 -- Defined in docs/requests.md, "Rounding and sign", docs/units.md, "Digits of a currency", and docs/numbers.md, "Ranges" and "Digits shown".
 -- Cited by `NumberOptions::change`, and by the laws that lines and the calls of the library for C change numbers so.
 -- The imports are many: each enum of the options, and its cases.
-use Rattle.std.specs.Prelude.{ℕ, zero, suc, ℤ, neg_ℤ, ◌+◌, ◌-◌, ◌%◌, ◌^◌, ◌==◌, ◌&&◌, nat_le, nat_lt, min, max, Bool, false, if◌then◌else◌, Option, Some, None}
+use Rattle.std.specs.Prelude.{ℕ, zero, suc, ℤ, pos, neg_ℤ, ◌+◌, ◌-◌, ◌%◌, ◌^◌, ◌==◌, ◌&&◌, nat_le, nat_lt, min, max, Bool, false, if◌then◌else◌, Option, Some, None}
 use Rattle.fixed_decimal.specs.Number.{Number, place}
 use Rattle.fixed_decimal.specs.RoundingMemory.{MayGrow}
 use Rattle.fixed_decimal.specs.SignChoice.{chosen_sign}
@@ -140,13 +140,18 @@ front_padded digits number = record number { high = max number.high (place digit
 abbrev pub padded_down : ℕ → Number → Number
 padded_down at number = record number { low = min number.low at }
 
+-- the last digit that is shown at least: of so many significant ones, or without one of so many fraction digits
+abbrev pub least_place : ℕ → ℤ → Number → ℕ
+least_place zero digits number = place (neg_ℤ digits)
+least_place (suc least) digits number = last_of (suc least) number
+
 -- so many fraction digits at least, or so many significant ones of what is left
 abbrev pub end_padded : Rounding → ℤ → Number → Number
 end_padded Usual digits number = padded_down (place (neg_ℤ digits)) number
 end_padded rounding.Cash digits number = padded_down (place (neg_ℤ digits)) number
 end_padded AsGiven digits number = padded_down (place (neg_ℤ digits)) number
 end_padded (At position mode increment) digits number = padded_down (place (neg_ℤ digits)) number
-end_padded (Significant significant mode) digits number = padded_down (last_of significant.least number) number
+end_padded (Significant significant mode) digits number = padded_down (least_place significant.least digits number) number
 end_padded (Either priority position significant mode) digits number = padded_down (place (neg_ℤ digits)) number
 
 -- without a fraction that has no digit but zeros
@@ -182,6 +187,10 @@ changed_by asked options fractions value = shown_signed asked options (rounded_b
 
 abbrev pub changed : NumberOptions → Option FractionInfo → SignedValue Number → SignedValue Number
 changed options fractions value = changed_by (settled_rounding options.rounding value) options fractions value
+
+-- the options that change nothing
+abbrev pub unchanged : NumberOptions
+unchanged = record { rounding = AsGiven; leading_zeros = leading.Keep; zeros = trailing.Keep; integer_digits = pos 0; fraction_digits = pos 0; sign = sign.Keep }
 
 -- ---- memory
 

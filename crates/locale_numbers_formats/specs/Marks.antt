@@ -1,7 +1,7 @@
 -- What words of marks set: a zero for each digit that is shown, a hash for each that may be.
 -- ICU's number skeletons; docs/skeletons.md, "Words".
 -- Cited by the calls that read skeletons, through Stems.antt.
-use Rattle.std.specs.Prelude.{ℕ, ◌+◌, ◌-◌, ◌==◌, ◌&&◌, ◌||◌, nat_lt, cond, if◌then◌else◌, List, [], ◌∷◌, drop, length, Option, Some, None, codes}
+use Rattle.std.specs.Prelude.{ℕ, ◌+◌, ◌==◌, ◌&&◌, ◌||◌, nat_lt, cond, if◌then◌else◌, List, [], ◌∷◌, drop, length, Option, Some, None, codes}
 use Rattle.std.specs.Str.{bytes_eq}
 use Rattle.locale_numbers_formats.specs.declared.options.RoundingPriority.TheVariants.{MorePrecision, LessPrecision}
 use Rattle.locale_numbers_formats.specs.declared.skeleton_error.WordFault.{WordFault}
@@ -74,17 +74,13 @@ digits_setting marks = digits_hashes (1 + leading 64 marks) (drop (leading 64 ma
 
 -- ---- digits of a fraction, and significant digits beside them
 
--- forms without a priority show the fraction's digits in any case, so that only those without one are the same as one with it
-abbrev pub old_form : ℕ → Setting → Setting
-old_form least setting = if least == 0 then setting else Refused Later
-
--- at least so many significant digits, as `.##/@@@*`, or at most so many, as `.##/@##`
+-- without a priority at least so many significant digits, as `.0#/@@@*`, or at most so many, as `.0#/@##`; the fraction has its least digits in any case
 abbrev pub old_end : ℕ → ℕ → ℕ → ℕ → List ℕ → Setting
 old_end least more digits others end =
-    if (others == 0) && (bytes_eq end (codes "*") || bytes_eq end (codes "+")) then old_form least (OfPrecision (Either least more 1 (digits - 1) MorePrecision Shown))
-    else if (others == 0) && (bytes_eq end (codes "*/w") || bytes_eq end (codes "+/w")) then old_form least (OfPrecision (Either least more 1 (digits - 1) MorePrecision Hidden))
-    else if (digits == 1) && bytes_eq end [] then old_form least (OfPrecision (Either least more 1 others LessPrecision Shown))
-    else if (digits == 1) && bytes_eq end (codes "/w") then old_form least (OfPrecision (Either least more 1 others LessPrecision Hidden))
+    if (bytes_eq end (codes "*") || bytes_eq end (codes "+")) && (others == 0) then OfPrecision (Either least more 0 digits MorePrecision Shown)
+    else if (bytes_eq end (codes "*/w") || bytes_eq end (codes "+/w")) && (others == 0) then OfPrecision (Either least more 0 digits MorePrecision Hidden)
+    else if bytes_eq end [] && (digits == 1) then OfPrecision (Either least more 0 (digits + others) LessPrecision Shown)
+    else if bytes_eq end (codes "/w") && (digits == 1) then OfPrecision (Either least more 0 (digits + others) LessPrecision Hidden)
     else Refused Unknown
 
 -- relaxed is more precision, strict is less

@@ -15,19 +15,21 @@ use Rattle.icu_dimension_fractions.specs.declared.CurrencyStyle.TheVariants as s
 use Rattle.icu_dimension_fractions.specs.declared.CurrencyUsage.TheVariants.{Standard, Cash}
 use Rattle.icu_dimension_fractions.specs.declared.CurrencyWidth.{CurrencyWidth}
 use Rattle.icu_dimension_fractions.specs.declared.CurrencyWidth.TheVariants as width
+use Rattle.icu_dimension_fractions.specs.declared.PercentSign.{PercentSign}
+use Rattle.icu_dimension_fractions.specs.declared.PercentSign.TheVariants as sign
 use Rattle.writeable.specs.AnnotatedText.{Event, bytes}
 use Rattle.locale_numbers_formats.specs.Skeletons.{space}
 use Rattle.locale_numbers_formats.specs.declared.normal_text.NormalWord.{NormalWord}
 use Rattle.locale_numbers_formats.specs.declared.options.RoundingPriority.{RoundingPriority}
 use Rattle.locale_numbers_formats.specs.declared.options.RoundingPriority.TheVariants.{MorePrecision, LessPrecision}
 use Rattle.locale_numbers_formats.specs.declared.shape.CompactWidth.TheVariants.{Short, Long}
-use Rattle.locale_numbers_formats.specs.declared.shape.Notation.{Notation}
-use Rattle.locale_numbers_formats.specs.declared.shape.Notation.TheVariants as notation
 use Rattle.locale_numbers_formats.specs.declared.skeleton.Skeleton.{Skeleton}
 use Rattle.locale_numbers_formats.specs.declared.stems.Precision.{Precision}
 use Rattle.locale_numbers_formats.specs.declared.stems.Precision.TheVariants as precision
 use Rattle.locale_numbers_formats.specs.declared.stems.SkeletonGrouping.{SkeletonGrouping}
 use Rattle.locale_numbers_formats.specs.declared.stems.SkeletonGrouping.TheVariants as grouping
+use Rattle.locale_numbers_formats.specs.declared.stems.SkeletonNotation.{SkeletonNotation}
+use Rattle.locale_numbers_formats.specs.declared.stems.SkeletonNotation.TheVariants as notation
 use Rattle.locale_numbers_formats.specs.declared.stems.SkeletonSign.{SkeletonSign}
 use Rattle.locale_numbers_formats.specs.declared.stems.SkeletonUnit.{SkeletonUnit}
 use Rattle.locale_numbers_formats.specs.declared.stems.SkeletonUnit.TheVariants as unit
@@ -36,15 +38,18 @@ use Rattle.locale_numbers_formats.specs.declared.stems.WholeZeros.TheVariants.{S
 
 -- ---- the word of each thing, where it is not usual
 
-abbrev pub notation_word : Notation → Option (List ℕ)
+abbrev pub notation_word : SkeletonNotation → Option (List ℕ)
 notation_word notation.Standard = None
 notation_word (notation.Compact Short) = Some (codes "compact-short")
 notation_word (notation.Compact Long) = Some (codes "compact-long")
 
+abbrev pub percent_word : PercentSign → List ℕ
+percent_word sign.Percent = codes "percent"
+percent_word sign.Permille = codes "permille"
+
 abbrev pub unit_word : SkeletonUnit → Option (List ℕ)
 unit_word unit.None = None
-unit_word unit.Percent = Some (codes "percent")
-unit_word unit.Permille = Some (codes "permille")
+unit_word (unit.Percent sign) = Some (percent_word sign)
 unit_word (unit.Currency code) = Some (codes "currency/" ++ code)
 
 -- a mark, so many times
@@ -69,6 +74,12 @@ whole_mark Hidden = codes "/w"
 abbrev pub priority_mark : RoundingPriority → List ℕ
 priority_mark MorePrecision = codes "r"
 priority_mark LessPrecision = codes "s"
+
+-- significant digits beside a fraction: without one at least so many that may be, or at most so many
+abbrev pub either_mark : ℕ → ℕ → RoundingPriority → WholeZeros → List ℕ
+either_mark zero others MorePrecision zeros = at_signs others 0 (codes "*" ++ whole_mark zeros)
+either_mark zero others LessPrecision zeros = at_signs 1 (others - 1) (whole_mark zeros)
+either_mark (suc digits) others priority zeros = at_signs (suc digits) others (priority_mark priority ++ whole_mark zeros)
 
 abbrev pub fraction_word : ℕ → ℕ → List ℕ
 fraction_word least more = if (least == 0) && (more == 0) then codes "precision-integer" else pointed least more []
@@ -105,7 +116,7 @@ precision_word (precision.AtLeast least) = Some (pointed least 0 (codes "*"))
 precision_word (precision.Whole least more) = Some (pointed least more (codes "/w"))
 precision_word (precision.Significant least more zeros) = Some (at_signs least more (whole_mark zeros))
 precision_word (precision.SignificantAtLeast least zeros) = Some (at_signs least 0 (codes "*" ++ whole_mark zeros))
-precision_word (precision.Either least more digits others priority zeros) = Some (pointed least more (codes "/" ++ at_signs digits others (priority_mark priority ++ whole_mark zeros)))
+precision_word (precision.Either least more digits others priority zeros) = Some (pointed least more (codes "/" ++ either_mark digits others priority zeros))
 precision_word (precision.Increment step zeros digits whole) = Some (codes "precision-increment/" ++ (number_text step zeros digits ++ whole_mark whole))
 precision_word (precision.Currency Standard) = Some (codes "precision-currency-standard")
 precision_word (precision.Currency Cash) = Some (codes "precision-currency-cash")
@@ -124,7 +135,7 @@ mode_word HalfCeil = Some (codes "rounding-mode-half-ceiling")
 mode_word HalfFloor = Some (codes "rounding-mode-half-floor")
 
 -- what is usual goes by the notation
-abbrev pub grouping_word : Notation → SkeletonGrouping → Option (List ℕ)
+abbrev pub grouping_word : SkeletonNotation → SkeletonGrouping → Option (List ℕ)
 grouping_word notation.Standard grouping.Auto = None
 grouping_word notation.Standard grouping.Off = Some (codes "group-off")
 grouping_word notation.Standard grouping.Min2 = Some (codes "group-min2")

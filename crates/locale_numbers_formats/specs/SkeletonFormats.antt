@@ -2,21 +2,26 @@
 -- ICU's number skeletons; docs/skeletons.md, "What they mean".
 -- Cited by `Skeleton::format` and `NumberFormat::try_from_str`.
 -- A skeleton and a format have many types with cases, and the cases of each are imported beside it.
-use Rattle.std.specs.Prelude.{ℕ, pos, neg_ℤ, ◌+◌, ◌-ℤ◌, ◌&&◌, not, Bool, if◌then◌else◌}
+use Rattle.std.specs.Prelude.{ℕ, pos, neg_ℤ, ◌+◌, ◌-ℤ◌, ◌&&◌, ◌||◌, not, Bool, false, if◌then◌else◌}
 use Rattle.fixed_decimal.specs.declared.RoundingIncrement.TheVariants.{MultiplesOf1}
 use Rattle.fixed_decimal.specs.declared.SignedRoundingMode.{SignedRoundingMode}
 use Rattle.icu_decimal_symbols.specs.declared.options.GroupingStrategy.{GroupingStrategy}
 use Rattle.icu_decimal_symbols.specs.declared.options.GroupingStrategy.TheVariants as strategy
 use Rattle.icu_dimension_fractions.specs.declared.CurrencyUsage.{CurrencyUsage}
 use Rattle.icu_dimension_fractions.specs.declared.CurrencyUsage.TheVariants.{Standard, Cash}
-use Rattle.locale_numbers_formats.specs.Skeletons.{is_compact, is_currency}
+use Rattle.locale_numbers_formats.specs.Changed.{unchanged}
+use Rattle.locale_numbers_formats.specs.Skeletons.{is_compact, is_currency, says_mode, says_precision}
 use Rattle.locale_numbers_formats.specs.declared.options.LeadingZeros.TheVariants as leading
+use Rattle.locale_numbers_formats.specs.declared.options.NumberOptions.{NumberOptions}
 use Rattle.locale_numbers_formats.specs.declared.options.Rounding.{Rounding}
 use Rattle.locale_numbers_formats.specs.declared.options.Rounding.TheVariants as rounding
+use Rattle.locale_numbers_formats.specs.declared.options.RoundingPriority.TheVariants.{MorePrecision}
 use Rattle.locale_numbers_formats.specs.declared.options.SignificantDigits.{SignificantDigits}
 use Rattle.locale_numbers_formats.specs.declared.options.SignAsked.TheVariants.{Show}
 use Rattle.locale_numbers_formats.specs.declared.options.TrailingZeros.{TrailingZeros}
 use Rattle.locale_numbers_formats.specs.declared.options.TrailingZeros.TheVariants.{Keep, Trim, TrimWhole, TrimAll}
+use Rattle.locale_numbers_formats.specs.declared.shape.Notation.{Notation}
+use Rattle.locale_numbers_formats.specs.declared.shape.Notation.TheVariants as notation
 use Rattle.locale_numbers_formats.specs.declared.shape.NumberFormat.{NumberFormat}
 use Rattle.locale_numbers_formats.specs.declared.shape.NumberUnit.{NumberUnit}
 use Rattle.locale_numbers_formats.specs.declared.shape.NumberUnit.TheVariants as beside
@@ -25,6 +30,8 @@ use Rattle.locale_numbers_formats.specs.declared.stems.Precision.{Precision}
 use Rattle.locale_numbers_formats.specs.declared.stems.Precision.TheVariants.{Usual, Unlimited, Fraction, AtLeast, Whole, Significant, SignificantAtLeast, Either, Increment, Currency, WholeCurrency}
 use Rattle.locale_numbers_formats.specs.declared.stems.SkeletonGrouping.{SkeletonGrouping}
 use Rattle.locale_numbers_formats.specs.declared.stems.SkeletonGrouping.TheVariants as grouping
+use Rattle.locale_numbers_formats.specs.declared.stems.SkeletonNotation.{SkeletonNotation}
+use Rattle.locale_numbers_formats.specs.declared.stems.SkeletonNotation.TheVariants as asked
 use Rattle.locale_numbers_formats.specs.declared.stems.SkeletonUnit.{SkeletonUnit}
 use Rattle.locale_numbers_formats.specs.declared.stems.SkeletonUnit.TheVariants as unit
 use Rattle.locale_numbers_formats.specs.declared.stems.WholeZeros.{WholeZeros}
@@ -61,9 +68,21 @@ rounding_by amount mode (Increment step zeros digits whole) = rounding.At (pos z
 rounding_by amount mode (Currency usage) = by_usage usage
 rounding_by amount mode (WholeCurrency usage) = by_usage usage
 
--- a compact pattern rounds by itself
+-- a precision or a mode asks for digits of what is before a compact pattern
+abbrev pub has_own_digits : Skeleton → Bool
+has_own_digits s = is_compact s.notation && (says_precision s.precision || says_mode s.mode)
+
+-- without a precision that is rounded to two digits, or to the ones where those show more
+abbrev pub compact_rounding : SignedRoundingMode → Precision → Rounding
+compact_rounding mode precision =
+    if says_precision precision then rounding_by false mode precision else rounding.Either MorePrecision (pos 0) (record { least = 1; most = 2 }) mode
+
+-- without either a compact pattern rounds by itself
 abbrev pub rounding_of : Skeleton → Rounding
-rounding_of s = if is_compact s.notation then rounding.AsGiven else rounding_by (is_currency s.unit) s.mode s.precision
+rounding_of s =
+    if has_own_digits s then compact_rounding s.mode s.precision
+    else if is_compact s.notation then rounding.AsGiven
+    else rounding_by (is_currency s.unit) s.mode s.precision
 
 -- zeros after the point of a whole number
 abbrev pub whole_zeros : WholeZeros → TrailingZeros
@@ -102,8 +121,7 @@ digits_of (WholeCurrency usage) = 0
 
 abbrev pub unit_by : SkeletonUnit → Skeleton → NumberUnit
 unit_by unit.None s = beside.None
-unit_by unit.Percent s = beside.Percent
-unit_by unit.Permille s = beside.Permille
+unit_by (unit.Percent sign) s = beside.Percent sign
 unit_by (unit.Currency code) s = beside.Currency (record { code = code; style = s.sign.style; width = s.width })
 
 abbrev pub unit_of : Skeleton → NumberUnit
@@ -115,15 +133,26 @@ strategy_of grouping.Off = strategy.Never
 strategy_of grouping.Min2 = strategy.Min2
 strategy_of grouping.OnAligned = strategy.OnAligned
 
+-- what is made of a number, or of what is before a compact pattern
+abbrev pub options_of : Skeleton → NumberOptions
+options_of s = record {
+  rounding = rounding_of s;
+  leading_zeros = leading.Trim;
+  zeros = zeros_of s;
+  integer_digits = pos s.integer_digits;
+  fraction_digits = pos (digits_of s.precision);
+  sign = Show s.sign.display;
+}
+
+abbrev pub notation_by : SkeletonNotation → Skeleton → Notation
+notation_by asked.Standard s = notation.Standard
+notation_by (asked.Compact width) s = if has_own_digits s then notation.CompactDigits width (options_of s) else notation.Compact width
+
+abbrev pub notation_of : Skeleton → Notation
+notation_of s = notation_by s.notation s
+
 abbrev pub format_of : Skeleton → NumberFormat
 format_of s = record {
-  shape = record { notation = s.notation; unit = unit_of s; grouping = strategy_of s.grouping };
-  options = record {
-    rounding = rounding_of s;
-    leading_zeros = leading.Trim;
-    zeros = zeros_of s;
-    integer_digits = pos s.integer_digits;
-    fraction_digits = pos (digits_of s.precision);
-    sign = Show s.sign.display;
-  };
+  shape = record { notation = notation_of s; unit = unit_of s; grouping = strategy_of s.grouping };
+  options = if has_own_digits s then unchanged else options_of s;
 }

@@ -16,8 +16,7 @@ use Rattle.locale_numbers_formats.specs.declared.stems.SkeletonUnit.TheVariants 
 -- three capitals, where there is a currency
 abbrev pub HasCode : SkeletonUnit → Type 0
 HasCode unit.None = Unit {0}
-HasCode unit.Percent = Unit {0}
-HasCode unit.Permille = Unit {0}
+HasCode (unit.Percent sign) = Unit {0}
 HasCode (unit.Currency code) = is_currency_code code ≡ true
 
 -- as many digits as a word may have, and one significant one at least
@@ -29,7 +28,7 @@ HasMarks (precision.AtLeast least) = (0 < least) × (least ≤ 100)
 HasMarks (precision.Whole least more) = least + more ≤ 100
 HasMarks (precision.Significant least more zeros) = (0 < least) × (least + more ≤ 100)
 HasMarks (precision.SignificantAtLeast least zeros) = (0 < least) × (least ≤ 100)
-HasMarks (precision.Either least more digits others priority zeros) = (least + more ≤ 100) × ((0 < digits) × (digits + others ≤ 100))
+HasMarks (precision.Either least more digits others priority zeros) = (least + more ≤ 100) × ((0 < digits + others) × (digits + others ≤ 100))
 HasMarks (precision.Increment step zeros digits whole) = (zeros ≤ 100) × (digits ≤ 100)
 HasMarks (precision.Currency usage) = Unit {0}
 HasMarks (precision.WholeCurrency usage) = Unit {0}

@@ -14,8 +14,6 @@ use Rattle.icu_dimension_fractions.specs.declared.CurrencyWidth.TheVariants as w
 use Rattle.locale_numbers_formats.specs.Cutting.{cut_at}
 use Rattle.locale_numbers_formats.specs.SkeletonErrors.{error_at}
 use Rattle.locale_numbers_formats.specs.Stems.{setting_named}
-use Rattle.locale_numbers_formats.specs.declared.shape.Notation.{Notation}
-use Rattle.locale_numbers_formats.specs.declared.shape.Notation.TheVariants as notation
 use Rattle.locale_numbers_formats.specs.declared.skeleton.SettingKind.{SettingKind}
 use Rattle.locale_numbers_formats.specs.declared.skeleton.SettingKind.TheVariants as kind
 use Rattle.locale_numbers_formats.specs.declared.skeleton.Skeleton.{Skeleton}
@@ -29,6 +27,8 @@ use Rattle.locale_numbers_formats.specs.declared.stems.Setting.{Setting}
 use Rattle.locale_numbers_formats.specs.declared.stems.Setting.TheVariants.{OfNotation, OfUnit, OfPrecision, OfMode, OfGrouping, OfWhole, OfWidth, OfSign, OfPoint, Refused}
 use Rattle.locale_numbers_formats.specs.declared.stems.SkeletonGrouping.{SkeletonGrouping}
 use Rattle.locale_numbers_formats.specs.declared.stems.SkeletonGrouping.TheVariants as grouping
+use Rattle.locale_numbers_formats.specs.declared.stems.SkeletonNotation.{SkeletonNotation}
+use Rattle.locale_numbers_formats.specs.declared.stems.SkeletonNotation.TheVariants as notation
 use Rattle.locale_numbers_formats.specs.declared.stems.SkeletonUnit.{SkeletonUnit}
 use Rattle.locale_numbers_formats.specs.declared.stems.SkeletonUnit.TheVariants as unit
 
@@ -82,7 +82,7 @@ read_words_of text = read_words 0 (cut_at space text) no_words
 -- ---- what no word says
 
 -- compact numbers have no separator in four digits
-abbrev pub usual_grouping : Notation → SkeletonGrouping
+abbrev pub usual_grouping : SkeletonNotation → SkeletonGrouping
 usual_grouping notation.Standard = grouping.Auto
 usual_grouping (notation.Compact pattern) = grouping.Min2
 
@@ -100,14 +100,13 @@ settled w = record {
 
 -- ---- what does not go together
 
-abbrev pub is_compact : Notation → Bool
+abbrev pub is_compact : SkeletonNotation → Bool
 is_compact notation.Standard = false
 is_compact (notation.Compact pattern) = true
 
 abbrev pub is_currency : SkeletonUnit → Bool
 is_currency unit.None = false
-is_currency unit.Percent = false
-is_currency unit.Permille = false
+is_currency (unit.Percent sign) = false
 is_currency (unit.Currency code) = true
 
 abbrev pub has_currency_digits : Precision → Bool
@@ -159,12 +158,16 @@ is_code width.IsoCode = true
 abbrev pub fits_currency : Skeleton → Bool
 fits_currency s = has_currency_digits s.precision || (is_currency s.unit && not (says_precision s.precision))
 
+-- the digits are those of a currency, or a word says which an amount has
+abbrev pub has_amount_digits : Skeleton → Bool
+has_amount_digits s = has_currency_digits s.precision || (is_currency s.unit && says_precision s.precision)
+
 -- the first fault, by the kind of the word that has it
 abbrev pub pair_fault : Skeleton → Option (SettingKind × WordFault)
 pair_fault s =
-    if is_compact s.notation && says_precision s.precision then Some (kind.Precision, Later)
+    if is_compact s.notation && has_amount_digits s then Some (kind.Precision, Later)
     else if has_currency_digits s.precision && not (is_currency s.unit) then Some (kind.Precision, Pair)
-    else if says_mode s.mode && (is_compact s.notation || fits_currency s) then Some (kind.Mode, Later)
+    else if says_mode s.mode && fits_currency s then Some (kind.Mode, Later)
     else if is_code s.width && not (is_currency s.unit) then Some (kind.Width, Pair)
     else if is_accounting s.sign.style && not (is_currency s.unit) then Some (kind.Sign, Pair)
     else None

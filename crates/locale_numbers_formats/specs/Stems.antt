@@ -13,21 +13,22 @@ use Rattle.icu_dimension_fractions.specs.declared.CurrencyStyle.TheVariants as s
 use Rattle.icu_dimension_fractions.specs.declared.CurrencyUsage.TheVariants as usage
 use Rattle.icu_dimension_fractions.specs.declared.CurrencyWidth.TheVariants as width
 use Rattle.icu_dimension_fractions.specs.declared.CurrencyWidth.TheVariants.{IsoCode}
+use Rattle.icu_dimension_fractions.specs.declared.PercentSign.TheVariants as sign
 use Rattle.locale_numbers_formats.specs.Cutting.{is_separator}
 use Rattle.locale_numbers_formats.specs.IncrementWords.{increment_setting}
 use Rattle.locale_numbers_formats.specs.Marks.{marked, option_setting, padded_setting}
 use Rattle.locale_numbers_formats.specs.WordTable.{value_beside}
 use Rattle.locale_numbers_formats.specs.declared.shape.CompactWidth.TheVariants.{Short, Long}
-use Rattle.locale_numbers_formats.specs.declared.shape.Notation.TheVariants as notation
-use Rattle.locale_numbers_formats.specs.declared.shape.Notation.TheVariants.{Compact}
 use Rattle.locale_numbers_formats.specs.declared.skeleton_error.WordFault.TheVariants as fault
 use Rattle.locale_numbers_formats.specs.declared.stems.Precision.TheVariants as precision
 use Rattle.locale_numbers_formats.specs.declared.stems.Precision.TheVariants.{Unlimited, Fraction, WholeCurrency}
 use Rattle.locale_numbers_formats.specs.declared.stems.Setting.{Setting}
 use Rattle.locale_numbers_formats.specs.declared.stems.Setting.TheVariants.{OfNotation, OfUnit, OfPrecision, OfMode, OfGrouping, OfWidth, OfSign, OfPoint, Refused}
 use Rattle.locale_numbers_formats.specs.declared.stems.SkeletonGrouping.TheVariants as grouping
+use Rattle.locale_numbers_formats.specs.declared.stems.SkeletonNotation.TheVariants as notation
+use Rattle.locale_numbers_formats.specs.declared.stems.SkeletonNotation.TheVariants.{Compact}
 use Rattle.locale_numbers_formats.specs.declared.stems.SkeletonUnit.TheVariants as beside
-use Rattle.locale_numbers_formats.specs.declared.stems.SkeletonUnit.TheVariants.{Percent, Permille, Currency}
+use Rattle.locale_numbers_formats.specs.declared.stems.SkeletonUnit.TheVariants.{Percent, Currency}
 
 -- the words, and their short forms, but for those with digits or a part after a slash
 abbrev pub stems : List (List ℕ × Setting)
@@ -37,9 +38,9 @@ stems =
     ∷ (codes "compact-long", OfNotation (Compact Long))
     ∷ (codes "KK", OfNotation (Compact Long))
     ∷ (codes "notation-simple", OfNotation notation.Standard)
-    ∷ (codes "percent", OfUnit Percent)
-    ∷ (codes "%", OfUnit Percent)
-    ∷ (codes "permille", OfUnit Permille)
+    ∷ (codes "percent", OfUnit (Percent sign.Percent))
+    ∷ (codes "%", OfUnit (Percent sign.Percent))
+    ∷ (codes "permille", OfUnit (Percent sign.Permille))
     ∷ (codes "base-unit", OfUnit beside.None)
     ∷ (codes "precision-integer", OfPrecision (Fraction 0 0))
     ∷ (codes ".", OfPrecision (Fraction 0 0))

@@ -38,5 +38,7 @@ pub use options::{
 pub use shape::{CompactWidth, CurrencyUnit, Notation, NumberFormat, NumberShape, NumberUnit};
 pub use skeleton::Skeleton;
 pub use skeleton_error::SkeletonError;
-pub use stems::{Precision, SkeletonGrouping, SkeletonSign, SkeletonUnit, WholeZeros};
+pub use stems::{
+    Precision, SkeletonGrouping, SkeletonNotation, SkeletonSign, SkeletonUnit, WholeZeros,
+};
 pub use word_table::value_beside;

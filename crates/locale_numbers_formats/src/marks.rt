@@ -1,8 +1,7 @@
 //! Words of digits: zeros for each that is shown, hashes for each that may be.
 
-ghost use Rattle.std.specs.Prelude.{◌≡◌, ◌<◌, ◌≤◌, length};
-ghost use Rattle.locale_numbers_formats.specs.declared.stems.Setting.TheVariants.{OfPrecision};
-ghost use Rattle.locale_numbers_formats.specs.Marks.{digits_end, digits_setting, either_end, either_setting, exponent_digits, exponent_setting, exponent_sign, exponent_signed, fraction_end, fraction_setting, leading, marked, old_end, old_form, option_setting, padded_setting, zeros_or};
+ghost use Rattle.std.specs.Prelude.{◌≡◌, ◌+◌, ◌≤◌, length};
+ghost use Rattle.locale_numbers_formats.specs.Marks.{digits_end, digits_setting, either_end, either_setting, exponent_digits, exponent_setting, exponent_sign, exponent_signed, fraction_end, fraction_setting, leading, marked, old_end, option_setting, padded_setting, zeros_or};
 
 use crate::options::RoundingPriority;
 use crate::skeleton_error::WordFault;
@@ -139,53 +138,38 @@ fn digits_setting(marks: &[u8]) -> Setting
     digits_end(1 + others as u8, more as u8, &rest[more..])
 }
 
-// What a form without a priority sets: it shows the fraction's digits in any case, so that it is one with a priority only
-// where there are none.
-fn old_form(least: u8, precision: Precision) -> Setting
-    ensures { result ≡ old_form least (OfPrecision precision) }
-{
-    if least == 0 {
-        Setting::OfPrecision(precision)
-    } else {
-        Setting::Refused(WordFault::Later)
-    }
-}
-
 // What significant digits beside a fraction set without a priority, by what follows them.
 fn old_end(least: u8, more: u8, digits: u8, others: u8, end: &[u8]) -> Setting
-    requires { 0 < digits }
+    requires { digits + others ≤ 100 }
     ensures { result ≡ old_end least more digits others end.now }
 {
-    let relaxed = RoundingPriority::MorePrecision;
-    let strict = RoundingPriority::LessPrecision;
-    if others == 0 && (end == b"*".as_slice() || end == b"+".as_slice()) {
-        old_form(
-            least,
-            Precision::Either(least, more, 1, digits - 1, relaxed, WholeZeros::Shown),
+    let endless = end == b"*".as_slice() || end == b"+".as_slice();
+    let whole_endless = end == b"*/w".as_slice() || end == b"+/w".as_slice();
+    let (most, priority, zeros) = if endless && others == 0 {
+        (digits, RoundingPriority::MorePrecision, WholeZeros::Shown)
+    } else if whole_endless && others == 0 {
+        (digits, RoundingPriority::MorePrecision, WholeZeros::Hidden)
+    } else if end == b"".as_slice() && digits == 1 {
+        (
+            digits + others,
+            RoundingPriority::LessPrecision,
+            WholeZeros::Shown,
         )
-    } else if others == 0 && (end == b"*/w".as_slice() || end == b"+/w".as_slice()) {
-        old_form(
-            least,
-            Precision::Either(least, more, 1, digits - 1, relaxed, WholeZeros::Hidden),
-        )
-    } else if digits == 1 && end == b"".as_slice() {
-        old_form(
-            least,
-            Precision::Either(least, more, 1, others, strict, WholeZeros::Shown),
-        )
-    } else if digits == 1 && end == b"/w".as_slice() {
-        old_form(
-            least,
-            Precision::Either(least, more, 1, others, strict, WholeZeros::Hidden),
+    } else if end == b"/w".as_slice() && digits == 1 {
+        (
+            digits + others,
+            RoundingPriority::LessPrecision,
+            WholeZeros::Hidden,
         )
     } else {
-        Setting::Refused(WordFault::Unknown)
-    }
+        return Setting::Refused(WordFault::Unknown);
+    };
+    Setting::OfPrecision(Precision::Either(least, more, 0, most, priority, zeros))
 }
 
 // What significant digits beside a fraction set, by what follows them.
 fn either_end(least: u8, more: u8, digits: u8, others: u8, end: &[u8]) -> Setting
-    requires { 0 < digits }
+    requires { digits + others ≤ 100 }
     ensures { result ≡ either_end least more digits others end.now }
 {
     let (priority, zeros) = if end == b"r".as_slice() {

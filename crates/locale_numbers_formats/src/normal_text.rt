@@ -3,14 +3,16 @@
 ghost use Rattle.std.specs.Prelude.{◌≡◌, ◌++◌, ◌||◌, codes, false, is_err, is_some, length, map, option_map, OnOk, OnErr};
 ghost use Rattle.writeable.specs.AnnotatedText.{bytes};
 ghost use Rattle.writeable.specs.Taking.{HasBegun};
-ghost use Rattle.locale_numbers_formats.specs.NormalText.{digits_word, fraction_word, gap, grouping_word, joined, marks, mode_word, normal_words, notation_word, precision_word, number_text, priority_mark, sign_word, step_digits, at_signs, at_sign_events, unit_word, whole_mark, width_word, word_after, word_events, word_of};
+ghost use Rattle.locale_numbers_formats.specs.NormalText.{digits_word, either_mark, fraction_word, gap, grouping_word, joined, marks, mode_word, normal_words, notation_word, percent_word, precision_word, number_text, priority_mark, sign_word, step_digits, at_signs, at_sign_events, unit_word, whole_mark, width_word, word_after, word_events, word_of};
 
 use crate::options::RoundingPriority;
-use crate::shape::{CompactWidth, Notation};
+use crate::shape::CompactWidth;
 use crate::skeleton::Skeleton;
-use crate::stems::{Precision, SkeletonGrouping, SkeletonSign, SkeletonUnit, WholeZeros};
+use crate::stems::{
+    Precision, SkeletonGrouping, SkeletonNotation, SkeletonSign, SkeletonUnit, WholeZeros,
+};
 use fixed_decimal::{RoundingIncrement, SignDisplay, SignedRoundingMode, UnsignedRoundingMode};
-use icu_dimension_fractions::{CurrencyStyle, CurrencyUsage, CurrencyWidth};
+use icu_dimension_fractions::{CurrencyStyle, CurrencyUsage, CurrencyWidth, PercentSign};
 use std::fmt;
 use writeable::{Error, Sink, Writeable, display};
 
@@ -75,13 +77,23 @@ fn at_signs(signs: u8, others: u8, behind: &'static str) -> NormalWord<'static>
 }
 
 // The word of a notation.
-fn notation_word(notation: Notation) -> Option<NormalWord<'static>>
+fn notation_word(notation: SkeletonNotation) -> Option<NormalWord<'static>>
     ensures { option_map word_of result ≡ notation_word notation }
 {
     match notation {
-        Notation::Standard => None,
-        Notation::Compact(CompactWidth::Short) => Some(fixed("compact-short")),
-        Notation::Compact(CompactWidth::Long) => Some(fixed("compact-long")),
+        SkeletonNotation::Standard => None,
+        SkeletonNotation::Compact(CompactWidth::Short) => Some(fixed("compact-short")),
+        SkeletonNotation::Compact(CompactWidth::Long) => Some(fixed("compact-long")),
+    }
+}
+
+// The word of a sign of percents.
+fn percent_word(sign: PercentSign) -> &'static str
+    ensures { result.now ≡ percent_word sign }
+{
+    match sign {
+        PercentSign::Percent => "percent",
+        PercentSign::Permille => "permille",
     }
 }
 
@@ -91,8 +103,7 @@ fn unit_word(unit: &SkeletonUnit) -> Option<NormalWord<'_>>
 {
     match unit {
         SkeletonUnit::None => None,
-        SkeletonUnit::Percent => Some(fixed("percent")),
-        SkeletonUnit::Permille => Some(fixed("permille")),
+        SkeletonUnit::Percent(sign) => Some(fixed(percent_word(*sign))),
         SkeletonUnit::Currency(code) => Some(NormalWord {
             front: "currency/",
             behind: code.as_str(),
@@ -141,6 +152,24 @@ fn priority_mark(priority: RoundingPriority, zeros: WholeZeros) -> &'static str
         (RoundingPriority::MorePrecision, WholeZeros::Hidden) => "r/w",
         (RoundingPriority::LessPrecision, WholeZeros::Shown) => "s",
         (RoundingPriority::LessPrecision, WholeZeros::Hidden) => "s/w",
+    }
+}
+
+// Significant digits beside a fraction: how many at-signs and hashes, and what is behind these.
+fn either_mark(
+    digits: u8,
+    others: u8,
+    priority: RoundingPriority,
+    zeros: WholeZeros,
+) -> (u8, u8, &'static str)
+    ensures { at_signs result.0 result.1 result.2.now ≡ either_mark digits others priority zeros }
+{
+    if digits > 0 {
+        return (digits, others, priority_mark(priority, zeros));
+    }
+    match priority {
+        RoundingPriority::MorePrecision => (others, 0, endless_mark(zeros)),
+        RoundingPriority::LessPrecision => (1, others.saturating_sub(1), whole_mark(zeros)),
     }
 }
 
@@ -226,16 +255,19 @@ fn precision_word(precision: Precision) -> Option<NormalWord<'static>>
             0,
             endless_mark(zeros),
         )),
-        Precision::Either(least, more, digits, others, priority, zeros) => Some(NormalWord {
-            front: ".",
-            zeros: least,
-            hashes: more,
-            middle: "/",
-            signs: digits,
-            others,
-            behind: priority_mark(priority, zeros),
-            ..BLANK
-        }),
+        Precision::Either(least, more, digits, others, priority, zeros) => {
+            let (signs, others, behind) = either_mark(digits, others, priority, zeros);
+            Some(NormalWord {
+                front: ".",
+                zeros: least,
+                hashes: more,
+                middle: "/",
+                signs,
+                others,
+                behind,
+                ..BLANK
+            })
+        }
         Precision::Increment(step, zeros, digits, whole) => {
             Some(increment_word(step, zeros, digits, whole_mark(whole)))
         }
@@ -274,18 +306,25 @@ fn mode_word(mode: SignedRoundingMode) -> Option<NormalWord<'static>>
 }
 
 // The word of a grouping beside a notation.
-fn grouping_word(notation: Notation, grouping: SkeletonGrouping) -> Option<NormalWord<'static>>
+fn grouping_word(
+    notation: SkeletonNotation,
+    grouping: SkeletonGrouping,
+) -> Option<NormalWord<'static>>
     ensures { option_map word_of result ≡ grouping_word notation grouping }
 {
     match (notation, grouping) {
-        (Notation::Standard, SkeletonGrouping::Auto) => None,
-        (Notation::Standard, SkeletonGrouping::Off) => Some(fixed("group-off")),
-        (Notation::Standard, SkeletonGrouping::Min2) => Some(fixed("group-min2")),
-        (Notation::Standard, SkeletonGrouping::OnAligned) => Some(fixed("group-on-aligned")),
-        (Notation::Compact(_), SkeletonGrouping::Auto) => Some(fixed("group-auto")),
-        (Notation::Compact(_), SkeletonGrouping::Off) => Some(fixed("group-off")),
-        (Notation::Compact(_), SkeletonGrouping::Min2) => None,
-        (Notation::Compact(_), SkeletonGrouping::OnAligned) => Some(fixed("group-on-aligned")),
+        (SkeletonNotation::Standard, SkeletonGrouping::Auto) => None,
+        (SkeletonNotation::Standard, SkeletonGrouping::Off) => Some(fixed("group-off")),
+        (SkeletonNotation::Standard, SkeletonGrouping::Min2) => Some(fixed("group-min2")),
+        (SkeletonNotation::Standard, SkeletonGrouping::OnAligned) => Some(fixed(
+            "group-on-aligned",
+        )),
+        (SkeletonNotation::Compact(_), SkeletonGrouping::Auto) => Some(fixed("group-auto")),
+        (SkeletonNotation::Compact(_), SkeletonGrouping::Off) => Some(fixed("group-off")),
+        (SkeletonNotation::Compact(_), SkeletonGrouping::Min2) => None,
+        (SkeletonNotation::Compact(_), SkeletonGrouping::OnAligned) => Some(fixed(
+            "group-on-aligned",
+        )),
     }
 }
 

@@ -1,9 +1,12 @@
 //! What is made of a number before it is written.
 
+ghost use Rattle.std.specs.Prelude.{◌≡◌};
+ghost use Rattle.locale_numbers_formats.specs.Changed.{unchanged};
+
 use fixed_decimal::{RoundingIncrement, SignDisplay, SignedRoundingMode};
 
 /// What a number is rounded to.
-#[derive(Clone, Copy, Debug, Default, PartialEq, Eq)]
+#[derive(Clone, Copy, Debug, Default, PartialEq, Eq, Hash)]
 pub enum Rounding {
     /// An amount of money to the digits of its currency, and another number not: 1.234 dollars are `1.23`.
     #[default]
@@ -23,16 +26,17 @@ pub enum Rounding {
 }
 
 /// How many digits are shown, from the first one that is not zero on. Those of zero count from the ones on.
-#[derive(Clone, Copy, Debug, Default, PartialEq, Eq)]
+#[derive(Clone, Copy, Debug, Default, PartialEq, Eq, Hash)]
 pub struct SignificantDigits {
-    /// At least so many, by zeros at the end of the fraction: by 3, 1.5 is `1.50`. Below 1 it counts as 1.
+    /// At least so many, by zeros at the end of the fraction: by 3, 1.5 is `1.50`. By 0 so many fraction digits are shown
+    /// at least as the options ask for.
     pub least: u16,
     /// At most so many, by a rounding: by 3, 1.2345 is `1.23`. Below 1 it counts as 1.
     pub most: u16,
 }
 
 /// Which of a position and so many digits a number is rounded to. After ECMA-402's `roundingPriority`.
-#[derive(Clone, Copy, Debug, Default, PartialEq, Eq)]
+#[derive(Clone, Copy, Debug, Default, PartialEq, Eq, Hash)]
 pub enum RoundingPriority {
     /// The one that shows more digits.
     #[default]
@@ -42,7 +46,7 @@ pub enum RoundingPriority {
 }
 
 /// What becomes of the zeros in front, after the rounding.
-#[derive(Clone, Copy, Debug, Default, PartialEq, Eq)]
+#[derive(Clone, Copy, Debug, Default, PartialEq, Eq, Hash)]
 pub enum LeadingZeros {
     /// They stay: `007`, and `000` of 400 rounded to thousands.
     #[default]
@@ -54,7 +58,7 @@ pub enum LeadingZeros {
 }
 
 /// What becomes of the zeros at the end of the fraction, after the rounding.
-#[derive(Clone, Copy, Debug, Default, PartialEq, Eq)]
+#[derive(Clone, Copy, Debug, Default, PartialEq, Eq, Hash)]
 pub enum TrailingZeros {
     /// They stay: `1.50`.
     #[default]
@@ -69,7 +73,7 @@ pub enum TrailingZeros {
 }
 
 /// Which sign is written.
-#[derive(Clone, Copy, Debug, Default, PartialEq, Eq)]
+#[derive(Clone, Copy, Debug, Default, PartialEq, Eq, Hash)]
 pub enum SignAsked {
     /// The one that was given: +5 is `+5`.
     #[default]
@@ -80,7 +84,7 @@ pub enum SignAsked {
 
 /// What is made of a number before it is written: it is rounded, trimmed and padded, and then its sign is chosen by what
 /// that left. By default an amount of money is rounded to the digits of its currency, and nothing else changes.
-#[derive(Clone, Copy, Debug, Default, PartialEq, Eq)]
+#[derive(Clone, Copy, Debug, Default, PartialEq, Eq, Hash)]
 pub struct NumberOptions {
     /// What it is rounded to.
     pub rounding: Rounding,
@@ -94,4 +98,21 @@ pub struct NumberOptions {
     pub fraction_digits: i16,
     /// Which sign is written.
     pub sign: SignAsked,
+}
+
+impl NumberOptions {
+    /// The options that change nothing, an amount of money neither: 1.234 dollars stay 1.234, and +5 stays `+5`. It does
+    /// not allocate.
+    pub const fn unchanged() -> NumberOptions
+        ensures { result ≡ unchanged }
+    {
+        NumberOptions {
+            rounding: Rounding::AsGiven,
+            leading_zeros: LeadingZeros::Keep,
+            zeros: TrailingZeros::Keep,
+            integer_digits: 0,
+            fraction_digits: 0,
+            sign: SignAsked::Keep,
+        }
+    }
 }

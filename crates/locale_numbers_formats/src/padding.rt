@@ -115,7 +115,9 @@ fn pad_end(number: &mut UnsignedDecimal, rounding: Rounding, digits: i16)
     ensures { number.new ≡ end_padded rounding digits number.old }
 {
     match rounding {
-        Rounding::Significant(significant, _) => pad_significant(number, significant.least),
+        Rounding::Significant(significant, _) if significant.least > 0 => {
+            pad_significant(number, significant.least)
+        }
         _ => pad_fraction(number, digits),
     }
 }

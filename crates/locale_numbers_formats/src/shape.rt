@@ -2,7 +2,7 @@
 
 use crate::options::NumberOptions;
 use icu_decimal_symbols::options::GroupingStrategy;
-use icu_dimension_fractions::{CurrencyCode, CurrencyStyle, CurrencyWidth};
+use icu_dimension_fractions::{CurrencyCode, CurrencyStyle, CurrencyWidth, PercentSign};
 
 /// Which patterns a compact number is written with.
 #[derive(Clone, Copy, Debug, Default, PartialEq, Eq, Hash)]
@@ -22,6 +22,8 @@ pub enum Notation {
     Standard,
     /// The first ones, with a compact pattern: `1.6K`.
     Compact(CompactWidth),
+    /// Those that options leave of what is before a compact pattern: `1.60K` by two fraction digits.
+    CompactDigits(CompactWidth, NumberOptions),
 }
 
 /// A currency, and how it is written beside an amount.
@@ -41,10 +43,8 @@ pub enum NumberUnit {
     /// Nothing: `12`.
     #[default]
     None,
-    /// The percent sign, beside the number as it is: `12%`.
-    Percent,
-    /// The permille sign, beside the number as it is: `12‰`.
-    Permille,
+    /// A sign of percents, beside the number as it is: `12%`, `12‰`.
+    Percent(PercentSign),
     /// A currency: `€12.00`.
     Currency(CurrencyUnit),
 }

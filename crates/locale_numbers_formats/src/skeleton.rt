@@ -3,17 +3,19 @@
 ghost use Rattle.std.specs.Prelude.{◌≡◌};
 ghost use Rattle.std.specs.Result.{result_map_both};
 ghost use Rattle.locale_numbers_formats.specs.Cutting.{cut_at};
-ghost use Rattle.locale_numbers_formats.specs.SkeletonFormats.{digits_from, digits_of, digits_on, format_of, rounding_of, strategy_of, unit_of, whole_zeros, zeros_of};
-ghost use Rattle.locale_numbers_formats.specs.Skeletons.{fits_currency, has_currency_digits, is_accounting, is_code, is_compact, is_currency, is_of, no_words, pair_fault, read_word, read_words_of, says_mode, says_precision, set, settled, skeleton_of, space, usual_grouping, word_place};
+ghost use Rattle.locale_numbers_formats.specs.SkeletonFormats.{compact_rounding, digits_from, digits_of, digits_on, format_of, has_own_digits, notation_of, options_of, rounding_by, rounding_of, strategy_of, unit_of, whole_zeros, zeros_of};
+ghost use Rattle.locale_numbers_formats.specs.Skeletons.{fits_currency, has_amount_digits, has_currency_digits, is_accounting, is_code, is_compact, is_currency, is_of, no_words, pair_fault, read_word, read_words_of, says_mode, says_precision, set, settled, skeleton_of, space, usual_grouping, word_place};
 
 use crate::cutting::cut_field;
 use crate::options::{
-    LeadingZeros, NumberOptions, Rounding, SignAsked, SignificantDigits, TrailingZeros,
+    LeadingZeros, NumberOptions, Rounding, RoundingPriority, SignAsked, SignificantDigits,
+    TrailingZeros,
 };
 use crate::shape::{CurrencyUnit, Notation, NumberFormat, NumberShape, NumberUnit};
 use crate::skeleton_error::{SkeletonError, WordFault};
 use crate::stems::{
-    Precision, Setting, SkeletonGrouping, SkeletonSign, SkeletonUnit, WholeZeros, setting_named,
+    Precision, Setting, SkeletonGrouping, SkeletonNotation, SkeletonSign, SkeletonUnit, WholeZeros,
+    setting_named,
 };
 use fixed_decimal::{RoundingIncrement, SignDisplay, SignedRoundingMode, UnsignedRoundingMode};
 use icu_decimal_symbols::options::GroupingStrategy;
@@ -25,7 +27,7 @@ const SPACE: u8 = b' ';
 #[derive(Clone, Copy, Debug, PartialEq, Eq)]
 pub struct Skeleton {
     /// How the digits are written.
-    pub notation: Notation,
+    pub notation: SkeletonNotation,
     /// What is beside them.
     pub unit: SkeletonUnit,
     /// Which are shown.
@@ -43,19 +45,19 @@ pub struct Skeleton {
 }
 
 // Where separators are, as no word says: in compact numbers none is in four digits.
-fn usual_grouping(notation: Notation) -> SkeletonGrouping
+fn usual_grouping(notation: SkeletonNotation) -> SkeletonGrouping
     ensures { result ≡ usual_grouping notation }
 {
     match notation {
-        Notation::Standard => SkeletonGrouping::Auto,
-        Notation::Compact(_) => SkeletonGrouping::Min2,
+        SkeletonNotation::Standard => SkeletonGrouping::Auto,
+        SkeletonNotation::Compact(_) => SkeletonGrouping::Min2,
     }
 }
 
 // What the words so far have set.
 #[derive(Clone, Copy)]
 struct Words {
-    notation: Option<Notation>,
+    notation: Option<SkeletonNotation>,
     unit: Option<SkeletonUnit>,
     precision: Option<Precision>,
     mode: Option<SignedRoundingMode>,
@@ -134,7 +136,7 @@ impl Words {
     fn settled(self) -> Skeleton
         ensures { result ≡ settled self }
     {
-        let notation = self.notation.unwrap_or(Notation::Standard);
+        let notation = self.notation.unwrap_or(SkeletonNotation::Standard);
         Skeleton {
             notation,
             unit: self.unit.unwrap_or(SkeletonUnit::None),
@@ -208,12 +210,12 @@ fn word_place(kind: SettingKind, text: &[u8]) -> Option<usize>
 }
 
 // Whether digits are written with a compact pattern.
-fn is_compact(notation: Notation) -> bool
+fn is_compact(notation: SkeletonNotation) -> bool
     ensures { result ≡ is_compact notation }
 {
     match notation {
-        Notation::Standard => false,
-        Notation::Compact(_) => true,
+        SkeletonNotation::Standard => false,
+        SkeletonNotation::Compact(_) => true,
     }
 }
 
@@ -222,7 +224,7 @@ fn is_currency(unit: SkeletonUnit) -> bool
     ensures { result ≡ is_currency unit }
 {
     match unit {
-        SkeletonUnit::None | SkeletonUnit::Percent | SkeletonUnit::Permille => false,
+        SkeletonUnit::None | SkeletonUnit::Percent(_) => false,
         SkeletonUnit::Currency(_) => true,
     }
 }
@@ -342,15 +344,23 @@ impl Skeleton {
             || (is_currency(self.unit) && !says_precision(self.precision))
     }
 
+    // Whether the digits are those of a currency, or a word says which an amount has.
+    fn has_amount_digits(&self) -> bool
+        ensures { result ≡ has_amount_digits self.now }
+    {
+        has_currency_digits(self.precision)
+            || (is_currency(self.unit) && says_precision(self.precision))
+    }
+
     // What does not go together, by the kind of the word that is wrong.
     fn pair_fault(&self) -> Option<(SettingKind, WordFault)>
         ensures { result ≡ pair_fault self.now }
     {
-        if is_compact(self.notation) && says_precision(self.precision) {
+        if is_compact(self.notation) && self.has_amount_digits() {
             Some((SettingKind::Precision, WordFault::Later))
         } else if has_currency_digits(self.precision) && !is_currency(self.unit) {
             Some((SettingKind::Precision, WordFault::Pair))
-        } else if says_mode(self.mode) && (is_compact(self.notation) || self.fits_currency()) {
+        } else if says_mode(self.mode) && self.fits_currency() {
             Some((SettingKind::Mode, WordFault::Later))
         } else if is_code(self.width) && !is_currency(self.unit) {
             Some((SettingKind::Width, WordFault::Pair))
@@ -391,16 +401,20 @@ impl Skeleton {
         Self::try_from_utf8(s.as_bytes())
     }
 
-    // What a number is rounded to.
-    fn rounding(&self) -> Rounding
-        ensures { result ≡ rounding_of self.now }
+    // Whether a word asks for digits of what is before a compact pattern.
+    fn has_own_digits(&self) -> bool
+        ensures { result ≡ has_own_digits self.now }
     {
-        if is_compact(self.notation) {
-            return Rounding::AsGiven;
-        }
+        is_compact(self.notation) && (says_precision(self.precision) || says_mode(self.mode))
+    }
+
+    // What a number is rounded to by the precision: an amount of money, or another one.
+    fn rounding_by(&self, amount: bool) -> Rounding
+        ensures { result ≡ rounding_by amount self.now.mode self.now.precision }
+    {
         let one = RoundingIncrement::MultiplesOf1;
         match self.precision {
-            Precision::Usual if is_currency(self.unit) => Rounding::Usual,
+            Precision::Usual if amount => Rounding::Usual,
             Precision::Usual => Rounding::At(-6, self.mode, one),
             Precision::Unlimited | Precision::AtLeast(_) => Rounding::AsGiven,
             Precision::Fraction(least, more) | Precision::Whole(least, more) => {
@@ -423,6 +437,30 @@ impl Skeleton {
             | Precision::WholeCurrency(CurrencyUsage::Standard) => Rounding::Usual,
             Precision::Currency(CurrencyUsage::Cash)
             | Precision::WholeCurrency(CurrencyUsage::Cash) => Rounding::Cash,
+        }
+    }
+
+    // What a number before a compact pattern is rounded to.
+    fn compact_rounding(&self) -> Rounding
+        ensures { result ≡ compact_rounding self.now.mode self.now.precision }
+    {
+        if says_precision(self.precision) {
+            return self.rounding_by(false);
+        }
+        let two = SignificantDigits { least: 1, most: 2 };
+        Rounding::Either(RoundingPriority::MorePrecision, 0, two, self.mode)
+    }
+
+    // What a number is rounded to.
+    fn rounding(&self) -> Rounding
+        ensures { result ≡ rounding_of self.now }
+    {
+        if self.has_own_digits() {
+            self.compact_rounding()
+        } else if is_compact(self.notation) {
+            Rounding::AsGiven
+        } else {
+            self.rounding_by(is_currency(self.unit))
         }
     }
 
@@ -473,8 +511,7 @@ impl Skeleton {
     {
         match self.unit {
             SkeletonUnit::None => NumberUnit::None,
-            SkeletonUnit::Percent => NumberUnit::Percent,
-            SkeletonUnit::Permille => NumberUnit::Permille,
+            SkeletonUnit::Percent(sign) => NumberUnit::Percent(sign),
             SkeletonUnit::Currency(code) => NumberUnit::Currency(CurrencyUnit {
                 code,
                 style: self.sign.style,
@@ -495,24 +532,48 @@ impl Skeleton {
         }
     }
 
-    /// The format that it asks for: of `percent .00` that of percents, to hundredths, shown with both. It does not
-    /// allocate.
+    // What the words make of a number, or of what is before a compact pattern.
+    fn number_options(&self) -> NumberOptions
+        ensures { result ≡ options_of self.now }
+    {
+        NumberOptions {
+            rounding: self.rounding(),
+            leading_zeros: LeadingZeros::Trim,
+            zeros: self.trailing_zeros(),
+            integer_digits: self.integer_digits as i16,
+            fraction_digits: self.fraction_digits() as i16,
+            sign: SignAsked::Show(self.sign.display),
+        }
+    }
+
+    // How the digits are written.
+    fn number_notation(&self) -> Notation
+        ensures { result ≡ notation_of self.now }
+    {
+        match self.notation {
+            SkeletonNotation::Standard => Notation::Standard,
+            SkeletonNotation::Compact(width) if self.has_own_digits() => {
+                Notation::CompactDigits(width, self.number_options())
+            }
+            SkeletonNotation::Compact(width) => Notation::Compact(width),
+        }
+    }
+
+    /// The format that it asks for: of `percent .00` that of percents, to hundredths, shown with both; of `compact-short
+    /// .00` that of compact numbers with two such digits before the pattern, `1.23K`. It does not allocate.
     pub fn format(&self) -> NumberFormat
         ensures { result ≡ format_of self.now }
     {
         NumberFormat {
             shape: NumberShape {
-                notation: self.notation,
+                notation: self.number_notation(),
                 unit: self.number_unit(),
                 grouping: self.strategy(),
             },
-            options: NumberOptions {
-                rounding: self.rounding(),
-                leading_zeros: LeadingZeros::Trim,
-                zeros: self.trailing_zeros(),
-                integer_digits: self.integer_digits as i16,
-                fraction_digits: self.fraction_digits() as i16,
-                sign: SignAsked::Show(self.sign.display),
+            options: if self.has_own_digits() {
+                NumberOptions::unchanged()
+            } else {
+                self.number_options()
             },
         }
     }

@@ -8,21 +8,30 @@ use crate::cutting::first_separator;
 use crate::increments::increment_setting;
 use crate::marks::{marked, option_setting, padded_setting};
 use crate::options::RoundingPriority;
-use crate::shape::{CompactWidth, Notation};
+use crate::shape::CompactWidth;
 use crate::skeleton_error::WordFault;
 use crate::word_table::value_beside;
 use fixed_decimal::{RoundingIncrement, SignDisplay, SignedRoundingMode, UnsignedRoundingMode};
-use icu_dimension_fractions::{CurrencyCode, CurrencyStyle, CurrencyUsage, CurrencyWidth};
+use icu_dimension_fractions::{
+    CurrencyCode, CurrencyStyle, CurrencyUsage, CurrencyWidth, PercentSign,
+};
+
+/// How a skeleton has digits written.
+#[derive(Clone, Copy, Debug, PartialEq, Eq)]
+pub enum SkeletonNotation {
+    /// All of them: `notation-simple`.
+    Standard,
+    /// The first ones, with a compact pattern: `compact-short`, `compact-long`.
+    Compact(CompactWidth),
+}
 
 /// What a skeleton writes beside the digits.
 #[derive(Clone, Copy, Debug, PartialEq, Eq)]
 pub enum SkeletonUnit {
     /// Nothing.
     None,
-    /// The percent sign: `percent`.
-    Percent,
-    /// The permille sign: `permille`.
-    Permille,
+    /// A sign of percents: `percent`, `permille`.
+    Percent(PercentSign),
     /// A currency: `currency/EUR`.
     Currency(CurrencyCode),
 }
@@ -54,7 +63,7 @@ pub enum Precision {
     /// So many significant digits at least: `@@*`.
     SignificantAtLeast(u8, WholeZeros),
     /// Digits after the point or significant digits, each so many at least and so many more at most, whichever show more, or
-    /// less: `.0#/@@r`.
+    /// less: `.0#/@@r`. Without a significant digit at least those after the point are shown in any case: `.0#/@@*`.
     Either(u8, u8, u8, u8, RoundingPriority, WholeZeros),
     /// Multiples of an increment with so many zeros behind, as a number with so many digits after its point:
     /// `precision-increment/0.50`.
@@ -91,7 +100,7 @@ pub struct SkeletonSign {
 #[derive(Clone, Copy, Debug, PartialEq, Eq)]
 pub enum Setting {
     /// How the digits are written.
-    OfNotation(Notation),
+    OfNotation(SkeletonNotation),
     /// What is beside them.
     OfUnit(SkeletonUnit),
     /// Which are shown.
@@ -116,24 +125,36 @@ pub enum Setting {
 const STEMS: [(&[u8], Setting); 68] = [
     (
         b"compact-short",
-        Setting::OfNotation(Notation::Compact(CompactWidth::Short)),
+        Setting::OfNotation(SkeletonNotation::Compact(CompactWidth::Short)),
     ),
     (
         b"K",
-        Setting::OfNotation(Notation::Compact(CompactWidth::Short)),
+        Setting::OfNotation(SkeletonNotation::Compact(CompactWidth::Short)),
     ),
     (
         b"compact-long",
-        Setting::OfNotation(Notation::Compact(CompactWidth::Long)),
+        Setting::OfNotation(SkeletonNotation::Compact(CompactWidth::Long)),
     ),
     (
         b"KK",
-        Setting::OfNotation(Notation::Compact(CompactWidth::Long)),
+        Setting::OfNotation(SkeletonNotation::Compact(CompactWidth::Long)),
     ),
-    (b"notation-simple", Setting::OfNotation(Notation::Standard)),
-    (b"percent", Setting::OfUnit(SkeletonUnit::Percent)),
-    (b"%", Setting::OfUnit(SkeletonUnit::Percent)),
-    (b"permille", Setting::OfUnit(SkeletonUnit::Permille)),
+    (
+        b"notation-simple",
+        Setting::OfNotation(SkeletonNotation::Standard),
+    ),
+    (
+        b"percent",
+        Setting::OfUnit(SkeletonUnit::Percent(PercentSign::Percent)),
+    ),
+    (
+        b"%",
+        Setting::OfUnit(SkeletonUnit::Percent(PercentSign::Percent)),
+    ),
+    (
+        b"permille",
+        Setting::OfUnit(SkeletonUnit::Percent(PercentSign::Permille)),
+    ),
     (b"base-unit", Setting::OfUnit(SkeletonUnit::None)),
     (
         b"precision-integer",

@@ -12,15 +12,17 @@ use Rattle.icu_decimal.specs.ExactText.{exact_events, exact_formatted, exact_tex
 use Rattle.icu_decimal.specs.Operands.{operands_of}
 use Rattle.icu_decimal.specs.Pattern.{InPattern}
 use Rattle.icu_decimal.specs.PlainText.{PlainNumber, Tables, decimal_events, formatted, prefix_text, suffix_text, unsigned_events, unsigned_text}
-use Rattle.icu_decimal.specs.ShownChoice.{exact_entry}
+use Rattle.icu_decimal.specs.ShownChoice.{exact_entry, exponent_of}
 use Rattle.icu_decimal.specs.TextLaws.{DecimalIsText}
 use Rattle.icu_decimal.specs.declared.provider.CompactEntry.{CompactEntry}
 use Rattle.icu_dimension.specs.UnitText.{unit_decimal_events, unit_formatted}
 use Rattle.icu_dimension.specs.UnitTextLaws.{UnitIsText}
-use Rattle.icu_decimal.proofs.CompactTextLemmas.{compact_is_text}
-use Rattle.locale_numbers_formatter.specs.ExactForms.{exact_shown, under_entry}
+use Rattle.icu_decimal.proofs.CompactTextLemmas.{compact_is_text, under_is_text}
+use Rattle.locale_numbers_formats.specs.declared.options.NumberOptions.{NumberOptions}
+use Rattle.locale_numbers_formatter.specs.CompactDigits.{DigitsShown, digits_shown}
+use Rattle.locale_numbers_formatter.specs.ExactForms.{exact_format_text, exact_shown, under_entry}
 use Rattle.locale_numbers_formatter.specs.FormatParts.{events_around, events_of_digits, exact_format_events, format_events}
-use Rattle.locale_numbers_formatter.specs.FormatText.{FormatTables, Shown, compact_tables, format_text, plain_tables, shown_as_it_is, text_of_shown, unit_tables}
+use Rattle.locale_numbers_formatter.specs.FormatText.{FormatTables, Shown, compact_tables, digits_tables, format_text, plain_tables, shown_as_it_is, text_of_shown, unit_tables}
 use Rattle.locale_numbers_formatter.specs.Laws.{CompactIsLayered, CompactPartsAreLayered, ExactFormatIsText, ExactIsLayered, ExactPartsAreLayered, FormatIsText, PlainIsLayered, PlainPartsAreLayered, UnitIsLayered, UnitPartsAreLayered}
 use Rattle.locale_numbers_formatter.proofs.LayerLemmas.{events_in_layer, text_in_layer}
 
@@ -33,13 +35,13 @@ module _ (t : CompactTables) (form : CompactValue) where
   entry_found : Option (Option CompactEntry)
   entry_found = exact_entry 32768 t.patterns.entries form.significand.absolute.count form.exponent
 
-  text_under : (entry : Option CompactEntry) → text_of_shown (under_entry t form entry) ≡ written_text t form.significand entry
+  pub text_under : (entry : Option CompactEntry) → text_of_shown (under_entry t form entry) ≡ written_text t form.significand entry
   text_under entry =
       let affixes = affixes_of t.plain.symbols.strings form.significand.sign in
       ap (λ text. prefix_text affixes ++ (text ++ suffix_text affixes))
       (text_in_layer (pattern_of t entry (operands_of form.significand.absolute 0)) (unsigned_text t.plain form.significand.absolute))
 
-  events_under : (entry : Option CompactEntry) → events_around (compact_tables t) (under_entry t form entry) (events_of_digits (under_entry t form entry)) ≡ exact_events (written_under t form.significand entry)
+  pub events_under : (entry : Option CompactEntry) → events_around (compact_tables t) (under_entry t form entry) (events_of_digits (under_entry t form entry)) ≡ exact_events (written_under t form.significand entry)
   events_under entry =
       let affixes = affixes_of t.plain.symbols.strings form.significand.sign in
       ap (λ es. prefix_events affixes ++ (es ++ suffix_events affixes))
@@ -58,11 +60,19 @@ exact_parts_are t form =
 
 -- ---- the text of events
 
+-- with digits of their own
+digits_text : (t : CompactTables) (o : NumberOptions) (d : SignedValue Number) → text_of (format_events (digits_tables t o) d) ≡ format_text (digits_tables t o) d
+digits_text t o d =
+    let shown : DigitsShown = digits_shown t.patterns.entries o d in
+    let form : CompactValue = record { significand = shown.significand; exponent = exponent_of shown.entry } in
+    ap text_of (events_under t form shown.entry) ∙ under_is_text t shown.significand shown.entry ∙ sym (text_under t form shown.entry)
+
 pub format_texts : PlainIsLayered → PlainPartsAreLayered → CompactIsLayered → CompactPartsAreLayered → UnitIsLayered → UnitPartsAreLayered → DecimalIsText → UnitIsText → FormatIsText
 format_texts plain plain_parts compact compact_parts united unit_parts decimal_law unit_law (plain_tables t) d =
     ap text_of (plain_parts t d) ∙ decimal_law t d ∙ sym (plain t d)
 format_texts plain plain_parts compact compact_parts united unit_parts decimal_law unit_law (compact_tables t) d =
     ap text_of (compact_parts t d) ∙ compact_is_text t d ∙ sym (compact t d)
+format_texts plain plain_parts compact compact_parts united unit_parts decimal_law unit_law (digits_tables t o) d = digits_text t o d
 format_texts plain plain_parts compact compact_parts united unit_parts decimal_law unit_law (unit_tables u) d =
     ap text_of (unit_parts u d) ∙ unit_law u.settings d ∙ sym (united u d)
 
@@ -72,12 +82,18 @@ shown_text : (events : Shown → List Event) (is : Bool) (s : Shown) → text_of
 shown_text events true s same = ap Some same
 shown_text events false s same = refl
 
-pub exact_texts : FormatIsText → ExactIsLayered → ExactPartsAreLayered → ExactTextIsOfEvents → ExactFormatIsText
-exact_texts number exact parts written (plain_tables t) form =
-    shown_text (λ s. events_around (plain_tables t) s (events_of_digits s)) (form.exponent == 0) (shown_as_it_is (plain_tables t) form.significand) (sym (number (plain_tables t) form.significand))
-exact_texts number exact parts written (compact_tables t) form =
+-- options change no exact form
+compact_exact_text : ExactIsLayered → ExactPartsAreLayered → ExactTextIsOfEvents → (t : CompactTables) (form : CompactValue)
+    → exact_format_text (compact_tables t) form ≡ option_map text_of (exact_format_events (compact_tables t) form)
+compact_exact_text exact parts written t form =
     exact t form ∙ written t form.significand form.exponent
     ∙ sym (mapped_twice exact_events text_of (λ shown. text_of (exact_events shown)) (λ shown. refl) (exact_formatted t form.significand form.exponent))
     ∙ ap (option_map text_of) (sym (parts t form))
+
+pub exact_texts : FormatIsText → ExactIsLayered → ExactPartsAreLayered → ExactTextIsOfEvents → ExactFormatIsText
+exact_texts number exact parts written (plain_tables t) form =
+    shown_text (λ s. events_around (plain_tables t) s (events_of_digits s)) (form.exponent == 0) (shown_as_it_is (plain_tables t) form.significand) (sym (number (plain_tables t) form.significand))
+exact_texts number exact parts written (compact_tables t) form = compact_exact_text exact parts written t form
+exact_texts number exact parts written (digits_tables t o) form = compact_exact_text exact parts written t form
 exact_texts number exact parts written (unit_tables u) form =
     shown_text (λ s. events_around (unit_tables u) s (events_of_digits s)) (form.exponent == 0) (shown_as_it_is (unit_tables u) form.significand) (sym (number (unit_tables u) form.significand))

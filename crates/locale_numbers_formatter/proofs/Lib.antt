@@ -1,3 +1,5 @@
+pub mod CompactDigitsLemmas
+pub mod DivisionLemmas
 pub mod ExactFormLemmas
 pub mod KnownOperands
 mod KnownValues

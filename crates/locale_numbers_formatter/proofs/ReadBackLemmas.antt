@@ -21,7 +21,7 @@ use Rattle.icu_dimension_lenient.specs.UnitReadings.{unit_reading}
 use Rattle.locale_numbers_formatter.proofs.JoinedUnitLemmas.{joined_is_partless, joined_is_read}
 use Rattle.icu_dimension_lenient.proofs.UnitReadingsLemmas.{unit_written_again}
 use Rattle.locale_numbers_formatter.specs.FormatReading.{format_reading, pairs_reader, reader_of, reading_by_reader}
-use Rattle.locale_numbers_formatter.specs.FormatText.{FormatTables, compact_tables, digit_tables, format_text, pair_in, plain_tables, unit_tables}
+use Rattle.locale_numbers_formatter.specs.FormatText.{FormatTables, compact_tables, digit_tables, digits_tables, format_text, pair_in, plain_tables, unit_tables}
 use Rattle.locale_numbers_formatter.specs.ReadingLaws.{FormatReadIsWrittenAgain, FormatReadsBack}
 
 -- the pair of a sign
@@ -39,6 +39,7 @@ text_is_read (plain_tables t) r v is =
     let same : r ≡ pairs_reader (plain_tables t) = cc in
     ap (λ k. text_by k v) same ∙ between_is (plain_tables t) v
 text_is_read (compact_tables t) r v is = absurd (cc)
+text_is_read (digits_tables t o) r v is = absurd (cc)
 text_is_read (unit_tables u) r v is =
     let same : r ≡ pairs_reader (unit_tables u) = cc in
     ap (λ k. text_by k v) same ∙ between_is (unit_tables u) v
@@ -57,6 +58,7 @@ reads_back one back f r v is texts readable decimal_is =
 pub written_again : FormatReadIsWrittenAgain
 written_again (plain_tables t) text v is = sym (text_is_read (plain_tables t) _ v refl) ∙ unit_written_again (pairs_reader (plain_tables t)) text v is
 written_again (compact_tables t) text v is = absurd (cc)
+written_again (digits_tables t o) text v is = absurd (cc)
 written_again (unit_tables u) text v is = sym (text_is_read (unit_tables u) _ v refl) ∙ unit_written_again (pairs_reader (unit_tables u)) text v is
 
 -- what a readable reader of texts with a unit answers

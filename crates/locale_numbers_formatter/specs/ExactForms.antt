@@ -9,7 +9,7 @@ use Rattle.icu_decimal.specs.ExactForms.{IsInRange}
 use Rattle.icu_decimal.specs.Operands.{operands_of}
 use Rattle.icu_decimal.specs.ShownChoice.{exact_entry}
 use Rattle.icu_decimal.specs.declared.provider.CompactEntry.{CompactEntry}
-use Rattle.locale_numbers_formatter.specs.FormatText.{FormatTables, Shown, compact_tables, plain_tables, shown_as_it_is, shown_in, text_of_shown, unit_tables}
+use Rattle.locale_numbers_formatter.specs.FormatText.{FormatTables, Shown, compact_tables, digits_tables, plain_tables, shown_as_it_is, shown_in, text_of_shown, unit_tables}
 
 -- a format without compact patterns has the exponent 0, and no other
 abbrev pub without_exponent : FormatTables → CompactValue → Option Shown
@@ -20,9 +20,14 @@ abbrev pub under_entry : CompactTables → CompactValue → Option CompactEntry 
 under_entry t form entry =
     shown_in (compact_tables t) form.significand form.exponent (pattern_of t entry (operands_of form.significand.absolute 0))
 
+abbrev pub compact_exact_shown : CompactTables → CompactValue → Option Shown
+compact_exact_shown t form = option_map (under_entry t form) (exact_entry 32768 t.patterns.entries form.significand.absolute.count form.exponent)
+
+-- options change no exact form
 abbrev pub exact_shown : FormatTables → CompactValue → Option Shown
 exact_shown (plain_tables t) form = without_exponent (plain_tables t) form
-exact_shown (compact_tables t) form = option_map (under_entry t form) (exact_entry 32768 t.patterns.entries form.significand.absolute.count form.exponent)
+exact_shown (compact_tables t) form = compact_exact_shown t form
+exact_shown (digits_tables t o) form = compact_exact_shown t form
 exact_shown (unit_tables u) form = without_exponent (unit_tables u) form
 
 abbrev pub exact_format_text : FormatTables → CompactValue → Option (List ℕ)
@@ -32,4 +37,5 @@ exact_format_text f form = option_map text_of_shown (exact_shown f form)
 abbrev pub IsFormInRange : FormatTables → CompactValue → Type 0
 IsFormInRange (plain_tables t) form = Unit {0}
 IsFormInRange (compact_tables t) form = IsInRange form.significand.absolute.count form.exponent
+IsFormInRange (digits_tables t o) form = IsInRange form.significand.absolute.count form.exponent
 IsFormInRange (unit_tables u) form = Unit {0}

@@ -13,7 +13,7 @@ use Rattle.icu_decimal.specs.PlainText.{Tables, unsigned_events, unsigned_text}
 use Rattle.icu_dimension.specs.UnitPatterns.{AffixesText, after_in, before_in, own_affixes}
 use Rattle.icu_dimension.specs.UnitText.{UnitName, UnitSettings, side_events}
 use Rattle.locale_numbers_formatter.specs.ExactForms.{exact_shown}
-use Rattle.locale_numbers_formatter.specs.FormatText.{FormatTables, Shown, compact_tables, plain_tables, shown_by, unit_tables}
+use Rattle.locale_numbers_formatter.specs.FormatText.{FormatTables, Shown, compact_tables, digits_tables, plain_tables, shown_by, unit_tables}
 use Rattle.locale_numbers_formatter.specs.Layers.{Layers, LayersOf, layered_by}
 
 -- ---- the layers
@@ -39,6 +39,7 @@ unit_layers s sign l = unit_layers_by (own_affixes s.pattern sign) s.pattern.uns
 abbrev pub part_layers : FormatTables → Sign → Layers → LayersOf Event
 part_layers (plain_tables t) sign l = symbol_layers (affixes_of t.symbols.strings sign) l
 part_layers (compact_tables t) sign l = symbol_layers (affixes_of t.plain.symbols.strings sign) l
+part_layers (digits_tables t o) sign l = symbol_layers (affixes_of t.plain.symbols.strings sign) l
 part_layers (unit_tables u) sign l = unit_layers u.settings sign l
 
 -- ---- the digits
@@ -46,10 +47,11 @@ part_layers (unit_tables u) sign l = unit_layers u.settings sign l
 abbrev pub events_of_digits : Shown → List Event
 events_of_digits s = unsigned_events (record { number = s.significand.absolute; tables = s.tables })
 
--- what is shown for a number in compact text has no parts of its digits
+-- what is shown for a number in compact text has no parts of its digits; digits of its own have theirs
 abbrev pub digit_events_in : FormatTables → Shown → List Event
 digit_events_in (plain_tables t) s = events_of_digits s
 digit_events_in (compact_tables t) s = bytes (unsigned_text s.tables s.significand.absolute)
+digit_events_in (digits_tables t o) s = events_of_digits s
 digit_events_in (unit_tables u) s = events_of_digits s
 
 -- ---- the text with its parts

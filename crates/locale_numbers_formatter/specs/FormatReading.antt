@@ -8,7 +8,7 @@ use Rattle.fixed_decimal.specs.declared.Sign.TheVariants.{None as NoSign, Negati
 use Rattle.icu_decimal.specs.PlainReading.{PlainReading, unreadable}
 use Rattle.icu_dimension.specs.UnitReading.{HasManyBetween, ReaderTexts, text_by}
 use Rattle.icu_dimension_lenient.specs.UnitReadings.{unit_reading}
-use Rattle.locale_numbers_formatter.specs.FormatText.{FormatTables, compact_tables, digit_tables, pair_in, plain_tables, unit_tables}
+use Rattle.locale_numbers_formatter.specs.FormatText.{FormatTables, compact_tables, digit_tables, digits_tables, pair_in, plain_tables, unit_tables}
 
 -- the pair of each sign, and what is between them
 abbrev pub pairs_reader : FormatTables → ReaderTexts
@@ -20,6 +20,7 @@ pairs_reader f = record {
 abbrev pub reader_of : FormatTables → Option ReaderTexts
 reader_of (plain_tables t) = Some (pairs_reader (plain_tables t))
 reader_of (compact_tables t) = None
+reader_of (digits_tables t o) = None
 reader_of (unit_tables u) = Some (pairs_reader (unit_tables u))
 
 -- the text of a number, where a reader is there

@@ -6,7 +6,7 @@ use Rattle.icu_decimal.specs.PlainReading.{PlainReading, unreadable}
 use Rattle.icu_decimal.specs.PlainText.{Tables}
 use Rattle.locale_numbers_formatter.specs.TypedPlain.{MayAllocateInTurn, TablesInTurn, reading_in_turn}
 use Rattle.locale_numbers_formatter.specs.TypedUnits.{MayAllocateTypedInTurn, TypedInTurn, TypedTexts, typed_texts, unit_reading_in_turn}
-use Rattle.locale_numbers_formatter.specs.FormatText.{FormatTables, UnitFormat, compact_tables, plain_tables, unit_tables}
+use Rattle.locale_numbers_formatter.specs.FormatText.{FormatTables, UnitFormat, compact_tables, digits_tables, plain_tables, unit_tables}
 
 -- ---- what texts are read with
 
@@ -21,12 +21,14 @@ abbrev pub plain_in : Option FormatTables → Option Tables
 plain_in None = None
 plain_in (Some (plain_tables t)) = Some t
 plain_in (Some (compact_tables t)) = None
+plain_in (Some (digits_tables t o)) = None
 plain_in (Some (unit_tables u)) = None
 
 abbrev pub unit_in : Option FormatTables → Option UnitFormat
 unit_in None = None
 unit_in (Some (plain_tables t)) = None
 unit_in (Some (compact_tables t)) = None
+unit_in (Some (digits_tables t o)) = None
 unit_in (Some (unit_tables u)) = Some u
 
 abbrev pub typed_unit : UnitFormat → TypedTexts
@@ -38,6 +40,7 @@ units_in_turn u second = record { first = typed_unit u; second = option_map type
 abbrev pub typed_of : FormatTables → Option FormatTables → TypedTables
 typed_of (plain_tables t) second = plain_typed (record { first = t; second = plain_in second })
 typed_of (compact_tables t) second = nothing_typed
+typed_of (digits_tables t o) second = nothing_typed
 typed_of (unit_tables u) second = unit_typed (units_in_turn u (unit_in second))
 
 -- ---- the reading

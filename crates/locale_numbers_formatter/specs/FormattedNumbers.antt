@@ -14,4 +14,5 @@ abbrev pub formatted_events : FormattedNumber → List Event
 formatted_events (number.Plain plain) = decimal_events plain
 formatted_events (number.Compact compact) = compact_decimal_events compact
 formatted_events (number.Exact exact) = exact_events exact
+formatted_events (number.Digits digits) = exact_events digits
 formatted_events (number.Unit united) = unit_decimal_events united

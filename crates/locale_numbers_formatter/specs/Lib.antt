@@ -1,5 +1,6 @@
 -- What a reader must believe: the layers of a text, what is shown, its parts, and what a text is read as.
 pub mod Layers
+pub mod CompactDigits
 pub mod FormatText
 pub mod ExactForms
 pub mod ShownOperands
@@ -12,6 +13,7 @@ pub mod Regrouped
 pub mod ExactErrors
 -- What formatters hold, and what is written.
 pub mod HeldFormats
+pub mod HeldDigits
 pub mod HeldLenientReaders
 pub mod HeldNumberReaders
 pub mod HeldTables

@@ -6,7 +6,7 @@ use Rattle.icu_decimal.specs.PlainText.{Tables}
 use Rattle.icu_decimal.specs.Symbols.{HasNoText}
 use Rattle.icu_decimal.specs.declared.options.GroupingStrategy.{GroupingStrategy}
 use Rattle.icu_dimension.specs.UnitText.{UnitSettings}
-use Rattle.locale_numbers_formatter.specs.FormatText.{FormatTables, compact_tables, plain_tables, unit_tables}
+use Rattle.locale_numbers_formatter.specs.FormatText.{FormatTables, compact_tables, digits_tables, plain_tables, unit_tables}
 
 abbrev pub plain_regrouped : GroupingStrategy → Tables → Tables
 plain_regrouped strategy t = record t { strategy = strategy }
@@ -20,10 +20,12 @@ unit_regrouped strategy s = record s { tables = plain_regrouped strategy s.table
 abbrev pub regrouped : GroupingStrategy → FormatTables → FormatTables
 regrouped strategy (plain_tables t) = plain_tables (plain_regrouped strategy t)
 regrouped strategy (compact_tables t) = compact_tables (compact_regrouped strategy t)
+regrouped strategy (digits_tables t o) = digits_tables (compact_regrouped strategy t) o
 regrouped strategy (unit_tables u) = unit_tables (record u { settings = unit_regrouped strategy u.settings })
 
 -- a copy of it has no text: that of plain numbers, where each text of the symbols is empty
 abbrev pub HasNoTexts : FormatTables → Type 0
 HasNoTexts (plain_tables t) = HasNoText t.symbols.strings
 HasNoTexts (compact_tables t) = ⊥
+HasNoTexts (digits_tables t o) = ⊥
 HasNoTexts (unit_tables u) = ⊥

@@ -20,6 +20,7 @@ impl<'a> NumberFormatter<'a> {
         match &self.kind {
             FormatterKind::Plain(formatter) => formatter.tables(),
             FormatterKind::Compact(formatter) => formatter.plain().tables(),
+            FormatterKind::CompactDigits(formatter) => formatter.compact.plain().tables(),
             FormatterKind::Percent(formatter) => formatter.decimals(),
             FormatterKind::Currency(formatter) => formatter.decimals(),
         }

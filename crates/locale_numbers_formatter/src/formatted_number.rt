@@ -1,5 +1,6 @@
 //! A number that a formatter of any kind has formatted.
 
+use crate::formatted_digits::FormattedDigits;
 use icu_decimal::pattern::Interpolated;
 use icu_decimal::{
     FormattedDecimal, FormattedSign, FormattedUnsignedCompactDecimal, FormattedUnsignedDecimal,
@@ -17,6 +18,8 @@ pub enum FormattedNumber<'l> {
     Plain(FormattedDecimal<'l>),
     /// A compact number, without parts of its digits: `-1.2K`.
     Compact(FormattedSign<'l, FormattedUnsignedCompactDecimal<'l>>),
+    /// A compact number with digits of its own, with all parts: `-1.23K`.
+    Digits(FormattedDigits<'l>),
     /// An exact form of a compact number, with all parts: `-1.20M`.
     Exact(FormattedSign<'l, Interpolated<'l, FormattedUnsignedDecimal<'l>>>),
     /// Percents, or an amount of money: `-12.5%`, `-€1,234.50`.
@@ -38,6 +41,7 @@ impl<'l> Writeable for FormattedNumber<'l> {
         match self {
             FormattedNumber::Plain(number) => number.write_to(sink),
             FormattedNumber::Compact(number) => number.write_to(sink),
+            FormattedNumber::Digits(number) => number.write_to(sink),
             FormattedNumber::Exact(number) => number.write_to(sink),
             FormattedNumber::Unit(number) => number.write_to(sink),
         }
@@ -47,6 +51,7 @@ impl<'l> Writeable for FormattedNumber<'l> {
         match self {
             FormattedNumber::Plain(number) => number.write_text(sink),
             FormattedNumber::Compact(number) => number.write_text(sink),
+            FormattedNumber::Digits(number) => number.write_text(sink),
             FormattedNumber::Exact(number) => number.write_text(sink),
             FormattedNumber::Unit(number) => number.write_text(sink),
         }
@@ -58,6 +63,7 @@ impl<'l> Writeable for FormattedNumber<'l> {
         match self {
             FormattedNumber::Plain(number) => number.writeable_length_hint(),
             FormattedNumber::Compact(number) => number.writeable_length_hint(),
+            FormattedNumber::Digits(number) => number.writeable_length_hint(),
             FormattedNumber::Exact(number) => number.writeable_length_hint(),
             FormattedNumber::Unit(number) => number.writeable_length_hint(),
         }

@@ -57,7 +57,10 @@ fn second_plain<'a>(second: Option<&NumberFormatter<'a>>) -> Option<DecimalForma
 {
     match &second?.kind {
         FormatterKind::Plain(formatter) => Some(*formatter),
-        FormatterKind::Compact(_) | FormatterKind::Percent(_) | FormatterKind::Currency(_) => None,
+        FormatterKind::Compact(_)
+        | FormatterKind::CompactDigits(_)
+        | FormatterKind::Percent(_)
+        | FormatterKind::Currency(_) => None,
     }
 }
 
@@ -123,7 +126,9 @@ fn second_unit<'a>(
             Ok(reader) => Ok(Some(reader)),
             Err(refused) => Err(refused),
         },
-        FormatterKind::Plain(_) | FormatterKind::Compact(_) => Ok(None),
+        FormatterKind::Plain(_) | FormatterKind::Compact(_) | FormatterKind::CompactDigits(_) => {
+            Ok(None)
+        }
     }
 }
 

@@ -12,8 +12,10 @@
 //! ```
 #![tactic(auto)]
 
+mod compact_digits;
 mod digit_tables;
 mod error;
+mod formatted_digits;
 mod formatted_number;
 mod known_lenient_reader;
 mod known_reader;
@@ -26,7 +28,9 @@ mod own_tables;
 mod shown_operands;
 mod unit_readers_in_turn;
 
+pub use compact_digits::CompactDigitsFormatter;
 pub use error::ExactError;
+pub use formatted_digits::FormattedDigits;
 pub use formatted_number::FormattedNumber;
 pub use lenient_number_reader::LenientNumberReader;
 pub use number_formatter::{FormatterKind, NumberFormatter};

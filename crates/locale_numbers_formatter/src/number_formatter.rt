@@ -9,12 +9,15 @@ ghost use Rattle.icu_dimension.specs.HeldFormatters.{code_of, currency_settings_
 ghost use Rattle.locale_numbers_formatter.specs.ExactForms.{IsFormInRange, exact_shown};
 ghost use Rattle.locale_numbers_formatter.specs.FormatParts.{exact_format_events, format_events};
 ghost use Rattle.locale_numbers_formatter.specs.FormatReading.{reader_of};
-ghost use Rattle.locale_numbers_formatter.specs.FormatText.{CanFormat, FormatAllocates, HasNoUnit, ShowAllocates, compact_tables, format_text, format_value, fractions_in, plain_tables, unit_tables};
+ghost use Rattle.locale_numbers_formatter.specs.FormatText.{CanFormat, FormatAllocates, HasNoUnit, ShowAllocates, compact_tables, digits_tables, format_text, format_value, fractions_in, plain_tables, unit_tables};
 ghost use Rattle.locale_numbers_formatter.specs.FormatTyped.{typed_of};
 ghost use Rattle.locale_numbers_formatter.specs.FormattedNumbers.{formatted_events};
+ghost use Rattle.locale_numbers_formatter.specs.HeldDigits.{compact_held, digits_format, options_held};
 ghost use Rattle.locale_numbers_formatter.specs.HeldFormats.{currency_format, format_of, percent_format};
 
+use crate::compact_digits::CompactDigitsFormatter;
 use crate::error::ExactError;
+use crate::formatted_digits::FormattedDigits;
 use crate::formatted_number::FormattedNumber;
 use crate::laws::{compact_is_layered, format_is_text, plain_is_layered, unit_is_layered};
 use crate::lenient_number_reader::LenientNumberReader;
@@ -32,6 +35,8 @@ pub enum FormatterKind<'a> {
     Plain(DecimalFormatter<'a>),
     /// Of compact numbers: `1.2K`.
     Compact(CompactDecimalFormatter<'a>),
+    /// Of compact numbers with digits of their own: `1.23K`.
+    CompactDigits(CompactDigitsFormatter<'a>),
     /// Of percents: `12.5%`, `12.5‰`.
     Percent(PercentFormatter<'a>),
     /// Of amounts in one currency: `€1.50`.
@@ -80,6 +85,18 @@ impl<'a> From<CompactDecimalFormatter<'a>> for NumberFormatter<'a> {
     }
 }
 
+/// The formatter of compact numbers with digits of their own: that of `en` in short form with two fraction digits writes
+/// -1234 as `-1.23K`. It does not allocate.
+impl<'a> From<CompactDigitsFormatter<'a>> for NumberFormatter<'a> {
+    ghost from_gives = { λ formatter made. made ≡ digits_tables (compact_held formatter) (options_held formatter) };
+
+    fn from(formatter: CompactDigitsFormatter<'a>) -> Self {
+        NumberFormatter {
+            kind: FormatterKind::CompactDigits(formatter),
+        }
+    }
+}
+
 /// The formatter of percents: that of `en` writes -12.5 as `-12.5%`. It does not allocate.
 impl<'a> From<PercentFormatter<'a>> for NumberFormatter<'a> {
     ghost from_gives = { λ formatter made.
@@ -114,6 +131,29 @@ fn format_compact<'l>(
     match formatter.format(value) {
         Ok(number) => Ok(FormattedNumber::Compact(number)),
         Err(refused) => Err(refused),
+    }
+}
+
+// A compact number with digits of its own.
+fn format_digits<'l>(
+    formatter: &'l CompactDigitsFormatter<'_>,
+    value: &Decimal,
+) -> Result<FormattedNumber<'l>, AllocError>
+    ensures value { IfOk result
+        (λ number. formatted_events number ≡ format_events (digits_format formatter.now) value.now) }
+    ensures room { OnErr result (FormatAllocates (digits_format formatter.now) value.now) }
+{
+    let mut significand = value.try_clone()?;
+    match formatter.show(&mut significand) {
+        Ok(under) => Ok(FormattedNumber::Digits(FormattedDigits::new(
+            &formatter.compact,
+            significand,
+            under.entry,
+        ))),
+        Err(refused) => {
+            drop(significand);
+            Err(refused)
+        }
     }
 }
 
@@ -160,6 +200,24 @@ fn show_compact(
         Decimal::new(value.sign, significand),
         shown.exponent(),
     ))
+}
+
+// What compact text with digits of its own shows for a number.
+fn show_digits(
+    formatter: &CompactDigitsFormatter<'_>,
+    value: &Decimal,
+) -> Result<CompactDecimal, AllocError>
+    ensures value { IfOk result (λ shown. shown ≡ format_value (digits_format formatter.now) value.now) }
+    ensures room { OnErr result (ShowAllocates (digits_format formatter.now) value.now) }
+{
+    let mut significand = value.try_clone()?;
+    match formatter.show(&mut significand) {
+        Ok(under) => Ok(CompactDecimal::from_significand_and_exponent(significand, under.exponent)),
+        Err(refused) => {
+            drop(significand);
+            Err(refused)
+        }
+    }
 }
 
 // A number that is shown as it is.
@@ -273,13 +331,17 @@ impl<'a> NumberFormatter<'a> {
         ensures { result ≡ fractions_in self.now }
     {
         match &self.kind {
-            FormatterKind::Plain(_) | FormatterKind::Compact(_) | FormatterKind::Percent(_) => None,
+            FormatterKind::Plain(_)
+            | FormatterKind::Compact(_)
+            | FormatterKind::CompactDigits(_)
+            | FormatterKind::Percent(_) => None,
             FormatterKind::Currency(formatter) => Some(formatter.fractions()),
         }
     }
 
     /// Whether the number can be formatted: always but by compact formatters, which don't write 32,768 nines in English,
-    /// as what they are rounded to, 10^32768, is no decimal.
+    /// as what they are rounded to, 10^32768, is no decimal; those with digits of their own don't write a number with a
+    /// digit below its exponent, as 1000 and 10^-32768 together.
     ///
     /// It is the condition of `format` and `shown`. It does not allocate.
     pub fn can_format(&self, value: &Decimal) -> bool
@@ -287,6 +349,7 @@ impl<'a> NumberFormatter<'a> {
     {
         match &self.kind {
             FormatterKind::Compact(formatter) => formatter.can_format(value),
+            FormatterKind::CompactDigits(formatter) => formatter.can_show(value),
             FormatterKind::Plain(_) | FormatterKind::Percent(_) | FormatterKind::Currency(_) => {
                 true
             }
@@ -297,8 +360,8 @@ impl<'a> NumberFormatter<'a> {
     /// English.
     ///
     /// The condition is `can_format`. It is written as it is given, with its digits, but for compact text. It allocates
-    /// where a compact number has more than sixteen digits, from the first to the last one that is not zero.
-    /// `AllocError`: out of memory, only there.
+    /// where a compact number has more than sixteen digits, from the first to the last one that is not zero, and it may
+    /// where digits of its own are rounded to multiples of 25. `AllocError`: out of memory, only there.
     ///
     /// Source: UTS 35, part 3 (numbers).
     pub fn format<'l>(&'l self, value: &'l Decimal) -> Result<FormattedNumber<'l>, AllocError>
@@ -311,6 +374,7 @@ impl<'a> NumberFormatter<'a> {
         match &self.kind {
             FormatterKind::Plain(formatter) => Ok(format_plain(formatter, value)),
             FormatterKind::Compact(formatter) => format_compact(formatter, value),
+            FormatterKind::CompactDigits(formatter) => format_digits(formatter, value),
             FormatterKind::Percent(formatter) => Ok(format_percent(formatter, value)),
             FormatterKind::Currency(formatter) => Ok(format_amount(formatter, value)),
         }
@@ -320,7 +384,8 @@ impl<'a> NumberFormatter<'a> {
     /// number itself with the exponent 0 by any other.
     ///
     /// The condition is `can_format`. It allocates where the number, or what is shown for it, has more than sixteen digits,
-    /// from the first to the last one that is not zero. `AllocError`: out of memory, only there.
+    /// from the first to the last one that is not zero, and may where `format` may. `AllocError`: out of memory, only
+    /// there.
     pub fn shown(&self, value: &Decimal) -> Result<CompactDecimal, AllocError>
         requires { CanFormat self.now value.now }
         ensures value { IfOk result (λ shown. shown ≡ format_value self.now value.now) }
@@ -328,6 +393,7 @@ impl<'a> NumberFormatter<'a> {
     {
         match &self.kind {
             FormatterKind::Compact(formatter) => show_compact(formatter, value),
+            FormatterKind::CompactDigits(formatter) => show_digits(formatter, value),
             FormatterKind::Plain(_) | FormatterKind::Percent(_) | FormatterKind::Currency(_) => {
                 show_as_it_is(value)
             }
@@ -351,6 +417,10 @@ impl<'a> NumberFormatter<'a> {
         match &self.kind {
             FormatterKind::Plain(formatter) => Ok(format_plain(formatter, without_exponent(form)?)),
             FormatterKind::Compact(formatter) => format_exact_compact(formatter, form),
+            FormatterKind::CompactDigits(formatter) => format_exact_compact(
+                &formatter.compact,
+                form,
+            ),
             FormatterKind::Percent(formatter) => {
                 Ok(format_percent(formatter, without_exponent(form)?))
             }
@@ -371,7 +441,9 @@ impl<'a> NumberFormatter<'a> {
     {
         match &self.kind {
             FormatterKind::Plain(formatter) => Ok(NumberReader::of_plain(*formatter)),
-            FormatterKind::Compact(_) => Ok(NumberReader::of_nothing()),
+            FormatterKind::Compact(_) | FormatterKind::CompactDigits(_) => {
+                Ok(NumberReader::of_nothing())
+            }
             FormatterKind::Percent(formatter) => read_percents(alloc, formatter),
             FormatterKind::Currency(formatter) => read_amounts(alloc, formatter),
         }
@@ -396,7 +468,9 @@ impl<'a> NumberFormatter<'a> {
             FormatterKind::Plain(formatter) => {
                 Ok(LenientNumberReader::of_plain(alloc, formatter, second))
             }
-            FormatterKind::Compact(_) => Ok(LenientNumberReader::of_nothing()),
+            FormatterKind::Compact(_) | FormatterKind::CompactDigits(_) => {
+                Ok(LenientNumberReader::of_nothing())
+            }
             FormatterKind::Percent(formatter) => {
                 LenientNumberReader::of_percent(alloc, formatter, second)
             }

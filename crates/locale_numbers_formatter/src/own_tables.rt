@@ -5,10 +5,12 @@ ghost use Rattle.icu_decimal.specs.HeldCompact.{compact_tables_of};
 ghost use Rattle.icu_decimal.specs.HeldTables.{tables_of};
 ghost use Rattle.icu_dimension.specs.HeldFormatters.{code_of, currency_settings_of, settings_of_percent, sign_of};
 ghost use Rattle.icu_dimension.specs.HeldUnits.{settings_of};
-ghost use Rattle.locale_numbers_formatter.specs.FormatText.{compact_tables, plain_tables, unit_tables};
+ghost use Rattle.locale_numbers_formatter.specs.FormatText.{compact_tables, digits_tables, plain_tables, unit_tables};
+ghost use Rattle.locale_numbers_formatter.specs.HeldDigits.{compact_held, options_held};
 ghost use Rattle.locale_numbers_formatter.specs.HeldFormats.{currency_format, percent_format};
 ghost use Rattle.locale_numbers_formatter.specs.Regrouped.{HasNoTexts, compact_regrouped, plain_regrouped, regrouped, unit_regrouped};
 
+use crate::compact_digits::CompactDigitsFormatter;
 use crate::number_formatter::{FormatterKind, NumberFormatter};
 use icu_decimal::options::GroupingStrategy;
 use icu_decimal::plurals::PluralRules;
@@ -19,6 +21,7 @@ use icu_dimension::{
     CurrencyCode, CurrencyFormatter, FractionInfo, LetterEnds, PercentFormatter, PercentSign,
     UnitKind, UnitPattern, UnitTables,
 };
+use locale_numbers_formats::NumberOptions;
 use std::alloc::{AllocError, Global};
 use std::marker::Model;
 
@@ -67,6 +70,8 @@ pub(crate) enum OwnTables {
     Plain(OwnedDecimalTables),
     // Of compact numbers.
     Compact(OwnCompactTables),
+    // Of compact numbers with digits of their own, with the options of these.
+    CompactDigits(OwnCompactTables, NumberOptions),
     // Of percents, with their sign.
     Percent(OwnUnitTables, PercentSign),
     // Of amounts, with the code of their currency and its digits.
@@ -210,6 +215,21 @@ impl OwnNumberTables {
         })
     }
 
+    // Those of compact numbers with digits of their own.
+    fn of_digits(
+        alloc: Global,
+        formatter: &CompactDigitsFormatter<'_>,
+        strategy: GroupingStrategy,
+    ) -> Result<OwnNumberTables, AllocError>
+        ensures { IfOk result (λ own. own
+            ≡ digits_tables (compact_regrouped strategy (compact_held formatter.now)) (options_held formatter.now)) }
+    {
+        let tables = OwnCompactTables::of(alloc, &formatter.compact, strategy)?;
+        Ok(OwnNumberTables {
+            tables: OwnTables::CompactDigits(tables, formatter.options),
+        })
+    }
+
     // Those of percents.
     fn of_percent(
         alloc: Global,
@@ -259,6 +279,9 @@ impl OwnNumberTables {
             FormatterKind::Compact(formatter) => {
                 OwnNumberTables::of_compact(alloc, formatter, strategy)
             }
+            FormatterKind::CompactDigits(formatter) => {
+                OwnNumberTables::of_digits(alloc, formatter, strategy)
+            }
             FormatterKind::Percent(formatter) => {
                 OwnNumberTables::of_percent(alloc, formatter, strategy)
             }
@@ -278,6 +301,9 @@ impl OwnNumberTables {
                 FormatterKind::Plain(DecimalFormatter::from(tables.tables()))
             }
             OwnTables::Compact(tables) => FormatterKind::Compact(tables.formatter()),
+            OwnTables::CompactDigits(tables, options) => FormatterKind::CompactDigits(
+                CompactDigitsFormatter::new(tables.formatter(), *options),
+            ),
             OwnTables::Percent(tables, sign) => FormatterKind::Percent(tables.percents(*sign)),
             OwnTables::Currency(tables, code, fractions) => {
                 FormatterKind::Currency(tables.amounts(*code, *fractions))

@@ -1,17 +1,20 @@
 //! The plural operands of a number as it is shown.
 
-ghost use Rattle.std.specs.Prelude.{◌≡◌, IfNone, IfSome};
+ghost use Rattle.std.specs.Prelude.{◌≡◌, IfNone, IfOk, IfSome, OnErr};
 ghost use Rattle.icu_decimal.specs.HeldCompact.{compact_tables_of};
 ghost use Rattle.icu_decimal.specs.Significand.{Shows};
 ghost use Rattle.icu_decimal.specs.ShownChoice.{CanShow};
-ghost use Rattle.locale_numbers_formatter.specs.FormatText.{CanFormat, compact_tables, format_value};
+ghost use Rattle.locale_numbers_formatter.specs.FormatText.{CanFormat, MayLengthen, compact_tables, format_value};
+ghost use Rattle.locale_numbers_formatter.specs.HeldDigits.{digits_format};
 ghost use Rattle.locale_numbers_formatter.specs.ShownOperands.{shown_operands, value_operands};
 
+use crate::compact_digits::CompactDigitsFormatter;
 use crate::number_formatter::{FormatterKind, NumberFormatter};
 use fixed_decimal::Decimal;
 use icu_decimal::CompactDecimalFormatter;
 use icu_decimal::plurals::PluralOperands;
 use icu_decimal_compact_value::{CompactEntry, ShownUnder, show_in_place};
+use std::alloc::AllocError;
 
 // Makes a number what it is shown as under these entries, its sign kept.
 fn show_absolute(value: &mut Decimal, entries: &[CompactEntry]) -> ShownUnder
@@ -52,24 +55,46 @@ fn compact_operands(
     }
 }
 
+// The same of digits of its own.
+fn digits_operands(
+    formatter: &CompactDigitsFormatter<'_>,
+    value: &mut Decimal,
+) -> Result<Option<PluralOperands>, AllocError>
+    ensures operands { IfOk result (λ seen. seen ≡ shown_operands (digits_format formatter.now) value.old) }
+    ensures value { IfOk result (λ seen. IfSome seen
+        (λ operands. value.new ≡ (format_value (digits_format formatter.now) value.old).significand)) }
+    ensures same { IfOk result (λ seen. IfNone seen (value.new ≡ value.old)) }
+    ensures room { OnErr result (MayLengthen (digits_format formatter.now)) }
+{
+    if !formatter.can_show(value) {
+        return Ok(None);
+    }
+    let under = formatter.show(value)?;
+    Ok(Some(PluralOperands::from_significand_and_exponent(&value.absolute, under.exponent)))
+}
+
 impl<'a> NumberFormatter<'a> {
     /// What plural rules see of the number as this formatter shows it: of 1.50 the operands of `1.50`, and of 1650 by a
     /// short formatter of `en` those of `1.6` with the exponent 3.
     ///
     /// By a compact formatter the number becomes the one in the pattern, 1.6; by any other it stays. `None`: by a compact
-    /// formatter, where what is shown would be no decimal, as `can_format` says; the number then stays too. It does not
-    /// allocate.
+    /// formatter, where the number can't be formatted, as `can_format` says; it then stays too. It may allocate only by
+    /// digits of its own that are rounded to multiples of 25. `AllocError`: out of memory; the number may then be another
+    /// one.
     ///
     /// Source: UTS 35, part 3 (numbers), section 5.1.1.
-    pub fn plural_operands(&self, value: &mut Decimal) -> Option<PluralOperands>
-        ensures operands { result ≡ shown_operands self.now value.old }
-        ensures value { IfSome result (λ operands. value.new ≡ (format_value self.now value.old).significand) }
-        ensures same { IfNone result (value.new ≡ value.old) }
+    pub fn plural_operands(&self, value: &mut Decimal) -> Result<Option<PluralOperands>, AllocError>
+        ensures operands { IfOk result (λ seen. seen ≡ shown_operands self.now value.old) }
+        ensures value { IfOk result (λ seen. IfSome seen
+            (λ operands. value.new ≡ (format_value self.now value.old).significand)) }
+        ensures same { IfOk result (λ seen. IfNone seen (value.new ≡ value.old)) }
+        ensures room { OnErr result (MayLengthen self.now) }
     {
         match &self.kind {
-            FormatterKind::Compact(formatter) => compact_operands(formatter, value),
+            FormatterKind::Compact(formatter) => Ok(compact_operands(formatter, value)),
+            FormatterKind::CompactDigits(formatter) => digits_operands(formatter, value),
             FormatterKind::Plain(_) | FormatterKind::Percent(_) | FormatterKind::Currency(_) => {
-                Some(PluralOperands::from_significand_and_exponent(&value.absolute, 0))
+                Ok(Some(PluralOperands::from_significand_and_exponent(&value.absolute, 0)))
             }
         }
     }

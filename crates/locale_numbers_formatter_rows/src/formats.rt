@@ -12,15 +12,18 @@ use icu_dimension::{
     CurrencyCode, CurrencyFormatter, Fraction, FractionIncrement, FractionInfo, LetterEnds,
     PercentFormatter, PercentSign, UnitAffixes, UnitPattern, UnitPatternError,
 };
-use locale_numbers_formatter::NumberFormatter;
+use locale_numbers_formats::{CompactWidth, Notation, NumberFormat, NumberOptions};
+use locale_numbers_formatter::{CompactDigitsFormatter, NumberFormatter};
 use rows::Stop;
 use serde_json::Value;
 use std::alloc::Global;
 
 const LATIN: [char; 10] = ['0', '1', '2', '3', '4', '5', '6', '7', '8', '9'];
 
-// Patterns of thousands and millions in short form, and one that is in place of the number.
+// Patterns of thousands and millions in short form and in long form, and one that is in place of the number.
 const SHORT: &str = r#"[[3,3,[["other",["","K"]]]],[6,6,[["other",["","M"]]]]]"#;
+
+const LONG: &str = r#"[[3,3,[["other",[""," thousand"]]]],[6,6,[["other",[""," million"]]]]]"#;
 
 const WORD: &str = r#"[[3,3,[["other",["thousand"]]]]]"#;
 
@@ -53,26 +56,44 @@ fn patterns_of(alloc: Global, text: &str) -> Result<CompactPatterns, Stop> {
     }
 }
 
+// Compact numbers: their patterns, and the options of digits of their own.
+#[derive(Clone, Copy)]
+struct CompactFormat {
+    patterns: &'static str,
+    digits: Option<NumberOptions>,
+}
+
+// The formatter of compact numbers, with digits of their own or not.
+fn with_digits(
+    compact: CompactDecimalFormatter<'_>,
+    digits: Option<NumberOptions>,
+) -> NumberFormatter<'_> {
+    match digits {
+        Some(options) => NumberFormatter::from(CompactDigitsFormatter::new(compact, options)),
+        None => NumberFormatter::from(compact),
+    }
+}
+
 // The answer of a call of compact numbers with these rules.
 fn by_rules(
     decimals: DecimalTables<'_>,
     rules: &PluralRules,
-    patterns: &str,
+    format: CompactFormat,
     call: Call<'_>,
     out: &mut String,
 ) -> Result<(), Stop> {
-    let patterns = patterns_of(*out.allocator(), patterns)?;
+    let patterns = patterns_of(*out.allocator(), format.patterns)?;
     let plain = DecimalFormatter::from(decimals);
     let compact = CompactDecimalFormatter::from_tables(plain, rules, &patterns);
-    let answered = answers::answer(&NumberFormatter::from(compact), call, out);
+    let answered = answers::answer(&with_digits(compact, format.digits), call, out);
     drop(patterns);
     answered
 }
 
-// The answer of a call of compact numbers with these patterns, without plurals.
+// The answer of a call of compact numbers, without plurals.
 fn by_compact(
     decimals: DecimalTables<'_>,
-    patterns: &str,
+    format: CompactFormat,
     call: Call<'_>,
     out: &mut String,
 ) -> Result<(), Stop> {
@@ -80,9 +101,41 @@ fn by_compact(
         Ok(rules) => rules,
         Err(_) => return Err(Stop::Memory),
     };
-    let answered = by_rules(decimals, &rules, patterns, call, out);
+    let answered = by_rules(decimals, &rules, format, call, out);
     drop(rules);
     answered
+}
+
+// The answer of a call of compact numbers with these patterns, as their own rule rounds them.
+fn by_patterns(
+    decimals: DecimalTables<'_>,
+    patterns: &'static str,
+    call: Call<'_>,
+    out: &mut String,
+) -> Result<(), Stop> {
+    let format = CompactFormat {
+        patterns,
+        digits: None,
+    };
+    by_compact(decimals, format, call, out)
+}
+
+// The compact numbers with digits of their own that a skeleton asks for.
+fn format_of_skeleton(skeleton: &str) -> Result<CompactFormat, Stop> {
+    let notation = match NumberFormat::try_from_str(skeleton) {
+        Ok(format) => format.shape.notation,
+        Err(_) => return Err(Stop::Unknown),
+    };
+    match notation {
+        Notation::CompactDigits(width, options) => Ok(CompactFormat {
+            patterns: match width {
+                CompactWidth::Short => SHORT,
+                CompactWidth::Long => LONG,
+            },
+            digits: Some(options),
+        }),
+        Notation::Standard | Notation::Compact(_) => Err(Stop::Unknown),
+    }
 }
 
 // The answer of a call of percents.
@@ -180,12 +233,15 @@ pub fn answer(call: Call<'_>, out: &mut String) -> Result<(), Stop> {
     let decimals = DecimalTables::new(&symbols, &LATIN, GroupingStrategy::Auto);
     let answered = match call.format {
         "plain" => by_plain(decimals, call, out),
-        "short" => by_compact(decimals, SHORT, call, out),
-        "word" => by_compact(decimals, WORD, call, out),
+        "short" => by_patterns(decimals, SHORT, call, out),
+        "word" => by_patterns(decimals, WORD, call, out),
         "percent" => by_percent(decimals, call, out),
         "EUR" => by_euros(decimals, call, out),
         "CHF" => by_francs(decimals, call, out),
-        _ => Err(Stop::Unknown),
+        skeleton => match format_of_skeleton(skeleton) {
+            Ok(format) => by_compact(decimals, format, call, out),
+            Err(stop) => Err(stop),
+        },
     };
     drop(symbols);
     answered

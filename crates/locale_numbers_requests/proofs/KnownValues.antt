@@ -9,16 +9,17 @@ use Rattle.icu_decimal_symbols.specs.declared.options.GroupingStrategy.{Grouping
 use Rattle.icu_decimal_symbols.specs.declared.options.GroupingStrategy.TheVariants.{Auto, Min2, OnAligned}
 use Rattle.icu_dimension_fractions.specs.declared.CurrencyStyle.TheVariants as style
 use Rattle.icu_dimension_fractions.specs.declared.CurrencyWidth.TheVariants.{Short, IsoCode}
+use Rattle.icu_dimension_fractions.specs.declared.PercentSign.TheVariants as sign
 use Rattle.icu_plurals.specs.declared.PluralRuleType.TheVariants.{Cardinal, Ordinal}
-use Rattle.locale_numbers_formats.specs.Changed.{shown}
+use Rattle.locale_numbers_formats.specs.Changed.{shown, unchanged}
 use Rattle.locale_numbers_formats.specs.declared.CompactWidth.TheVariants as compact
 use Rattle.locale_numbers_formats.specs.declared.LeadingZeros.TheVariants as leading
-use Rattle.locale_numbers_formats.specs.declared.Notation.TheVariants.{Standard, Compact}
+use Rattle.locale_numbers_formats.specs.declared.Notation.TheVariants.{Standard, Compact, CompactDigits}
 use Rattle.locale_numbers_formats.specs.declared.NumberFormat.{NumberFormat}
 use Rattle.locale_numbers_formats.specs.declared.NumberOptions.{NumberOptions}
 use Rattle.locale_numbers_formats.specs.declared.NumberUnit.{NumberUnit}
 use Rattle.locale_numbers_formats.specs.declared.NumberUnit.TheVariants as unit
-use Rattle.locale_numbers_formats.specs.declared.NumberUnit.TheVariants.{Percent, Permille, Currency}
+use Rattle.locale_numbers_formats.specs.declared.NumberUnit.TheVariants.{Percent, Currency}
 use Rattle.locale_numbers_formats.specs.declared.Rounding.{Rounding}
 use Rattle.locale_numbers_formats.specs.declared.Rounding.TheVariants.{Usual, Cash, AsGiven, At, Significant, Either}
 use Rattle.locale_numbers_formats.specs.declared.RoundingPriority.TheVariants.{MorePrecision, LessPrecision}
@@ -114,7 +115,7 @@ no_such_sign = refl
 -- ---- units
 
 percent_line : request_in (codes "tr" ∷ codes "percent" ∷ codes "auto" ∷ codes "keep" ∷ codes "-" ∷ codes "-12.5" ∷ [])
-    ≡ Some (record { tag = codes "tr"; task = Write; format = by_words Percent Auto Usual; text = codes "-12.5" })
+    ≡ Some (record { tag = codes "tr"; task = Write; format = by_words (Percent sign.Percent) Auto Usual; text = codes "-12.5" })
 percent_line = refl
 
 amount_line : request_in (codes "en" ∷ codes "currency-EUR" ∷ codes "auto" ∷ codes "keep" ∷ codes "-" ∷ codes "1234.5" ∷ [])
@@ -130,16 +131,16 @@ code_word = refl
 read_amount_word : form_named (codes "read-code-CHF") ≡ Some (OfWord Read Standard (Currency (record { code = codes "CHF"; style = style.Standard; width = IsoCode })))
 read_amount_word = refl
 
-typed_percent_word : form_named (codes "read-lenient-percent") ≡ Some (OfWord ReadLenient Standard Percent)
+typed_percent_word : form_named (codes "read-lenient-percent") ≡ Some (OfWord ReadLenient Standard (Percent sign.Percent))
 typed_percent_word = refl
 
-permille_word : form_named (codes "permille") ≡ Some (OfWord Write Standard Permille)
+permille_word : form_named (codes "permille") ≡ Some (OfWord Write Standard (Percent sign.Permille))
 permille_word = refl
 
-read_permille_word : form_named (codes "read-permille") ≡ Some (OfWord Read Standard Permille)
+read_permille_word : form_named (codes "read-permille") ≡ Some (OfWord Read Standard (Percent sign.Permille))
 read_permille_word = refl
 
-typed_permille_word : form_named (codes "read-lenient-permille") ≡ Some (OfWord ReadLenient Standard Permille)
+typed_permille_word : form_named (codes "read-lenient-permille") ≡ Some (OfWord ReadLenient Standard (Percent sign.Permille))
 typed_permille_word = refl
 
 typed_amount_word : form_named (codes "read-lenient-currency-EUR") ≡ Some (OfWord ReadLenient Standard (Currency (record { code = codes "EUR"; style = style.Standard; width = Short })))
@@ -222,7 +223,12 @@ by_skeleton unit rounding zeros = record {
   options = record { rounding = rounding; leading_zeros = leading.Trim; zeros = zeros; integer_digits = pos 0; fraction_digits = pos 0; sign = Show display.Auto };
 }
 
-skeleton_word : form_named (codes "::percent") ≡ Some (OfSkeleton Write (by_skeleton Percent (At (negsuc 5) (Unsigned HalfEven) MultiplesOf1) trailing.Trim))
+-- the options of one that shows so many digits after the point
+abbrev by_hundredths : TrailingZeros → ℕ → NumberOptions
+by_hundredths zeros fraction =
+    record { rounding = At (negsuc 1) (Unsigned HalfEven) MultiplesOf1; leading_zeros = leading.Trim; zeros = zeros; integer_digits = pos 0; fraction_digits = pos fraction; sign = Show display.Auto }
+
+skeleton_word : form_named (codes "::percent") ≡ Some (OfSkeleton Write (by_skeleton (Percent sign.Percent) (At (negsuc 5) (Unsigned HalfEven) MultiplesOf1) trailing.Trim))
 skeleton_word = refl
 
 amount_skeleton : form_named (codes "::currency/EUR")
@@ -230,7 +236,7 @@ amount_skeleton : form_named (codes "::currency/EUR")
 amount_skeleton = refl
 
 -- what is read is not rounded, but that an amount may have the digits of its currency
-read_skeleton : form_named (codes "read::percent") ≡ Some (OfSkeleton Read (by_skeleton Percent AsGiven trailing.Trim))
+read_skeleton : form_named (codes "read::percent") ≡ Some (OfSkeleton Read (by_skeleton (Percent sign.Percent) AsGiven trailing.Trim))
 read_skeleton = refl
 
 typed_skeleton : form_named (codes "read-lenient::currency/EUR")
@@ -243,6 +249,21 @@ exact_skeleton : form_named (codes "exact::compact-long group-auto")
       options = record { rounding = AsGiven; leading_zeros = leading.Trim; zeros = trailing.Trim; integer_digits = pos 0; fraction_digits = pos 0; sign = Show display.Auto };
     }))
 exact_skeleton = refl
+
+-- digits of their own are those of what is before the pattern, and nothing changes the number
+abbrev with_digits : NumberFormat
+with_digits = record {
+  shape = record { notation = CompactDigits compact.Short (by_hundredths trailing.Trim 2); unit = unit.None; grouping = Min2 };
+  options = unchanged;
+}
+
+digits_skeleton : form_named (codes "::compact-short .00") ≡ Some (OfSkeleton Write with_digits)
+digits_skeleton = refl
+
+-- of an exact form they are given, so only the sign is chosen
+exact_digits : form_named (codes "exact::compact-short .00")
+    ≡ Some (OfSkeleton WriteExact (record { shape = record { notation = Compact compact.Short; unit = unit.None; grouping = Min2 }; options = by_hundredths trailing.Trim 2 }))
+exact_digits = refl
 
 -- an exponent goes with compact numbers
 exact_percent : form_named (codes "exact::percent") ≡ None
@@ -262,7 +283,7 @@ other_task = refl
 
 -- a skeleton says all
 skeleton_line : request_in (codes "en" ∷ codes "::percent" ∷ codes "auto" ∷ codes "keep" ∷ codes "-" ∷ codes "1" ∷ [])
-    ≡ Some (record { tag = codes "en"; task = Write; format = by_skeleton Percent (At (negsuc 5) (Unsigned HalfEven) MultiplesOf1) trailing.Trim; text = codes "1" })
+    ≡ Some (record { tag = codes "en"; task = Write; format = by_skeleton (Percent sign.Percent) (At (negsuc 5) (Unsigned HalfEven) MultiplesOf1) trailing.Trim; text = codes "1" })
 skeleton_line = refl
 
 skeleton_with_a_grouping : request_in (codes "en" ∷ codes "::percent" ∷ codes "min2" ∷ codes "keep" ∷ codes "-" ∷ codes "1" ∷ []) ≡ None
@@ -305,7 +326,7 @@ plural_skeleton : form_named (codes "plural::currency/EUR")
     ≡ Some (OfSkeleton (Category Cardinal) (by_skeleton (Currency (record { code = codes "EUR"; style = style.Standard; width = Short })) Usual trailing.Keep))
 plural_skeleton = refl
 
-ordinal_skeleton : form_named (codes "ordinal::percent") ≡ Some (OfSkeleton (Category Ordinal) (by_skeleton Percent (At (negsuc 5) (Unsigned HalfEven) MultiplesOf1) trailing.Trim))
+ordinal_skeleton : form_named (codes "ordinal::percent") ≡ Some (OfSkeleton (Category Ordinal) (by_skeleton (Percent sign.Percent) (At (negsuc 5) (Unsigned HalfEven) MultiplesOf1) trailing.Trim))
 ordinal_skeleton = refl
 
 range_skeleton : form_named (codes "range-plural::currency/EUR")

@@ -1,4 +1,4 @@
-pub mod CodeLemmas
+pub mod AskedLemmas
 pub mod DigitsLemmas
 mod KnownValues
 pub mod MagnitudeLemmas

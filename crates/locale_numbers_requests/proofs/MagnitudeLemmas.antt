@@ -1,50 +1,44 @@
--- The options of a request fit decimals: the position of its rounding is a magnitude: `specs/Laws.antt`.
-use Rattle.std.proofs.Common.{◌≡◌, ◌+◌, ◌≤◌, ◌<◌, ◌&&◌, ℕ, zero, suc, Bool, true, false, List, [], ◌∷◌, Option, Some, None, Result, Ok, Err, refl, subst, arith, if◌then◌else◌, drop, length, take, ◌-◌}
+-- Each rounding of the field and of a skeleton is at a magnitude, and the options of a skeleton fit decimals: `specs/Laws.antt`.
+use Rattle.std.proofs.Common.{◌≡◌, ◌+◌, ◌≤◌, ◌<◌, ◌&&◌, ℕ, zero, suc, Bool, true, false, List, [], ◌∷◌, Option, Some, None, Ok, refl, subst, arith, if◌then◌else◌, ◌-◌}
 use Rattle.std.proofs.lemmas.Bool.{leb-true}
 use Rattle.std.specs.Prelude.{◌==◌, ◌+ℤ◌, ◌-ℤ◌, codes, int_le, ℤ, neg_ℤ, pos, negsuc, nat_le}
-use Rattle.std.specs.Str.{bytes_eq, is_utf8}
+use Rattle.std.specs.Str.{bytes_eq}
 use Rattle.fixed_decimal.specs.Number.{place}
 use Rattle.fixed_decimal.specs.NumberText.{minus, spelled}
 use Rattle.fixed_decimal.specs.declared.SignedRoundingMode.{SignedRoundingMode}
-use Rattle.icu_decimal_symbols.specs.declared.options.GroupingStrategy.{GroupingStrategy}
-use Rattle.icu_dimension_fractions.specs.CurrencyCodes.{is_currency_code}
 use Rattle.icu_dimension_fractions.specs.declared.CurrencyUsage.{CurrencyUsage}
 use Rattle.icu_dimension_fractions.specs.declared.CurrencyUsage.TheVariants as usage
 use Rattle.locale_numbers_formats.proofs.ReadLemmas.{skeleton_is}
+use Rattle.locale_numbers_formats.specs.Changed.{unchanged}
 use Rattle.locale_numbers_formats.specs.Cutting.{cut_at}
 use Rattle.locale_numbers_formats.specs.SkeletonFormats as skeletons
-use Rattle.locale_numbers_formats.specs.SkeletonFormats.{by_usage, format_of, to_digits}
+use Rattle.locale_numbers_formats.specs.SkeletonFormats.{by_usage, compact_rounding, format_of, has_own_digits, notation_by, options_of, to_digits}
 use Rattle.locale_numbers_formats.specs.SkeletonLaws.{HasMarks}
-use Rattle.locale_numbers_formats.specs.Skeletons.{is_compact, is_currency, skeleton_of}
+use Rattle.locale_numbers_formats.specs.Skeletons.{is_compact, is_currency, says_precision, skeleton_of}
 use Rattle.locale_numbers_formats.specs.declared.LeadingZeros.{LeadingZeros}
-use Rattle.locale_numbers_formats.specs.declared.NumberFormat.{NumberFormat}
+use Rattle.locale_numbers_formats.specs.declared.Notation.TheVariants.{Compact, CompactDigits}
 use Rattle.locale_numbers_formats.specs.declared.Precision.{Precision}
 use Rattle.locale_numbers_formats.specs.declared.Precision.TheVariants as precision
 use Rattle.locale_numbers_formats.specs.declared.Rounding.{Rounding}
 use Rattle.locale_numbers_formats.specs.declared.Rounding.TheVariants as rounding
 use Rattle.locale_numbers_formats.specs.declared.Rounding.TheVariants.{Usual, AsGiven, At, Significant, Either}
 use Rattle.locale_numbers_formats.specs.declared.RoundingPriority.{RoundingPriority}
-use Rattle.locale_numbers_formats.specs.declared.SignAsked.{SignAsked}
+use Rattle.locale_numbers_formats.specs.declared.RoundingPriority.TheVariants.{MorePrecision}
 use Rattle.locale_numbers_formats.specs.declared.Skeleton.{Skeleton}
+use Rattle.locale_numbers_formats.specs.declared.SkeletonNotation.{SkeletonNotation}
+use Rattle.locale_numbers_formats.specs.declared.SkeletonNotation.TheVariants as asked
 use Rattle.locale_numbers_formats.specs.declared.SignificantDigits.{SignificantDigits}
-use Rattle.locale_numbers_formats.specs.declared.SkeletonError.{SkeletonError}
-use Rattle.locale_numbers_requests.specs.Laws.{FitDecimals, IsAtMagnitude, RequestsAreAtMagnitude}
-use Rattle.locale_numbers_requests.specs.FormField.{amount_by, amount_form, amount_word, coded_form, colon, first_of, form_for, form_named, listed_form, rounding_read, skeleton_by, skeleton_in, skeleton_task}
+use Rattle.locale_numbers_formats.specs.declared.TrailingZeros.{TrailingZeros}
+use Rattle.locale_numbers_formats.specs.declared.TrailingZeros.TheVariants.{Keep, Trim, TrimWhole, TrimAll}
+use Rattle.locale_numbers_requests.specs.FormField.{rounding_read}
 use Rattle.locale_numbers_requests.specs.Increments.{digits_down, has_no_zeros, increment_named, multiples_at, raised}
-use Rattle.locale_numbers_requests.specs.Request.{Asked, asked_by, fields, format_asked, format_by, grouping_named, request_by, request_in, says_nothing, sign_named, takes}
+use Rattle.locale_numbers_requests.specs.Laws.{FitDecimals, FitFormat, FitNotation, IsAtMagnitude}
 use Rattle.locale_numbers_requests.specs.RoundingField.{above_zero, all_of, all_shown, below_zero, comma, count_named, counts_by, counts_in, digits_by, digits_in, either_by, front_by, is_size, is_whole, last_named, least_shown, letter_f, mode_named, places_named, position_by, position_named, priority_named, rounding_named, significant_at, significant_named, size_named, whole_by}
-use Rattle.locale_numbers_requests.specs.declared.form_field.AmountWord.{AmountWord}
-use Rattle.locale_numbers_requests.specs.declared.form_field.FormAsked.{FormAsked}
-use Rattle.locale_numbers_requests.specs.declared.form_field.FormAsked.TheVariants.{OfWord, OfSkeleton}
-use Rattle.locale_numbers_requests.specs.declared.form_field.Task.{Task}
-use Rattle.locale_numbers_requests.specs.declared.form_field.Task.TheVariants.{Write, WriteExact, Read, ReadLenient, Category, RangeCategory}
 use Rattle.locale_numbers_requests.specs.declared.increments.Increment.{Increment}
 use Rattle.locale_numbers_requests.specs.declared.increments.Multiples.{Multiples}
 use Rattle.locale_numbers_requests.specs.declared.rounding_field.DigitsAsked.{DigitsAsked}
 use Rattle.locale_numbers_requests.specs.declared.rounding_field.Places.{Places}
 use Rattle.locale_numbers_requests.specs.declared.rounding_field.Places.TheVariants.{Position, Fraction}
-use Rattle.locale_numbers_formats.specs.declared.TrailingZeros.{TrailingZeros}
-use Rattle.locale_numbers_formats.specs.declared.TrailingZeros.TheVariants.{Keep, Trim, TrimWhole, TrimAll}
 
 abbrev IsPlaced : ℤ → Type 0
 IsPlaced position = place position < 65536
@@ -84,7 +78,7 @@ position_placed (c ∷ cs) p is =
 
 -- ---- roundings of the field
 
-abbrev ArePlaced : Option DigitsAsked → Type 0
+abbrev pub ArePlaced : Option DigitsAsked → Type 0
 ArePlaced None = Unit {0}
 ArePlaced (Some digits) = IsAtMagnitude digits.rounding
 
@@ -214,7 +208,7 @@ words_placed (p ∷ d ∷ r ∷ m ∷ w ∷ []) =
     of_test (is_whole w) _ _ (either_placed TrimAll (places_named p) (significant_named d) (priority_named r) (mode_named m) (places_placed p)) tt
 words_placed (p ∷ d ∷ r ∷ m ∷ w ∷ other ∷ others) = tt
 
-rounding_placed : (word : List ℕ) → ArePlaced (rounding_named word)
+pub rounding_placed : (word : List ℕ) → ArePlaced (rounding_named word)
 rounding_placed word = by (bytes_eq word (codes "-")) (bytes_eq word (codes "cash"))
   where
     by : (b c : Bool) → ArePlaced (if b then Some (all_of Usual) else if c then Some (all_of rounding.Cash) else digits_in (cut_at comma word))
@@ -237,9 +231,9 @@ difference_placed : (b : Bool) (below above : ℕ) → above ≤ 100 → IsPlace
 difference_placed true below above most = omega arith
 difference_placed false below above most = omega (arith, most)
 
-increment_placed : (zeros digits : ℕ) → zeros ≤ 100 → IsPlaced (pos zeros -ℤ pos digits)
-increment_placed zeros zero most = omega (arith, most)
-increment_placed zeros (suc digits) most = difference_placed _ _ (zeros - suc digits) (omega (arith, most))
+increment_placed : (behind digits : ℕ) → behind ≤ 100 → IsPlaced (pos behind -ℤ pos digits)
+increment_placed behind zero most = omega (arith, most)
+increment_placed behind (suc digits) most = difference_placed _ _ (behind - suc digits) (omega (arith, most))
 
 precision_placed : (amount : Bool) (mode : SignedRoundingMode) (p : Precision) → HasMarks p → IsAtMagnitude (skeletons.rounding_by amount mode p)
 precision_placed true mode precision.Usual marks = tt
@@ -255,14 +249,23 @@ precision_placed amount mode (precision.Increment step zeros digits whole) marks
 precision_placed amount mode (precision.Currency u) marks = usage_placed u
 precision_placed amount mode (precision.WholeCurrency u) marks = usage_placed u
 
-skeleton_placed : (s : Skeleton) → HasMarks s.precision → IsAtMagnitude (skeletons.rounding_of s)
-skeleton_placed s marks = by (is_compact s.notation)
+compact_placed : (mode : SignedRoundingMode) (p : Precision) → HasMarks p → IsAtMagnitude (compact_rounding mode p)
+compact_placed mode p marks = by (says_precision p)
   where
-    by : (b : Bool) → IsAtMagnitude (if b then AsGiven else skeletons.rounding_by (is_currency s.unit) s.mode s.precision)
-    by true = tt
-    by false = precision_placed (is_currency s.unit) s.mode s.precision marks
+    by : (b : Bool) → IsAtMagnitude (if b then skeletons.rounding_by false mode p else Either MorePrecision (pos 0) (record { least = 1; most = 2 }) mode)
+    by true = precision_placed false mode p marks
+    by false = omega arith
 
-read_placed : (asked : Rounding) → IsAtMagnitude (rounding_read asked)
+skeleton_placed : (s : Skeleton) → HasMarks s.precision → IsAtMagnitude (skeletons.rounding_of s)
+skeleton_placed s marks = by (has_own_digits s) (is_compact s.notation)
+  where
+    by : (own compact : Bool)
+        → IsAtMagnitude (if own then compact_rounding s.mode s.precision else if compact then AsGiven else skeletons.rounding_by (is_currency s.unit) s.mode s.precision)
+    by true compact = compact_placed s.mode s.precision marks
+    by false true = tt
+    by false false = precision_placed (is_currency s.unit) s.mode s.precision marks
+
+pub read_placed : (asked : Rounding) → IsAtMagnitude (rounding_read asked)
 read_placed Usual = tt
 read_placed rounding.Cash = tt
 read_placed AsGiven = tt
@@ -270,130 +273,25 @@ read_placed (At position mode increment) = tt
 read_placed (Significant digits mode) = tt
 read_placed (Either priority position digits mode) = tt
 
-skeleton_fits : (text : List ℕ) (s : Skeleton) → skeleton_of text ≡ Ok s → FitDecimals (format_of s).options
+-- the options of a skeleton are those of the number, or of what is before a compact pattern
+options_fit : (s : Skeleton) → FitDecimals (options_of s) → FitDecimals (format_of s).options
+options_fit s fits = by (has_own_digits s)
+  where
+    by : (own : Bool) → FitDecimals (if own then unchanged else options_of s)
+    by true = record { position = tt; integer = omega arith }
+    by false = fits
+
+notation_fits : (notation : SkeletonNotation) (s : Skeleton) → FitDecimals (options_of s) → FitNotation (notation_by notation s)
+notation_fits asked.Standard s fits = tt
+notation_fits (asked.Compact width) s fits = by (has_own_digits s)
+  where
+    by : (own : Bool) → FitNotation (if own then CompactDigits width (options_of s) else Compact width)
+    by true = fits
+    by false = tt
+
+pub skeleton_fits : (text : List ℕ) (s : Skeleton) → skeleton_of text ≡ Ok s → FitFormat (format_of s)
 skeleton_fits text s is =
     let read = skeleton_is text s is in
     let whole = read.whole in
-    record { position = skeleton_placed s read.marks; integer = omega (arith, whole) }
-
--- ---- forms
-
--- the options of a skeleton fit
-abbrev FitsForm : FormAsked → Type 0
-FitsForm (OfWord task notation unit) = Unit {0}
-FitsForm (OfSkeleton task format) = FitDecimals format.options
-
-abbrev FitForms : Option FormAsked → Type 0
-FitForms None = Unit {0}
-FitForms (Some form) = FitsForm form
-
-of_code : (word : Option AmountWord) (code : List ℕ) → FitForms (amount_by word code)
-of_code None code = tt
-of_code (Some word) code = by (is_currency_code code)
-  where
-    by : (b : Bool) → FitForms (if b then Some (amount_form word code) else None)
-    by true = tt
-    by false = tt
-
-of_task : (task : Task) (f : NumberFormat) → FitDecimals f.options → FitForms (form_for task f)
-of_task Write f fits = fits
-of_task WriteExact f fits = by (is_compact f.shape.notation)
-  where
-    by : (b : Bool) → FitForms (if b then Some (OfSkeleton WriteExact f) else None)
-    by true = fits
-    by false = tt
-of_task Read f fits = record { position = read_placed f.options.rounding; integer = fits.integer }
-of_task ReadLenient f fits = record { position = read_placed f.options.rounding; integer = fits.integer }
-of_task (Category rule_type) f fits = fits
-of_task RangeCategory f fits = fits
-
-of_skeleton : (task : Option Task) (text : List ℕ) (r : Result Skeleton SkeletonError) → skeleton_of text ≡ r → FitForms (skeleton_by task r)
-of_skeleton None text r is = tt
-of_skeleton (Some task) text (Err error) is = tt
-of_skeleton (Some task) text (Ok s) is = of_task task (format_of s) (skeleton_fits text s is)
-
-of_pieces : (list : List (List ℕ)) → FitForms (skeleton_in list)
-of_pieces [] = tt
-of_pieces (a ∷ []) = tt
-of_pieces (a ∷ b ∷ []) = tt
-of_pieces (a ∷ b ∷ c ∷ []) = by (bytes_eq b [])
-  where
-    by : (none : Bool) → FitForms (if none then skeleton_by (skeleton_task a) (skeleton_of c) else None)
-    by true = of_skeleton (skeleton_task a) c (skeleton_of c) refl
-    by false = tt
-of_pieces (a ∷ b ∷ c ∷ d ∷ more) = tt
-
--- a word of a list, or what is after it
-listed : (b : Bool) (here : FormAsked) (rest : Option FormAsked) → FitsForm here → FitForms rest → FitForms (if b then Some here else rest)
-listed true here rest fits other = fits
-listed false here rest fits other = other
-
-of_list : (word : List ℕ) → FitForms (listed_form word)
-of_list word =
-    listed (bytes_eq word (codes "plain")) _ _ tt
-    (listed (bytes_eq word (codes "short")) _ _ tt
-    (listed (bytes_eq word (codes "long")) _ _ tt
-    (listed (bytes_eq word (codes "exact-short")) _ _ tt
-    (listed (bytes_eq word (codes "exact-long")) _ _ tt
-    (listed (bytes_eq word (codes "read")) _ _ tt
-    (listed (bytes_eq word (codes "read-lenient")) _ _ tt
-    (listed (bytes_eq word (codes "percent")) _ _ tt
-    (listed (bytes_eq word (codes "read-percent")) _ _ tt
-    (listed (bytes_eq word (codes "read-lenient-percent")) _ _ tt
-    (listed (bytes_eq word (codes "permille")) _ _ tt
-    (listed (bytes_eq word (codes "read-permille")) _ _ tt
-    (listed (bytes_eq word (codes "read-lenient-permille")) _ _ tt
-    (listed (bytes_eq word (codes "plural")) _ _ tt
-    (listed (bytes_eq word (codes "ordinal")) _ _ tt
-    (listed (bytes_eq word (codes "range-plural")) _ _ tt tt)))))))))))))))
-
-either : (first second : Option FormAsked) → FitForms first → FitForms second → FitForms (first_of first second)
-either (Some form) second fits other = fits
-either None second fits other = other
-
-form_fits : (word : List ℕ) → FitForms (form_named word)
-form_fits word =
-    either (listed_form word) _ (of_list word)
-    (either (coded_form word) _ (of_code (amount_word (take (length word - 3) word)) (drop (length word - 3) word)) (of_pieces (cut_at colon word)))
-
--- ---- requests
-
-abbrev FitsAsked : Option Asked → Type 0
-FitsAsked None = Unit {0}
-FitsAsked (Some asked) = FitDecimals asked.format.options
-
-if_taken : (b : Bool) (tag : List ℕ) (task : Task) (format : NumberFormat) (text : List ℕ) → FitDecimals format.options → FitsAsked (asked_by tag (if b then Some (task, format) else None) text)
-if_taken true tag task format text fits = fits
-if_taken false tag task format text fits = tt
-
-of_form : (tag : List ℕ) (form : FormAsked) (g : GroupingStrategy) (s : SignAsked) (d : DigitsAsked) (text : List ℕ) → FitsForm form → IsAtMagnitude d.rounding
-    → FitsAsked (asked_by tag (format_asked form g s d) text)
-of_form tag (OfWord task notation unit) g s d text fits at =
-    if_taken (takes task unit s d.rounding) tag task (format_by notation unit g s d) text (record { position = at; integer = omega arith })
-of_form tag (OfSkeleton task format) g s d text fits at = if_taken (says_nothing g s d.rounding) tag task format text fits
-
-request_fits : (tag : List ℕ) (f : Option FormAsked) (g : Option GroupingStrategy) (s : Option SignAsked) (d : Option DigitsAsked) (text : List ℕ) → FitForms f → ArePlaced d
-    → FitsAsked (request_by tag f g s d text)
-request_fits tag (Some form) (Some grouping) (Some sign) (Some digits) text fits at = of_form tag form grouping sign digits text fits at
-request_fits tag (Some form) (Some grouping) (Some sign) None text fits at = tt
-request_fits tag (Some form) (Some grouping) None d text fits at = tt
-request_fits tag (Some form) None s d text fits at = tt
-request_fits tag None g s d text fits at = tt
-
-fields_fit : (list : List (List ℕ)) → FitsAsked (request_in list)
-fields_fit [] = tt
-fields_fit (a ∷ []) = tt
-fields_fit (a ∷ b ∷ []) = tt
-fields_fit (a ∷ b ∷ c ∷ []) = tt
-fields_fit (a ∷ b ∷ c ∷ d ∷ []) = tt
-fields_fit (a ∷ b ∷ c ∷ d ∷ e ∷ []) = tt
-fields_fit (tag ∷ form ∷ grouping ∷ sign ∷ field ∷ text ∷ []) =
-    request_fits tag (form_named form) (grouping_named grouping) (sign_named sign) (rounding_named field) text (form_fits form) (rounding_placed field)
-fields_fit (a ∷ b ∷ c ∷ d ∷ e ∷ f ∷ g ∷ more) = tt
-
-pub requests_placed : RequestsAreAtMagnitude
-requests_placed line asked is = by (is_utf8 line) is
-  where
-    by : (b : Bool) → (if b then request_in (fields line) else None) ≡ Some asked → FitDecimals asked.format.options
-    by true same = subst FitsAsked same (fields_fit (fields line))
-    by false same = absurd (cc)
+    let fits : FitDecimals (options_of s) = record { position = skeleton_placed s read.marks; integer = omega (arith, whole) } in
+    record { options = options_fit s fits; digits = notation_fits s.notation s fits }

@@ -2,7 +2,7 @@
 use Rattle.std.proofs.Common.{◌≡◌, ℕ, ℤ, pos, neg_ℤ, Bool, true, false, List, [], ◌∷◌, Option, None, Some, Result, Ok, Err, refl, if◌then◌else◌, drop, length, take, ◌-◌}
 use Rattle.std.proofs.lemmas.Bool.{eqb-true}
 use Rattle.std.proofs.lemmas.Slice.Eq.{bytes_eq-Decides}
-use Rattle.std.specs.Prelude.{◌||◌, ◌==◌, codes, int_le}
+use Rattle.std.specs.Prelude.{◌||◌, ◌&&◌, ◌==◌, codes, int_le}
 use Rattle.std.specs.Str.{bytes_eq, is_utf8}
 use Rattle.fixed_decimal.specs.NumberText.{minus}
 use Rattle.fixed_decimal.specs.declared.RoundingIncrement.{RoundingIncrement}
@@ -11,50 +11,66 @@ use Rattle.fixed_decimal.specs.declared.SignedRoundingMode.{SignedRoundingMode}
 use Rattle.icu_decimal_symbols.specs.declared.options.GroupingStrategy.{GroupingStrategy}
 use Rattle.icu_decimal_symbols.specs.declared.options.GroupingStrategy.TheVariants as grouping
 use Rattle.icu_dimension_fractions.specs.CurrencyCodes.{is_currency_code}
+use Rattle.icu_dimension_fractions.specs.declared.PercentSign.{PercentSign}
+use Rattle.locale_numbers_formats.specs.Changed.{unchanged}
 use Rattle.locale_numbers_formats.specs.Cutting.{cut_at}
-use Rattle.locale_numbers_formats.specs.SkeletonFormats.{format_of}
-use Rattle.locale_numbers_formats.specs.Skeletons.{is_compact, skeleton_of}
+use Rattle.locale_numbers_formats.specs.SkeletonFormats.{format_of, has_own_digits, notation_by, options_of, strategy_of, unit_of}
+use Rattle.locale_numbers_formats.specs.Skeletons.{skeleton_of}
+use Rattle.locale_numbers_formats.specs.declared.CompactWidth.{CompactWidth}
+use Rattle.locale_numbers_formats.specs.declared.CompactWidth.TheVariants.{Short, Long}
 use Rattle.locale_numbers_formats.specs.declared.LeadingZeros.{LeadingZeros}
 use Rattle.locale_numbers_formats.specs.declared.LeadingZeros.TheVariants as leading
+use Rattle.locale_numbers_formats.specs.declared.Notation.{Notation}
+use Rattle.locale_numbers_formats.specs.declared.Notation.TheVariants.{Standard, Compact, CompactDigits}
 use Rattle.locale_numbers_formats.specs.declared.NumberFormat.{NumberFormat}
 use Rattle.locale_numbers_formats.specs.declared.NumberUnit.{NumberUnit}
 use Rattle.locale_numbers_formats.specs.declared.NumberUnit.TheVariants as unit
 use Rattle.locale_numbers_formats.specs.declared.Rounding.{Rounding}
-use Rattle.locale_numbers_formats.specs.declared.Rounding.TheVariants.{Usual, Cash, AsGiven, At, Significant, Either}
+use Rattle.locale_numbers_formats.specs.declared.Rounding.TheVariants.{Usual, Cash, At, Significant, Either}
 use Rattle.locale_numbers_formats.specs.declared.RoundingPriority.{RoundingPriority}
 use Rattle.locale_numbers_formats.specs.declared.SignAsked.{SignAsked}
-use Rattle.locale_numbers_formats.specs.declared.SignAsked.TheVariants.{Keep, Show}
 use Rattle.locale_numbers_formats.specs.declared.Skeleton.{Skeleton}
 use Rattle.locale_numbers_formats.specs.declared.SkeletonError.{SkeletonError}
+use Rattle.locale_numbers_formats.specs.declared.SkeletonNotation.{SkeletonNotation}
+use Rattle.locale_numbers_formats.specs.declared.SkeletonNotation.TheVariants as asked
 use Rattle.locale_numbers_formats.specs.declared.SignificantDigits.{SignificantDigits}
 use Rattle.locale_numbers_formats.specs.declared.TrailingZeros.{TrailingZeros}
 use Rattle.locale_numbers_formats.specs.declared.TrailingZeros.TheVariants as trailing
-use Rattle.locale_numbers_requests.specs.FormField.{amount_by, amount_form, amount_word, coded_form, colon, first_of, form_for, form_named, listed_form, skeleton_by, skeleton_in, skeleton_task}
+use Rattle.locale_numbers_requests.specs.FormField.{colon, first_of, form_for, form_named, form_with, format_exact, is_compact, listed_form, skeleton_by, skeleton_in, skeleton_task, unit_form}
 use Rattle.locale_numbers_requests.specs.Increments.{has_no_zeros, increment_by, increment_named, multiples_at, with_zeros}
-use Rattle.locale_numbers_requests.specs.OldRequests.{OldRequestsStay, StaysRequest, same, none, added, is_added, is_added_grouping, is_added_task, old_form_named, old_grouping_named, old_increment_named, old_request_by, old_request_in, old_rounding_by, old_rounding_in, old_rounding_named, old_takes, trims}
-use Rattle.locale_numbers_requests.specs.Request.{Asked, asked_by, fields, format_by, grouping_named, request_by, request_in, says_nothing, sign_named, takes}
-use Rattle.locale_numbers_requests.specs.RoundingField.{all_of, all_shown, comma, count_named, counts_by, counts_in, digits_by, digits_in, either_by, front_by, is_cash, is_whole, last_named, least_shown, letter_f, mode_named, multiples_shown, places_named, position_by, position_named, priority_named, rounding_named, significant_at, significant_named, whole_by}
-use Rattle.locale_numbers_requests.specs.declared.form_field.AmountWord.{AmountWord}
+use Rattle.locale_numbers_requests.specs.OldRequests.{OldRequestsStay, StaysRequest, same, none, added, is_added, is_added_grouping, is_added_notation, is_added_task, is_added_unit, old_form_named, old_grouping_named, old_increment_named, old_request_by, old_request_in, old_rounding_by, old_rounding_in, old_rounding_named, old_takes, trims}
+use Rattle.locale_numbers_requests.specs.Request.{Asked, asked_by, fields, format_by, grouping_named, is_amount, keeps_sign, request_by, request_in, says_nothing, sign_named, takes}
+use Rattle.locale_numbers_requests.specs.RoundingField.{all_of, all_shown, comma, count_named, counts_by, counts_in, digits_by, digits_in, either_by, front_by, is_cash, is_whole, keeps_digits, last_named, least_shown, letter_f, mode_named, multiples_shown, places_named, position_by, position_named, priority_named, rounding_named, significant_at, significant_named, whole_by}
 use Rattle.locale_numbers_requests.specs.declared.form_field.FormAsked.{FormAsked}
 use Rattle.locale_numbers_requests.specs.declared.form_field.FormAsked.TheVariants.{OfWord, OfSkeleton}
 use Rattle.locale_numbers_requests.specs.declared.form_field.Task.{Task}
 use Rattle.locale_numbers_requests.specs.declared.form_field.Task.TheVariants.{Write, WriteExact, Read, ReadLenient, Category, RangeCategory}
+use Rattle.locale_numbers_requests.specs.UnitWord.{amount_by, amount_named, amount_word, percents_or, sign_of_percents, unit_named}
 use Rattle.locale_numbers_requests.specs.declared.increments.Increment.{Increment}
 use Rattle.locale_numbers_requests.specs.declared.increments.Multiples.{Multiples}
 use Rattle.locale_numbers_requests.specs.declared.rounding_field.DigitsAsked.{DigitsAsked}
 use Rattle.locale_numbers_requests.specs.declared.rounding_field.Places.{Places}
 use Rattle.locale_numbers_requests.specs.declared.rounding_field.Places.TheVariants.{Position, Fraction}
+use Rattle.locale_numbers_requests.specs.declared.unit_word.AmountWord.{AmountWord}
 
 -- ---- words of forms
 
--- a form that was added: by its task and its unit, or a skeleton, by which zeros in front are trimmed
+-- a format that was added: compact numbers have digits of their own, or zeros are trimmed
+abbrev IsNewFormat : NumberFormat → Type 0
+IsNewFormat f = (is_added_notation f.shape.notation || trims f.options.leading_zeros f.options.zeros) ≡ true
+
+-- a form that was added: by its task and its unit, or by its format
 abbrev IsNew : FormAsked → Type 0
 IsNew (OfWord task notation unit) = is_added_task task unit ≡ true
-IsNew (OfSkeleton task format) = format.options.leading_zeros ≡ leading.Trim
+IsNew (OfSkeleton task format) = IsNewFormat format
 
--- a form that was there
+-- a word that was there
+record IsOldWord (task : Task) (notation : Notation) (unit : NumberUnit) : Type 0 where
+  done : is_added_task task unit ≡ false
+  digits : is_added_notation notation ≡ false
+
 abbrev IsOld : FormAsked → Type 0
-IsOld (OfWord task notation unit) = is_added_task task unit ≡ false
+IsOld (OfWord task notation unit) = IsOldWord task notation unit
 IsOld (OfSkeleton task format) = ⊥
 
 -- a word is the same form, none, or one that was added and was none
@@ -63,61 +79,84 @@ data StaysForm (now before : Option FormAsked) : Type 0 where
   no_form : now ≡ None → before ≡ None → StaysForm now before
   added_form : (form : FormAsked) → IsNew form → now ≡ Some form → before ≡ None → StaysForm now before
 
--- the words before a code have a task that was added with a currency
-abbrev IsAmountTask : Option AmountWord → Type 0
-IsAmountTask None = Unit {0}
-IsAmountTask (Some word) = (code : List ℕ) → IsNew (amount_form word code)
+-- one of two forms that were none, by a test
+of_test : (b : Bool) (one other : Option FormAsked) → StaysForm one None → StaysForm other None → StaysForm (if b then one else other) None
+of_test true one other new rest = new
+of_test false one other new rest = rest
 
-listed_amount : (b : Bool) (here : AmountWord) (rest : Option AmountWord) → IsAmountTask (Some here) → IsAmountTask rest → IsAmountTask (if b then Some here else rest)
-listed_amount true here rest new other = new
-listed_amount false here rest new other = other
+-- the unit that a word names was added
+abbrev AreNew : Option NumberUnit → Type 0
+AreNew None = Unit {0}
+AreNew (Some unit) = is_added_unit unit ≡ true
 
-amount_is_new : (front : List ℕ) → IsAmountTask (amount_word front)
-amount_is_new front =
-    listed_amount (bytes_eq front (codes "currency-")) _ _ (λ code. refl)
-    (listed_amount (bytes_eq front (codes "accounting-")) _ _ (λ code. refl)
-    (listed_amount (bytes_eq front (codes "code-")) _ _ (λ code. refl)
-    (listed_amount (bytes_eq front (codes "read-currency-")) _ _ (λ code. refl)
-    (listed_amount (bytes_eq front (codes "read-accounting-")) _ _ (λ code. refl)
-    (listed_amount (bytes_eq front (codes "read-code-")) _ _ (λ code. refl)
-    (listed_amount (bytes_eq front (codes "read-lenient-currency-")) _ _ (λ code. refl)
-    (listed_amount (bytes_eq front (codes "read-lenient-accounting-")) _ _ (λ code. refl)
-    (listed_amount (bytes_eq front (codes "read-lenient-code-")) _ _ (λ code. refl) tt))))))))
-
-of_code : (word : Option AmountWord) (code : List ℕ) → IsAmountTask word → StaysForm (amount_by word code) None
-of_code None code new = no_form refl refl
-of_code (Some word) code new = by (is_currency_code code)
+of_code : (word : Option AmountWord) (code : List ℕ) → AreNew (amount_by word code)
+of_code None code = tt
+of_code (Some word) code = by (is_currency_code code)
   where
-    by : (b : Bool) → StaysForm (if b then Some (amount_form word code) else None) None
-    by true = added_form (amount_form word code) (new code) refl refl
-    by false = no_form refl refl
+    by : (b : Bool) → AreNew (if b then Some (unit.Currency (record { code = code; style = word.style; width = word.width })) else None)
+    by true = refl
+    by false = tt
 
-of_format : (task : Task) (f : NumberFormat) → f.options.leading_zeros ≡ leading.Trim → StaysForm (form_for task f) None
-of_format Write f trimmed = added_form _ trimmed refl refl
-of_format WriteExact f trimmed = by (is_compact f.shape.notation)
+of_sign : (sign : Option PercentSign) (other : Option NumberUnit) → AreNew other → AreNew (percents_or sign other)
+of_sign None other new = new
+of_sign (Some sign) other new = refl
+
+unit_is_new : (word : List ℕ) → AreNew (unit_named word)
+unit_is_new word = of_sign (sign_of_percents word) (amount_named word) (of_code (amount_word (take (length word - 3) word)) (drop (length word - 3) word))
+
+with_unit : (task : Task) (unit : Option NumberUnit) → ((u : NumberUnit) → is_added_unit u ≡ true → is_added_task task u ≡ true) → AreNew unit → StaysForm (form_with task unit) None
+with_unit task None adds new = no_form refl refl
+with_unit task (Some unit) adds new = added_form (OfWord task Standard unit) (adds unit new) refl refl
+
+of_units : (word : List ℕ) → StaysForm (unit_form word) None
+of_units word =
+    of_test (bytes_eq (take 13 word) (codes "read-lenient-")) _ _ (with_unit ReadLenient (unit_named (drop 13 word)) (λ u new. refl) (unit_is_new (drop 13 word)))
+    (of_test (bytes_eq (take 5 word) (codes "read-")) _ _ (with_unit Read (unit_named (drop 5 word)) (λ u new. new) (unit_is_new (drop 5 word)))
+    (with_unit Write (unit_named word) (λ u new. new) (unit_is_new word)))
+
+-- and so is that of exact forms
+record AddsFormat (f : NumberFormat) : Type 0 where
+  new : IsNewFormat f
+  exact : IsNewFormat (format_exact f)
+
+-- the format of a skeleton, by its notation and by whether compact numbers have digits of their own
+abbrev format_with : Notation → Bool → Skeleton → NumberFormat
+format_with notation own s = record {
+  shape = record { notation = notation; unit = unit_of s; grouping = strategy_of s.grouping };
+  options = if own then unchanged else options_of s;
+}
+
+-- it trims the zeros in front of the number, or of what is before a compact pattern
+format_is_new : (s : Skeleton) → AddsFormat (format_of s)
+format_is_new s = by s.notation refl
   where
-    by : (b : Bool) → StaysForm (if b then Some (OfSkeleton WriteExact f) else None) None
-    by true = added_form _ trimmed refl refl
-    by false = no_form refl refl
-of_format Read f trimmed = added_form _ trimmed refl refl
-of_format ReadLenient f trimmed = added_form _ trimmed refl refl
-of_format (Category rule_type) f trimmed = added_form _ trimmed refl refl
-of_format RangeCategory f trimmed = added_form _ trimmed refl refl
+    adds : (own : Bool) (width : CompactWidth) → AddsFormat (format_with (if own then CompactDigits width (options_of s) else Compact width) own s)
+    adds true width = record { new = refl; exact = refl }
+    adds false width = record { new = refl; exact = refl }
+
+    by : (notation : SkeletonNotation) → s.notation ≡ notation → AddsFormat (format_with (notation_by notation s) (has_own_digits s) s)
+    by asked.Standard is = rw is (record { new = refl; exact = refl })
+    by (asked.Compact width) is = adds (has_own_digits s) width
+
+of_format : (task : Task) (f : NumberFormat) → AddsFormat f → StaysForm (form_for task f) None
+of_format Write f adds = added_form _ adds.new refl refl
+of_format WriteExact f adds =
+    of_test (is_compact f.shape.notation) (Some (OfSkeleton WriteExact (format_exact f))) None (added_form _ adds.exact refl refl) (no_form refl refl)
+of_format Read f adds = added_form _ adds.new refl refl
+of_format ReadLenient f adds = added_form _ adds.new refl refl
+of_format (Category rule_type) f adds = added_form _ adds.new refl refl
+of_format RangeCategory f adds = added_form _ adds.new refl refl
 
 of_skeleton : (task : Option Task) (r : Result Skeleton SkeletonError) → StaysForm (skeleton_by task r) None
 of_skeleton None r = no_form refl refl
 of_skeleton (Some task) (Err error) = no_form refl refl
-of_skeleton (Some task) (Ok s) = of_format task (format_of s) refl
+of_skeleton (Some task) (Ok s) = of_format task (format_of s) (format_is_new s)
 
 of_pieces : (list : List (List ℕ)) → StaysForm (skeleton_in list) None
 of_pieces [] = no_form refl refl
 of_pieces (a ∷ []) = no_form refl refl
 of_pieces (a ∷ b ∷ []) = no_form refl refl
-of_pieces (a ∷ b ∷ c ∷ []) = by (bytes_eq b [])
-  where
-    by : (nothing : Bool) → StaysForm (if nothing then skeleton_by (skeleton_task a) (skeleton_of c) else None) None
-    by true = of_skeleton (skeleton_task a) (skeleton_of c)
-    by false = no_form refl refl
+of_pieces (a ∷ b ∷ c ∷ []) = of_test (bytes_eq b []) (skeleton_by (skeleton_task a) (skeleton_of c)) None (of_skeleton (skeleton_task a) (skeleton_of c)) (no_form refl refl)
 of_pieces (a ∷ b ∷ c ∷ d ∷ more) = no_form refl refl
 
 listed_old : (b : Bool) (here : FormAsked) (now before : Option FormAsked) → IsOld here → StaysForm now before
@@ -126,27 +165,23 @@ listed_old true here now before old rest = same_form here old refl refl
 listed_old false here now before old rest = rest
 
 listed_new : (b : Bool) (here : FormAsked) (now : Option FormAsked) → IsNew here → StaysForm now None → StaysForm (if b then Some here else now) None
-listed_new true here now new rest = added_form here new refl refl
-listed_new false here now new rest = rest
+listed_new b here now new rest = of_test b (Some here) now (added_form here new refl refl) rest
+
+old_word : (task : Task) (notation : Notation) → is_added_task task unit.None ≡ false → is_added_notation notation ≡ false → IsOld (OfWord task notation unit.None)
+old_word task notation done digits = record { done = done; digits = digits }
 
 of_list : (word : List ℕ) → StaysForm (listed_form word) (old_form_named word)
 of_list word =
-    listed_old (bytes_eq word (codes "plain")) _ _ _ refl
-    (listed_old (bytes_eq word (codes "short")) _ _ _ refl
-    (listed_old (bytes_eq word (codes "long")) _ _ _ refl
-    (listed_old (bytes_eq word (codes "exact-short")) _ _ _ refl
-    (listed_old (bytes_eq word (codes "exact-long")) _ _ _ refl
-    (listed_old (bytes_eq word (codes "read")) _ _ _ refl
+    listed_old (bytes_eq word (codes "plain")) _ _ _ (old_word Write Standard refl refl)
+    (listed_old (bytes_eq word (codes "short")) _ _ _ (old_word Write (Compact Short) refl refl)
+    (listed_old (bytes_eq word (codes "long")) _ _ _ (old_word Write (Compact Long) refl refl)
+    (listed_old (bytes_eq word (codes "exact-short")) _ _ _ (old_word WriteExact (Compact Short) refl refl)
+    (listed_old (bytes_eq word (codes "exact-long")) _ _ _ (old_word WriteExact (Compact Long) refl refl)
+    (listed_old (bytes_eq word (codes "read")) _ _ _ (old_word Read Standard refl refl)
     (listed_new (bytes_eq word (codes "read-lenient")) _ _ refl
-    (listed_new (bytes_eq word (codes "percent")) _ _ refl
-    (listed_new (bytes_eq word (codes "read-percent")) _ _ refl
-    (listed_new (bytes_eq word (codes "read-lenient-percent")) _ _ refl
-    (listed_new (bytes_eq word (codes "permille")) _ _ refl
-    (listed_new (bytes_eq word (codes "read-permille")) _ _ refl
-    (listed_new (bytes_eq word (codes "read-lenient-permille")) _ _ refl
     (listed_new (bytes_eq word (codes "plural")) _ _ refl
     (listed_new (bytes_eq word (codes "ordinal")) _ _ refl
-    (listed_new (bytes_eq word (codes "range-plural")) _ _ refl (no_form refl refl))))))))))))))))
+    (listed_new (bytes_eq word (codes "range-plural")) _ _ refl (no_form refl refl))))))))))
 
 -- a form, or another that was added
 either : (now before other : Option FormAsked) → StaysForm now before → StaysForm other None → StaysForm (first_of now other) before
@@ -156,9 +191,7 @@ either now before other (added_form form new e d) rest = rw (e, d) (added_form f
 
 form_stays : (word : List ℕ) → StaysForm (form_named word) (old_form_named word)
 form_stays word =
-    either (listed_form word) (old_form_named word) _ (of_list word)
-    (either (coded_form word) None _ (of_code (amount_word (take (length word - 3) word)) (drop (length word - 3) word) (amount_is_new (take (length word - 3) word)))
-    (of_pieces (cut_at colon word)))
+    either (listed_form word) (old_form_named word) _ (of_list word) (either (unit_form word) None _ (of_units word) (of_pieces (cut_at colon word)))
 
 -- ---- groupings
 
@@ -388,38 +421,34 @@ rounding_stays word = by (bytes_eq word (codes "-")) (bytes_eq word (codes "cash
 
 -- ---- requests
 
+-- no unit that was there is a currency
+no_amount : (unit : NumberUnit) → is_added_unit unit ≡ false → is_amount unit ≡ false
+no_amount unit.None old = refl
+no_amount (unit.Percent sign) old = refl
+no_amount (unit.Currency currency) old = absurd (cc)
+
+or_false : (b : Bool) → (b || false) ≡ b
+or_false true = refl
+or_false false = refl
+
+and_false : (b : Bool) → (b && false) ≡ false
+and_false true = refl
+and_false false = refl
+
 -- an old form takes what it took
 takes_so : (task : Task) (unit : NumberUnit) (sign : SignAsked) (rounding : Rounding) → is_added_task task unit ≡ false → is_cash rounding ≡ false → takes task unit sign rounding ≡ old_takes task sign rounding
-takes_so Write unit.None sign rounding old is = rw is refl
-takes_so Write unit.Percent sign rounding old is = absurd (cc)
-takes_so Write unit.Permille sign rounding old is = absurd (cc)
-takes_so Write (unit.Currency currency) sign rounding old is = absurd (cc)
+takes_so Write unit sign rounding old is = rw (no_amount unit old, is) refl
 takes_so WriteExact unit sign rounding old is = refl
-takes_so Read unit.None sign Usual old is = refl
-takes_so Read unit.None sign Cash old is = absurd (cc)
-takes_so Read unit.None sign AsGiven old is = refl
-takes_so Read unit.None sign (At position mode increment) old is = refl
-takes_so Read unit.None sign (Significant digits mode) old is = refl
-takes_so Read unit.None sign (Either priority position digits mode) old is = refl
-takes_so Read unit.Percent sign rounding old is = absurd (cc)
-takes_so Read unit.Permille sign rounding old is = absurd (cc)
-takes_so Read (unit.Currency currency) sign rounding old is = absurd (cc)
+takes_so Read unit sign rounding old is = rw (no_amount unit old, or_false (keeps_digits rounding)) refl
 takes_so ReadLenient unit sign rounding old is = absurd (cc)
 takes_so (Category rule_type) unit sign rounding old is = absurd (cc)
 takes_so RangeCategory unit sign rounding old is = absurd (cc)
 
 -- and no cash
 takes_no_cash : (task : Task) (unit : NumberUnit) (sign : SignAsked) → is_added_task task unit ≡ false → takes task unit sign Cash ≡ false
-takes_no_cash Write unit.None sign old = refl
-takes_no_cash Write unit.Percent sign old = absurd (cc)
-takes_no_cash Write unit.Permille sign old = absurd (cc)
-takes_no_cash Write (unit.Currency currency) sign old = absurd (cc)
+takes_no_cash Write unit sign old = rw (no_amount unit old) refl
 takes_no_cash WriteExact unit sign old = refl
-takes_no_cash Read unit.None Keep old = refl
-takes_no_cash Read unit.None (Show display) old = refl
-takes_no_cash Read unit.Percent sign old = absurd (cc)
-takes_no_cash Read unit.Permille sign old = absurd (cc)
-takes_no_cash Read (unit.Currency currency) sign old = absurd (cc)
+takes_no_cash Read unit sign old = rw (no_amount unit old) (and_false (keeps_sign sign))
 takes_no_cash ReadLenient unit sign old = absurd (cc)
 takes_no_cash (Category rule_type) unit sign old = absurd (cc)
 takes_no_cash RangeCategory unit sign old = absurd (cc)
@@ -449,22 +478,29 @@ module _ (tag : List ℕ) (text : List ℕ) where
   either_true true b is = refl
   either_true false b is = is
 
-  neither : (a b : Bool) → a ≡ false → b ≡ false → (a || b) ≡ false
-  neither true b first second = absurd (cc)
-  neither false b first second = second
+  notation_or_zeros : (g n t a : Bool) → (n || t) ≡ true → ((g || n) || (t || a)) ≡ true
+  notation_or_zeros true n t a is = refl
+  notation_or_zeros false true t a is = refl
+  notation_or_zeros false false true a is = refl
+  notation_or_zeros false false false a is = absurd (cc)
+
+  neither : (g n a : Bool) → g ≡ false → n ≡ false → a ≡ false → ((g || n) || a) ≡ false
+  neither true n a first second third = absurd (cc)
+  neither false true a first second third = absurd (cc)
+  neither false false a first second third = third
 
   with_old : (form : FormAsked) (g : GroupingStrategy) (s : Option SignAsked) (now before : Option DigitsAsked) → IsOld form → is_added_grouping g ≡ false → StaysRounding now before
       → StaysRequest (request_by tag (Some form) (Some g) s now text) (old_request_by tag (Some form) (Some g) s before text)
   with_old (OfWord task notation unit) g None now before old plain stays = none refl refl
   with_old (OfWord task notation unit) g (Some s) now before old plain (same_rounding rounding is e d) =
-      rw (e, d) (taken (takes task unit s rounding) (old_takes task s rounding) task (format_by notation unit g s (all_of rounding)) (takes_so task unit s rounding old is)
-      (neither (is_added_grouping g) (is_added_task task unit) plain old))
+      rw (e, d) (taken (takes task unit s rounding) (old_takes task s rounding) task (format_by notation unit g s (all_of rounding)) (takes_so task unit s rounding old.done is)
+      (neither (is_added_grouping g) (is_added_notation notation) (is_added_task task unit) plain old.digits old.done))
   with_old (OfWord task notation unit) g (Some s) now before old plain (no_rounding e d) = rw (e, d) (none refl refl)
   with_old (OfWord task notation unit) g (Some s) now before old plain (added_cash e d) =
-      rw (e, d) (not_taken (takes task unit s Cash) task (format_by notation unit g s (all_of Cash)) (takes_no_cash task unit s old))
+      rw (e, d) (not_taken (takes task unit s Cash) task (format_by notation unit g s (all_of Cash)) (takes_no_cash task unit s old.done))
   with_old (OfWord task notation unit) g (Some s) now before old plain (added_digits digits new e d) =
       rw (e, d) (newly_taken (takes task unit s digits.rounding) task (format_by notation unit g s digits)
-      (either_true (is_added_grouping g) (trims digits.leading_zeros digits.zeros || is_added_task task unit) (rw new refl)))
+      (either_true (is_added_grouping g || is_added_notation notation) (trims digits.leading_zeros digits.zeros || is_added_task task unit) (rw new refl)))
   with_old (OfSkeleton task format) g s now before old plain stays = absurd old
 
   with_new : (form : FormAsked) (g : Option GroupingStrategy) (s : Option SignAsked) (now : Option DigitsAsked) → IsNew form → StaysRequest (request_by tag (Some form) g s now text) None
@@ -473,10 +509,11 @@ module _ (tag : List ℕ) (text : List ℕ) where
   with_new form (Some g) (Some s) None new = none refl refl
   with_new (OfWord task notation unit) (Some g) (Some s) (Some d) new =
       newly_taken (takes task unit s d.rounding) task (format_by notation unit g s d)
-      (either_true (is_added_grouping g) (trims d.leading_zeros d.zeros || is_added_task task unit) (either_true (trims d.leading_zeros d.zeros) (is_added_task task unit) new))
+      (either_true (is_added_grouping g || is_added_notation notation) (trims d.leading_zeros d.zeros || is_added_task task unit) (either_true (trims d.leading_zeros d.zeros) (is_added_task task unit) new))
   with_new (OfSkeleton task format) (Some g) (Some s) (Some d) new =
       newly_taken (says_nothing g s d.rounding) task format
-      (either_true (is_added_grouping format.shape.grouping) (trims format.options.leading_zeros format.options.zeros || is_added_task task format.shape.unit) (rw new refl))
+      (notation_or_zeros (is_added_grouping format.shape.grouping) (is_added_notation format.shape.notation) (trims format.options.leading_zeros format.options.zeros)
+      (is_added_task task format.shape.unit) new)
 
   -- the grouping that was added goes with no skeleton
   with_aligned : (form : FormAsked) (s : Option SignAsked) (now : Option DigitsAsked) → StaysRequest (request_by tag (Some form) (Some grouping.OnAligned) s now text) None

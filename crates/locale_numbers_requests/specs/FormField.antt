@@ -1,57 +1,41 @@
--- Which words are forms: those of a list, a word with the code of a currency at its end, and a skeleton.
+-- Which words are forms: those of a list, the word of a unit, and a skeleton.
 -- Defined in docs/requests.md, "Request line".
 -- Cited by `answer` and `run`, through Request.antt.
 -- A form has a task, a notation and a unit, each a type with cases, and the cases of each are imported beside it.
-use Rattle.std.specs.Prelude.{ℕ, ◌-◌, if◌then◌else◌, List, [], ◌∷◌, drop, length, take, Option, Some, None, Result, Ok, codes}
+use Rattle.std.specs.Prelude.{ℕ, Bool, true, false, if◌then◌else◌, List, [], ◌∷◌, drop, take, Option, Some, None, Result, Ok, codes}
 use Rattle.std.specs.Str.{bytes_eq}
-use Rattle.icu_dimension_fractions.specs.CurrencyCodes.{is_currency_code}
-use Rattle.icu_dimension_fractions.specs.declared.CurrencyStyle.TheVariants as style
-use Rattle.icu_dimension_fractions.specs.declared.CurrencyWidth.TheVariants as width
 use Rattle.icu_plurals.specs.declared.PluralRuleType.TheVariants.{Cardinal, Ordinal}
 use Rattle.locale_numbers_formats.specs.Cutting.{cut_at}
 use Rattle.locale_numbers_formats.specs.SkeletonFormats.{format_of}
-use Rattle.locale_numbers_formats.specs.Skeletons.{is_compact, skeleton_of}
+use Rattle.locale_numbers_formats.specs.Skeletons.{skeleton_of}
 use Rattle.locale_numbers_formats.specs.declared.CompactWidth.TheVariants.{Short, Long}
-use Rattle.locale_numbers_formats.specs.declared.Notation.TheVariants.{Standard, Compact}
+use Rattle.locale_numbers_formats.specs.declared.Notation.{Notation}
+use Rattle.locale_numbers_formats.specs.declared.Notation.TheVariants.{Standard, Compact, CompactDigits}
 use Rattle.locale_numbers_formats.specs.declared.NumberFormat.{NumberFormat}
+use Rattle.locale_numbers_formats.specs.declared.NumberUnit.{NumberUnit}
 use Rattle.locale_numbers_formats.specs.declared.NumberUnit.TheVariants as unit
 use Rattle.locale_numbers_formats.specs.declared.Rounding.{Rounding}
 use Rattle.locale_numbers_formats.specs.declared.Rounding.TheVariants as rounding
 use Rattle.locale_numbers_formats.specs.declared.Skeleton.{Skeleton}
 use Rattle.locale_numbers_formats.specs.declared.SkeletonError.{SkeletonError}
-use Rattle.locale_numbers_requests.specs.declared.form_field.AmountWord.{AmountWord}
+use Rattle.locale_numbers_requests.specs.UnitWord.{unit_named}
 use Rattle.locale_numbers_requests.specs.declared.form_field.FormAsked.{FormAsked}
 use Rattle.locale_numbers_requests.specs.declared.form_field.FormAsked.TheVariants.{OfWord, OfSkeleton}
 use Rattle.locale_numbers_requests.specs.declared.form_field.Task.{Task}
 use Rattle.locale_numbers_requests.specs.declared.form_field.Task.TheVariants.{Write, WriteExact, Read, ReadLenient, Category, RangeCategory}
 
--- ---- amounts of money
+-- ---- units
 
--- what is done with an amount, and how it is written, by the front of a word before a code
-abbrev pub amount_word : List ℕ → Option AmountWord
-amount_word front =
-    if bytes_eq front (codes "currency-") then Some (record { task = Write; style = style.Standard; width = width.Short })
-    else if bytes_eq front (codes "accounting-") then Some (record { task = Write; style = style.Accounting; width = width.Short })
-    else if bytes_eq front (codes "code-") then Some (record { task = Write; style = style.Standard; width = width.IsoCode })
-    else if bytes_eq front (codes "read-currency-") then Some (record { task = Read; style = style.Standard; width = width.Short })
-    else if bytes_eq front (codes "read-accounting-") then Some (record { task = Read; style = style.Accounting; width = width.Short })
-    else if bytes_eq front (codes "read-code-") then Some (record { task = Read; style = style.Standard; width = width.IsoCode })
-    else if bytes_eq front (codes "read-lenient-currency-") then Some (record { task = ReadLenient; style = style.Standard; width = width.Short })
-    else if bytes_eq front (codes "read-lenient-accounting-") then Some (record { task = ReadLenient; style = style.Accounting; width = width.Short })
-    else if bytes_eq front (codes "read-lenient-code-") then Some (record { task = ReadLenient; style = style.Standard; width = width.IsoCode })
-    else None
+abbrev pub form_with : Task → Option NumberUnit → Option FormAsked
+form_with task None = None
+form_with task (Some unit) = Some (OfWord task Standard unit)
 
-abbrev pub amount_form : AmountWord → List ℕ → FormAsked
-amount_form word code = OfWord word.task Standard (unit.Currency (record { code = code; style = word.style; width = word.width }))
-
--- the form of a front and a code, where both are known
-abbrev pub amount_by : Option AmountWord → List ℕ → Option FormAsked
-amount_by None code = None
-amount_by (Some word) code = if is_currency_code code then Some (amount_form word code) else None
-
--- a code is the three last letters of a word
-abbrev pub coded_form : List ℕ → Option FormAsked
-coded_form word = amount_by (amount_word (take (length word - 3) word)) (drop (length word - 3) word)
+-- the unit is written, or read back after a front
+abbrev pub unit_form : List ℕ → Option FormAsked
+unit_form word =
+    if bytes_eq (take 13 word) (codes "read-lenient-") then form_with ReadLenient (unit_named (drop 13 word))
+    else if bytes_eq (take 5 word) (codes "read-") then form_with Read (unit_named (drop 5 word))
+    else form_with Write (unit_named word)
 
 -- ---- skeletons
 
@@ -83,10 +67,25 @@ rounding_read (rounding.Either priority position digits mode) = rounding.AsGiven
 abbrev pub format_read : NumberFormat → NumberFormat
 format_read f = record { shape = f.shape; options = record f.options { rounding = rounding_read f.options.rounding } }
 
+-- an exact form has the digits that are given, so of options for others only the sign counts
+abbrev pub exact_by : Notation → NumberFormat → NumberFormat
+exact_by Standard f = f
+exact_by (Compact width) f = f
+exact_by (CompactDigits width options) f = record { shape = record f.shape { notation = Compact width }; options = options }
+
+abbrev pub format_exact : NumberFormat → NumberFormat
+format_exact f = exact_by f.shape.notation f
+
+-- compact patterns, with digits of their own or not
+abbrev pub is_compact : Notation → Bool
+is_compact Standard = false
+is_compact (Compact width) = true
+is_compact (CompactDigits width options) = true
+
 -- an exponent is given only for compact numbers
 abbrev pub form_for : Task → NumberFormat → Option FormAsked
 form_for Write f = Some (OfSkeleton Write f)
-form_for WriteExact f = if is_compact f.shape.notation then Some (OfSkeleton WriteExact f) else None
+form_for WriteExact f = if is_compact f.shape.notation then Some (OfSkeleton WriteExact (format_exact f)) else None
 form_for Read f = Some (OfSkeleton Read (format_read f))
 form_for ReadLenient f = Some (OfSkeleton ReadLenient (format_read f))
 form_for (Category rule_type) f = Some (OfSkeleton (Category rule_type) f)
@@ -113,12 +112,6 @@ listed_form word =
     else if bytes_eq word (codes "exact-long") then Some (OfWord WriteExact (Compact Long) unit.None)
     else if bytes_eq word (codes "read") then Some (OfWord Read Standard unit.None)
     else if bytes_eq word (codes "read-lenient") then Some (OfWord ReadLenient Standard unit.None)
-    else if bytes_eq word (codes "percent") then Some (OfWord Write Standard unit.Percent)
-    else if bytes_eq word (codes "read-percent") then Some (OfWord Read Standard unit.Percent)
-    else if bytes_eq word (codes "read-lenient-percent") then Some (OfWord ReadLenient Standard unit.Percent)
-    else if bytes_eq word (codes "permille") then Some (OfWord Write Standard unit.Permille)
-    else if bytes_eq word (codes "read-permille") then Some (OfWord Read Standard unit.Permille)
-    else if bytes_eq word (codes "read-lenient-permille") then Some (OfWord ReadLenient Standard unit.Permille)
     else if bytes_eq word (codes "plural") then Some (OfWord (Category Cardinal) Standard unit.None)
     else if bytes_eq word (codes "ordinal") then Some (OfWord (Category Ordinal) Standard unit.None)
     else if bytes_eq word (codes "range-plural") then Some (OfWord RangeCategory Standard unit.None)
@@ -130,4 +123,4 @@ first_of None other = other
 
 -- the form that a word names
 abbrev pub form_named : List ℕ → Option FormAsked
-form_named word = first_of (listed_form word) (first_of (coded_form word) (skeleton_in (cut_at colon word)))
+form_named word = first_of (listed_form word) (first_of (unit_form word) (skeleton_in (cut_at colon word)))

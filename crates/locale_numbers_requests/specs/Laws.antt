@@ -4,6 +4,9 @@
 use Rattle.std.specs.Prelude.{◌≡◌, ◌<◌, ◌≤◌, ℕ, true, List, Some}
 use Rattle.fixed_decimal.specs.Number.{place}
 use Rattle.icu_dimension_fractions.specs.CurrencyCodes.{is_currency_code}
+use Rattle.locale_numbers_formats.specs.declared.Notation.{Notation}
+use Rattle.locale_numbers_formats.specs.declared.Notation.TheVariants.{Standard, Compact, CompactDigits}
+use Rattle.locale_numbers_formats.specs.declared.NumberFormat.{NumberFormat}
 use Rattle.locale_numbers_formats.specs.declared.NumberUnit.{NumberUnit}
 use Rattle.locale_numbers_formats.specs.declared.NumberUnit.TheVariants as unit
 use Rattle.locale_numbers_formats.specs.declared.NumberOptions.{NumberOptions}
@@ -14,8 +17,7 @@ use Rattle.locale_numbers_requests.specs.Request.{Asked, request_of}
 -- three capitals, where the unit is a currency
 abbrev pub HasCode : NumberUnit → Type 0
 HasCode unit.None = Unit {0}
-HasCode unit.Percent = Unit {0}
-HasCode unit.Permille = Unit {0}
+HasCode (unit.Percent sign) = Unit {0}
 HasCode (unit.Currency currency) = is_currency_code currency.code ≡ true
 
 -- what a line asks has such a unit
@@ -36,6 +38,17 @@ pub record FitDecimals (options : NumberOptions) : Type 0 where
   pub position : IsAtMagnitude options.rounding
   pub integer : place options.integer_digits ≤ 65536
 
--- so it is with the options of each line that is a request
+-- so it is with the options that compact numbers have for digits of their own
+abbrev pub FitNotation : Notation → Type 0
+FitNotation Standard = Unit {0}
+FitNotation (Compact width) = Unit {0}
+FitNotation (CompactDigits width options) = FitDecimals options
+
+-- and with all options of a format
+pub record FitFormat (format : NumberFormat) : Type 0 where
+  pub options : FitDecimals format.options
+  pub digits : FitNotation format.shape.notation
+
+-- which each line that is a request has
 abbrev pub RequestsAreAtMagnitude : Type 0
-RequestsAreAtMagnitude = (line : List ℕ) (asked : Asked) → request_of line ≡ Some asked → FitDecimals asked.format.options
+RequestsAreAtMagnitude = (line : List ℕ) (asked : Asked) → request_of line ≡ Some asked → FitFormat asked.format

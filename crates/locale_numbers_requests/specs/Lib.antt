@@ -6,6 +6,7 @@ pub mod RangeEnds
 pub mod Request
 pub mod RoundingField
 pub mod Refusal
+pub mod UnitWord
 -- Of `locale_numbers_formats`: the pieces of a line.
 pub use Rattle.locale_numbers_formats.specs.Cutting
 -- Statements of laws.

@@ -15,8 +15,10 @@ use Rattle.locale_numbers_formats.specs.Cutting.{cut_at}
 use Rattle.locale_numbers_formats.specs.declared.CompactWidth.TheVariants.{Short, Long}
 use Rattle.locale_numbers_formats.specs.declared.LeadingZeros.{LeadingZeros}
 use Rattle.locale_numbers_formats.specs.declared.LeadingZeros.TheVariants as leading
-use Rattle.locale_numbers_formats.specs.declared.Notation.TheVariants.{Standard, Compact}
+use Rattle.locale_numbers_formats.specs.declared.Notation.{Notation}
+use Rattle.locale_numbers_formats.specs.declared.Notation.TheVariants.{Standard, Compact, CompactDigits}
 use Rattle.locale_numbers_formats.specs.declared.NumberFormat.{NumberFormat}
+use Rattle.locale_numbers_formats.specs.declared.NumberShape.{NumberShape}
 use Rattle.locale_numbers_formats.specs.declared.NumberUnit.{NumberUnit}
 use Rattle.locale_numbers_formats.specs.declared.NumberUnit.TheVariants as unit
 use Rattle.locale_numbers_formats.specs.declared.Rounding.{Rounding}
@@ -101,17 +103,17 @@ old_request_in _ = None
 abbrev pub old_request_of : List ℕ → Option Asked
 old_request_of line = if is_utf8 line then old_request_in (fields line) else None
 
+-- a unit, each of which was added
+abbrev pub is_added_unit : NumberUnit → Bool
+is_added_unit unit.None = false
+is_added_unit (unit.Percent sign) = true
+is_added_unit (unit.Currency currency) = true
+
 -- a task of a unit that was added
 abbrev pub is_added_task : Task → NumberUnit → Bool
-is_added_task Write unit.None = false
-is_added_task Write unit.Percent = true
-is_added_task Write unit.Permille = true
-is_added_task Write (unit.Currency currency) = true
+is_added_task Write unit = is_added_unit unit
 is_added_task WriteExact unit = false
-is_added_task Read unit.None = false
-is_added_task Read unit.Percent = true
-is_added_task Read unit.Permille = true
-is_added_task Read (unit.Currency currency) = true
+is_added_task Read unit = is_added_unit unit
 is_added_task ReadLenient unit = true
 is_added_task (Category rule_type) unit = true
 is_added_task RangeCategory unit = true
@@ -133,10 +135,19 @@ is_added_grouping grouping.Always = false
 is_added_grouping grouping.Min2 = false
 is_added_grouping grouping.OnAligned = true
 
--- a grouping, a task, a choice of digits or an increment that was added
+-- compact numbers with digits of their own, which were added
+abbrev pub is_added_notation : Notation → Bool
+is_added_notation Standard = false
+is_added_notation (Compact width) = false
+is_added_notation (CompactDigits width options) = true
+
+abbrev pub is_added_shape : NumberShape → Bool
+is_added_shape shape = is_added_grouping shape.grouping || is_added_notation shape.notation
+
+-- a shape, a task, a choice of digits or an increment that was added
 abbrev pub is_added : Asked → Bool
 is_added asked =
-    is_added_grouping asked.format.shape.grouping
+    is_added_shape asked.format.shape
     || (trims asked.format.options.leading_zeros asked.format.options.zeros || is_added_task asked.task asked.format.shape.unit)
 
 -- a line asks what it asked; or it is none and was none; or it asks what was added, and was none

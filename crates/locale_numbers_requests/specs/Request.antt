@@ -60,8 +60,7 @@ keeps_sign (Show display) = false
 -- the unit is a currency
 abbrev pub is_amount : NumberUnit → Bool
 is_amount unit.None = false
-is_amount unit.Percent = false
-is_amount unit.Permille = false
+is_amount (unit.Percent sign) = false
 is_amount (unit.Currency currency) = true
 
 -- whether a task of numbers with a unit takes a sign and a rounding: an exact form shows the digits that are given, so nothing is

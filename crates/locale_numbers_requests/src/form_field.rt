@@ -2,14 +2,13 @@
 
 ghost use Rattle.std.specs.Prelude.{◌≡◌};
 ghost use Rattle.locale_numbers_formats.specs.Cutting.{cut_at};
-ghost use Rattle.locale_numbers_formats.specs.Skeletons.{is_compact};
-ghost use Rattle.locale_numbers_requests.specs.FormField.{amount_form, coded_form, colon, form_for, form_named, format_read, listed_form, rounding_read, skeleton_in, skeleton_task};
+ghost use Rattle.locale_numbers_requests.specs.FormField.{colon, form_for, form_named, form_with, format_exact, format_read, is_compact, listed_form, rounding_read, skeleton_in, skeleton_task, unit_form};
 
 use crate::pieces::three_pieces;
-use icu_dimension_fractions::{CurrencyCode, CurrencyStyle, CurrencyWidth};
+use crate::unit_word::unit_named;
 use icu_plurals::PluralRuleType;
 use locale_numbers_formats::{
-    CompactWidth, CurrencyUnit, Notation, NumberFormat, NumberOptions, NumberUnit, Rounding,
+    CompactWidth, Notation, NumberFormat, NumberOptions, NumberShape, NumberUnit, Rounding,
     Skeleton, value_beside,
 };
 
@@ -51,8 +50,8 @@ const CARDINAL: Task = Task::Category(PluralRuleType::Cardinal);
 
 const ORDINAL: Task = Task::Category(PluralRuleType::Ordinal);
 
-// The words of forms, but for those with the code of a currency.
-const FORMS: [(&[u8], FormAsked); 16] = [
+// The words of forms, but for those of units.
+const FORMS: [(&[u8], FormAsked); 10] = [
     (
         b"plain",
         FormAsked::OfWord(Task::Write, Notation::Standard, NumberUnit::None),
@@ -82,30 +81,6 @@ const FORMS: [(&[u8], FormAsked); 16] = [
         FormAsked::OfWord(Task::ReadLenient, Notation::Standard, NumberUnit::None),
     ),
     (
-        b"percent",
-        FormAsked::OfWord(Task::Write, Notation::Standard, NumberUnit::Percent),
-    ),
-    (
-        b"read-percent",
-        FormAsked::OfWord(Task::Read, Notation::Standard, NumberUnit::Percent),
-    ),
-    (
-        b"read-lenient-percent",
-        FormAsked::OfWord(Task::ReadLenient, Notation::Standard, NumberUnit::Percent),
-    ),
-    (
-        b"permille",
-        FormAsked::OfWord(Task::Write, Notation::Standard, NumberUnit::Permille),
-    ),
-    (
-        b"read-permille",
-        FormAsked::OfWord(Task::Read, Notation::Standard, NumberUnit::Permille),
-    ),
-    (
-        b"read-lenient-permille",
-        FormAsked::OfWord(Task::ReadLenient, Notation::Standard, NumberUnit::Permille),
-    ),
-    (
         b"plural",
         FormAsked::OfWord(CARDINAL, Notation::Standard, NumberUnit::None),
     ),
@@ -119,115 +94,23 @@ const FORMS: [(&[u8], FormAsked); 16] = [
     ),
 ];
 
-// What the front of a word says of an amount, before the code.
-#[derive(Clone, Copy)]
-struct AmountWord {
-    task: Task,
-    style: CurrencyStyle,
-    width: CurrencyWidth,
+// The form of a unit, where there is one.
+fn form_with(task: Task, unit: Option<NumberUnit>) -> Option<FormAsked>
+    ensures { result ≡ form_with task unit }
+{
+    Some(FormAsked::OfWord(task, Notation::Standard, unit?))
 }
 
-// The fronts of words before the code of a currency.
-const AMOUNTS: [(&[u8], AmountWord); 9] = [
-    (
-        b"currency-",
-        AmountWord {
-            task: Task::Write,
-            style: CurrencyStyle::Standard,
-            width: CurrencyWidth::Short,
-        },
-    ),
-    (
-        b"accounting-",
-        AmountWord {
-            task: Task::Write,
-            style: CurrencyStyle::Accounting,
-            width: CurrencyWidth::Short,
-        },
-    ),
-    (
-        b"code-",
-        AmountWord {
-            task: Task::Write,
-            style: CurrencyStyle::Standard,
-            width: CurrencyWidth::IsoCode,
-        },
-    ),
-    (
-        b"read-currency-",
-        AmountWord {
-            task: Task::Read,
-            style: CurrencyStyle::Standard,
-            width: CurrencyWidth::Short,
-        },
-    ),
-    (
-        b"read-accounting-",
-        AmountWord {
-            task: Task::Read,
-            style: CurrencyStyle::Accounting,
-            width: CurrencyWidth::Short,
-        },
-    ),
-    (
-        b"read-code-",
-        AmountWord {
-            task: Task::Read,
-            style: CurrencyStyle::Standard,
-            width: CurrencyWidth::IsoCode,
-        },
-    ),
-    (
-        b"read-lenient-currency-",
-        AmountWord {
-            task: Task::ReadLenient,
-            style: CurrencyStyle::Standard,
-            width: CurrencyWidth::Short,
-        },
-    ),
-    (
-        b"read-lenient-accounting-",
-        AmountWord {
-            task: Task::ReadLenient,
-            style: CurrencyStyle::Accounting,
-            width: CurrencyWidth::Short,
-        },
-    ),
-    (
-        b"read-lenient-code-",
-        AmountWord {
-            task: Task::ReadLenient,
-            style: CurrencyStyle::Standard,
-            width: CurrencyWidth::IsoCode,
-        },
-    ),
-];
-
-// The form of an amount of this currency.
-fn amount_form(word: AmountWord, code: CurrencyCode) -> FormAsked
-    ensures { result ≡ amount_form word code }
+// The form that the word of a unit names, after what is done with the number.
+fn unit_form(word: &[u8]) -> Option<FormAsked>
+    ensures { result ≡ unit_form word.now }
 {
-    let currency = CurrencyUnit {
-        code,
-        style: word.style,
-        width: word.width,
-    };
-    FormAsked::OfWord(
-        word.task,
-        Notation::Standard,
-        NumberUnit::Currency(currency),
-    )
-}
-
-// The form that a word with the code of a currency at its end names.
-fn coded_form(word: &[u8]) -> Option<FormAsked>
-    ensures { result ≡ coded_form word.now }
-{
-    let (front, last) = word.split_at(word.len().saturating_sub(3));
-    let amount = value_beside(&AMOUNTS, front)?;
-    match CurrencyCode::try_from_utf8(last) {
-        Ok(code) => Some(amount_form(amount, code)),
-        Err(_) => None,
+    if let Some(unit) = word.strip_prefix(b"read-lenient-".as_slice()) {
+        form_with(Task::ReadLenient, unit_named(unit))
+    } else if let Some(unit) = word.strip_prefix(b"read-".as_slice()) {
+        form_with(Task::Read, unit_named(unit))
+    } else {
+        form_with(Task::Write, unit_named(word))
     }
 }
 
@@ -276,11 +159,28 @@ pub fn format_read(format: NumberFormat) -> NumberFormat
     }
 }
 
+/// The format by which exact forms are written, of another one: their digits are given, so of a compact format with digits
+/// of its own only the width and the sign count. It does not allocate.
+pub fn format_exact(format: NumberFormat) -> NumberFormat
+    ensures { result ≡ format_exact format }
+{
+    match format.shape.notation {
+        Notation::Standard | Notation::Compact(_) => format,
+        Notation::CompactDigits(width, options) => NumberFormat {
+            shape: NumberShape {
+                notation: Notation::Compact(width),
+                ..format.shape
+            },
+            options,
+        },
+    }
+}
+
 // Whether numbers are written with a compact pattern.
 fn is_compact(notation: Notation) -> bool
     ensures { result ≡ is_compact notation }
 {
-    matches!(notation, Notation::Compact(_))
+    !matches!(notation, Notation::Standard)
 }
 
 // The form of a task and the format of a skeleton, where they go together.
@@ -292,7 +192,7 @@ fn form_for(task: Task, format: NumberFormat) -> Option<FormAsked>
             Some(FormAsked::OfSkeleton(task, format))
         }
         Task::WriteExact if is_compact(format.shape.notation) => {
-            Some(FormAsked::OfSkeleton(task, format))
+            Some(FormAsked::OfSkeleton(task, format_exact(format)))
         }
         Task::WriteExact => None,
         Task::Read | Task::ReadLenient => Some(FormAsked::OfSkeleton(task, format_read(format))),
@@ -327,7 +227,7 @@ pub(crate) fn form_named(word: &[u8]) -> Option<FormAsked>
 {
     match listed_form(word) {
         Some(form) => Some(form),
-        None => match coded_form(word) {
+        None => match unit_form(word) {
             Some(form) => Some(form),
             None => skeleton_form(word),
         },

@@ -24,9 +24,10 @@ mod request;
 mod rounding_field;
 mod sign_field;
 mod significant_field;
+mod unit_word;
 
 pub use digits::{are_digits, capped_number};
-pub use form_field::{Task, format_read};
+pub use form_field::{Task, format_exact, format_read};
 pub use increments::{Increment, Multiples, increment_named, multiples_at};
 pub use locale_numbers_formats::{SignAsked, cut_field, cut_last};
 pub use range_text::cut_range;

@@ -89,7 +89,7 @@ impl<K: EntryKind> Change for EntriesOf<K> {
 
     fn make(_alloc: Global, map: &mut EntriesOf<K>, entry: Entry<K>) -> Result<(), AllocError> {
         let Entry { key, value } = entry;
-        let _old = map.set(key, value)?;
+        drop(map.set(key, value)?);
         Ok(())
     }
 }

@@ -26,7 +26,7 @@ impl Error {
     pub const NUMBER: Error = Error(7);
     /// A digit of the number is beyond the magnitudes -32768 to 32767.
     pub const LIMIT: Error = Error(8);
-    /// What is shown in compact form, or an exact form, reaches ten to the power 32768.
+    /// A digit of what is shown, in compact form or of an exact form, is beyond the magnitudes -32768 to 32767.
     pub const RANGE: Error = Error(9);
     /// Two numbers may have one text: under the symbols, or since they are compact.
     pub const UNREADABLE: Error = Error(11);
@@ -74,7 +74,7 @@ impl Error {
     pub const SKELETON_PAIR: Error = Error(204);
     /// A word names a numbering system, which the tag has, as `latin`.
     pub const SKELETON_SYSTEM: Error = Error(205);
-    /// A word, or what it says beside another one, is not written yet: `scientific`, `compact-short .00`.
+    /// A word, or what it says beside another one, is not written yet: `scientific`, `percent scale/100`.
     pub const SKELETON_LATER: Error = Error(206);
     /// A word asks for what is not written here, as `decimal-always`.
     pub const SKELETON_UNSUPPORTED: Error = Error(207);

@@ -55,6 +55,9 @@ fn texts() {
         ("en", "compact-short", "1650", "1.6K"),
         ("en", "KK", "-1172700", "-1.2 million"),
         ("hi", "compact-long", "1234567", "12 लाख"),
+        ("en", "compact-short .00", "-1234", "-1.23K"),
+        ("de", "KK .0", "1234567", "1,2 Millionen"),
+        ("en", "K rounding-mode-down", "1999", "1.9K"),
     ] {
         assert_eq!(of(tag, skeleton).format(number).as_deref(), Ok(text), "{tag} {skeleton}");
         assert_eq!(of(tag, skeleton).share().format(number).as_deref(), Ok(text), "{tag} {skeleton}");
@@ -80,10 +83,10 @@ fn faults() {
         ("latin", Error::SKELETON_SYSTEM, 0),
         ("percent numbering-system/thai", Error::SKELETON_SYSTEM, 8),
         ("scientific", Error::SKELETON_LATER, 0),
-        ("compact-short .00", Error::SKELETON_LATER, 14),
+        ("compact-short unit-width-narrow", Error::SKELETON_LATER, 14),
         ("currency/EUR rounding-mode-up", Error::SKELETON_LATER, 13),
-        ("percent  .00/@@*", Error::SKELETON_LATER, 9),
-        ("K @@#", Error::SKELETON_LATER, 2),
+        ("percent  scientific", Error::SKELETON_LATER, 9),
+        ("K scale/100", Error::SKELETON_LATER, 2),
         ("decimal-always", Error::SKELETON_UNSUPPORTED, 0),
         (".00 integer-width-trunc", Error::SKELETON_UNSUPPORTED, 4),
         ("sign-accounting foo", Error::SKELETON_UNKNOWN, 16),
@@ -142,7 +145,7 @@ fn normal_texts() {
         ("  %   .00## ", "percent .00##"),
         (".00+", ".00*"),
         ("@@+ ,!", "@@* group-on-aligned"),
-        (".##/@@@+", ".##/@##r"),
+        (".##/@@@+", ".##/@@@*"),
         ("precision-integer/@@#s/w", "./@@#s/w"),
         (". +!", "precision-integer sign-always"),
         (".*", "precision-unlimited"),

@@ -4,9 +4,9 @@ ghost use Rattle.std.specs.Prelude.{◌≡◌};
 ghost use Rattle.std.specs.Result.{result_map_both};
 ghost use Rattle.icu_dimension.specs.FoundUnits.{sign_found};
 
-use crate::options::PercentSign;
 use icu_decimal::provider::{DataError, DecimalSymbols};
 use icu_dimension_affixes::UnitPattern;
+use icu_dimension_fractions::PercentSign;
 use std::marker::Model;
 
 /// How percents are written: in Turkish `%` is before the number.

@@ -11,11 +11,13 @@ use Rattle.locale_numbers.proofs.answering.answer_after_front.Goals as goal
 pub returns-in-Write-clause-room : goal.returns-in-Write-clause-room
 returns-in-Write-clause-room g c = λ room quiet small.
     let book = g.F.Formatters.book c.args.formatters.now in
+    let takes = may_take book c.args.front.now c.in-Some.front c.in-Some-key.key c.args.text.now c.in-Some.is c.in-Some-key.is (g.F.Formatters.kept_for c.args.formatters.now) Write c.args.value.now c.in-Write.is in
     c.answer_number.ensures.room
     (subst (λ answer. HasRoom c.args.out.now answer) (answer_done book c.args.front.now c.in-Some.front c.in-Some-key.key c.args.text.now c.in-Some.is c.in-Some-key.is Write c.in-Write.is) room)
     (of_key book c.args.front.now c.in-Some.front c.in-Some-key.key c.args.text.now c.in-Some.is c.in-Some-key.is (λ key. g.F.Formatters.may_take_memory c.args.formatters.now key → ⊥) quiet)
-    (λ more. small (may_take book c.args.front.now c.in-Some.front c.in-Some-key.key c.args.text.now c.in-Some.is c.in-Some-key.is (g.F.Formatters.kept_for c.args.formatters.now) Write c.args.value.now c.in-Write.is (inl more)))
-    (λ grows. small (may_take book c.args.front.now c.in-Some.front c.in-Some-key.key c.args.text.now c.in-Some.is c.in-Some-key.is (g.F.Formatters.kept_for c.args.formatters.now) Write c.args.value.now c.in-Write.is (inr grows)))
+    (λ more. small (takes (inl (inl more))))
+    (λ grows. small (takes (inl (inr grows))))
+    (λ lengthens. small (takes (inr lengthens)))
 
 pub returns-in-WriteExact-clause-room : goal.returns-in-WriteExact-clause-room
 returns-in-WriteExact-clause-room g c = λ room quiet small.
@@ -51,18 +53,21 @@ pub returns-in-Category-clause-room : goal.returns-in-Category-clause-room
 returns-in-Category-clause-room g c = λ room quiet small.
     let book = g.F.Formatters.book c.args.formatters.now in
     let task = Category c.in-Category.field-0 in
+    let takes = may_take book c.args.front.now c.in-Some.front c.in-Some-key.key c.args.text.now c.in-Some.is c.in-Some-key.is (g.F.Formatters.kept_for c.args.formatters.now) task c.args.value.now c.in-Category.is in
     c.answer_category.ensures.room
     (subst (λ answer. HasRoom c.args.out.now answer) (category_done book c.args.front.now c.in-Some.front c.in-Some-key.key c.args.text.now c.in-Some.is c.in-Some-key.is c.requires.fits c.in-Category.field-0 c.in-Category.is) room)
     (of_key book c.args.front.now c.in-Some.front c.in-Some-key.key c.args.text.now c.in-Some.is c.in-Some-key.is (λ key. g.F.Formatters.may_take_memory c.args.formatters.now key → ⊥) quiet)
-    (λ more. small (may_take book c.args.front.now c.in-Some.front c.in-Some-key.key c.args.text.now c.in-Some.is c.in-Some-key.is (g.F.Formatters.kept_for c.args.formatters.now) task c.args.value.now c.in-Category.is (inl more)))
-    (λ grows. small (may_take book c.args.front.now c.in-Some.front c.in-Some-key.key c.args.text.now c.in-Some.is c.in-Some-key.is (g.F.Formatters.kept_for c.args.formatters.now) task c.args.value.now c.in-Category.is (inr grows)))
+    (λ more. small (takes (inl (inl more))))
+    (λ grows. small (takes (inl (inr grows))))
+    (λ lengthens. small (takes (inr lengthens)))
 
 pub returns-in-RangeCategory-clause-room : goal.returns-in-RangeCategory-clause-room
 returns-in-RangeCategory-clause-room g c = λ room quiet small.
     let book = g.F.Formatters.book c.args.formatters.now in
     let key = c.in-Some-key.key in
+    let takes = may_take book c.args.front.now c.in-Some.front c.in-Some-key.key c.args.text.now c.in-Some.is c.in-Some-key.is (g.F.Formatters.kept_for c.args.formatters.now) RangeCategory c.args.value.now c.in-RangeCategory.is in
     c.answer_range.ensures.room
     (subst (λ answer. HasRoom c.args.out.now answer) (range_shown book c.args.front.now c.in-Some.front c.in-Some-key.key c.args.text.now c.in-Some.is c.in-Some-key.is c.requires.fits c.in-Some-as_text.text.now c.in-RangeCategory.is c.in-Some-as_text.ensures.0 c.in-Some-as_text.ensures.1) room)
     (of_key book c.args.front.now c.in-Some.front c.in-Some-key.key c.args.text.now c.in-Some.is c.in-Some-key.is (λ key. g.F.Formatters.may_take_memory c.args.formatters.now key → ⊥) quiet)
-    (λ many. small (may_take book c.args.front.now c.in-Some.front c.in-Some-key.key c.args.text.now c.in-Some.is c.in-Some-key.is (g.F.Formatters.kept_for c.args.formatters.now) RangeCategory c.args.value.now c.in-RangeCategory.is
-    (c.in-Some-as_text.ensures.0, subst (λ shown. RangeAllocates (found_for key.shape book key.preferences) c.in-Some.front.options.rounding (range_ends shown) c.args.value.now) c.in-Some-as_text.ensures.1 many)))
+    (λ many. small (takes (c.in-Some-as_text.ensures.0, inl (subst (λ shown. RangeAllocates (found_for key.shape book key.preferences) c.in-Some.front.options.rounding (range_ends shown) c.args.value.now) c.in-Some-as_text.ensures.1 many))))
+    (λ lengthens. small (takes (c.in-Some-as_text.ensures.0, inr lengthens)))

@@ -1,6 +1,7 @@
 use Rattle.std.proofs.Common.{◌≡◌, false, subst, sym, rules}
 use Rattle.std.specs.Prelude.{string_bytes}
 use Rattle.icu_decimal_direct.specs.TextDigits.{number_spelled}
+use Rattle.locale_numbers_answers.specs.AnswerMemory.{MayLengthenFound}
 use Rattle.locale_numbers_answers.specs.AnswerSink.{HasRoom}
 use Rattle.locale_numbers.specs.FormatterKeys.{finds}
 use Rattle.locale_numbers.proofs.AnsweringLemmas.{grows_by_none, on_ok_same}
@@ -17,7 +18,7 @@ returns-then-not-found-clause-text g c =
     on_ok_same c.write_refusal.result _ (string_bytes c.args.out.now) _ _ (sym (none_written book c.args.key.now c.args._options (number_spelled c.args.digits.now) c.requires.ruleless none)) c.write_refusal.ensures.text
 
 pub returns-then-not-found-clause-room : goal.returns-then-not-found-clause-room
-returns-then-not-found-clause-room g c = λ room quiet more.
+returns-then-not-found-clause-room g c = λ room quiet more short.
     let book = g.F.Formatters.book c.args.formatters.now in
     let none : finds book c.args.key.now ≡ false = search rules in
     c.write_refusal.ensures.room (subst (λ answer. HasRoom c.args.out.now answer) (none_written book c.args.key.now c.args._options (number_spelled c.args.digits.now) c.requires.ruleless none) room)
@@ -32,11 +33,11 @@ returns-clause-text g c =
     c.write_digits_by_formatter.ensures.text
 
 pub returns-clause-room : goal.returns-clause-room
-returns-clause-room g c = λ room quiet more.
+returns-clause-room g c = λ room quiet more short.
     let book = g.F.Formatters.book c.args.formatters.now in
     let same : g.F.Formatters.book c.find.new.self ≡ book = search rules in
     let made = made_before (g.F.Formatters.book c.find.new.self) book c.args.key.now c.found.result.now same c.found.ensures.made in
     c.write_digits_by_formatter.ensures.room
     (subst (λ answer. HasRoom c.args.out.now answer)
     (digits_by book c.args.key.now c.found.result.now made c.args._options c.requires.plain c.args.text.now (number_spelled c.args.digits.now) c.requires.reads) room)
-    more
+    more (subst (λ found. ¬ (MayLengthenFound found)) made.found short)

@@ -1,4 +1,4 @@
-use Rattle.std.proofs.Common.{◌≡◌, Some, inl, inr, subst, sym, ap, ◌∙◌}
+use Rattle.std.proofs.Common.{inl, inr, subst, sym, ap, ◌∙◌}
 use Rattle.locale_numbers_answers.specs.AnswerMemory.{MayGrowFound, RangeAllocates}
 use Rattle.locale_numbers_answers.specs.AnswerSink.{HasRoom}
 use Rattle.locale_numbers_answers.specs.CategoryAnswer.{range_category_to, range_ends_to}
@@ -10,7 +10,7 @@ use Rattle.locale_numbers.specs.KeptFormatters.{rules_found}
 use Rattle.locale_numbers.proofs.range_line.answer_range.Goals as goal
 
 pub returns-in-Ok-clause-room : goal.returns-in-Ok-clause-room
-returns-in-Ok-clause-room g c = λ room quiet small.
+returns-in-Ok-clause-room g c = λ room quiet small short.
     let key = c.args.key.now in
     let book = g.F.Formatters.book c.args.formatters.now in
     let found = found_for key.shape book key.preferences in
@@ -24,3 +24,4 @@ returns-in-Ok-clause-room g c = λ room quiet small.
     (λ grows. small (allocates (inl (inr (subst (λ reading. MayGrowFound found c.args.options.rounding reading) (sym c.in-Ok.ensures.value) grows)))))
     (λ long. small (allocates (inr (inl long))))
     (λ grows. small (allocates (inr (inr grows))))
+    short

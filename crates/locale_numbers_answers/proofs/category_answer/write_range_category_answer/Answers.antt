@@ -5,10 +5,13 @@ use Rattle.locale_numbers_answers.specs.AnswerSink.{HasRoom}
 use Rattle.locale_numbers_answers.specs.CategoryAnswer.{answered_category}
 use Rattle.locale_numbers_answers.proofs.category_answer.write_range_category_answer.Goals as goal
 
-pub returns-clause-text : goal.returns-clause-text
-returns-clause-text c =
-    subst (λ (category : Option PluralCategory). OnOk c.write_category.result (string_bytes c.write_category.new.out ≡ string_bytes c.args.out.now ++ answered_category category)) c.shown_range_category.ensures c.write_category.ensures.text
+pub returns-in-Ok-clause-text : goal.returns-in-Ok-clause-text
+returns-in-Ok-clause-text c =
+    subst (λ (category : Option PluralCategory). OnOk c.write_category.result (string_bytes c.write_category.new.out ≡ string_bytes c.args.out.now ++ answered_category category)) c.in-Ok.ensures.value c.write_category.ensures.text
 
-pub returns-clause-room : goal.returns-clause-room
-returns-clause-room c =
-    subst (λ (category : Option PluralCategory). HasRoom c.args.out.now (answered_category category) → IsOk c.write_category.result) c.shown_range_category.ensures c.write_category.ensures.room
+pub returns-in-Ok-clause-room : goal.returns-in-Ok-clause-room
+returns-in-Ok-clause-room c = λ room never.
+    subst (λ (category : Option PluralCategory). HasRoom c.args.out.now (answered_category category) → IsOk c.write_category.result) c.in-Ok.ensures.value c.write_category.ensures.room room
+
+pub returns-in-Err-clause-room : goal.returns-in-Err-clause-room
+returns-in-Err-clause-room c = λ room never. absurd (never c.in-Err.ensures.room)

@@ -1,4 +1,4 @@
-use Rattle.std.proofs.Common.{rules, ◌≡◌, ◌-◌, min, arith}
+use Rattle.std.proofs.Common.{rules, ◌≡◌, ◌-◌, ◌∙◌, min, arith}
 use Rattle.icu_decimal_plurals.specs.Operands.{part_of}
 use Rattle.icu_decimal_plurals.proofs.OperandsLemmas.{operands_are}
 use Rattle.icu_decimal_plurals.proofs.operands.PluralOperands.from_significand_and_exponent.Goals as goal
@@ -10,7 +10,7 @@ returns c =
     let places = c.fraction_len.result in
     let v = c.min-v.result in
     let v_is : v ≡ min (places - moved) 18 = search rules in
-    let i_is : c.part_of.result ≡ part_of n.count (32768 - moved) 18 = search rules in
+    let i_is : c.part_of-i.result ≡ part_of n.count (32768 - moved) 18 = search rules in
     let f_is : c.part_of-f.result ≡ part_of n.count (32768 - moved - v) v = search rules in
-    operands_are 32768 n.count n.low moved places v c.part_of.result c.part_of-f.result c.trimmed-t.result.0 c.trimmed-t.result.1
-    c.fraction_len.ensures (omega arith) v_is i_is f_is c.trimmed-t.ensures.digits c.trimmed-t.ensures.count
+    c.operands_by.ensures
+    ∙ operands_are 32768 n.count n.low moved places v c.part_of-i.result c.part_of-f.result c.fraction_len.ensures (omega arith) v_is i_is f_is

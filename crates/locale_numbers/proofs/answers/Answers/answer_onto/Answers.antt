@@ -1,12 +1,10 @@
-use Rattle.std.proofs.Common.{◌∷◌, ap, refl, sym, ◌∙◌}
+use Rattle.std.proofs.Common.{◌∷◌, [], ap, refl, sym, ◌∙◌}
 use Rattle.std.specs.Prelude.{string_bytes}
 use Rattle.locale_numbers_book.specs.Book.{BookTables}
 use Rattle.locale_numbers.specs.Answer.{answer_of}
 use Rattle.locale_numbers.specs.KeptAnswers.{Keeping}
-use Rattle.locale_numbers.specs.contracts.formatter_key.FormatterKeyPartialEq.TheImpl as keys
 use Rattle.locale_numbers.proofs.AnsweringLemmas.{on_ok_by, on_ok_same}
-use Rattle.locale_numbers.proofs.KeptAnswersLemmas.{counts}
-use Rattle.locale_numbers.proofs.SameKeyLemmas.{test_is}
+use Rattle.locale_numbers.proofs.KeptAnswersLemmas.{counts, keeps}
 use Rattle.locale_numbers.proofs.answers.Answers.answer_onto.Goals as goal
 
 pub invariant_of-self : goal.invariant_of-self
@@ -20,13 +18,22 @@ returns-clause-text g c =
 
 pub returns-clause-made : goal.returns-clause-made
 returns-clause-made g c =
-    let is = test_is keys.ghosts.eq c.equal_keys_are_one.ensures in
     let book = g.T.Tables.book c.self.inside.tables.now in
     let old = c.self.inside.answerer.kept in
     let new = c.answer_line.new.self.kept in
     on_ok_by c.answer_line.result
     (λ counted more.
-    sym (counts keys.ghosts.eq is (g.T.Tables.book old.maker.tables.now) book c.self.invariant.1 old.formatters c.args.self.now c.self.view_is (c.args.line.now ∷ more))
+    sym (counts (g.T.Tables.book old.maker.tables.now) book c.self.invariant.1 old.formatters c.args.self.now c.self.view_is (c.args.line.now ∷ more))
     ∙ counted more
-    ∙ counts keys.ghosts.eq is (g.T.Tables.book new.maker.tables.now) book (c.answer_line.ensures.same ∙ c.self.invariant.1) new.formatters _ refl more)
+    ∙ counts (g.T.Tables.book new.maker.tables.now) book (c.answer_line.ensures.same ∙ c.self.invariant.1) new.formatters _ refl more)
     c.answer_line.ensures.made
+
+pub returns-clause-recent : goal.returns-clause-recent
+returns-clause-recent g c =
+    let old = c.self.inside.answerer.kept in
+    on_ok_by c.answer_line.result
+    (λ is. is ∙ keeps (g.T.Tables.book old.maker.tables.now) (g.T.Tables.book c.self.inside.tables.now) c.self.invariant.1 old.formatters c.args.self.now c.self.view_is (c.args.line.now ∷ []))
+    c.answer_line.ensures.recent
+
+pub returns-clause-capacity : goal.returns-clause-capacity
+returns-clause-capacity g c = on_ok_by c.answer_line.result (λ is. is ∙ ap (λ (k : Keeping). k.capacity) c.self.view_is) c.answer_line.ensures.capacity

@@ -1,10 +1,11 @@
-use Rattle.std.proofs.Common.{◌≡◌, map, refl, sym, ap, ◌∙◌, subst}
+use Rattle.std.proofs.Common.{◌≡◌, [], map, refl, sym, ap, ◌∙◌, subst}
 use Rattle.std.specs.Prelude.{IsTrue, string_bytes}
 use Rattle.std.proofs.lemmas.Bool.{false≢true}
 use Rattle.locale_numbers_answers.specs.AnswerSink.{HasRoom}
 use Rattle.locale_numbers_cache.specs.Cached.{IsLatest, kept_for, recent_of}
 use Rattle.locale_numbers_cache.specs.Recent.{has}
 use Rattle.locale_numbers.specs.FormatterKeys.{key_of}
+use Rattle.locale_numbers.specs.KeptAnswers.{Keeping}
 use Rattle.locale_numbers.specs.KeptFormatters.{IsMadeFor}
 use Rattle.locale_numbers.specs.Front.{answer_after, key_after}
 use Rattle.locale_numbers.specs.LineMemory.{IsRemembered}
@@ -42,7 +43,22 @@ returns-clause-made g c =
     key_of_line c.args.line.now c.cut_text.result.0.now c.cut_text.result.1.now c.cut_text.ensures.asks
     ∙ ap (λ front. key_after front c.cut_text.result.1.now) (sym (one_of _ _ _ c.latest.ensures c.in_ok-same.ensures.value)) in
     on_ok_by c.answer_after_front.result
-    (λ counted more. rw key (counted (map key_of more)))
+    (λ counted more. rw key (ap (λ (k : Keeping). k.made) (counted (map key_of more))))
+    c.answer_after_front.ensures.counted
+
+pub returns-clause-recent : goal.returns-clause-recent
+returns-clause-recent g c =
+    let key : key_of c.args.line.now ≡ key_after c.latest.result.now c.cut_text.result.1.now =
+    key_of_line c.args.line.now c.cut_text.result.0.now c.cut_text.result.1.now c.cut_text.ensures.asks
+    ∙ ap (λ front. key_after front c.cut_text.result.1.now) (sym (one_of _ _ _ c.latest.ensures c.in_ok-same.ensures.value)) in
+    on_ok_by c.answer_after_front.result
+    (λ counted. rw key (sym (ap (λ (k : Keeping). k.recent) (counted []))))
+    c.answer_after_front.ensures.counted
+
+pub returns-clause-capacity : goal.returns-clause-capacity
+returns-clause-capacity g c =
+    on_ok_by c.answer_after_front.result
+    (λ counted. sym (ap (λ (k : Keeping). k.capacity) (counted [])))
     c.answer_after_front.ensures.counted
 
 pub returns-in_err-same-clause-err : goal.returns-in_err-same-clause-err

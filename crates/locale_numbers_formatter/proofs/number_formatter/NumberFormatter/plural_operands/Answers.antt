@@ -1,4 +1,4 @@
-use Rattle.std.proofs.Common.{◌≡◌, IfSome, Some, ap, sym, subst, ◌∙◌}
+use Rattle.std.proofs.Common.{◌≡◌, IfOk, IfSome, Some, ap, sym, subst, ◌∙◌}
 use Rattle.fixed_decimal.specs.Number.{Number}
 use Rattle.fixed_decimal.specs.SignedValue.{SignedValue}
 use Rattle.icu_decimal.specs.Operands.{Operands, operands_of}
@@ -17,6 +17,16 @@ pub returns-in-Compact-clause-value : goal.returns-in-Compact-clause-value
 returns-in-Compact-clause-value c =
     subst (λ (f : FormatTables). IfSome c.compact_operands.result (λ operands. c.compact_operands.new.value ≡ (format_value f c.args.value.now).significand))
     (ap format_of (sym c.in-Compact.is) ∙ c.self.view_is) c.compact_operands.ensures.value
+
+pub returns-in-CompactDigits-clause-operands : goal.returns-in-CompactDigits-clause-operands
+returns-in-CompactDigits-clause-operands c =
+    subst (λ (f : FormatTables). IfOk c.digits_operands.result (λ seen. seen ≡ shown_operands f c.args.value.now))
+    (ap format_of (sym c.in-CompactDigits.is) ∙ c.self.view_is) c.digits_operands.ensures.operands
+
+pub returns-in-CompactDigits-clause-value : goal.returns-in-CompactDigits-clause-value
+returns-in-CompactDigits-clause-value c =
+    subst (λ (f : FormatTables). IfOk c.digits_operands.result (λ seen. IfSome seen (λ operands. c.digits_operands.new.value ≡ (format_value f c.args.value.now).significand)))
+    (ap format_of (sym c.in-CompactDigits.is) ∙ c.self.view_is) c.digits_operands.ensures.value
 
 pub returns-in-Plain-clause-operands : goal.returns-in-Plain-clause-operands
 returns-in-Plain-clause-operands c =

@@ -1,0 +1,279 @@
+-- The form as a function is the form, and what a significand that is divided again is.
+use Rattle.std.proofs.Common.{◌≡◌, ℕ, zero, suc, ℤ, pos, negsuc, ◌+◌, ◌-◌, ◌*◌, ◌/◌, ◌%◌, ◌^◌, ◌<◌, ◌≤◌, ◌==◌, ◌&&◌, nat_lt, Bool, true, false, cond, refl, sym, ap, ◌∙◌, subst, lit≤, arith, inl, inr, ⊎_elim}
+use Rattle.std.proofs.Math.Nat.{div-add-mod', mul-div_cancel, zero-mod}
+use Rattle.std.proofs.lemmas.Bool.{and_from, and_parts, cases_lt, eq-eqb, eqb-false, eqb-true, false≢true, lt-ltb, ltb-false, ltb-true, ne_eqb}
+use Rattle.fixed_decimal.specs.Number.{IsNumber, Number}
+use Rattle.fixed_decimal.specs.Range.{IsHighest, IsLowest}
+use Rattle.fixed_decimal.specs.Shifts.{TrimsEnd, TrimsStart, fall, rise}
+use Rattle.fixed_decimal.proofs.TenLemmas.{tens_apart, tens_positive}
+use Rattle.icu_decimal_scientific.specs.CarryLaws.{BeyondIsBelow, CarriedIsNormal, FormIsFunction, UnchangedIsForm}
+use Rattle.icu_decimal_scientific.specs.FormOf.{bare, carried, counted, divided, does_carry, ending, exponent_at, exponent_in, form_of, holding, raised, reach, with_change}
+use Rattle.icu_decimal_scientific.specs.Scientific.{IsExponent, IsForm, IsGreatestMultiple, IsSignificand, ScientificParts, step}
+use Rattle.icu_decimal_scientific.specs.ScientificLaws.{IsNormal}
+use Rattle.icu_decimal_scientific.specs.declared.notation.Notation.{Notation}
+use Rattle.icu_decimal_scientific.specs.declared.notation.Notation.TheVariants.{Scientific, Engineering}
+use Rattle.icu_decimal_scientific.proofs.FormLawLemmas.{first_of, form_is_normal, same_exponent}
+use Rattle.icu_decimal_scientific.proofs.FormLemmas.{other_way}
+use Rattle.icu_decimal_scientific.proofs.NotationLemmas.{is_significand}
+use Rattle.icu_decimal_scientific.proofs.PowerLemmas.{IsTop, below_scaled, first_at, lt_through, powers_lt, top_of, no_first, reaches_scaled, same_first, same_high, same_low}
+
+-- ---- the ends of a number
+
+-- the lowest place from one upwards that holds a count
+record Holds (from count high : ℕ) : Type 0 where
+  keeps : from ≤ high
+  holds : count < 10 ^ (high + 1)
+  lowest : (h : ℕ) → from ≤ h → count < 10 ^ (h + 1) → high ≤ h
+
+not_here : (from count h : ℕ) → count < 10 ^ (h + 1) → h < suc from → 10 ^ (from + 1) ≤ count → ⊥
+not_here from count h few here over = let up = tens_apart (h + 1) (from + 1) (omega arith) in omega (arith, few, over, up)
+
+holds_on : (from count high : ℕ) → nat_lt count (10 ^ (from + 1)) ≡ false → Holds (suc from) count high → Holds from count high
+holds_on from count high test next =
+    let over : 10 ^ (from + 1) ≤ count = ltb-false count (10 ^ (from + 1)) test in
+    record {
+      keeps = let k = next.keeps in omega arith;
+      holds = next.holds;
+      lowest = λ h f few. ⊎_elim (λ here. absurd (not_here from count h few here over)) (λ above. next.lowest h above few) (cases_lt h (suc from));
+    }
+
+holding_is : (more from count : ℕ) → count < 10 ^ (from + more + 1) → Holds from count (holding more from count)
+unfolding holding
+holding_is zero from count l = record { keeps = omega arith; holds = subst (λ k. count < 10 ^ k) (omega arith) l; lowest = λ h f _. f }
+holding_is (suc more) from count l = go (nat_lt count (10 ^ (from + 1))) refl (holding_is more (suc from) count (subst (λ k. count < 10 ^ k) (omega arith) l))
+  where
+    go : (b : Bool) → nat_lt count (10 ^ (from + 1)) ≡ b → Holds (suc from) count (holding more (suc from) count) → Holds from count (cond b from (holding more (suc from) count))
+    go true test next = record { keeps = omega arith; holds = ltb-true count (10 ^ (from + 1)) test; lowest = λ h f _. f }
+    go false test next = holds_on from count (holding more (suc from) count) test next
+
+not_at : (most count p : ℕ) → (count % 10 ^ suc most == 0) ≡ false → count % 10 ^ p ≡ 0 → suc most ≤ p → p ≤ suc most → ⊥
+not_at most count p test w low high =
+    let at : p ≡ suc most = omega arith in
+    false≢true (sym test ∙ eq-eqb (count % 10 ^ suc most) 0 (subst (λ k. count % 10 ^ k ≡ 0) at w))
+
+ends_on : (most count low : ℕ) → (count % 10 ^ suc most == 0) ≡ false → IsLowest most count low → IsLowest (suc most) count low
+ends_on most count low test next = record {
+  under = let u = next.under in omega arith;
+  whole = next.whole;
+  highest = λ p l w. ⊎_elim (λ below. next.highest p (omega (arith, below)) w) (λ here. absurd (not_at most count p test w here l)) (cases_lt p (suc most));
+}
+
+ending_is : (most count : ℕ) → IsLowest most count (ending most count)
+unfolding ending
+ending_is zero count = record { under = omega arith; whole = omega arith; highest = λ p l _. l }
+ending_is (suc most) count = go (count % 10 ^ suc most == 0) refl (ending_is most count)
+  where
+    go : (b : Bool) → (count % 10 ^ suc most == 0) ≡ b → IsLowest most count (ending most count) → IsLowest (suc most) count (cond b (suc most) (ending most count))
+    go true test next = record { under = omega arith; whole = eqb-true (count % 10 ^ suc most) 0 test; highest = λ p l _. l }
+    go false test next = ends_on most count (ending most count) test next
+
+-- counts of numbers
+far : (n : Number) → IsNumber n → n.count < 10 ^ 65536
+far n is = lt_through n.count (10 ^ (n.high + 1)) (10 ^ 65536) is.below (tens_apart (n.high + 1) 65536 (let high = is.high in omega arith))
+
+further : (n k : ℕ) → n < 10 ^ 65536 → 65536 ≤ k → n < 10 ^ k
+further n k l above = lt_through n (10 ^ 65536) (10 ^ k) l (tens_apart 65536 k above)
+
+bare_high : (n : ℕ) → n < 10 ^ 65536 → IsHighest 32768 0 n (holding 32768 32768 n)
+bare_high n l = let h = holding_is 32768 32768 n (further n 65537 l (lit≤ tt)) in record {
+  keeps = h.keeps;
+  position = omega arith;
+  holds = h.holds;
+  lowest = λ k above _ few. h.lowest k above few;
+}
+
+pub bare_is : (n : Number) → n.count < 10 ^ 65536 → IsLowest 32768 n.count n.low → IsHighest 32768 0 n.count n.high → n ≡ bare n.count
+unfolding bare
+bare_is n l low high =
+    let at : n.low ≡ ending 32768 n.count = same_low 32768 n.count n.low (ending 32768 n.count) low (ending_is 32768 n.count) in
+    let to : n.high ≡ holding 32768 32768 n.count = same_high 32768 n.count n.high (holding 32768 32768 n.count) high (bare_high n.count l) in
+    λ i. record { count = n.count; low = at i; high = to i }
+
+-- ---- the exponent
+
+counted_rises : (n : ℕ) → rise (counted n) ≡ n - 32769
+counted_rises n = go (nat_lt n 32769) refl
+  where
+    go : (b : Bool) → nat_lt n 32769 ≡ b → rise (cond b (negsuc (32768 - n)) (pos (n - 32769))) ≡ n - 32769
+    go true test = let below = ltb-true n 32769 test in omega arith
+    go false test = refl
+
+counted_falls : (n : ℕ) → fall (counted n) ≡ 32769 - n
+counted_falls n = go (nat_lt n 32769) refl
+  where
+    go : (b : Bool) → nat_lt n 32769 ≡ b → fall (cond b (negsuc (32768 - n)) (pos (n - 32769))) ≡ 32769 - n
+    go true test = let below = ltb-true n 32769 test in omega arith
+    go false test = let over = ltb-false n 32769 test in omega arith
+
+singly : (place x : ℕ) (e : ℤ) → rise e ≡ x - 32769 → fall e ≡ 32769 - x → x ≡ place + 1 → IsGreatestMultiple 1 place e
+singly place x e r f is = record { multiple = omega arith; under = omega arith; next = omega arith }
+
+by_threes : (place x : ℕ) (e : ℤ) → rise e ≡ x - 32769 → fall e ≡ 32769 - x → x ≡ (place + 1) / 3 * 3 → IsGreatestMultiple 3 place e
+by_threes place x e r f is = record { multiple = omega arith; under = omega arith; next = omega arith }
+
+greatest_is : (notation : Notation) (place : ℕ) → IsGreatestMultiple (step notation) place (exponent_at notation place)
+greatest_is Scientific place = singly place (place + 1) (counted (place + 1)) (counted_rises (place + 1)) (counted_falls (place + 1)) refl
+greatest_is Engineering place = by_threes place ((place + 1) / 3 * 3) (counted ((place + 1) / 3 * 3)) (counted_rises ((place + 1) / 3 * 3)) (counted_falls ((place + 1) / 3 * 3)) refl
+
+-- the first digit
+first_is : (n : ℕ) → 0 < n → n < 10 ^ 65536 → IsTop n (holding 65536 0 n)
+first_is n some l =
+    let h = holding_is 65536 0 n (further n 65537 l (lit≤ tt)) in
+    record { reaches = ⊎_elim (λ below. absurd (before n (holding 65536 0 n) some below h.lowest)) (λ above. above) (cases_lt n (10 ^ holding 65536 0 n)); below = h.holds }
+  where
+    before : (n top : ℕ) → 0 < n → n < 10 ^ top → ((h : ℕ) → 0 ≤ h → n < 10 ^ (h + 1) → top ≤ h) → ⊥
+    before n zero some few lowest = absurd (omega arith)
+    before n (suc top) some few lowest = let l = lowest top (omega arith) (subst (λ k. n < 10 ^ k) (omega arith) few) in absurd (omega arith)
+
+positive : (n : ℕ) → (n == 0) ≡ false → 0 < n
+positive n test = ⊎_elim (λ z. absurd (eqb-false n 0 test (omega arith))) (λ s. omega arith) (cases_lt n 1)
+
+pub exponent_of_count : (notation : Notation) (n : Number) → IsNumber n → IsExponent notation n.count (exponent_in notation n.count)
+unfolding exponent_in
+exponent_of_count notation n is = go (n.count == 0) refl
+  where
+    go : (b : Bool) → (n.count == 0) ≡ b → IsExponent notation n.count (cond b (pos 0) (exponent_at notation (holding 65536 0 n.count)))
+    go true test = let none : n.count ≡ 0 = eqb-true n.count 0 test in record { zero = λ _. refl; some = λ p f. absurd (no_first n.count p none f) }
+    go false test =
+        let some : 0 < n.count = positive n.count test in
+        record {
+          zero = λ none. absurd (omega (arith, some, none));
+          some = λ p f. subst (λ k. IsGreatestMultiple (step notation) k (exponent_at notation (holding 65536 0 n.count)))
+              (same_first n.count (holding 65536 0 n.count) p (first_at n.count (holding 65536 0 n.count) (first_is n.count some (far n is))) f)
+              (greatest_is notation (holding 65536 0 n.count));
+        }
+
+pub exponent_known : (notation : Notation) (n : Number) (e : ℤ) → IsNumber n → IsExponent notation n.count e → e ≡ exponent_in notation n.count
+exponent_known notation n e is x = same_exponent notation n e (exponent_in notation n.count) is x (exponent_of_count notation n is)
+
+-- ---- the form
+
+quotient : (s n a b : ℕ) → s * 10 ^ a ≡ n * 10 ^ b → s ≡ n * 10 ^ b / 10 ^ a
+quotient s n a b e = sym (mul-div_cancel s (tens_positive a)) ∙ ap (λ k. k / 10 ^ a) e
+
+significand_is : (e : ℤ) (n s : Number) → s.count < 10 ^ 65536 → IsSignificand e n s → s ≡ divided e n.count
+significand_is e n s l d = bare_is s l d.low d.high ∙ ap bare (quotient s.count n.count (rise e) (fall e) d.count)
+
+-- the form of a number is what the function answers
+record IsKnown (notation : Notation) (n s : Number) (e : ℤ) : Type 0 where
+  significand : s ≡ divided (exponent_in notation n.count) n.count
+  exponent : e ≡ exponent_in notation n.count
+
+form_known : (notation : Notation) (n s : Number) (e : ℤ) → IsNumber n → IsForm notation n s e → IsKnown notation n s e
+form_known notation n s e is f =
+    let known : e ≡ exponent_in notation n.count = exponent_known notation n e is f.power in
+    record {
+      significand = significand_is e n s (far s (is_significand notation n s e is f)) f.divided ∙ ap (λ x. divided x n.count) known;
+      exponent = known;
+    }
+
+pub form_is_function : FormIsFunction
+form_is_function notation d form is f =
+    let known : IsKnown notation d.absolute form.significand.absolute form.exponent = form_known notation d.absolute form.significand.absolute form.exponent is f.absolute in
+    λ i. record { significand = record { sign = f.sign i; absolute = known.significand i }; exponent = known.exponent i }
+
+pub beyond_is_below : BeyondIsBelow
+beyond_is_below notation d is = (
+  λ b. λ none. b.digit (ap (λ x. d.absolute.count % 10 ^ rise x) (exponent_known notation d.absolute b.exponent is b.power) ∙ none),
+  λ part. record { exponent = exponent_in notation d.absolute.count; power = exponent_of_count notation d.absolute is; digit = part },
+)
+
+-- ---- divided again
+
+pub bare_quotient : (old cut low trimmed new : Number) (by : ℕ) → TrimsEnd old cut → low.count * 10 ^ by ≡ cut.count → TrimsEnd low trimmed → TrimsStart trimmed new → IsNumber new → new ≡ bare (old.count / 10 ^ by)
+bare_quotient old cut low trimmed new by c d t u is =
+    let count : new.count ≡ low.count = u.count ∙ t.count in
+    let whole : new.count * 10 ^ by ≡ old.count = ap (λ k. k * 10 ^ by) count ∙ d ∙ c.count in
+    bare_is new (far new is)
+    (subst (IsLowest 32768 new.count) (sym u.low) (subst (λ k. IsLowest 32768 k trimmed.low) (sym count) t.low))
+    (subst (λ k. IsHighest 32768 0 k new.high) (sym u.count) u.high)
+    ∙ ap bare (sym (mul-div_cancel new.count (tens_positive by)) ∙ ap (λ k. k / 10 ^ by) whole)
+
+-- a carry takes place exactly where its two tests hold
+module _ (notation : Notation) (count : ℕ) where
+  pub carries : 0 < reach notation count → count % 10 ^ reach notation count ≡ 0 → does_carry notation count ≡ true
+  carries some whole =
+      let first : nat_lt 0 (reach notation count) ≡ true = lt-ltb 0 (reach notation count) some in
+      let second : (count % 10 ^ reach notation count == 0) ≡ true = eq-eqb (count % 10 ^ reach notation count) 0 whole in
+      and_from (nat_lt 0 (reach notation count)) (count % 10 ^ reach notation count == 0) first second
+
+  pub reaches_nothing : reach notation count ≡ 0 → does_carry notation count ≡ false
+  reaches_nothing none = ap (λ k. nat_lt 0 k && (count % 10 ^ reach notation count == 0)) none
+
+  pub loses : ¬ (count % 10 ^ reach notation count ≡ 0) → does_carry notation count ≡ false
+  loses part =
+      let second : (count % 10 ^ reach notation count == 0) ≡ false = ne_eqb (count % 10 ^ reach notation count) 0 part in
+      ap (λ b. nat_lt 0 (reach notation count) && b) second ∙ never (nat_lt 0 (reach notation count))
+    where
+      never : (b : Bool) → (b && false) ≡ false
+      never true = refl
+      never false = refl
+
+pub carried_some : (notation : Notation) (old : ScientificParts) → does_carry notation old.significand.absolute.count ≡ true → carried notation old ≡ raised (reach notation old.significand.absolute.count) old
+carried_some notation old carry = ap (λ b. cond b (raised (reach notation old.significand.absolute.count) old) old) carry
+
+pub carried_none : (notation : Notation) (old : ScientificParts) → does_carry notation old.significand.absolute.count ≡ false → carried notation old ≡ old
+carried_none notation old stays = ap (λ b. cond b (raised (reach notation old.significand.absolute.count) old) old) stays
+
+pub carried_is_normal : CarriedIsNormal
+carried_is_normal notation n is carry =
+    let e : ℤ = exponent_in notation n.count in
+    let x : IsExponent notation n.count e = exponent_of_count notation n is in
+    let tests = and_parts (nat_lt 0 (reach notation n.count)) (n.count % 10 ^ reach notation n.count == 0) carry in
+    let rises : 0 < rise e = ltb-true 0 (rise e) tests.0 in
+    let whole : n.count % 10 ^ rise e ≡ 0 = eqb-true (n.count % 10 ^ rise e) 0 tests.1 in
+    let value : n.count / 10 ^ rise e * 10 ^ rise e ≡ n.count = let p = div-add-mod' n.count (10 ^ rise e) in omega (arith, p, whole) in
+    let falls : fall e ≡ 0 = ⊎_elim (λ f. f) (λ none. absurd (omega (arith, rises, none))) (other_way e) in
+    let scaled : n.count / 10 ^ rise e * 10 ^ rise e ≡ n.count * 10 ^ fall e = value ∙ sym (ap (λ k. n.count * 10 ^ k) falls ∙ unit n.count) in
+    ⊎_elim
+    (λ z. let none : rise e ≡ 0 = ap rise (x.zero (omega (arith, z))) in absurd (omega (arith, rises, none)))
+    (λ some.
+    let h = first_of n is (omega (arith, some)) in
+    let g = x.some h.place h.first in
+    let under = g.under in
+    let next = g.next in
+    record {
+      value = value;
+      least = reaches_scaled n.count (n.count / 10 ^ rise e) h.place (rise e) (fall e) 32768 h.top scaled (omega (arith, under));
+      below = below_scaled n.count (n.count / 10 ^ rise e) h.place (rise e) (fall e) (32768 + step notation) h.top scaled (omega (arith, next));
+    })
+    (cases_lt n.count 1)
+  where
+    unit : (n : ℕ) → n * 10 ^ 0 ≡ n
+    unit n = omega arith
+
+-- ---- not changed
+
+reached : (a n b : ℕ) → a ≤ n → n < b → a < b
+reached a n b l m = omega arith
+
+normal_exponent : (notation : Notation) (n : Number) (e : ℤ) → IsNumber n → IsNormal notation n.count e → IsExponent notation n.count (pos 0)
+normal_exponent notation n e is (inl z) = record { zero = λ _. refl; some = λ p f. absurd (no_first n.count p z.0 f) }
+normal_exponent notation n e is (inr some) = record {
+  zero = λ _. refl;
+  some = λ p f. let top = top_of (n.high + 1) n.count p is.below f in
+      record {
+        multiple = none_over (step notation);
+        under = first_over p n.count (step notation) top some.least;
+        next = first_under p n.count (step notation) top some.below;
+      };
+}
+  where
+    none_over : (by : ℕ) → 0 % by ≡ 0
+    none_over by = zero-mod by
+
+    first_over : (p count by : ℕ) → IsTop count p → 10 ^ 32768 ≤ count → 32768 + 0 ≤ p + 0
+    first_over p count by top least = let below = top.below in let less = powers_lt 32768 (p + 1) (reached (10 ^ 32768) count (10 ^ (p + 1)) least below) in omega (arith, less)
+
+    first_under : (p count by : ℕ) → IsTop count p → count < 10 ^ (32768 + by) → p + 0 < 32768 + 0 + by
+    first_under p count by top below = let reaches = top.reaches in let less = powers_lt p (32768 + by) (reached (10 ^ p) count (10 ^ (32768 + by)) reaches below) in omega (arith, less)
+
+pub unchanged_is_form : UnchangedIsForm
+unchanged_is_form notation d form is f =
+    let known : form ≡ form_of notation d = form_is_function notation d form is f in
+    let number : IsNumber form.significand.absolute = is_significand notation d.absolute form.significand.absolute form.exponent is f.absolute in
+    let power : IsExponent notation form.significand.absolute.count (pos 0) = normal_exponent notation form.significand.absolute form.exponent number (form_is_normal notation d.absolute form.significand.absolute form.exponent is f.absolute) in
+    let stays : does_carry notation form.significand.absolute.count ≡ false =
+    reaches_nothing notation form.significand.absolute.count (sym (ap rise (exponent_known notation form.significand.absolute (pos 0) number power))) in
+    let there : does_carry notation (form_of notation d).significand.absolute.count ≡ false = subst (λ (x : ScientificParts). does_carry notation x.significand.absolute.count ≡ false) known stays in
+    ap (λ b. cond b (with_change (λ v. v) (carried notation (form_of notation d))) (form_of notation d)) there ∙ sym known

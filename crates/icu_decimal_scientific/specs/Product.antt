@@ -1,0 +1,12 @@
+-- The decimal that a significand and an exponent are.
+-- Defined in docs/scientific-text.md, "The decimal".
+-- Cited by the laws of notations.
+use Rattle.std.specs.Prelude.{ℤ}
+use Rattle.fixed_decimal.specs.Number.{IsNumber, Number}
+use Rattle.fixed_decimal.specs.Shifts.{IsShifted}
+
+-- a decimal is the significand times ten to the exponent: the digits shown move with the point, as far as there are places
+pub record HasProduct (exponent : ℤ) (significand : Number) : Type 0 where
+  pub product : Number
+  pub number : IsNumber product
+  pub is : IsShifted exponent significand product

@@ -1,0 +1,9 @@
+pub mod AgreementLemmas
+pub mod ClashLemmas
+pub mod JustLemmas
+pub mod KnownWords
+pub mod ReadableLemmas
+pub mod ReaderLemmas
+pub mod SideLemmas
+pub mod TakenLemmas
+pub mod WordsTextLemmas
