@@ -16,8 +16,7 @@ use Rattle.locale_numbers_answers.specs.NumberAnswer.{number_answer}
 use Rattle.locale_numbers_answers.specs.NumberReading.{number, reading_of}
 use Rattle.locale_numbers_answers.specs.ReadAnswer.{read_answer}
 use Rattle.locale_numbers_book.specs.Book.{BookTables}
-use Rattle.locale_numbers_cache.specs.Cached.{Cached, IsFirst, StillKept, kept_for, recent_of}
-use Rattle.locale_numbers_cache.specs.Recent.{has}
+use Rattle.locale_numbers_cache.specs.Cached.{Cached, IsFirst}
 use Rattle.locale_numbers_formats.specs.Changed.{changed}
 use Rattle.locale_numbers_formats.specs.declared.NumberOptions.{NumberOptions}
 use Rattle.locale_numbers_formats.specs.declared.Rounding.{Rounding}
@@ -25,9 +24,9 @@ use Rattle.locale_numbers_formatter.specs.FormatText.{FormatTables, HasNoUnit, c
 use Rattle.locale_numbers_formatter.specs.FormatTyped.{format_typed_reading, reading_by_typed, typed_of}
 use Rattle.locale_numbers_requests.specs.declared.Refusal.TheVariants as refusal
 use Rattle.locale_numbers.specs.Answer.{found_for, plural_rules_for, refused, second_for}
-use Rattle.locale_numbers.specs.FormatterKeys.{finds, finds_rules, rules_for, same_keys}
+use Rattle.locale_numbers.specs.FormatterKeys.{finds, finds_rules, rules_for}
 use Rattle.locale_numbers.specs.Front.{PutsTogether, is_as_it_is}
-use Rattle.locale_numbers.specs.KeptFormatters.{IsMadeFor, IsSameFormatter, Kept, StillKeeps, reader_is_kept, rules_found, typed_is_kept}
+use Rattle.locale_numbers.specs.KeptFormatters.{IsMadeFor, IsSameFormatter, Kept, reader_is_kept, rules_found, typed_is_kept}
 use Rattle.locale_numbers.specs.declared.formatter_key.FormatterKey.{FormatterKey}
 use Rattle.locale_numbers.specs.declared.formatter_key.Purpose.TheVariants.{ReadsTyped, Writes}
 use Rattle.locale_numbers.proofs.TextDigitsLemmas.{leaves_so}
@@ -39,23 +38,6 @@ first_key {K = K} {F = F} cache key kept first = at cache.entries first
     at : (entries : List (K × F)) → slice_get entries 0 ≡ Some (key, kept) → slice_get (keys_of entries) 0 ≡ Some key
     at [] none = cc
     at (entry ∷ entries) is = ap (option_map (λ e. e.0)) is
-
--- ---- what a cache keeps on
-
--- a test whose failure is denied passes
-not_denied : (passes : Bool) → ¬ (¬ (passes ≡ true)) → passes ≡ true
-not_denied true denied = refl
-not_denied false denied = absurd (denied (λ is. true≢false (sym is)))
-
--- of a cache, a key may take memory that it does not keep
-abbrev pub may_take : Cached FormatterKey Kept → FormatterKey → Type 0
-may_take cache key = ¬ (has same_keys key (recent_of cache) ≡ true)
-
-pub keeps_on : (old new : Cached FormatterKey Kept) → StillKept same_keys old new → StillKeeps (λ key. kept_for same_keys key old) (may_take new) (λ key. kept_for same_keys key new)
-keeps_on old new held key kept was had = held key kept was (not_denied (has same_keys key (recent_of new)) had)
-
-pub kept_on : (old new : Cached FormatterKey Kept) → StillKeeps (λ key. kept_for same_keys key old) (may_take new) (λ key. kept_for same_keys key new) → StillKept same_keys old new
-kept_on old new keeps key kept was there = keeps key kept was (λ none. none there)
 
 -- ---- where nothing is found
 

@@ -19,12 +19,12 @@ texts_held (kind.Unit decimals reader) = Some reader
 texts_held kind.Nothing = None
 
 -- a reader of texts with a unit was asked, and these are its tables
-pub record KnowsUnit (t : Tables) (r : ReaderTexts) (is_readable : Bool) : Type 0 where
+pub record IsUnitAsked (t : Tables) (r : ReaderTexts) (is_readable : Bool) : Type 0 where
   pub tables : t ≡ r.tables
   pub texts : AreReaderTexts r
   pub asked : is_readable ≡ is_unit_readable_by r
 
 abbrev pub IsAsked : ReaderKind → Bool → Type 0
 IsAsked (kind.Plain formatter) is_readable = AreTables (tables_of formatter) × (is_readable ≡ is_readable_by (tables_of formatter))
-IsAsked (kind.Unit decimals reader) is_readable = KnowsUnit (borrowed_tables decimals) reader is_readable
+IsAsked (kind.Unit decimals reader) is_readable = IsUnitAsked (borrowed_tables decimals) reader is_readable
 IsAsked kind.Nothing is_readable = Unit {0}

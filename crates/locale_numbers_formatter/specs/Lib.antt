@@ -17,7 +17,7 @@ pub mod HeldDigits
 pub mod HeldLenientReaders
 pub mod HeldNumberReaders
 pub mod HeldTables
-pub mod TypedHeld
+pub mod HeldTypedUnits
 pub mod JoinedUnit
 pub mod FormattedNumbers
 -- Statements of laws.

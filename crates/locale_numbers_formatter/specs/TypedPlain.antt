@@ -1,6 +1,6 @@
 -- What a typed text is by some tables, and, where second ones are given, by these beside them.
 -- Defined in docs/reading.md, "Lenient reading".
--- Cited by `LenientReader`, and through FormatTyped.antt by `LenientNumberReader`.
+-- Cited by `PlainReadersInTurn`, and through FormatTyped.antt by `LenientNumberReader`.
 use Rattle.std.specs.Prelude.{◌⊎◌, ℕ, List, Option, Some, None}
 use Rattle.icu_decimal.specs.LenientReading.{MayAllocate}
 use Rattle.icu_decimal.specs.PlainReading.{PlainReading}

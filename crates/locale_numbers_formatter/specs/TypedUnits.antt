@@ -1,6 +1,6 @@
 -- What a typed text with a unit is by a reader, and, where a second one is given, by that beside it.
 -- Defined in docs/units.md, "Lenient reading".
--- Cited by `KnownLenientReader` and `UnitReadersInTurn`, and through FormatTyped.antt by `LenientNumberReader`.
+-- Cited by `TypedUnitReader` and `UnitReadersInTurn`, and through FormatTyped.antt by `LenientNumberReader`.
 -- A text is read exactly, and else leniently, and each is defined in a file of its own to import.
 use Rattle.std.specs.Prelude.{◌≡◌, ◌⊎◌, ℕ, true, cond, List, [], ◌∷◌, Option, Some, None, is_some}
 use Rattle.icu_decimal.specs.LenientReading.{or_else}

@@ -8,10 +8,10 @@ ghost use Rattle.locale_numbers_formatter.specs.FormatText.{plain_tables, unit_t
 ghost use Rattle.locale_numbers_formatter.specs.FormatTyped.{TypedAllocates, nothing_typed, plain_in, reading_by_typed, typed_of, typed_unit, unit_in};
 ghost use Rattle.locale_numbers_formatter.specs.HeldFormats.{currency_format, percent_format};
 
-use crate::known_lenient_reader::KnownLenientReader;
-use crate::known_reader::KnownReader;
-use crate::lenient_reader::LenientReader;
+use crate::asked_unit_reader::AskedUnitReader;
 use crate::number_formatter::{FormatterKind, NumberFormatter};
+use crate::plain_readers_in_turn::PlainReadersInTurn;
+use crate::typed_unit_reader::TypedUnitReader;
 use crate::unit_readers_in_turn::UnitReadersInTurn;
 use fixed_decimal::Decimal;
 use icu_decimal::DecimalFormatter;
@@ -24,7 +24,7 @@ use std::marker::Model;
 #[derive(Drop)]
 pub(crate) enum LenientKind<'a> {
     // Plain numbers.
-    Plain(LenientReader<'a>),
+    Plain(PlainReadersInTurn<'a>),
     // Numbers with a unit.
     Unit(UnitReadersInTurn<'a>),
     // Compact text tells no number.
@@ -69,14 +69,14 @@ fn second_plain<'a>(second: Option<&NumberFormatter<'a>>) -> Option<DecimalForma
 fn typed_percents<'a>(
     alloc: Global,
     formatter: &PercentFormatter<'a>,
-) -> Result<KnownLenientReader<'a>, AllocError>
+) -> Result<TypedUnitReader<'a>, AllocError>
     ensures { IfOk result (λ reader. reader
         ≡ typed_unit (percent_format (sign_of formatter.now) (settings_of_percent formatter.now))) }
 {
     match formatter.lenient_reader(alloc) {
-        Ok(reader) => Ok(KnownLenientReader::leniently(reader)),
+        Ok(reader) => Ok(TypedUnitReader::leniently(reader)),
         Err(ReadError::Unreadable) => match formatter.reader(alloc) {
-            Ok(reader) => Ok(KnownLenientReader::exactly(KnownReader::new(reader))),
+            Ok(reader) => Ok(TypedUnitReader::exactly(AskedUnitReader::new(reader))),
             Err(refused) => Err(refused),
         },
         Err(ReadError::NotWritten) => unreachable!(),
@@ -89,14 +89,14 @@ fn typed_percents<'a>(
 fn typed_amounts<'a>(
     alloc: Global,
     formatter: &CurrencyFormatter<'a>,
-) -> Result<KnownLenientReader<'a>, AllocError>
+) -> Result<TypedUnitReader<'a>, AllocError>
     ensures { IfOk result (λ reader. reader
         ≡ typed_unit (currency_format (code_of formatter.now) (currency_settings_of formatter.now))) }
 {
     match formatter.lenient_reader(alloc) {
-        Ok(reader) => Ok(KnownLenientReader::leniently(reader)),
+        Ok(reader) => Ok(TypedUnitReader::leniently(reader)),
         Err(ReadError::Unreadable) => match formatter.reader(alloc) {
-            Ok(reader) => Ok(KnownLenientReader::exactly(KnownReader::new(reader))),
+            Ok(reader) => Ok(TypedUnitReader::exactly(AskedUnitReader::new(reader))),
             Err(refused) => Err(refused),
         },
         Err(ReadError::NotWritten) => unreachable!(),
@@ -110,7 +110,7 @@ fn typed_amounts<'a>(
 fn second_unit<'a>(
     alloc: Global,
     second: Option<&NumberFormatter<'a>>,
-) -> Result<Option<KnownLenientReader<'a>>, AllocError>
+) -> Result<Option<TypedUnitReader<'a>>, AllocError>
     ensures { IfOk result
         (λ reader. reader ≡ option_map typed_unit (unit_in (option_map (λ f. f.now) second.entry))) }
 {
@@ -144,7 +144,7 @@ impl<'a> LenientNumberReader<'a> {
     {
         let second = second_plain(second);
         LenientNumberReader {
-            kind: LenientKind::Plain(LenientReader::keeping(alloc, *formatter, second)),
+            kind: LenientKind::Plain(PlainReadersInTurn::keeping(alloc, *formatter, second)),
         }
     }
 

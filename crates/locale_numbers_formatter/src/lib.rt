@@ -12,20 +12,20 @@
 //! ```
 #![tactic(auto)]
 
+mod asked_unit_reader;
 mod compact_digits;
 mod digit_tables;
 mod error;
 mod formatted_digits;
 mod formatted_number;
-mod known_lenient_reader;
-mod known_reader;
 pub mod laws;
 mod lenient_number_reader;
-mod lenient_reader;
 mod number_formatter;
 mod number_reader;
 mod own_tables;
+mod plain_readers_in_turn;
 mod shown_operands;
+mod typed_unit_reader;
 mod unit_readers_in_turn;
 
 pub use compact_digits::CompactDigitsFormatter;

@@ -4,7 +4,7 @@ ghost use Rattle.std.specs.Prelude.{◌≡◌, IsErrOf};
 ghost use Rattle.icu_decimal.specs.PlainReading.{IsAnswered};
 ghost use Rattle.locale_numbers_formatter.specs.TypedUnits.{MayAllocateTypedInTurn, arabic_unit_by, unit_reading_by, unit_reading_in_turn};
 
-use crate::known_lenient_reader::KnownLenientReader;
+use crate::typed_unit_reader::TypedUnitReader;
 use fixed_decimal::Decimal;
 use icu_decimal::error::ReadError;
 use icu_decimal_lenient::{NativeReader, read_in_native};
@@ -15,8 +15,8 @@ use std::marker::Model;
 // as that of `ar-EG-u-nu-latn` beside that of `ar-EG`.
 #[derive(Drop)]
 pub(crate) struct UnitReadersInTurn<'a> {
-    first: KnownLenientReader<'a>,
-    second: Option<KnownLenientReader<'a>>,
+    first: TypedUnitReader<'a>,
+    second: Option<TypedUnitReader<'a>>,
 }
 
 impl<'a> Model for UnitReadersInTurn<'a> {
@@ -29,7 +29,7 @@ impl<'a> Model for UnitReadersInTurn<'a> {
 
 impl<'a> UnitReadersInTurn<'a> {
     // A reader and a second one. It does not allocate.
-    pub(crate) fn new(first: KnownLenientReader<'a>, second: Option<KnownLenientReader<'a>>) -> Self
+    pub(crate) fn new(first: TypedUnitReader<'a>, second: Option<TypedUnitReader<'a>>) -> Self
         ensures { result ≡ record { first = first.entry; second = second.entry } }
     {
         UnitReadersInTurn { first, second }
@@ -37,7 +37,7 @@ impl<'a> UnitReadersInTurn<'a> {
 
     // The number that was typed: by the reader of `en` and `EUR` 1234.5 of `€1234.5` and of `€१,२३४.५`, and 5 of `5 EUR`.
     //
-    // `Unreadable`: as `KnownLenientReader::read`, or, where there is a second reader, as `read_or` of these. `NotWritten`:
+    // `Unreadable`: as `TypedUnitReader::read`, or, where there is a second reader, as `read_or` of these. `NotWritten`:
     // so too, and with its native digits in ASCII it is none either. `Memory`: out of memory. It allocates as they do, and
     // where the text is no number as it is, and its digits are native.
     pub(crate) fn read(&self, alloc: Global, text: &str) -> Result<Decimal, ReadError>

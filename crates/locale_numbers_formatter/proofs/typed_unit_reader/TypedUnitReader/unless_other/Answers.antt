@@ -7,7 +7,7 @@ use Rattle.icu_dimension_lenient.specs.Agreement.{agreed_after}
 use Rattle.icu_dimension_lenient.proofs.AgreementSteps.{refused_after}
 use Rattle.locale_numbers_formatter.specs.TypedUnits.{lenient_unit_reading}
 use Rattle.locale_numbers_formatter.proofs.LenientUnitLemmas.{read_unless}
-use Rattle.locale_numbers_formatter.proofs.known_lenient_reader.KnownLenientReader.unless_other.Goals as goal
+use Rattle.locale_numbers_formatter.proofs.typed_unit_reader.TypedUnitReader.unless_other.Goals as goal
 
 pub returns-in-Err-clause-reading : goal.returns-in-Err-clause-reading
 returns-in-Err-clause-reading c =

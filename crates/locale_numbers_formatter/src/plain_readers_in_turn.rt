@@ -1,4 +1,4 @@
-//! What people type, read by a formatter, and where a second one is given, also by that.
+//! What people type of plain numbers, read by a reader, and where a second one is given, also by that.
 
 ghost use Rattle.std.specs.Prelude.{◌≡◌, Option, None, Some, IsErrOf, IfSome, option_map};
 ghost use Rattle.icu_decimal.specs.HeldTables.{tables_of};
@@ -12,14 +12,14 @@ use icu_decimal_lenient::{TableReader, read_typed, read_typed_or};
 use std::alloc::Global;
 use std::marker::Model;
 
-// A formatter, and its symbols folded, where they are kept.
+// A reader of what people type of plain numbers: a formatter, and its symbols folded, where they are kept.
 #[derive(Drop)]
-struct LenientFormatter<'a> {
+struct TypedPlainReader<'a> {
     formatter: DecimalFormatter<'a>,
     kept: Option<LenientTables<'a>>,
 }
 
-impl<'a> Model for LenientFormatter<'a> {
+impl<'a> Model for TypedPlainReader<'a> {
     ghost use Rattle.std.specs.Prelude.{◌≡◌, IfSome};
     ghost use Rattle.icu_decimal.specs.HeldTables.{tables_of};
     ghost use Rattle.icu_decimal.specs.PlainText.{Tables};
@@ -31,7 +31,7 @@ impl<'a> Model for LenientFormatter<'a> {
     ghost invariant = { λ s. IfSome s.kept (λ kept. kept ≡ tables_of s.formatter) };
 }
 
-impl<'a> LenientFormatter<'a> {
+impl<'a> TypedPlainReader<'a> {
     // Its symbols are folded now, where they are leniently readable. Where memory is refused they are folded for each
     // text.
     fn keeping(alloc: Global, formatter: DecimalFormatter<'a>) -> Self
@@ -41,11 +41,11 @@ impl<'a> LenientFormatter<'a> {
             Ok(kept) => Some(kept),
             Err(_) => None,
         };
-        LenientFormatter { formatter, kept }
+        TypedPlainReader { formatter, kept }
     }
 }
 
-impl<'a> TableReader for LenientFormatter<'a> {
+impl<'a> TableReader for TypedPlainReader<'a> {
     ghost reads_by = { λ tables. tables };
 
     fn tables(&self) -> &DecimalTables<'_> {
@@ -60,17 +60,17 @@ impl<'a> TableReader for LenientFormatter<'a> {
     }
 }
 
-// What reads the texts of a form that people type into: by a formatter and, where there is one, by a second one, as that
-// of `ar-EG-u-nu-latn` beside that of `ar-EG`.
+// What reads the plain texts of a form that people type into: by a reader and, where there is one, by a second one, as
+// that of `ar-EG-u-nu-latn` beside that of `ar-EG`.
 //
 // A clause sees the tables of both.
 #[derive(Drop)]
-pub(crate) struct LenientReader<'a> {
-    first: LenientFormatter<'a>,
-    second: Option<LenientFormatter<'a>>,
+pub(crate) struct PlainReadersInTurn<'a> {
+    first: TypedPlainReader<'a>,
+    second: Option<TypedPlainReader<'a>>,
 }
 
-impl<'a> Model for LenientReader<'a> {
+impl<'a> Model for PlainReadersInTurn<'a> {
     ghost use Rattle.locale_numbers_formatter.specs.TypedPlain.{TablesInTurn};
 
     ghost Value = { TablesInTurn };
@@ -78,7 +78,7 @@ impl<'a> Model for LenientReader<'a> {
     ghost view = { λ s. record { first = s.first; second = s.second } };
 }
 
-impl<'a> LenientReader<'a> {
+impl<'a> PlainReadersInTurn<'a> {
     // A reader by a formatter and a second one, whose symbols are folded once: for a form whose texts are read at each
     // key.
     //
@@ -91,10 +91,10 @@ impl<'a> LenientReader<'a> {
         ensures first { result.first ≡ tables_of formatter.entry }
         ensures second { result.second ≡ option_map tables_of second.entry }
     {
-        LenientReader {
-            first: LenientFormatter::keeping(alloc, formatter),
+        PlainReadersInTurn {
+            first: TypedPlainReader::keeping(alloc, formatter),
             second: match second {
-                Some(second) => Some(LenientFormatter::keeping(alloc, second)),
+                Some(second) => Some(TypedPlainReader::keeping(alloc, second)),
                 None => None,
             },
         }

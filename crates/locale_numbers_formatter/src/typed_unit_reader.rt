@@ -1,14 +1,14 @@
-//! A reader of what people type of numbers with a unit that was asked whether it can be read.
+//! A reader of what people type of numbers with a unit, lenient where it can be, and else exact.
 
 ghost use Rattle.std.specs.Prelude.{◌≡◌, ◌⊎◌, true, None, Some, IsErrOf, is_some};
 ghost use Rattle.icu_decimal.specs.PlainReading.{IsAnswered, decimal, not_written};
 ghost use Rattle.icu_dimension_affixes.specs.UnitReading.{HasManyBetween};
 ghost use Rattle.icu_dimension_lenient.specs.OwnUnitTexts.{is_own_unit_text};
 ghost use Rattle.locale_numbers_formatter.specs.TypedUnits.{MayAllocateTyped, arabic_unit_by, lenient_unit_reading, typed_unit_by, unit_reading_by};
-ghost use Rattle.locale_numbers_formatter.specs.TypedHeld.{leniently};
+ghost use Rattle.locale_numbers_formatter.specs.HeldTypedUnits.{leniently};
 ghost use Rattle.icu_dimension_lenient.specs.UnitReadings.{unit_reading};
 
-use crate::known_reader::KnownReader;
+use crate::asked_unit_reader::AskedUnitReader;
 use fixed_decimal::Decimal;
 use icu_decimal::error::ReadError;
 use icu_decimal_lenient::NativeReader;
@@ -18,46 +18,46 @@ use std::marker::Model;
 
 // What reads the texts.
 #[derive(Drop)]
-pub(crate) enum TypedReader<'a> {
+pub(crate) enum TypedUnitKind<'a> {
     // Exactly, and else leniently.
     Leniently(LenientUnitReader<'a>),
-    // Exactly alone, where texts can't be read leniently.
-    Exactly(KnownReader<'a>),
+    // Only exactly, where texts can't be read leniently.
+    Exactly(AskedUnitReader<'a>),
 }
 
-// A reader of what people type of numbers with a unit that was asked once whether it can be read: that of English, `€`
-// and `EUR` reads `€1.50`, `1.5` and `EUR 1.5`.
+// A reader of what people type of numbers with a unit, lenient where it can be, and else exact: that of English, `€` and
+// `EUR` reads `€1.50`, `1.5` and `EUR 1.5`.
 #[derive(Drop)]
-pub(crate) struct KnownLenientReader<'a> {
-    reader: TypedReader<'a>,
+pub(crate) struct TypedUnitReader<'a> {
+    reader: TypedUnitKind<'a>,
 }
 
-impl<'a> Model for KnownLenientReader<'a> {
+impl<'a> Model for TypedUnitReader<'a> {
     ghost use Rattle.locale_numbers_formatter.specs.TypedUnits.{TypedTexts};
-    ghost use Rattle.locale_numbers_formatter.specs.TypedHeld.{typed_held};
+    ghost use Rattle.locale_numbers_formatter.specs.HeldTypedUnits.{typed_unit_held};
 
     ghost Value = { TypedTexts };
 
-    ghost view = { λ s. typed_held s.reader };
+    ghost view = { λ s. typed_unit_held s.reader };
 }
 
-impl<'a> KnownLenientReader<'a> {
+impl<'a> TypedUnitReader<'a> {
     // The reader of typed texts. It does not allocate.
     pub(crate) fn leniently(reader: LenientUnitReader<'a>) -> Self
         ensures { result ≡ leniently reader.entry }
     {
-        KnownLenientReader {
-            reader: TypedReader::Leniently(reader),
+        TypedUnitReader {
+            reader: TypedUnitKind::Leniently(reader),
         }
     }
 
     // The reader of texts that can't be read leniently: it reads what the formatter writes, and nothing else. It does
     // not allocate.
-    pub(crate) fn exactly(reader: KnownReader<'a>) -> Self
+    pub(crate) fn exactly(reader: AskedUnitReader<'a>) -> Self
         ensures { result ≡ record { reader = reader.entry; folded = None } }
     {
-        KnownLenientReader {
-            reader: TypedReader::Exactly(reader),
+        TypedUnitReader {
+            reader: TypedUnitKind::Exactly(reader),
         }
     }
 
@@ -67,8 +67,8 @@ impl<'a> KnownLenientReader<'a> {
         ensures reading { IsAnswered result (unit_reading self.now.reader text.now) }
     {
         match &self.reader {
-            TypedReader::Leniently(reader) => reader.read_exactly(alloc, text),
-            TypedReader::Exactly(reader) => reader.read(alloc, text),
+            TypedUnitKind::Leniently(reader) => reader.read_exactly(alloc, text),
+            TypedUnitKind::Exactly(reader) => reader.read(alloc, text),
         }
     }
 
@@ -78,8 +78,8 @@ impl<'a> KnownLenientReader<'a> {
         ensures reading { IsAnswered result (typed_unit_by self.now.reader.tables self.now.folded text.now) }
     {
         match &self.reader {
-            TypedReader::Leniently(reader) => reader.read_leniently(alloc, text),
-            TypedReader::Exactly(_) => Err(ReadError::Unreadable),
+            TypedUnitKind::Leniently(reader) => reader.read_leniently(alloc, text),
+            TypedUnitKind::Exactly(_) => Err(ReadError::Unreadable),
         }
     }
 
@@ -88,8 +88,8 @@ impl<'a> KnownLenientReader<'a> {
         ensures { IsAnswered result (arabic_unit_by self.now.reader.tables self.now.folded text.now) }
     {
         match &self.reader {
-            TypedReader::Leniently(reader) => reader.read_with_arabic(alloc, text),
-            TypedReader::Exactly(_) => Err(ReadError::NotWritten),
+            TypedUnitKind::Leniently(reader) => reader.read_with_arabic(alloc, text),
+            TypedUnitKind::Exactly(_) => Err(ReadError::NotWritten),
         }
     }
 
@@ -119,8 +119,8 @@ impl<'a> KnownLenientReader<'a> {
         ensures own { result.1 ≡ is_own_unit_text self.now.reader text.now number }
     {
         match &self.reader {
-            TypedReader::Leniently(reader) => reader.own_text(number, text),
-            TypedReader::Exactly(_) => unreachable!(),
+            TypedUnitKind::Leniently(reader) => reader.own_text(number, text),
+            TypedUnitKind::Exactly(_) => unreachable!(),
         }
     }
 
@@ -129,7 +129,7 @@ impl<'a> KnownLenientReader<'a> {
     fn unless_other(
         &self,
         alloc: Global,
-        other: &KnownLenientReader<'_>,
+        other: &TypedUnitReader<'_>,
         number: Decimal,
         text: &str,
     ) -> Result<Decimal, ReadError>
@@ -153,7 +153,7 @@ impl<'a> KnownLenientReader<'a> {
     fn read_unless(
         &self,
         alloc: Global,
-        other: &KnownLenientReader<'_>,
+        other: &TypedUnitReader<'_>,
         text: &str,
     ) -> Result<Decimal, ReadError>
         requires { unit_reading self.now.reader text.now ≡ not_written }
@@ -180,7 +180,7 @@ impl<'a> KnownLenientReader<'a> {
     pub(crate) fn read_or(
         &self,
         alloc: Global,
-        other: &KnownLenientReader<'_>,
+        other: &TypedUnitReader<'_>,
         text: &str,
     ) -> Result<Decimal, ReadError>
         ensures memory { IsErrOf result ReadError.Memory

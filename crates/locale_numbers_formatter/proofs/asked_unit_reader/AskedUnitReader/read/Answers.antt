@@ -1,7 +1,7 @@
 use Rattle.std.proofs.Common.{sym, subst, ◌∙◌}
 use Rattle.icu_dimension_affixes.specs.UnitReading.{HasManyBetween}
 use Rattle.icu_dimension_lenient.proofs.UnitReadingsLemmas.{answered, unread}
-use Rattle.locale_numbers_formatter.proofs.known_reader.KnownReader.read.Goals as goal
+use Rattle.locale_numbers_formatter.proofs.asked_unit_reader.AskedUnitReader.read.Goals as goal
 
 pub read_readable-requires : goal.read_readable-requires
 read_readable-requires c = sym c.self.invariant.1 ∙ c.if-self.true

@@ -1,4 +1,4 @@
-//! A reader of texts with a unit that was asked whether they can be read.
+//! An exact reader of texts with a unit that was asked whether they can be read.
 
 ghost use Rattle.std.specs.Prelude.{◌≡◌, IsErrOf};
 ghost use Rattle.icu_decimal.specs.PlainReading.{IsAnswered};
@@ -11,14 +11,15 @@ use icu_dimension_affixes::UnitReader;
 use std::alloc::Global;
 use std::marker::Model;
 
-// A reader of texts with a unit that was asked once whether they can be read: that of English and `€` reads `€1.50`.
+// An exact reader of texts with a unit that was asked once whether they can be read: that of English and `€` reads
+// `€1.50`.
 #[derive(Drop)]
-pub(crate) struct KnownReader<'a> {
+pub(crate) struct AskedUnitReader<'a> {
     reader: UnitReader<'a>,
     is_readable: bool,
 }
 
-impl<'a> Model for KnownReader<'a> {
+impl<'a> Model for AskedUnitReader<'a> {
     ghost use Rattle.std.specs.Prelude.{◌≡◌};
     ghost use Rattle.icu_dimension_affixes.specs.UnitReading.{AreReaderTexts, ReaderTexts, is_unit_readable_by};
 
@@ -29,13 +30,13 @@ impl<'a> Model for KnownReader<'a> {
     ghost invariant = { λ s. AreReaderTexts s.reader × (s.is_readable ≡ is_unit_readable_by s.reader) };
 }
 
-impl<'a> KnownReader<'a> {
+impl<'a> AskedUnitReader<'a> {
     // The reader, once it is asked. It does not allocate.
     pub(crate) fn new(reader: UnitReader<'a>) -> Self
         ensures { result ≡ reader.entry }
     {
         let is_readable = reader.is_readable();
-        KnownReader {
+        AskedUnitReader {
             reader,
             is_readable,
         }

@@ -1,7 +1,7 @@
 use Rattle.std.proofs.Common.{subst}
 use Rattle.locale_numbers_formatter.specs.TypedPlain.{MayAllocateInTurn}
 use Rattle.locale_numbers_formatter.proofs.LenientLemmas.{both_allocate, one_allocates}
-use Rattle.locale_numbers_formatter.proofs.lenient_reader.LenientReader.read.Goals as goal
+use Rattle.locale_numbers_formatter.proofs.plain_readers_in_turn.PlainReadersInTurn.read.Goals as goal
 
 pub returns-in-Some-clause-memory : goal.returns-in-Some-clause-memory
 returns-in-Some-clause-memory c = λ ran_out.
