@@ -16,6 +16,9 @@ BELOW_CONTRIBUTED = ("unconfirmed", "provisional")
 PARTS = ("defaultNumberingSystem", "otherNumberingSystems", "minimumGroupingDigits", "symbols", "decimalFormats")
 UNIT_FORMATS = ("percentFormats", "currencyFormats")
 UNIT_PARTS = (*UNIT_FORMATS, "currencies")
+SIGN_PARTS = ("miscPatterns",)
+WORD_PARTS = ("currencyFormats", "currencies", "unitLength")
+OF_SYSTEMS = ("symbols", "decimalFormats", *UNIT_FORMATS, *SIGN_PARTS)
 BESIDE_LETTER = "alphaNextToNumber"
 CATEGORIES = ("zero", "one", "two", "few", "many", "other")
 INHERITED = "↑↑↑"
@@ -159,11 +162,11 @@ def digits_of_currencies(path):
 
 
 class Cldr:
-    """A folder `common` of CLDR. Files of locales are read when they are first asked for, with `units` what they say of
-    percents and currencies too."""
+    """A folder `common` of CLDR. Files of locales are read when they are first asked for: of their numbers, and of these further
+    parts of them."""
 
-    def __init__(self, folder, units=False):
-        self.folder, self.parts = folder, (*PARTS, *UNIT_PARTS) if units else PARTS
+    def __init__(self, folder, further=()):
+        self.folder, self.parts = folder, {*PARTS, *further}
         self.left_out = collections.Counter()
         try:
             names = [it[:-4] for it in os.listdir(f"{folder}/main") if it.endswith(".xml")]
@@ -260,7 +263,8 @@ class Cldr:
             if tag_of(name) in self.names or name == "root":
                 path = f"{self.folder}/main/{name}.xml"
                 try:
-                    for part in parse(path).iterfind("numbers/*"):
+                    whole = parse(path)
+                    for part in (*whole.iterfind("numbers/*"), *whole.iterfind("units/*")):
                         if part.tag in self.parts:
                             self._walk(part, (), None, tables, aliases)
                 except Fault as fault:
@@ -268,10 +272,10 @@ class Cldr:
             if name == "root":
                 # A system that root doesn't know either has the symbols and the patterns of latn.
                 known = {path[0] for path in [*tables, *aliases] if path}
-                for part in ("symbols", "decimalFormats", *UNIT_FORMATS):
+                for part in OF_SYSTEMS:
                     for system in self.digits:
                         # Data without percents and currencies has none of latn either.
-                        is_missing = part in UNIT_FORMATS and system == "latn"
+                        is_missing = part not in PARTS and system == "latn"
                         if f"{part}[{system}]" not in known and not is_missing:
                             aliases[(f"{part}[{system}]",)] = (f"{part}[latn]",)
             for path, values in tables.items():
@@ -287,6 +291,8 @@ class Cldr:
         if len(path) > DEEPEST:
             raise Fault("its elements are nested too deep")
         alt = element.get("alt")
+        if element.get("case") or element.get("gender"):
+            return
         if alt is not None and not (alt == BESIDE_LETTER and is_of_currencies(path)):
             self.left_out["alt"] += 1
         elif element.tag == "alias":
@@ -320,6 +326,10 @@ class Cldr:
                     further = self._through(chain, name, aliases[path[:count]] + path[count:])
                     return {**further, **found} if found else further
         return found
+
+    def steps(self, name, first):
+        """The second steps of the paths below a first one in a locale's own file."""
+        return sorted({path[1] for path in self._of(name)[0] if len(path) > 1 and path[0] == first})
 
     def _through(self, chain, name, path):
         """The table to which an alias of a locale's file leads."""
@@ -357,6 +367,13 @@ class Cldr:
         own = {it: values[it] for it in ("decimal", "group") if it in values}
         usual = self.separators_of_currencies(chain) if own else {}
         return {it: text for it, text in values.items() if it not in own} if own.items() <= usual.items() else values
+
+    @functools.cached_property
+    def currencies_in_use(self):
+        """The codes of the currencies that a region has now, in order."""
+        regions = [it for it in parse(f"{self.folder}/supplemental/supplementalData.xml").iter("region") if it.get("iso3166") != "ZZ"]
+        now = (it for region in regions for it in region.iter("currency") if not it.get("to") and it.get("tender") != "false")
+        return sorted({it.get("iso4217", "") for it in now})
 
     @functools.cached_property
     def currency_digits(self):

@@ -80,18 +80,23 @@ class Entries:
         """The systems with ten digits that a locale's data names."""
         return sorted(self.cldr.own_systems(chain) & set(self.cldr.digits))
 
+    def other_systems(self, chain):
+        """The systems that a locale has entries for beside its usual one."""
+        its = {"default": [], "named": self.named_systems(chain), "all": sorted(self.cldr.digits)}[self.systems]
+        return [it for it in its if it != self.default_system(chain)]
+
     def add(self, name):
         """Adds the entries of a locale to the arrays."""
         tag, chain = tag_of(name), self.cldr.chain(name)
         if not DATA_LOCALE.fullmatch(tag):
             return self.without("locales that no tag of a book names", tag)
         default = self.default_system(chain)
-        others = {"default": [], "named": self.named_systems(chain), "all": sorted(self.cldr.digits)}[self.systems]
+        others = self.other_systems(chain)
         rules = self.rules(name)
         self.arrays[2].append([tag, rules])
         for array, kind in ((0, None), (3, "short"), (4, "long")):
             made, usual = {}, None
-            for system in (default, *(it for it in others if it != default)):
+            for system in (default, *others):
                 tables = self.tables(chain, system, kind)
                 which = tuple(map(id, tables))
                 if which not in made:

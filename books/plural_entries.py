@@ -1,6 +1,7 @@
 """What a book has of plurals beside its cardinal rules: ordinal rules, and the categories of ranges."""
-from cldr import CATEGORIES, DATA_LOCALE, tag_of
-from look_up import UND, locale_of, text_of
+from chained import in_chain_order
+from cldr import CATEGORIES
+from look_up import text_of
 
 
 class PluralEntries:
@@ -14,8 +15,7 @@ class PluralEntries:
 
     def add(self, names):
         """Adds what these locales need, each after those of its chain."""
-        named = [(locale_of(tag_of(name)), name) for name in names if DATA_LOCALE.fullmatch(tag_of(name))]
-        for locale, name in sorted(named, key=lambda it: (it[0] != UND, len(self.book.unit_chain(it[0])), it[0])):
+        for locale, name in in_chain_order(self.book, names):
             rules, ranges = self.ordinal_rules(name), self.plural_ranges(name)
             if self.book.first_in(self.ordinals, locale) != rules:
                 self.ordinals[locale] = rules

@@ -52,20 +52,11 @@ def word_at(skeleton, place):
     return skeleton.encode()[place:].decode().partition(" ")[0]
 
 
-def without_priority(found):
-    """The word with a priority that is the same as one without."""
-    fraction, digits, end, whole = found.groups("")
-    return f".{fraction}/@{'#' * (len(digits) - 1)}{'r' if end else 's'}{whole}"
-
-
 def cause_of_text(here, there):
     """The name of the cause for two other normal texts, or None."""
-    prioritized = re.sub(r"\.(#*)/(@#*|@+(?=[*]))([*]?)(/w)?(?= |$)", without_priority, there.replace("precision-integer/", "./"))
-    bare = [[word for word in normal.split() if word not in LEFT_OUT] for normal in (here, prioritized)]
+    bare = [[word for word in normal.split() if word not in LEFT_OUT] for normal in (here, there.replace("precision-integer/", "./"))]
     if bare[0] != bare[1]:
         return None
-    if prioritized != there.replace("precision-integer/", "./"):
-        return "significant digits without a priority: one with it here"
     if "compact-" in here and "group-" in here + there:
         return "a compact notation: no word for group-min2 here, for group-auto there"
     return "./w and the like: precision-integer/w there" if "./" in here else "integer-width/*0: usual there"

@@ -30,8 +30,14 @@ currency/EUR rounding-mode-up K | Later at 13
 compact-short currency/EUR .00 | Later at 27
 K precision-currency-standard | Later at 2
 currency/EUR rounding-mode-up | Later at 13
-.##/@@@+ | .##/@##r
-.00/@@@+ | Later at 0
+.##/@@@+ | .##/@@@*
+.00/@@@* | .00/@@@*
+percent precision-integer/@@+/w | percent ./@@*/w
+.0#/@##/w | .0#/@##/w
+.0/@ | .0/@
+.00/@@* .0 | Twice at 8
+.00/@@*r | Unknown at 0
+.00/@@# | Unknown at 0
 @@ rounding-mode-floor K | compact-short @@ rounding-mode-floor
 .0#/@@x | Unknown at 0
 @@#/w ,! | @@#/w group-on-aligned
@@ -64,6 +70,15 @@ base-unit | -1.23456789 | - | plain auto auto - -1.234568
 .0#/@@r | 0.00123 | - | plain auto auto - 0.0012
 .0#/@@s | 0.00123 | - | plain auto auto - 0.0
 .0#/@@s/w | 0.00123 | - | plain auto auto - 0
+.00/@@@r | 0.1 | - | plain auto auto - 0.100
+.00/@@@* | 0.1 | - | plain auto auto - 0.10
+.00/@@@* | 0.012345 | - | plain auto auto - 0.0123
+.00/@@@* | 1234 | - | plain auto auto - 1234.00
+.00/@@@*/w | 1234 | - | plain auto auto - 1234
+.00/@## | 1234 | - | plain auto auto - 1230.00
+.00/@## | 1.23456 | - | plain auto auto - 1.23
+.##/@@@+ | 12.3456 | - | plain auto auto - 12.35
+.##/@## | 12.3456 | - | plain auto auto - 12.3
 .00* ,_ | 1.2345 | - | plain never auto - 1.2345
 .0 rounding-mode-half-ceiling | -0.25 | - | plain auto auto - -0.2
 .0 rounding-mode-half-floor | -0.25 | - | plain auto auto - -0.3

@@ -56,18 +56,16 @@ REFUSED = {
                     "rounding-mode-half-odd rounding-mode-unnecessary per-measure-unit/ usage/").split(),
 }
 MOST = 100  # digits of a word
-# A word of digits, with the digits of a fraction and the significant ones each in a group of its own, and its normal text.
+# A word of digits, with the digits of a fraction and the significant ones each in a group of its own, and its normal text. The last two
+# have no priority: at least, or at most, so many significant digits, and those of the fraction in any case.
 DIGITS = [
     (re.compile(r"\.(0*#*)()(/w)?"), ".{0}{2}"),
     (re.compile(r"\.(0+)()[*+]"), ".{0}*"),
     (re.compile(r"()(@+#*)(/w)?"), "{1}{2}"),
     (re.compile(r"()(@+)[*+](/w)?"), "{1}*{2}"),
     (re.compile(r"\.(0*#*)/(@+#*)([rs](?:/w)?)"), ".{0}/{1}{2}"),
-]
-# The same without a priority: at least, or at most, so many significant digits, and those of the fraction in any case.
-OLD_DIGITS = [
-    (re.compile(r"\.(0*#*)/(@+)[*+](/w)?"), "r"),
-    (re.compile(r"\.(0*#*)/(@#*)(/w)?"), "s"),
+    (re.compile(r"\.(0*#*)/(@+)[*+](/w)?"), ".{0}/{1}*{2}"),
+    (re.compile(r"\.(0*#*)/(@#*)(/w)?"), ".{0}/{1}{2}"),
 ]
 PADDED = re.compile(r"integer-width/[*+](0+)|(0+)")
 INCREMENT = re.compile(r"precision-increment/([0-9]*)(?:\.([0-9]*))?(/w)?")
@@ -133,13 +131,6 @@ def precision_setting(word):
         found = pattern.fullmatch(word)
         if found and max(map(len, found.groups("")[:2])) <= MOST:
             return normal.format(*found.groups(""))
-    for pattern, priority in OLD_DIGITS:
-        found = pattern.fullmatch(word)
-        if found and max(map(len, found.groups("")[:2])) <= MOST:
-            fraction, digits, whole = found.groups("")
-            if "0" in fraction:
-                raise Refused("Later")
-            return f".{fraction}/{digits[0]}{'#' * (len(digits) - 1)}{priority}{whole}"
     return None
 
 
@@ -228,7 +219,8 @@ def read_skeleton(text):
 
 class Digits(typing.NamedTuple):
     """How many digits are shown at least and at most, or None: of a fraction, with the increment of the last of them, and significant
-    ones; which of the two count, and whether a whole number has no zeros after its point."""
+    ones; which of the two count, and whether a whole number has no zeros after its point. Without a significant digit at least those of the
+    fraction are."""
 
     least: int
     most: typing.Optional[int]
@@ -268,13 +260,20 @@ def digits_asked(its, of_currency):
     if word[0] == "@":
         return Digits(0, 0, 1, is_whole, counted(word, "@"))
     both = next((it for it in options if it[0] == "@"), None)
-    return Digits(*counted(word, "0"), 1, is_whole, both and counted(both, "@"), both[-1] if both else "")
+    return Digits(*counted(word, "0"), 1, is_whole, *(counted_beside(both) if both else ()))
 
 
 def counted(word, mark):
     """How many digits are shown at least, one for each such mark, and at most, one for each hash more, or None."""
     least = word.count(mark)
     return least, None if word.endswith("*") else least + word.count("#")
+
+
+def counted_beside(word):
+    """The same of significant digits beside a fraction, and which of the two count; without a priority none of them is shown at least."""
+    if word[-1] in "rs":
+        return counted(word, "@"), word[-1]
+    return (0, len(word.rstrip("*"))), "r" if word.endswith("*") else "s"
 
 
 def mode_of(its, is_negative):
@@ -306,7 +305,7 @@ def rounded(value, asked, mode):
     if asked.significant:
         least, most = asked.significant
         its = value if most is None else rounded_at(value, magnitude(value) - most + 1, 1, mode)
-        found.append((None if most is None else magnitude(its) - most + 1, its, least - 1 - magnitude(its)))
+        found.append((None if most is None else magnitude(its) - most + 1, its, least - 1 - magnitude(its) if least else asked.least))
     if asked.priority:
         is_significant = (found[1][0] <= found[0][0]) == (asked.priority == "r")
         found = [found[is_significant]]
@@ -362,8 +361,9 @@ def line_of(its, tag, number, of_currency=None):
 
 
 def is_of_intl(its):
-    """Whether Intl.NumberFormat has the unit of a skeleton."""
-    return its.unit != "permille"
+    """Whether Intl.NumberFormat has the unit of a skeleton, and its digits: there those of a fraction are not shown in any case beside
+    significant ones."""
+    return its.unit != "permille" and not re.fullmatch(r"\.0+#*/(@+\*|@#*)(/w)?", its.precision)
 
 
 def options_of(its, of_currency=None):
@@ -378,7 +378,7 @@ def options_of(its, of_currency=None):
         found |= {"minimumFractionDigits": asked.least, "maximumFractionDigits": max(20, asked.least) if asked.most is None else asked.most}
         found |= {"roundingIncrement": asked.increment} if asked.increment != 1 else {}
     if asked and asked.significant:
-        found |= {"minimumSignificantDigits": asked.significant[0], "maximumSignificantDigits": asked.significant[1] or 21}
+        found |= {"minimumSignificantDigits": max(1, asked.significant[0]), "maximumSignificantDigits": asked.significant[1] or 21}
         found |= {"roundingPriority": {"r": "morePrecision", "s": "lessPrecision"}[asked.priority]} if asked.priority else {}
     if asked:
         found |= {"trailingZeroDisplay": "stripIfInteger"} if asked.hides_zeros else {}

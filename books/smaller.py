@@ -32,9 +32,9 @@ class Smaller:
             self.settle(locale)
         self.bearing = set(self.book.locales())
         self.passed = {it for locale in self.full.locales() for it in self.book.chain(locale)}
-        self.names = other_names(cldr, parents)
-        for name in sorted(self.names, key=by_parts):
-            self.add_name(name, self.names[name])
+        self.names = {name: its for name, its in other_names(cldr, parents).items() if name not in self.passed}
+        self.settled = set(self.steps)
+        self.lead_names(())
         self.drop_steps()
 
     def ordered(self):
@@ -99,10 +99,18 @@ class Smaller:
         """Those on the chain of a locale that have entries of their own: they say what the chain finds."""
         return [it for it in self.book.chain(locale) if it in self.bearing]
 
+    def lead_names(self, locales):
+        """Adds the steps by which other names of locales find the entries here, and those that these locales have of signs and words. The steps
+        that the data names stay."""
+        self.bearing.update(locales)
+        for name in sorted(self.names, key=by_parts):
+            if not (name in self.settled and name in self.steps):
+                self.add_name(name, self.names[name])
+
     def add_name(self, name, its):
         """Adds the step from another name of a locale where the name would find other entries without it. The step
         goes to the first cut of the locale that has entries or a step of its own."""
-        if name in self.steps or name in self.passed or self.with_entries(name) == self.with_entries(its):
+        if self.with_entries(name) == self.with_entries(its):
             return
         while its not in self.bearing and its not in self.steps and truncated(its):
             its = truncated(its)
