@@ -1,5 +1,5 @@
 -- The form as a function is the form, and what a significand that is divided again is.
-use Rattle.std.proofs.Common.{◌≡◌, ℕ, zero, suc, ℤ, pos, negsuc, ◌+◌, ◌-◌, ◌*◌, ◌/◌, ◌%◌, ◌^◌, ◌<◌, ◌≤◌, ◌==◌, ◌&&◌, nat_lt, Bool, true, false, cond, refl, sym, ap, ◌∙◌, subst, lit≤, arith, inl, inr, ⊎_elim}
+use Rattle.std.proofs.Common.{◌≡◌, ℕ, zero, suc, ℤ, pos, negsuc, ◌+◌, ◌+ℤ◌, ◌-◌, ◌*◌, ◌/◌, ◌%◌, ◌^◌, ◌<◌, ◌≤◌, ◌==◌, ◌&&◌, nat_lt, Bool, true, false, cond, refl, sym, ap, ◌∙◌, subst, lit≤, arith, inl, inr, ⊎_elim}
 use Rattle.std.proofs.Math.Nat.{div-add-mod', mul-div_cancel, zero-mod}
 use Rattle.std.proofs.lemmas.Bool.{and_from, and_parts, cases_lt, eq-eqb, eqb-false, eqb-true, false≢true, lt-ltb, ltb-false, ltb-true, ne_eqb}
 use Rattle.fixed_decimal.specs.Number.{IsNumber, Number}
@@ -15,7 +15,7 @@ use Rattle.icu_decimal_scientific.specs.declared.notation.Notation.TheVariants.{
 use Rattle.icu_decimal_scientific.proofs.FormLawLemmas.{first_of, form_is_normal, same_exponent}
 use Rattle.icu_decimal_scientific.proofs.FormLemmas.{other_way}
 use Rattle.icu_decimal_scientific.proofs.NotationLemmas.{is_significand}
-use Rattle.icu_decimal_scientific.proofs.PowerLemmas.{IsTop, below_scaled, first_at, lt_through, powers_lt, top_of, no_first, reaches_scaled, same_first, same_high, same_low}
+use Rattle.icu_decimal_scientific.proofs.PowerLemmas.{IsTop, below_scaled, first_at, lt_through, powers_lt, top_of, no_first, reached, reaches_scaled, same_first, same_high, same_low}
 
 -- ---- the ends of a number
 
@@ -125,7 +125,7 @@ first_is n some l =
     before n zero some few lowest = absurd (omega arith)
     before n (suc top) some few lowest = let l = lowest top (omega arith) (subst (λ k. n < 10 ^ k) (omega arith) few) in absurd (omega arith)
 
-positive : (n : ℕ) → (n == 0) ≡ false → 0 < n
+pub positive : (n : ℕ) → (n == 0) ≡ false → 0 < n
 positive n test = ⊎_elim (λ z. absurd (eqb-false n 0 test (omega arith))) (λ s. omega arith) (cases_lt n 1)
 
 pub exponent_of_count : (notation : Notation) (n : Number) → IsNumber n → IsExponent notation n.count (exponent_in notation n.count)
@@ -180,10 +180,10 @@ beyond_is_below notation d is = (
 
 -- ---- divided again
 
-pub bare_quotient : (old cut low trimmed new : Number) (by : ℕ) → TrimsEnd old cut → low.count * 10 ^ by ≡ cut.count → TrimsEnd low trimmed → TrimsStart trimmed new → IsNumber new → new ≡ bare (old.count / 10 ^ by)
-bare_quotient old cut low trimmed new by c d t u is =
+pub bare_quotient : (old low trimmed new : Number) (by : ℕ) → low.count * 10 ^ by ≡ old.count → TrimsEnd low trimmed → TrimsStart trimmed new → IsNumber new → new ≡ bare (old.count / 10 ^ by)
+bare_quotient old low trimmed new by d t u is =
     let count : new.count ≡ low.count = u.count ∙ t.count in
-    let whole : new.count * 10 ^ by ≡ old.count = ap (λ k. k * 10 ^ by) count ∙ d ∙ c.count in
+    let whole : new.count * 10 ^ by ≡ old.count = ap (λ k. k * 10 ^ by) count ∙ d in
     bare_is new (far new is)
     (subst (IsLowest 32768 new.count) (sym u.low) (subst (λ k. IsLowest 32768 k trimmed.low) (sym count) t.low))
     (subst (λ k. IsHighest 32768 0 k new.high) (sym u.count) u.high)
@@ -209,11 +209,31 @@ module _ (notation : Notation) (count : ℕ) where
       never true = refl
       never false = refl
 
+pub carries_by : (notation : Notation) (count by : ℕ) → by ≡ reach notation count → 0 < by → count % 10 ^ by ≡ 0 → does_carry notation count ≡ true
+carries_by notation count by at some whole = carries notation count (subst (λ k. 0 < k) at some) (subst (λ k. count % 10 ^ k ≡ 0) at whole)
+
+pub stays_by : (notation : Notation) (count by : ℕ) → by ≡ reach notation count → by ≡ 0 → does_carry notation count ≡ false
+stays_by notation count by at none = reaches_nothing notation count (sym at ∙ none)
+
+pub loses_by : (notation : Notation) (count by : ℕ) → by ≡ reach notation count → ¬ (count % 10 ^ by ≡ 0) → does_carry notation count ≡ false
+loses_by notation count by at part = loses notation count (λ whole. part (subst (λ k. count % 10 ^ k ≡ 0) (sym at) whole))
+
 pub carried_some : (notation : Notation) (old : ScientificParts) → does_carry notation old.significand.absolute.count ≡ true → carried notation old ≡ raised (reach notation old.significand.absolute.count) old
 carried_some notation old carry = ap (λ b. cond b (raised (reach notation old.significand.absolute.count) old) old) carry
 
 pub carried_none : (notation : Notation) (old : ScientificParts) → does_carry notation old.significand.absolute.count ≡ false → carried notation old ≡ old
 carried_none notation old stays = ap (λ b. cond b (raised (reach notation old.significand.absolute.count) old) old) stays
+
+-- by the exponent that the code finds
+pub reach_is : (notation : Notation) (n : Number) (e : ℤ) → IsNumber n → IsExponent notation n.count e → rise e ≡ reach notation n.count
+reach_is notation n e is x = ap rise (exponent_known notation n e is x)
+
+pub carried_by : (notation : Notation) (old : ScientificParts) (new : Number) (by : ℕ) (e : ℤ) → does_carry notation old.significand.absolute.count ≡ true → by ≡ reach notation old.significand.absolute.count
+    → new ≡ bare (old.significand.absolute.count / 10 ^ by) → e ≡ old.exponent +ℤ pos by → carried notation old ≡ record { significand = record { sign = old.significand.sign; absolute = new }; exponent = e }
+carried_by notation old new by e carry at is exponent =
+    let same : raised by old ≡ record { significand = record { sign = old.significand.sign; absolute = new }; exponent = e } =
+    λ i. record { significand = record { sign = old.significand.sign; absolute = sym is i }; exponent = sym exponent i } in
+    carried_some notation old carry ∙ sym (ap (λ k. raised k old) at) ∙ same
 
 pub carried_is_normal : CarriedIsNormal
 carried_is_normal notation n is carry =
@@ -243,9 +263,6 @@ carried_is_normal notation n is carry =
     unit n = omega arith
 
 -- ---- not changed
-
-reached : (a n b : ℕ) → a ≤ n → n < b → a < b
-reached a n b l m = omega arith
 
 normal_exponent : (notation : Notation) (n : Number) (e : ℤ) → IsNumber n → IsNormal notation n.count e → IsExponent notation n.count (pos 0)
 normal_exponent notation n e is (inl z) = record { zero = λ _. refl; some = λ p f. absurd (no_first n.count p z.0 f) }

@@ -1,5 +1,5 @@
 -- Rows of docs/scientific-text.md, "Changed significands", so that a wrong definition does not pass.
-use Rattle.std.proofs.Common.{◌≡◌, pos, ◌+◌, ◌+ℤ◌, ◌*◌, ◌/◌, ◌%◌, ◌^◌, ◌<◌, false, true, refl, sym, ap, subst, ◌∙◌, lit≤, inr}
+use Rattle.std.proofs.Common.{◌≡◌, pos, ◌+ℤ◌, ◌*◌, ◌/◌, ◌%◌, ◌^◌, ◌<◌, false, true, refl, sym, ap, subst, ◌∙◌, lit≤, inr}
 use Rattle.fixed_decimal.specs.Number.{IsNumber, Number}
 use Rattle.fixed_decimal.specs.Shifts.{rise}
 use Rattle.fixed_decimal.specs.declared.Sign.TheVariants.{None as NoSign}
@@ -46,6 +46,12 @@ ten_is_carried : carried Scientific (record { significand = record { sign = NoSi
 ten_is_carried =
     carried_some Scientific (record { significand = record { sign = NoSign; absolute = ten }; exponent = pos 0 }) ten_carries
     ∙ (λ i. record { significand = record { sign = NoSign; absolute = bare_one i }; exponent = ap (λ k. pos 0 +ℤ pos k) reach_of_ten i })
+
+-- and 10.00 and 5, to which 9.99999 and 5 are rounded with three significant digits, become 1 and 6
+rounded_is_carried : carried Scientific (record { significand = record { sign = NoSign; absolute = record { count = ten.count; low = 32766; high = 32769 } }; exponent = pos 5 }) ≡ record { significand = record { sign = NoSign; absolute = one }; exponent = pos 6 }
+rounded_is_carried =
+    carried_some Scientific (record { significand = record { sign = NoSign; absolute = record { count = ten.count; low = 32766; high = 32769 } }; exponent = pos 5 }) ten_carries
+    ∙ (λ i. record { significand = record { sign = NoSign; absolute = bare_one i }; exponent = ap (λ k. pos 5 +ℤ pos k) reach_of_ten i })
 
 -- in engineering notation 10 stays
 engineering : IsForm Engineering ten ten (pos 0)

@@ -1,4 +1,5 @@
 mod KnownCarry
+mod KnownProducts
 mod KnownTexts
 pub mod KnownValues
 pub mod CutLemmas
@@ -7,9 +8,11 @@ pub mod FormLawLemmas
 pub mod FormLemmas
 pub mod FormOfLemmas
 pub mod NotationLemmas
+pub mod PlaceLemmas
 pub mod PowerLemmas
 pub mod ProductLemmas
 pub mod ReadableLemmas
 pub mod ReaderLemmas
 pub mod ScientificReadingLemmas
 pub mod ScientificTextLemmas
+pub mod ShownExponentLemmas

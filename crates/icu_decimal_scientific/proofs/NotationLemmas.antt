@@ -11,20 +11,22 @@ use Rattle.fixed_decimal.specs.WholeNumbers.{size_of}
 use Rattle.fixed_decimal.proofs.TenLemmas.{tens_apart, tens_positive, tens_split}
 use Rattle.icu_decimal_scientific.specs.ExponentialText.{ScientificSettings, scientific_text}
 use Rattle.icu_decimal_scientific.specs.NotationLaws.{DecimalHasFormText, DecimalIsReadBack, FormHasProduct, FormIsWrittenAgain, ProductIsTheNumber, TextHasOneForm}
-use Rattle.icu_decimal_scientific.specs.NotationReading.{HasNoForm, IsFormText, IsShownForm}
+use Rattle.icu_decimal_scientific.specs.NotationReading.{HasNoForm, IsFormText, IsShownForm, ShowsNoForm}
 use Rattle.icu_decimal_scientific.specs.Product.{HasProduct}
 use Rattle.icu_decimal_scientific.specs.Scientific.{IsForm, ScientificParts, step}
 use Rattle.icu_decimal_scientific.specs.ScientificLaws.{IsNormal}
 use Rattle.icu_decimal_scientific.specs.ScientificReading.{AreScientificTexts, HasNoScientific, IsScientificText, is_scientific_readable_by}
 use Rattle.icu_decimal_scientific.specs.ShownNumbers.{IsShownExponent}
+use Rattle.icu_decimal_scientific.specs.Steps.{IsFormExponent}
 use Rattle.icu_decimal_scientific.specs.declared.notation.Notation.{Notation}
 use Rattle.icu_decimal_scientific.specs.declared.notation.Notation.TheVariants.{Scientific, Engineering}
 use Rattle.icu_decimal_scientific.specs.declared.shown.ExponentOptions.{ExponentOptions}
 use Rattle.icu_decimal_scientific.proofs.FormLawLemmas.{first_of, form_is_normal}
 use Rattle.icu_decimal_scientific.proofs.FormLemmas.{other_way}
-use Rattle.icu_decimal_scientific.proofs.PowerLemmas.{cancel_lt, cancel_same, few_high, lt_through, powers_lt}
+use Rattle.icu_decimal_scientific.proofs.PowerLemmas.{cancel_lt, cancel_same, few_high, le_through, lt_through, powers_lt, reached}
 use Rattle.icu_decimal_scientific.proofs.ProductLemmas.{product_down, product_up, room_of, whole_of}
 use Rattle.icu_decimal_scientific.proofs.ScientificReadingLemmas.{one_value, same_shown}
+use Rattle.icu_decimal_scientific.proofs.ShownExponentLemmas.{one_highest, too_many}
 
 -- ---- the exponent of a decimal
 
@@ -53,31 +55,68 @@ few_exponents notation s (negsuc n) (inr some) p =
 
 -- ---- what a shown number is
 
+module _ (notation : Notation) (o : ExponentOptions) (s : Number) (v : SignedValue Number) where
+  pub no_exponent : 10 ^ 32773 ≤ v.absolute.count → (e : ℤ) → ¬ (IsFormExponent notation o s v e)
+  no_exponent many e f = too_many o e v many (few_exponents notation s e f.normal f.product) f.so
+
+  pub not_shown : ((other : ℤ) → ¬ (IsShownExponent o other v)) → (other : ℤ) → ¬ (IsFormExponent notation o s v other)
+  not_shown never other f = never other f.so
+
+  pub not_normal : (e : ℤ) → IsShownExponent o e v → ¬ (IsNormal notation s.count e) → (other : ℤ) → ¬ (IsFormExponent notation o s v other)
+  not_normal e so never other f = never (subst (λ x. IsNormal notation s.count x) (same_shown o other e v f.so so) f.normal)
+
+  pub no_product : (e : ℤ) → IsShownExponent o e v → ¬ (HasProduct e s) → (other : ℤ) → ¬ (IsFormExponent notation o s v other)
+  no_product e so never other f = never (subst (λ x. HasProduct x s) (same_shown o other e v f.so so) f.product)
+
+  pub form_exponent_is : (e : ℤ) → IsShownExponent o e v → IsNormal notation s.count e → HasProduct e s → IsFormExponent notation o s v e
+  form_exponent_is e so normal product = record { so = so; normal = normal; product = product }
+
+-- so is a scientific number
 module _ (notation : Notation) (o : ExponentOptions) (v : ScientificValue) where
-  pub shown_form_is : (e : ℤ) → IsShownExponent o e v.exponent → IsNormal notation v.significand.absolute.count e → HasProduct e v.significand.absolute
-      → IsShownForm notation o (record { significand = v.significand; exponent = e }) v
-  shown_form_is e shown normal product = record { shown = record { significand = refl; exponent = shown }; normal = normal; product = product }
+  pub shown_form_is : (e : ℤ) → IsFormExponent notation o v.significand.absolute v.exponent e → IsShownForm notation o (record { significand = v.significand; exponent = e }) v
+  shown_form_is e f = record { shown = record { significand = refl; exponent = f.so }; normal = f.normal; product = f.product }
 
-  -- the exponent that is shown is that of each form, and so is the significand
-  normal_there : (e : ℤ) (form : ScientificParts) → IsShownExponent o e v.exponent → IsShownForm notation o form v → IsNormal notation v.significand.absolute.count e
-  normal_there e form shown f =
-      subst (λ x. IsNormal notation v.significand.absolute.count x) (same_shown o form.exponent e v.exponent f.shown.exponent shown)
-      (subst (λ (s : SignedValue Number). IsNormal notation s.absolute.count form.exponent) (sym f.shown.significand) f.normal)
+  pub shows_no_form : ((e : ℤ) → ¬ (IsFormExponent notation o v.significand.absolute v.exponent e)) → ShowsNoForm notation o v
+  shows_no_form none form f = none form.exponent (record {
+    so = f.shown.exponent;
+    normal = subst (λ (s : SignedValue Number). IsNormal notation s.absolute.count form.exponent) (sym f.shown.significand) f.normal;
+    product = subst (λ (s : SignedValue Number). HasProduct form.exponent s.absolute) (sym f.shown.significand) f.product;
+  })
 
-  product_there : (e : ℤ) (form : ScientificParts) → IsShownExponent o e v.exponent → IsShownForm notation o form v → HasProduct e v.significand.absolute
-  product_there e form shown f =
-      subst (λ x. HasProduct x v.significand.absolute) (same_shown o form.exponent e v.exponent f.shown.exponent shown)
-      (subst (λ (s : SignedValue Number). HasProduct form.exponent s.absolute) (sym f.shown.significand) f.product)
+-- ---- what is normal
 
-  pub not_normal : (e : ℤ) → IsShownExponent o e v.exponent → ¬ (IsNormal notation v.significand.absolute.count e) → (form : ScientificParts) → ¬ (IsShownForm notation o form v)
-  not_normal e shown other form f = other (normal_there e form shown f)
+pub normal_zero : (notation : Notation) (n : ℕ) (e : ℤ) → n ≡ 0 → e ≡ pos 0 → IsNormal notation n e
+normal_zero notation n e none at = inl (none, at)
 
-  pub no_product : (e : ℤ) → IsShownExponent o e v.exponent → ¬ (HasProduct e v.significand.absolute) → (form : ScientificParts) → ¬ (IsShownForm notation o form v)
-  no_product e shown other form f = other (product_there e form shown f)
+pub zero_alone : (notation : Notation) (n : ℕ) (e : ℤ) → n ≡ 0 → ¬ (e ≡ pos 0) → ¬ (IsNormal notation n e)
+zero_alone notation n e none other (inl z) = other z.1
+zero_alone notation n e none other (inr some) = let least = some.least in let t = tens_positive 32768 in absurd (omega (arith, none, least, t))
 
-  pub no_exponent : ((e : ℤ) → size_of e < 100000 → ¬ (IsShownExponent o e v.exponent)) → (form : ScientificParts) → ¬ (IsShownForm notation o form v)
-  no_exponent none form f =
-      none form.exponent (few_exponents notation form.significand.absolute form.exponent f.normal f.product) f.shown.exponent
+pub normal_some : (notation : Notation) (n : ℕ) (e : ℤ) (p : ℕ) → 10 ^ p ≤ n → n < 10 ^ (p + 1) → 32768 ≤ p → p < 32768 + step notation → (rise e + fall e) % step notation ≡ 0 → IsNormal notation n e
+normal_some notation n e p reaches holds over under multiple = inr (record {
+  multiple = multiple;
+  least = le_through (10 ^ 32768) (10 ^ p) n (tens_apart 32768 p over) reaches;
+  below = let up = tens_apart (p + 1) (32768 + step notation) (omega (arith, under)) in lt_through n (10 ^ (p + 1)) (10 ^ (32768 + step notation)) holds up;
+})
+
+pub multiple_by : (a b s i j k : ℕ) → a ≡ i → b ≡ j → s ≡ k → (a + b) % s ≡ 0 → (i + j) % k ≡ 0
+multiple_by a b s i j k e f g h = subst (λ x. (i + j) % x ≡ 0) g (subst (λ x. (i + x) % s ≡ 0) f (subst (λ x. (x + b) % s ≡ 0) e h))
+
+module _ (notation : Notation) (n : ℕ) (e : ℤ) (some : 0 < n) where
+  pub too_small : (p : ℕ) → n < 10 ^ (p + 1) → p < 32768 → ¬ (IsNormal notation n e)
+  too_small p holds under (inl z) = let none = z.0 in absurd (omega (arith, some, none))
+  too_small p holds under (inr normal) = absurd (apart p (powers_lt 32768 (p + 1) (reached (10 ^ 32768) n (10 ^ (p + 1)) normal.least holds)) under)
+    where
+      apart : (p : ℕ) → 32768 < p + 1 → p < 32768 → ⊥
+      apart p over under = omega arith
+
+  pub too_large : (p : ℕ) → 10 ^ p ≤ n → 32768 + step notation ≤ p → ¬ (IsNormal notation n e)
+  too_large p reaches over (inl z) = let none = z.0 in absurd (omega (arith, some, none))
+  too_large p reaches over (inr normal) = let below = normal.below in let less = powers_lt p (32768 + step notation) (omega (arith, reaches, below)) in absurd (omega (arith, less, over))
+
+  pub no_multiple : ¬ ((rise e + fall e) % step notation ≡ 0) → ¬ (IsNormal notation n e)
+  no_multiple part (inl z) = let none = z.0 in absurd (omega (arith, some, none))
+  no_multiple part (inr normal) = part normal.multiple
 
 -- ---- what a text is
 
@@ -199,11 +238,8 @@ one_exponent o e v w f g =
     let sign : v.sign ≡ w.sign = f.sign ∙ sym g.sign in
     let count : v.absolute.count ≡ w.absolute.count = f.count ∙ sym g.count in
     let low : v.absolute.low ≡ w.absolute.low = f.low ∙ sym g.low in
-    let high : v.absolute.high ≡ w.absolute.high = one_high (32768 + o.least_digits) w.absolute.count v.absolute.high w.absolute.high (subst (λ n. IsHighest 32768 (32768 + o.least_digits) n v.absolute.high) count f.high) g.high in
+    let high : v.absolute.high ≡ w.absolute.high = one_highest (32768 + o.least_digits) w.absolute.count v.absolute.high w.absolute.high (subst (λ n. IsHighest 32768 (32768 + o.least_digits) n v.absolute.high) count f.high) g.high in
     λ i. record { sign = sign i; absolute = record { count = count i; low = low i; high = high i } }
-  where
-    one_high : (place n a b : ℕ) → IsHighest 32768 place n a → IsHighest 32768 place n b → a ≡ b
-    one_high place n a b f g = let l = f.lowest b g.keeps g.position g.holds in let k = g.lowest a f.keeps f.position f.holds in omega arith
 
 pub form_is_written_again : FormIsWrittenAgain
 form_is_written_again s notation o text form v f shown =

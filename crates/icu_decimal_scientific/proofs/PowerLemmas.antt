@@ -27,6 +27,12 @@ powers_lt i j h = ⊎_elim (λ l. l) (λ l. let m = tens_apart j i l in absurd (
 pub lt_through : (n a b : ℕ) → n < a → a ≤ b → n < b
 lt_through n a b h k = omega arith
 
+pub le_through : (a b n : ℕ) → a ≤ b → b ≤ n → a ≤ n
+le_through a b n l h = omega arith
+
+pub reached : (a n b : ℕ) → a ≤ n → n < b → a < b
+reached a n b l h = omega arith
+
 -- ---- the first digit
 
 pub record IsTop (n p : ℕ) : Type 0 where

@@ -3,11 +3,13 @@ use Rattle.std.proofs.Common.{◌≡◌, ℕ, ℤ, ◌+◌, ◌-◌, ◌*◌, �
 use Rattle.std.proofs.Math.Nat.{div-add-mod', mod-eq_of_lt, mul-lt-mul_of_pos_right, mul-mod_left, mul_assoc, zero-mul}
 use Rattle.std.proofs.lemmas.Bool.{cases_lt}
 use Rattle.fixed_decimal.specs.Number.{IsNumber, Number}
-use Rattle.fixed_decimal.specs.Shifts.{IsShifted, Shifts, TrimsEnd, fall, rise}
+use Rattle.fixed_decimal.specs.Range.{IsLowest}
+use Rattle.fixed_decimal.specs.Shifts.{IsShifted, PadsEnd, Shifts, TrimsEnd, fall, rise}
 use Rattle.fixed_decimal.proofs.TenLemmas.{mod_below_power, tens_apart, tens_positive, tens_split}
 use Rattle.icu_decimal_scientific.specs.NotationLaws.{OneProduct}
 use Rattle.icu_decimal_scientific.specs.Product.{HasProduct}
-use Rattle.icu_decimal_scientific.proofs.DivisionLemmas.{whole_below}
+use Rattle.icu_decimal_scientific.specs.Steps.{IsLowered, IsRaised}
+use Rattle.icu_decimal_scientific.proofs.DivisionLemmas.{shifted_down, shifted_up, whole_below}
 use Rattle.icu_decimal_scientific.proofs.PowerLemmas.{cancel_lt, cancel_same, cancel_zero}
 
 -- ---- steps
@@ -20,21 +22,35 @@ module _ (by : ℤ) (old new : Number) (n : ℕ) (s : Shifts by old new) (f : fa
   down : IsShifted by old new
   down = let high = is.high in s.within (record { low = omega arith; high = omega arith })
 
-  pub down_low : new.low ≡ old.low - n
+  down_low : new.low ≡ old.low - n
   down_low = let is_low = down.low in let under = is.low in omega arith
 
-  pub down_high : new.high ≡ max 32768 (old.high - n)
+  down_high : new.high ≡ max 32768 (old.high - n)
   down_high = let is_high = down.high in omega arith
 
 module _ (by : ℤ) (old new : Number) (n : ℕ) (s : Shifts by old new) (f : fall by ≡ 0) (r : rise by ≡ n) (room : old.high + n < 65536) (is : IsNumber old) where
   up : IsShifted by old new
   up = s.within (record { low = omega arith; high = omega arith })
 
-  pub up_low : new.low ≡ min 32768 (old.low + n)
+  up_low : new.low ≡ min 32768 (old.low + n)
   up_low = let is_low = up.low in omega arith
 
-  pub up_high : new.high ≡ old.high + n
+  up_high : new.high ≡ old.high + n
   up_high = let is_high = up.high in let ones = is.ones in omega arith
+
+pub is_lowered : (by : ℤ) (old new : Number) (n : ℕ) → IsNumber old → Shifts by old new → fall by ≡ n → rise by ≡ 0 → n ≤ old.low → IsLowered n old new
+is_lowered by old new n is s f r low = record {
+  count = shifted_down by old new n s f r low is.high;
+  low = down_low by old new n s f r low is;
+  high = down_high by old new n s f r low is;
+}
+
+pub is_raised : (by : ℤ) (old new : Number) (n : ℕ) → IsNumber old → Shifts by old new → fall by ≡ 0 → rise by ≡ n → old.high + n < 65536 → IsRaised n old new
+is_raised by old new n is s f r room = record {
+  count = shifted_up by old new n s f r room;
+  low = up_low by old new n s f r room is;
+  high = up_high by old new n s f r room is;
+}
 
 -- what is left after a first part of the way
 pub rest_whole : (n m a b : ℕ) → m * 10 ^ a ≡ n → n % 10 ^ b ≡ 0 → a ≤ b → m % 10 ^ (b - a) ≡ 0
@@ -47,6 +63,28 @@ rest_whole n m a b e w l =
 pub both_steps : (n a b i j by : ℕ) → a * 10 ^ i ≡ n → b * 10 ^ j ≡ a → i + j ≡ by → b * 10 ^ by ≡ n
 both_steps n a b i j by e f s =
     ap (λ t. b * t) (tens_split j i by (omega arith)) ∙ sym (mul_assoc b (10 ^ j) (10 ^ i)) ∙ ap (λ t. t * 10 ^ i) f ∙ e
+
+-- a number that is divided in two steps without the zeros at its end, which are then shown as far as there are places
+lowest_shown : (place n low : ℕ) → IsLowest place n low → n % 10 ^ place ≡ 0 → low ≡ place
+lowest_shown place n low l whole = let at = l.highest place (omega arith) whole in let under = l.under in omega arith
+
+whole_after : (n m by low : ℕ) → m * 10 ^ by ≡ n → n % 10 ^ low ≡ 0 → m % 10 ^ (low - by) ≡ 0
+whole_after n m by low e w =
+    ⊎_elim (λ below. let none : low - by ≡ 0 = omega arith in ap (λ k. m % 10 ^ k) none ∙ by_one m) (λ above. rest_whole n m by low e w above) (cases_lt low by)
+  where
+    by_one : (n : ℕ) → n % 10 ^ 0 ≡ 0
+    by_one n = omega arith
+
+pub lowered_shown : (old a b new : Number) (half by : ℕ) → IsNumber old → half ≤ by → a.count * 10 ^ half ≡ old.count → a.high ≡ max 32768 (old.high - half) → b.count * 10 ^ (by - half) ≡ a.count
+    → b.high ≡ max 32768 (a.high - (by - half)) → (at : ℕ) → PadsEnd at b new → at ≡ old.low - by → IsLowered by old new
+lowered_shown old a b new half by is part first first_high second second_high at padded same_place =
+    let pads : PadsEnd (old.low - by) b new = subst (λ k. PadsEnd k b new) same_place padded in
+    let count : b.count * 10 ^ by ≡ old.count = both_steps old.count a.count b.count half (by - half) by first second (omega arith) in
+    record {
+      count = ap (λ k. k * 10 ^ by) pads.count ∙ count;
+      low = lowest_shown (old.low - by) b.count new.low (pads.low (let low = is.low in omega arith)) (whole_after old.count b.count by old.low count is.whole);
+      high = let same = pads.high in let ones = is.ones in omega arith;
+    }
 
 -- ---- which products are decimals
 
@@ -127,14 +165,13 @@ module _ (e : ℤ) (n : Number) (is : IsNumber n) where
 
 -- ---- what is made of a number
 
-pub made_up : (e : ℤ) (old new : Number) (by : ℕ) → IsNumber old → HasProduct e old → fall e ≡ 0 → by ≡ min (rise e + fall e) 65535 → new.count ≡ old.count * 10 ^ by → new.low ≡ min 32768 (old.low + by) → new.high ≡ old.high + by
-    → IsShifted e old new
-made_up e old new by is p f at count low high =
-    let room = room_of e old p f in
-    let same : by ≡ rise e = omega (arith, at, f, room) in
+pub made_up : (e : ℤ) (old new : Number) (by : ℕ) → IsNumber old → fall e ≡ 0 → by ≡ rise e → IsRaised by old new → IsShifted e old new
+made_up e old new by is f same raised =
     let ones = is.ones in
+    let low = raised.low in
+    let high = raised.high in
     record {
-      count = ap (λ k. new.count * 10 ^ k) f ∙ unit new.count ∙ count ∙ ap (λ k. old.count * 10 ^ k) same;
+      count = ap (λ k. new.count * 10 ^ k) f ∙ unit new.count ∙ raised.count ∙ ap (λ k. old.count * 10 ^ k) same;
       low = omega (arith, low, same, f);
       high = omega (arith, high, same, f, ones);
     }
@@ -149,27 +186,26 @@ far_zero n high f below small far whole =
     let less : n < 10 ^ f = omega arith in
     sym (mod-eq_of_lt less) ∙ whole
 
-pub made_down : (e : ℤ) (old new : Number) (by : ℕ) → IsNumber old → HasProduct e old → rise e ≡ 0 → by ≡ min (rise e + fall e) 65535 → new.count * 10 ^ by ≡ old.count → new.low ≡ old.low - by → new.high ≡ max 32768 (old.high - by)
-    → IsShifted e old new
-made_down e old new by is p r at count low high = record {
+pub made_down : (e : ℤ) (old new : Number) (by : ℕ) → IsNumber old → HasProduct e old → rise e ≡ 0 → by ≡ min (fall e) 65535 → IsLowered by old new → IsShifted e old new
+made_down e old new by is p r at lowered = record {
   count = ⊎_elim near far (cases_lt (fall e) 65536) ∙ sym (ap (λ k. old.count * 10 ^ k) r ∙ unit old.count);
-  low = let under = is.low in omega (arith, low, at, r, under);
-  high = let small = is.high in omega (arith, high, at, r, small);
+  low = let under = is.low in let low = lowered.low in omega (arith, low, at, r, under);
+  high = let small = is.high in let high = lowered.high in omega (arith, high, at, r, small);
 }
   where
     unit : (n : ℕ) → n * 10 ^ 0 ≡ n
     unit n = omega arith
 
     near : fall e < 65536 → new.count * 10 ^ fall e ≡ old.count
-    near l = let same : fall e ≡ by = omega (arith, at, r, l) in ap (λ k. new.count * 10 ^ k) same ∙ count
+    near l = let same : fall e ≡ by = omega (arith, at, r, l) in ap (λ k. new.count * 10 ^ k) same ∙ lowered.count
 
     far : 65536 ≤ fall e → new.count * 10 ^ fall e ≡ old.count
     far l =
         let none : old.count ≡ 0 = far_zero old.count old.high (fall e) is.below is.high (omega (arith, l)) (whole_of e old p r) in
-        let same : new.count ≡ 0 = cancel_zero new.count (10 ^ by) (tens_positive by) (count ∙ none) in
+        let same : new.count ≡ 0 = cancel_zero new.count (10 ^ by) (tens_positive by) (lowered.count ∙ none) in
         ap (λ k. k * 10 ^ fall e) same ∙ zero-mul (10 ^ fall e) ∙ sym none
 
-pub whole_by : (e : ℤ) (n : Number) (by : ℕ) → HasProduct e n → rise e ≡ 0 → by ≡ min (rise e + fall e) 65535 → n.count % 10 ^ by ≡ 0
+pub whole_by : (e : ℤ) (n : Number) (by : ℕ) → HasProduct e n → rise e ≡ 0 → by ≡ min (fall e) 65535 → n.count % 10 ^ by ≡ 0
 whole_by e n by p r at = whole_below n.count (fall e) by (whole_of e n p r) (omega (arith, at, r))
 
 -- ---- one product

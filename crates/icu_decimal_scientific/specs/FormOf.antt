@@ -1,6 +1,6 @@
 -- The form of a number as a function, and what is shown of a number where its significand is changed.
 -- Defined in docs/scientific-text.md, "The form" and "Changed significands".
--- Cited by the laws of forms as functions: that it is the form need not be believed.
+-- Cited by `ScientificNumber::carry`, and by the laws of forms as functions: that it is the form need not be believed.
 use Rattle.std.specs.Prelude.{ℕ, zero, suc, ℤ, pos, negsuc, ◌+◌, ◌-◌, ◌*◌, ◌/◌, ◌%◌, ◌^◌, ◌+ℤ◌, ◌==◌, ◌&&◌, nat_lt, Bool, if◌then◌else◌}
 use Rattle.fixed_decimal.specs.Number.{Number}
 use Rattle.fixed_decimal.specs.Shifts.{fall, rise}

@@ -1,6 +1,6 @@
 -- What a text is read as in a notation: the significand and the exponent that are written so, and the decimal that they are.
 -- Defined in docs/scientific-text.md, "Reading".
--- Cited by the laws of notations.
+-- Cited by `into_form` of `ShownScientific`, by `read_form` and `read_decimal` of `ScientificTables`, and by the laws of notations.
 use Rattle.std.specs.Prelude.{ℕ, List}
 use Rattle.fixed_decimal.specs.Number.{Number}
 use Rattle.fixed_decimal.specs.ScientificText.{ScientificValue}
@@ -20,6 +20,10 @@ pub record IsShownForm (notation : Notation) (o : ExponentOptions) (form : Scien
   pub shown : IsShownAs o form v
   pub normal : IsNormal notation form.significand.absolute.count form.exponent
   pub product : HasProduct form.exponent form.significand.absolute
+
+-- it is shown as none is
+abbrev pub ShowsNoForm : Notation → ExponentOptions → ScientificValue → Type 0
+ShowsNoForm notation o v = (form : ScientificParts) → ¬ (IsShownForm notation o form v)
 
 -- this is their text
 pub record IsFormText (s : ScientificSettings) (notation : Notation) (o : ExponentOptions) (text : List ℕ) (form : ScientificParts) : Type 0 where

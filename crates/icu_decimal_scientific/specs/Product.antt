@@ -1,6 +1,6 @@
 -- The decimal that a significand and an exponent are.
 -- Defined in docs/scientific-text.md, "The decimal".
--- Cited by the laws of notations.
+-- Cited by `ScientificNumber::into_decimal`, and through NotationReading.antt by the calls that read a notation.
 use Rattle.std.specs.Prelude.{ℤ}
 use Rattle.fixed_decimal.specs.Number.{IsNumber, Number}
 use Rattle.fixed_decimal.specs.Shifts.{IsShifted}

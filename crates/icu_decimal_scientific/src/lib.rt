@@ -12,17 +12,23 @@
 //! let tables = ScientificTables::new(&decimals, "E");
 //! tables.format(&shown).write_to(&mut sink)?;                             // 1.234567891E6
 //! let same = tables.read(alloc, "1.234567891E6")?;
+//! let decimal = tables.read_decimal(alloc, Notation::Scientific, ExponentOptions::default(), "1.234567891E6")?;
 //! ```
 #![tactic(auto)]
 
+mod carry;
 mod error;
 pub mod laws;
 mod notation;
+mod notation_reader;
 mod number;
 pub mod parts;
+mod places;
+mod product;
 mod readable;
 mod reader;
 mod shown;
+mod shown_exponent;
 mod tables;
 mod written;
 

@@ -1,7 +1,6 @@
 //! The scientific form of a decimal.
 
 ghost use Rattle.std.specs.Prelude.{◌≡◌, ◌+◌, ◌≤◌, ◌<◌, ◌*◌, ◌^◌, ◌%◌, ◌-◌, IfNone, IfOk, IfSome, IsErr, IsFalse, IsTrue, OnErr};
-ghost use Rattle.fixed_decimal.specs.Number.{place};
 ghost use Rattle.fixed_decimal.specs.Range.{IsLong, IsLowest};
 ghost use Rattle.fixed_decimal.specs.Shifts.{fall, rise};
 ghost use Rattle.fixed_decimal.specs.WholeNumbers.{IsSignedWhole, size_of};
@@ -10,6 +9,7 @@ ghost use Rattle.icu_decimal_scientific.specs.Steps.{CanRaise};
 
 use crate::error::RangeError;
 use crate::notation::Notation;
+use crate::places::{fall_of, is_whole_at, lower, place_of, raise, rise_of};
 use fixed_decimal::{Decimal, FixedInteger, ScientificDecimal, UnsignedDecimal};
 use std::alloc::{AllocError, Global};
 use std::marker::Model;
@@ -29,13 +29,6 @@ impl Model for ScientificNumber {
     ghost Value = { ScientificParts };
 
     ghost view = { λ a. record { significand = a.significand; exponent = a.exponent } };
-}
-
-// The place of a magnitude: the ones are at 32768.
-fn place_of(magnitude: i16) -> u32
-    ensures { result ≡ place magnitude }
-{
-    (magnitude as i32 + 32768) as u32
 }
 
 // The exponent that is counted from -32769 up.
@@ -60,7 +53,7 @@ fn greatest_exponent(place: u32, notation: Notation) -> i32
 
 // The exponent of a number.
 #[tactic(auto, using(crate::proofs::FormLemmas::exponent_is))]
-fn exponent_of(number: &UnsignedDecimal, notation: Notation) -> i32
+pub(crate) fn exponent_of(number: &UnsignedDecimal, notation: Notation) -> i32
     ensures exponent { IsExponent notation number.now.count result }
     ensures room { fall result ≤ 32769 }
     ensures top { rise result < 32768 }
@@ -68,48 +61,8 @@ fn exponent_of(number: &UnsignedDecimal, notation: Notation) -> i32
     greatest_exponent(place_of(number.nonzero_magnitude_start()), notation)
 }
 
-// A shift that divides by ten so often.
-fn shift_down(by: u16) -> i16
-    requires { by < 32768 }
-    ensures fall { fall result ≡ by }
-    ensures rise { rise result ≡ 0 }
-{
-    -(by as i16)
-}
-
-// A shift that multiplies by ten so often.
-fn shift_up(by: u16) -> i16
-    requires { by < 32768 }
-    ensures fall { fall result ≡ 0 }
-    ensures rise { rise result ≡ by }
-{
-    by as i16
-}
-
-// Divides a number by ten so often.
-#[tactic(auto, using(crate::proofs::DivisionLemmas::shifted_down))]
-fn lower(number: &mut UnsignedDecimal, by: u16)
-    requires by { by < 32768 }
-    requires room { by ≤ number.old.low }
-    ensures { number.new.count * 10 ^ by ≡ number.old.count }
-{
-    let _number = number.magnitude_range(); // for the proof
-    number.multiply_pow10(shift_down(by));
-}
-
-// Multiplies a number by ten so often, where its digits before the point are few.
-#[tactic(auto, using(crate::proofs::DivisionLemmas::shifted_up))]
-fn raise(number: &mut UnsignedDecimal, by: u16)
-    requires by { by < 16386 }
-    requires few { number.old.high ≤ 32771 }
-    ensures { number.new.count ≡ number.old.count * 10 ^ by }
-{
-    let _number = number.magnitude_range(); // for the proof
-    number.multiply_pow10(shift_up(by));
-}
-
 // Multiplies a number below one by ten so often, in two steps.
-fn raise_far(number: &mut UnsignedDecimal, by: u16)
+fn raise_far(number: &mut UnsignedDecimal, by: u32)
     requires by { by < 32770 }
     requires few { CanRaise number.old.count by }
     ensures { number.new.count ≡ number.old.count * 10 ^ by }
@@ -119,32 +72,6 @@ fn raise_far(number: &mut UnsignedDecimal, by: u16)
     raise(number, half);
     number.trim_start();
     raise(number, by - half);
-}
-
-// Whether no digit of a number is below a place.
-fn is_whole_at(number: &UnsignedDecimal, place: u16) -> bool
-    requires trimmed { IsLowest 32768 number.now.count number.now.low }
-    requires place { place < 32769 }
-    ensures whole { IsTrue result → number.now.count % 10 ^ place ≡ 0 }
-    ensures part { IsFalse result → ¬ (number.now.count % 10 ^ place ≡ 0) }
-{
-    place as u32 <= place_of(*number.magnitude_range().start())
-}
-
-// How far an exponent moves places up.
-fn rise_of(exponent: i32) -> u16
-    requires { rise exponent < 32768 }
-    ensures { result ≡ rise exponent }
-{
-    exponent.max(0) as u16
-}
-
-// How far an exponent moves places down.
-fn fall_of(exponent: i32) -> u16
-    requires { fall exponent < 32770 }
-    ensures { result ≡ fall exponent }
-{
-    (-exponent).max(0) as u16
 }
 
 // Divides a number whose fraction ends with no zero by ten to an exponent, where no digit is lost.
@@ -165,7 +92,7 @@ fn divide(number: &mut UnsignedDecimal, exponent: i32) -> bool
     if !is_whole_at(number, by) {
         return false;
     }
-    lower(number, by);
+    lower(number, by as u16);
     true
 }
 
@@ -191,6 +118,7 @@ fn take_significand(number: &mut UnsignedDecimal, exponent: i32) -> bool
 fn take_form(number: &mut UnsignedDecimal, notation: Notation) -> Option<i32>
     ensures some { IfSome result (λ e. IsForm notation number.old number.new e) }
     ensures none { IfNone result (IsBeyondPlaces notation number.old.count) }
+    ensures room { IfSome result (λ e. rise e < 32768) }
 {
     let _number = number.magnitude_range(); // for the proof
     let exponent = exponent_of(number, notation);
@@ -203,7 +131,8 @@ fn take_form(number: &mut UnsignedDecimal, notation: Notation) -> Option<i32>
 
 impl ScientificNumber {
     /// The form of a decimal: 1.2 and 6 of 1200000 and of 1200000.0, in engineering notation 120 and -6 of 0.00012, and
-    /// 0 and 0 of zero. The significand has the sign of the decimal, and no zeros at its ends.
+    /// 0 and 0 of zero. The significand has the sign of the decimal, and no zeros at its ends; the exponent is at most
+    /// 32767.
     ///
     /// `RangeError`: a digit of the significand would be below the magnitude -32768, as that of 1000 and 32768 digits
     /// after the point. It does not allocate.
@@ -212,6 +141,7 @@ impl ScientificNumber {
     pub fn of_decimal(decimal: Decimal, notation: Notation) -> Result<ScientificNumber, RangeError>
         ensures value { IfOk result (λ form. IsFormOf notation decimal form) }
         ensures range { IsErr result → IsBeyondPlaces notation decimal.absolute.count }
+        ensures exponent { IfOk result (λ form. rise form.exponent < 32768) }
     {
         let mut significand = decimal;
         match take_form(&mut significand.absolute, notation) {

@@ -51,7 +51,7 @@ impl Model for ShownScientific {
 }
 
 // The sign that an exponent is shown with.
-fn sign_shown(sign: ExponentSign, exponent: i32) -> Sign
+pub(crate) fn sign_shown(sign: ExponentSign, exponent: i32) -> Sign
     ensures { result ≡ exponent_sign sign exponent }
 {
     if exponent < 0 {
