@@ -32,6 +32,7 @@ book = record {
   parents = None;
   units = None;
   plurals = None;
+  signs = [];
 }
 
 abbrev asked : Asked

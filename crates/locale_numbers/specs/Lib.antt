@@ -65,6 +65,10 @@ pub use Rattle.locale_numbers_book.specs.Units
 pub use Rattle.locale_numbers_book.specs.Plurals
 pub use Rattle.locale_numbers_book.specs.PluralsForm
 pub use Rattle.locale_numbers_book.specs.RangesEntries
+-- Of the inner crates: signs of books.
+pub use Rattle.locale_numbers_book.specs.NumberSigns
+pub use Rattle.locale_numbers_book.specs.SignChoice
+pub use Rattle.locale_numbers_book.specs.SignsEntries
 -- Of the inner crates: texts of books, and the small book of a tag as a text.
 pub use Rattle.locale_numbers_book.specs.BookText
 pub use Rattle.locale_numbers_book.specs.EntryFields

@@ -1,27 +1,32 @@
 -- A value is one book at most, and what its arrays say of it: `specs/Book.antt`, `specs/Arrays.antt` and `specs/BookAllocation.antt`.
-use Rattle.std.proofs.Common.{◌≡◌, Bool, true, false, ◌||◌, ◌&&◌, Option, Some, None, [], option_and_then, option_map, unwrap_or, refl, sym, ap, ap₂, ◌∙◌, subst, if◌then◌else◌}
+use Rattle.std.proofs.Common.{◌≡◌, ◌≤◌, ◌==◌, ℕ, ◌+◌, Bool, true, false, ◌||◌, ◌&&◌, Option, Some, None, List, [], is_some, option_and_then, option_map, unwrap_or, refl, sym, ap, ap₂, ◌∙◌, subst, if◌then◌else◌, inl, inr, arith}
 use Rattle.std.specs.Prelude.{Result, Ok, Err, IfErr, IsErrAnd}
+use Rattle.std.specs.Int.{is_in_range}
 use Rattle.std.specs.Option.{option_or}
 use Rattle.std.specs.Str.{bytes_eq}
-use Rattle.std.proofs.lemmas.Bool.{or_left, or_right}
+use Rattle.std.proofs.lemmas.Bool.{cases_Bool, eqb-true, or_left, or_right}
 use Rattle.std.proofs.lemmas.Option.{same_Some}
-use Rattle.serde_json.specs.Data.{Data, Items, no_items}
+use Rattle.serde_json.specs.Data.{Data, null, boolean, number, string, array, object, Items, no_items, item}
 use Rattle.serde_json.specs.Find.{as_array}
 use Rattle.serde_json.specs.View.{items_view}
+use Rattle.icu_decimal.specs.Identifiers.{Identifier}
 use Rattle.locale_numbers_tables.specs.declared.BookError.{BookError}
 use Rattle.locale_numbers_tables.specs.declared.BookError.TheVariants.{Shape}
 use Rattle.locale_numbers_plurals.specs.Plurals.{ArePlurals, PluralTables, plurals_fault, plurals_may_grow}
-use Rattle.locale_numbers_plurals.specs.declared.PluralArrays.{PluralArrays}
+use Rattle.locale_numbers_signs.specs.NumberSigns.{SignTexts}
+use Rattle.locale_numbers_signs.specs.SignsEntries.{signs_entry, signs_faults, signs_may_grow}
 use Rattle.locale_numbers_units.specs.declared.UnitArrays.{UnitArrays}
 use Rattle.locale_numbers_units.specs.Units.{AreUnits, UnitsTables}
+use Rattle.locale_numbers_book.specs.declared.json.more.MoreArrays.{MoreArrays}
 use Rattle.locale_numbers_book.specs.declared.json.parts.BookArrays.{BookArrays}
-use Rattle.locale_numbers_book.specs.Arrays.{AreParts, ArePluralsIn, AreTaken, HasParts, fault_beside, fault_of_parts, may_grow_beside, may_grow_of_parts, of_arrays, plurals_fault_in, plurals_may_grow_in, sixth_of, units_fault_in, units_may_grow_in, value_of_units}
-use Rattle.locale_numbers_book.specs.Book.{BookTables, HasPlurals, HasTables, HasUnits, IsBook}
-use Rattle.locale_numbers_tables.specs.CompactEntries.{compact_entry}
-use Rattle.locale_numbers_tables.specs.Entries.{all_of, digits_entry, field_at, symbols_entry}
+use Rattle.locale_numbers_book.specs.Arrays.{AreParts, ArePluralsIn, AreSignsIn, AreTaken, HasParts, fault_beside, fault_of_parts, may_grow_beside, may_grow_of_parts, more_fault_in, more_may_grow_in, of_arrays, sixth_of, units_fault_in, units_may_grow_in, value_of_units}
+use Rattle.locale_numbers_book.specs.Book.{BookTables, HasPlurals, HasSigns, HasTables, HasUnits, IsBook}
+use Rattle.locale_numbers_tables.specs.Allocation.{begins_with}
+use Rattle.locale_numbers_tables.specs.CompactEntries.{compact_entry, each}
+use Rattle.locale_numbers_tables.specs.Entries.{all_of, count_of_items, digits_entry, field_at, has_count, symbols_entry}
 use Rattle.locale_numbers_tables.specs.Faults.{compact_faults, digits_faults, rules_faults, symbols_faults}
-use Rattle.locale_numbers_book.specs.Form.{alone_fault, are_plurals, are_units, arrays_fault, book_fault, book_part, fault_of, five_fault, has_form, has_parts, has_units_form, items_at, more_fault, parts_fault, plurals_part, units_part}
-use Rattle.locale_numbers_book.specs.Laws.{AloneStays, PairsStay, pair_fault, pair_may_grow, pair_of}
+use Rattle.locale_numbers_book.specs.Form.{alone_fault, are_more, are_units, arrays_fault, book_fault, book_part, fault_of, five_fault, has_form, has_more_form, has_parts, has_units_form, items_at, more_fault, more_part, parts_fault, units_part}
+use Rattle.locale_numbers_book.specs.Laws.{AloneStays, PairsStay, TriplesStay, has_plurals_form, pair_fault, pair_may_grow, pair_of, triple_fault, triple_may_grow, triple_of}
 use Rattle.locale_numbers_tables.specs.Keys.{same_data_locale, same_key, table_in}
 use Rattle.locale_numbers_book.specs.ParentEntries.{parent_entry, parents_faults}
 use Rattle.locale_numbers_tables.specs.Telling.{IsTold}
@@ -72,8 +77,9 @@ one_book value book other m n =
     let long = same_Some book.long other.long (sym m.arrays.long ∙ n.arrays.long) in
     let parents : book.parents ≡ other.parents = sym m.arrays.parents ∙ n.arrays.parents in
     let units : book.units ≡ other.units = same_units (units_part value) book.units other.units m.units n.units in
-    let plurals : book.plurals ≡ other.plurals = same_plurals (plurals_part value) book.plurals other.plurals m.plurals n.plurals in
-    λ i. record { symbols = symbols i; digits = digits i; rules = rules i; short = short i; long = long i; parents = parents i; units = units i; plurals = plurals i }
+    let plurals : book.plurals ≡ other.plurals = same_plurals (more_part value) book.plurals other.plurals m.plurals n.plurals in
+    let signs = same_Some book.signs other.signs (sym m.signs ∙ n.signs) in
+    λ i. record { symbols = symbols i; digits = digits i; rules = rules i; short = short i; long = long i; parents = parents i; units = units i; plurals = plurals i; signs = signs i }
 
 -- ---- the arrays
 
@@ -147,8 +153,9 @@ module _ (s d r h l : Items) where
       → arrays_fault s d r h l p ≡ None
   none_of_six p symbols digits rules short long parents = rw (symbols, digits, rules, short, long) parents
 
--- the tables are those of a book with other units and other plurals
-pub with_beside : (value : Data) (book whole : BookTables) → whole ≡ record book { units = whole.units; plurals = whole.plurals } → HasTables value book → HasTables value whole
+-- the tables are those of a book with other units, other plurals and other signs
+pub with_beside : (value : Data) (book whole : BookTables) → whole ≡ record book { units = whole.units; plurals = whole.plurals; signs = whole.signs }
+    → HasTables value book → HasTables value whole
 with_beside value book whole same has = subst (HasTables value) (sym same) (record {
   symbols = has.symbols;
   digits = has.digits;
@@ -158,12 +165,12 @@ with_beside value book whole same has = subst (HasTables value) (sym same) (reco
   parents = has.parents;
 })
 
--- units and then plurals
-pub both_given : (old first last : BookTables) → first ≡ record old { units = first.units } → last ≡ record first { plurals = last.plurals }
-    → last ≡ record old { units = last.units; plurals = last.plurals }
+-- units, and then plurals and signs
+pub both_given : (old first last : BookTables) → first ≡ record old { units = first.units } → last ≡ record first { plurals = last.plurals; signs = last.signs }
+    → last ≡ record old { units = last.units; plurals = last.plurals; signs = last.signs }
 both_given old first last one other =
-    other ∙ ap (λ (b : BookTables). record b { plurals = last.plurals }) one
-    ∙ ap (λ (u : Option UnitsTables). record old { units = u; plurals = last.plurals }) (sym (ap (λ (b : BookTables). b.units) other))
+    other ∙ ap (λ (b : BookTables). record b { plurals = last.plurals; signs = last.signs }) one
+    ∙ ap (λ (u : Option UnitsTables). record old { units = u; plurals = last.plurals; signs = last.signs }) (sym (ap (λ (b : BookTables). b.units) other))
 
 -- ---- the parts of a value
 
@@ -181,44 +188,50 @@ units_faulty : (u : Option UnitArrays) → fault_of five_fault (option_map value
 units_faulty None = refl
 units_faulty (Some u) = refl
 
-plurals_formed : (more : Option Data) (m : Option PluralArrays) → AreTaken more m → are_plurals more ≡ true
-plurals_formed None None is = refl
-plurals_formed None (Some m) is = absurd is
-plurals_formed (Some more) None is = absurd is
-plurals_formed (Some more) (Some m) is = is.form
+more_formed : (more : Option Data) (m : Option MoreArrays) → AreTaken more m → are_more more ≡ true
+more_formed None None is = refl
+more_formed None (Some m) is = absurd is
+more_formed (Some more) None is = absurd is
+more_formed (Some more) (Some m) is = is.form
 
-plurals_faulty : (more : Option Data) (m : Option PluralArrays) → AreTaken more m → fault_of more_fault more ≡ plurals_fault_in m
-plurals_faulty None None is = refl
-plurals_faulty None (Some m) is = absurd is
-plurals_faulty (Some more) None is = absurd is
-plurals_faulty (Some more) (Some m) is = sym (ap₂ plurals_fault is.ordinals is.ranges)
+more_faulty : (more : Option Data) (m : Option MoreArrays) → AreTaken more m → fault_of more_fault more ≡ more_fault_in m
+more_faulty None None is = refl
+more_faulty None (Some m) is = absurd is
+more_faulty (Some more) None is = absurd is
+more_faulty (Some more) (Some m) is = sym (ap₂ (λ (p s : Option BookError). option_or p s) (ap₂ plurals_fault is.ordinals is.ranges) (ap signs_faults is.signs))
 
-plurals_grow : (more : Option Data) (m : Option PluralArrays) → AreTaken more m → grows_if_there more_may_grow more ≡ plurals_may_grow_in m
-plurals_grow None None is = refl
-plurals_grow None (Some m) is = absurd is
-plurals_grow (Some more) None is = absurd is
-plurals_grow (Some more) (Some m) is = sym (ap₂ plurals_may_grow is.ordinals is.ranges)
+more_grows : (more : Option Data) (m : Option MoreArrays) → AreTaken more m → grows_if_there more_may_grow more ≡ more_may_grow_in m
+more_grows None None is = refl
+more_grows None (Some m) is = absurd is
+more_grows (Some more) None is = absurd is
+more_grows (Some more) (Some m) is = sym (ap₂ (λ (p s : Bool). p || s) (ap₂ plurals_may_grow is.ordinals is.ranges) (ap (begins_with signs_may_grow) is.signs))
 
 or_three : (a b c : Bool) → (a || b || c) ≡ (a || (b || c))
 or_three true b c = refl
 or_three false b c = refl
 
 -- and with their units and plurals they ask for memory as they do
-module _ (s d r h l : Items) (more : Option Data) (m : Option PluralArrays) (taken : AreTaken more m) where
+module _ (s d r h l : Items) (more : Option Data) (m : Option MoreArrays) (taken : AreTaken more m) where
   room_of_parts : (p : Option Items) (u : Option UnitArrays)
       → parts_may_grow (of_arrays s d r h l p) (option_map value_of_units u) more ≡ (arrays_may_grow s d r h l (unwrap_or p no_items) || may_grow_beside u m)
-  room_of_parts None None = rw (plurals_formed more m taken, plurals_grow more m taken) (or_three (arrays_may_grow s d r h l no_items) false (plurals_may_grow_in m))
-  room_of_parts (Some p) None = rw (plurals_formed more m taken, plurals_grow more m taken) (or_three (arrays_may_grow s d r h l p) false (plurals_may_grow_in m))
-  room_of_parts None (Some u) = rw (plurals_formed more m taken, plurals_grow more m taken) (or_three (arrays_may_grow s d r h l no_items) (units_may_grow_in (Some u)) (plurals_may_grow_in m))
-  room_of_parts (Some p) (Some u) = rw (plurals_formed more m taken, plurals_grow more m taken) (or_three (arrays_may_grow s d r h l p) (units_may_grow_in (Some u)) (plurals_may_grow_in m))
+  room_of_parts None None = rw (more_formed more m taken, more_grows more m taken) (or_three (arrays_may_grow s d r h l no_items) false (more_may_grow_in m))
+  room_of_parts (Some p) None = rw (more_formed more m taken, more_grows more m taken) (or_three (arrays_may_grow s d r h l p) false (more_may_grow_in m))
+  room_of_parts None (Some u) = rw (more_formed more m taken, more_grows more m taken) (or_three (arrays_may_grow s d r h l no_items) (units_may_grow_in (Some u)) (more_may_grow_in m))
+  room_of_parts (Some p) (Some u) = rw (more_formed more m taken, more_grows more m taken) (or_three (arrays_may_grow s d r h l p) (units_may_grow_in (Some u)) (more_may_grow_in m))
 
-plurals_there : (more : Option Data) (m : Option PluralArrays) (tables : Option PluralTables) → AreTaken more m → ArePluralsIn m tables → HasPlurals more tables
+plurals_there : (more : Option Data) (m : Option MoreArrays) (tables : Option PluralTables) → AreTaken more m → ArePluralsIn m tables → HasPlurals more tables
 plurals_there None None None is has = tt
 plurals_there None None (Some tables) is has = absurd has
 plurals_there None (Some m) tables is has = absurd is
 plurals_there (Some more) None tables is has = absurd is
 plurals_there (Some more) (Some m) None is has = absurd has
-plurals_there (Some more) (Some m) (Some tables) is has = subst (λ (o : Items). ArePlurals o (items_at 1 more) tables) is.ordinals (subst (λ (r : Items). ArePlurals (items_view m.ordinals.items) r tables) is.ranges has)
+plurals_there (Some more) (Some m) (Some tables) is has = subst (λ (o : Items). ArePlurals o (items_at 1 more) tables) is.ordinals (subst (λ (r : Items). ArePlurals (items_view m.plurals.ordinals.items) r tables) is.ranges has)
+
+signs_there : (more : Option Data) (m : Option MoreArrays) (tables : List (Identifier × SignTexts)) → AreTaken more m → AreSignsIn m tables → HasSigns more tables
+signs_there None None tables is has = has
+signs_there None (Some m) tables is has = absurd is
+signs_there (Some more) None tables is has = absurd is
+signs_there (Some more) (Some m) tables is has = ap (table_in same_key signs_entry) (sym is.signs) ∙ has
 
 -- what parts tell of the value that they were taken from
 module _ (arrays : BookArrays) (value : Data) (is : AreParts value arrays) where
@@ -229,11 +242,11 @@ module _ (arrays : BookArrays) (value : Data) (is : AreParts value arrays) where
         is.book,
         is.units,
         units_formed arrays.units,
-        plurals_formed (plurals_part value) arrays.plurals is.plurals,
+        more_formed (more_part value) arrays.more is.more,
         units_faulty arrays.units,
-        plurals_faulty (plurals_part value) arrays.plurals is.plurals,
+        more_faulty (more_part value) arrays.more is.more,
       )
-      (ap (λ (o : Option BookError). option_or o (fault_beside arrays.units arrays.plurals)) (fault_of_arrays (items_view a.first.items) (items_view a.second.items) (items_view a.third.items) (items_view a.fourth.items) (items_view a.fifth.items) (sixth_of a)))
+      (ap (λ (o : Option BookError). option_or o (fault_beside arrays.units arrays.more)) (fault_of_arrays (items_view a.first.items) (items_view a.second.items) (items_view a.third.items) (items_view a.fourth.items) (items_view a.fifth.items) (sixth_of a)))
 
   pub told_value : (e : BookError) → IsTold (fault_of_parts arrays) e → IsTold (book_fault value) e
   told_value e told = told_at _ _ e (sym fault_is) told
@@ -242,7 +255,7 @@ module _ (arrays : BookArrays) (value : Data) (is : AreParts value arrays) where
   room_value grows =
       let a = arrays.book in
       rw (is.book, is.units)
-      (room_of_parts (items_view a.first.items) (items_view a.second.items) (items_view a.third.items) (items_view a.fourth.items) (items_view a.fifth.items) (plurals_part value) arrays.plurals is.plurals (sixth_of a) arrays.units ∙ grows)
+      (room_of_parts (items_view a.first.items) (items_view a.second.items) (items_view a.third.items) (items_view a.fourth.items) (items_view a.fifth.items) (more_part value) arrays.more is.more (sixth_of a) arrays.units ∙ grows)
 
   -- and it is the book of their tables
   pub made_whole : (tables : BookTables) → HasParts arrays tables → IsBook value tables
@@ -250,14 +263,15 @@ module _ (arrays : BookArrays) (value : Data) (is : AreParts value arrays) where
     sound = fault_is ∙ has.sound;
     arrays = subst (λ v. HasTables v tables) (sym is.book) has.arrays;
     units = subst (λ u. HasUnits u tables.units) (sym is.units) has.units;
-    plurals = plurals_there (plurals_part value) arrays.plurals tables.plurals is.plurals has.plurals;
+    plurals = plurals_there (more_part value) arrays.more tables.plurals is.more has.plurals;
+    signs = signs_there (more_part value) arrays.more tables.signs is.more has.signs;
   }
 
 -- ---- a value without a fault
 
 -- has none in its book
 pub alone_sound : (book : Data) (units more : Option Data) → parts_fault book units more ≡ None → alone_fault book ≡ None
-alone_sound book units more none = by (are_units units && are_plurals more) (alone_fault book) none
+alone_sound book units more none = by (are_units units && are_more more) (alone_fault book) none
   where
     by : (form : Bool) (found : Option BookError) → (if form then option_or found (option_or (fault_of five_fault units) (fault_of more_fault more)) else Some Shape) ≡ None → found ≡ None
     by true None h = refl
@@ -265,7 +279,7 @@ alone_sound book units more none = by (are_units units && are_plurals more) (alo
     by false found h = absurd (cc)
 
 pub sound_book : (value : Data) → book_fault value ≡ None → alone_fault (book_part value) ≡ None
-sound_book value none = alone_sound (book_part value) (units_part value) (plurals_part value) none
+sound_book value none = alone_sound (book_part value) (units_part value) (more_part value) none
 
 -- ---- books as they were
 
@@ -276,6 +290,9 @@ no_units (Some units) has = absurd has
 no_plurals : (plurals : Option PluralTables) → HasPlurals None plurals → plurals ≡ None
 no_plurals None has = refl
 no_plurals (Some plurals) has = absurd has
+
+no_signs : (signs : List (Identifier × SignTexts)) → HasSigns None signs → signs ≡ []
+no_signs signs has = sym (same_Some [] signs has)
 
 -- a book alone may ask for memory where its arrays do
 alone_grows : (book : Data) → parts_may_grow book None None ≡ alone_may_grow book
@@ -291,9 +308,9 @@ alone_stays value two three =
     let parts : has_parts value ≡ false = rw (two, three) refl in
     let book : book_part value ≡ value = rw parts refl in
     let units : units_part value ≡ None = rw parts refl in
-    let plurals : plurals_part value ≡ None = rw parts refl in
-    let fault : book_fault value ≡ alone_fault value = rw (book, units, plurals) (or_none (alone_fault value)) in
-    let room : book_may_grow value ≡ alone_may_grow value = rw (book, units, plurals) (alone_grows value) in (
+    let more : more_part value ≡ None = rw parts refl in
+    let fault : book_fault value ≡ alone_fault value = rw (book, units, more) (or_none (alone_fault value)) in
+    let room : book_may_grow value ≡ alone_may_grow value = rw (book, units, more) (alone_grows value) in (
       fault,
       room,
       λ tables. (
@@ -301,13 +318,15 @@ alone_stays value two three =
           sound = sym fault ∙ is.sound;
           arrays = subst (λ v. HasTables v tables) book is.arrays;
           units = no_units tables.units (subst (λ u. HasUnits u tables.units) units is.units);
-          plurals = no_plurals tables.plurals (subst (λ m. HasPlurals m tables.plurals) plurals is.plurals);
+          plurals = no_plurals tables.plurals (subst (λ m. HasPlurals m tables.plurals) more is.plurals);
+          signs = no_signs tables.signs (subst (λ m. HasSigns m tables.signs) more is.signs);
         },
         λ is. record {
           sound = fault ∙ is.sound;
           arrays = subst (λ v. HasTables v tables) (sym book) is.arrays;
           units = subst (λ u. HasUnits u tables.units) (sym units) (subst (HasUnits None) (sym is.units) tt);
-          plurals = subst (λ m. HasPlurals m tables.plurals) (sym plurals) (subst (HasPlurals None) (sym is.plurals) tt);
+          plurals = subst (λ m. HasPlurals m tables.plurals) (sym more) (subst (HasPlurals None) (sym is.plurals) tt);
+          signs = subst (λ m. HasSigns m tables.signs) (sym more) (ap Some (sym is.signs));
         },
       ),
     )
@@ -339,12 +358,107 @@ pairs_stay first second = (
       arrays = is.arrays;
       units = is.units;
       plurals = no_plurals tables.plurals is.plurals;
+      signs = no_signs tables.signs is.signs;
     },
     λ is. record {
       sound = pair_faulty first second ∙ is.sound;
       arrays = is.arrays;
       units = is.units;
       plurals = subst (HasPlurals None) (sym is.plurals) tt;
+      signs = ap Some (sym is.signs);
+    },
+  ),
+)
+
+-- the form of plurals alone
+and_true : (a b : Bool) → (a && (b && true)) ≡ (a && b)
+and_true true true = refl
+and_true true false = refl
+and_true false b = refl
+
+-- a third array without entries
+third_empty : (n r a b t : Bool) → t ≡ false → ((n && r) && (a && (b && (t || true)))) ≡ ((n && (true && r)) && (a && b))
+third_empty n r a b true h = cc
+third_empty true true true true false h = refl
+third_empty true true true false false h = refl
+third_empty true true false b false h = refl
+third_empty true false a b false h = refl
+third_empty false r a b false h = refl
+
+-- a third item that is no array
+third_other : (n r a b t : Bool) → t ≡ false → ((n && r) && (a && (b && (t || false)))) ≡ ((n && false) && (a && b))
+third_other n r a b true h = cc
+third_other true true true true false h = refl
+third_other true true true false false h = refl
+third_other true true false b false h = refl
+third_other true false a b false h = refl
+third_other false r a b false h = refl
+
+not_two : (n : ℕ) → 3 ≤ n → (n == 2) ≡ false
+not_two n h = elim (cases_Bool (n == 2)) [
+  | inl two ↦ let is = eqb-true n 2 two in absurd (omega (arith, is, h))
+  | inr other ↦ other
+]
+
+-- two arrays and a third item without entries, and others
+module _ (a b : Data) (rest : Items) where
+  abbrev count : ℕ
+  count = 1 + (1 + (1 + count_of_items rest))
+
+  longer : (count == 2) ≡ false
+  longer = not_two count (omega arith)
+
+  long_stays : (c : Data) → unwrap_or (as_array c) no_items ≡ no_items → has_more_form (array (item a (item b (item c rest)))) ≡ has_plurals_form (array (item a (item b (item c rest))))
+  long_stays null empty = third_other (is_in_range 2 8 count) (each (λ value. has_count 0 value) rest) (is_some (as_array a)) (is_some (as_array b)) (count == 2) longer
+  long_stays (boolean x) empty = third_other (is_in_range 2 8 count) (each (λ value. has_count 0 value) rest) (is_some (as_array a)) (is_some (as_array b)) (count == 2) longer
+  long_stays (number n) empty = third_other (is_in_range 2 8 count) (each (λ value. has_count 0 value) rest) (is_some (as_array a)) (is_some (as_array b)) (count == 2) longer
+  long_stays (string s) empty = third_other (is_in_range 2 8 count) (each (λ value. has_count 0 value) rest) (is_some (as_array a)) (is_some (as_array b)) (count == 2) longer
+  long_stays (object ms) empty = third_other (is_in_range 2 8 count) (each (λ value. has_count 0 value) rest) (is_some (as_array a)) (is_some (as_array b)) (count == 2) longer
+  long_stays (array no_items) empty =
+      third_empty (is_in_range 2 8 count) (each (λ value. has_count 0 value) rest) (is_some (as_array a)) (is_some (as_array b)) (count == 2) longer
+  long_stays (array (item d ds)) empty = absurd (cc)
+
+form_stays : (value : Data) → items_at 2 value ≡ no_items → has_more_form value ≡ has_plurals_form value
+form_stays null h = refl
+form_stays (boolean b) h = refl
+form_stays (number n) h = refl
+form_stays (string s) h = refl
+form_stays (object ms) h = refl
+form_stays (array no_items) h = refl
+form_stays (array (item a no_items)) h = refl
+form_stays (array (item a (item b no_items))) h = and_true (is_some (as_array a)) (is_some (as_array b))
+form_stays (array (item a (item b (item c rest)))) h = long_stays a b rest c h
+
+triple_faulty : (first second third : Data) → items_at 2 third ≡ no_items → book_fault (triple_of first second third) ≡ triple_fault first second third
+triple_faulty first second third empty =
+    rw (form_stays third empty, empty)
+    (ap (λ (o : Option BookError). if has_units_form second && has_plurals_form third then option_or (alone_fault first) (option_or (five_fault second) o) else Some Shape)
+    (or_none (plurals_fault (items_at 0 third) (items_at 1 third))))
+
+triple_grows : (first second third : Data) → items_at 2 third ≡ no_items → book_may_grow (triple_of first second third) ≡ triple_may_grow first second third
+triple_grows first second third empty =
+    rw (form_stays third empty, empty)
+    (ap (λ (p : Bool). has_form first && has_units_form second && has_plurals_form third && (alone_may_grow first || five_may_grow second || p))
+    (or_not (plurals_may_grow (items_at 0 third) (items_at 1 third))))
+
+pub triples_stay : TriplesStay
+triples_stay first second third empty = (
+  triple_faulty first second third empty,
+  triple_grows first second third empty,
+  λ tables. (
+    λ is. record {
+      sound = sym (triple_faulty first second third empty) ∙ is.sound;
+      arrays = is.arrays;
+      units = is.units;
+      plurals = is.plurals;
+      signs = no_signs tables.signs (ap (table_in same_key signs_entry) (sym empty) ∙ is.signs);
+    },
+    λ is. record {
+      sound = triple_faulty first second third empty ∙ is.sound;
+      arrays = is.arrays;
+      units = is.units;
+      plurals = is.plurals;
+      signs = ap (table_in same_key signs_entry) empty ∙ ap Some (sym is.signs);
     },
   ),
 )

@@ -12,7 +12,7 @@ use Rattle.locale_numbers_book.specs.Tables.{chain_in, digits_under, locales_in,
 -- ---- tables
 
 abbrev latin_alone : BookTables
-latin_alone = record { symbols = []; digits = (codes "latn", codes "0123456789") ∷ []; rules = []; short = []; long = []; parents = None; units = None; plurals = None }
+latin_alone = record { symbols = []; digits = (codes "latn", codes "0123456789") ∷ []; rules = []; short = []; long = []; parents = None; units = None; plurals = None; signs = [] }
 
 abbrev english : DataLocaleMeaning
 english = record { language = codes "en"; script = None; region = None; variant = None; subdivision = None }

@@ -1,4 +1,4 @@
--- Worked rows of `specs/Form.antt`: pairs of a book and of units, these with plurals, and what else has two items or three.
+-- Worked rows of `specs/Form.antt`: pairs of a book and of units, these with plurals and signs, and what else has two items or three.
 -- Each is an example of docs/books.md, "Faults of a pair" or "More", or follows from its rules by hand.
 use Rattle.std.proofs.Common.{◌≡◌, ℕ, List, [], ◌∷◌, codes, Some, None, refl}
 use Rattle.std.specs.Char.{encode_utf8}
@@ -126,12 +126,18 @@ range start end result = list (text start ∷ text end ∷ text result ∷ [])
 shortest_triple : book_fault (triple empty (of_digits []) (more [] [])) ≡ None
 shortest_triple = refl
 
--- arrays of what is not read yet are empty
+-- the arrays after the third are empty
 eight_arrays_of_plurals : book_fault (triple empty (of_digits []) (list (list [] ∷ list [] ∷ list [] ∷ list [] ∷ list [] ∷ list [] ∷ list [] ∷ list [] ∷ []))) ≡ None
 eight_arrays_of_plurals = refl
 
-third_array_with_an_entry : book_fault (triple empty (of_digits []) (list (list [] ∷ list [] ∷ list (list [] ∷ []) ∷ []))) ≡ Some Shape
-third_array_with_an_entry = refl
+fourth_array_with_an_entry : book_fault (triple empty (of_digits []) (list (list [] ∷ list [] ∷ list [] ∷ list (list [] ∷ []) ∷ []))) ≡ Some Shape
+fourth_array_with_an_entry = refl
+
+nine_arrays_of_plurals : book_fault (triple empty (of_digits []) (list (list [] ∷ list [] ∷ list [] ∷ list [] ∷ list [] ∷ list [] ∷ list [] ∷ list [] ∷ list [] ∷ []))) ≡ Some Shape
+nine_arrays_of_plurals = refl
+
+third_is_no_array : book_fault (triple empty (of_digits []) (list (list [] ∷ list [] ∷ null ∷ []))) ≡ Some Shape
+third_is_no_array = refl
 
 one_array_of_plurals : book_fault (triple empty (of_digits []) (list (list [] ∷ []))) ≡ Some Shape
 one_array_of_plurals = refl
@@ -169,3 +175,37 @@ units_first = refl
 
 plurals_shape_first : book_fault (triple empty (of_digits (money (codes "CH") 5 ∷ [])) null) ≡ Some Shape
 plurals_shape_first = refl
+
+-- ---- with signs
+
+abbrev with_signs : List Data → List Data → Data
+with_signs ranges signs = list (list [] ∷ list ranges ∷ list signs ∷ [])
+
+abbrev texts : List ℕ → List ℕ → Data
+texts before after = list (text before ∷ text after ∷ [])
+
+-- a locale, a system and the text before exponents
+abbrev signs : List ℕ → List ℕ → List ℕ → Data
+signs locale system exponent = list (
+    text locale ∷ text system ∷ text exponent ∷ text (codes "x") ∷ text (codes "0/00") ∷ text (codes "~")
+    ∷ list (text [] ∷ text (codes "-") ∷ text [] ∷ []) ∷ texts [] (codes "+") ∷ texts (codes "<=") [] ∷ [])
+
+one_locale_of_signs : book_fault (triple empty (of_digits []) (with_signs [] (signs (codes "en") [] (codes "E") ∷ []))) ≡ None
+unfolding data_locale_of tag_of whole_after headed_after body_after with_piece chars is_utf8 encode_utf8
+one_locale_of_signs = refl
+
+no_entry_of_signs : book_fault (triple empty (of_digits []) (with_signs [] (list [] ∷ []))) ≡ Some Shape
+no_entry_of_signs = refl
+
+capital_system_of_signs : book_fault (triple empty (of_digits []) (with_signs [] (signs (codes "en") (codes "LATN") (codes "E") ∷ []))) ≡ Some System
+unfolding data_locale_of tag_of whole_after headed_after body_after with_piece chars is_utf8 encode_utf8
+capital_system_of_signs = refl
+
+signs_twice : book_fault (triple empty (of_digits []) (with_signs [] (signs (codes "en") [] (codes "E") ∷ signs (codes "EN") [] (codes "e") ∷ []))) ≡ Some Duplicate
+unfolding data_locale_of tag_of whole_after headed_after body_after with_piece chars is_utf8 encode_utf8
+signs_twice = refl
+
+-- the faults of ranges before those of signs, though their numbers are greater
+ranges_first : book_fault (triple empty (of_digits []) (with_signs (ranges (codes "en") [] ∷ ranges (codes "EN") [] ∷ []) (null ∷ []))) ≡ Some Duplicate
+unfolding data_locale_of tag_of whole_after headed_after body_after with_piece
+ranges_first = refl

@@ -31,6 +31,7 @@ module _ (cardinal ordinal root : Rules) where
     parents = Some [];
     units = None;
     plurals = Some (record { ordinals = (english, ordinal) ∷ (unknown_data, root) ∷ []; ranges = (english, other_to_one ∷ []) ∷ [] });
+    signs = [];
   }
 
   english_cardinals : plural_rules_for Cardinal book (preferring (codes "en") None) ≡ Some (cardinal, other_to_one ∷ [])

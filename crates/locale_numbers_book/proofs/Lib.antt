@@ -1,4 +1,5 @@
 pub mod FormLemmas
+pub mod MoreLemmas
 pub mod PartLemmas
 pub mod LocaleLemmas
 pub mod ParentLemmas

@@ -1,4 +1,4 @@
--- A value that has parts, a book, units and plurals: `specs/Form.antt` and `specs/Arrays.antt`.
+-- A value that has parts, a book, units and more: `specs/Form.antt` and `specs/Arrays.antt`.
 use Rattle.std.proofs.Common.{◌≡◌, ℕ, ◌&&◌, Bool, true, false, List, [], ◌∷◌, drop, Option, None, Some, option_map, unwrap_or, refl, sym, ap, ◌∙◌, subst, if◌then◌else◌}
 use Rattle.std.specs.Prelude.{IfSome}
 use Rattle.std.specs.Option.{option_or}
@@ -11,7 +11,7 @@ use Rattle.locale_numbers_tables.specs.declared.BookError.TheVariants.{Shape}
 use Rattle.locale_numbers_tables.specs.Entries.{has_count}
 use Rattle.locale_numbers_book.specs.Arrays.{AreParts, AreTaken, of_arrays, value_of_arrays, value_of_units}
 use Rattle.locale_numbers_book.specs.declared.json.parts.BookArrays.{BookArrays}
-use Rattle.locale_numbers_book.specs.Form.{alone_fault, are_plurals, book_fault, book_part, fault_of, five_fault, has_form, has_parts, has_units_form, more_fault, plurals_part, units_part}
+use Rattle.locale_numbers_book.specs.Form.{alone_fault, are_more, book_fault, book_part, fault_of, five_fault, has_form, has_parts, has_units_form, more_fault, more_part, units_part}
 
 -- ---- five arrays
 
@@ -44,10 +44,10 @@ pub no_units : (b u p : Bool) → u ≡ false → (b && (u && p)) ≡ false
 no_units true u p absent = rw absent refl
 no_units false u p absent = refl
 
-pub no_plurals : (b u p : Bool) → p ≡ false → (b && (u && p)) ≡ false
-no_plurals true true p absent = absent
-no_plurals true false p absent = refl
-no_plurals false u p absent = refl
+pub no_more : (b u p : Bool) → p ≡ false → (b && (u && p)) ≡ false
+no_more true true p absent = absent
+no_more true false p absent = refl
+no_more false u p absent = refl
 
 pub no_book : (b u p : Bool) → b ≡ false → (b && (u && p)) ≡ false
 no_book b u p absent = rw absent refl
@@ -67,7 +67,7 @@ module _ (given values second third : List Value) (book units : Data) (more : Op
       by (x ∷ []) same two = absurd (cc)
       by (x ∷ y ∷ rest) same two = ap Some (sym (second_is ∙ rw (next, ← same) refl))
 
-  pub more_is : plurals_part (array (items_view given)) ≡ more
+  pub more_is : more_part (array (items_view given)) ≡ more
   more_is = rw parts (by given (sym start) parts)
     where
       by : (all : List Value) → all ≡ values → has_parts (array (items_view all)) ≡ true → at 2 (array (items_view all)) ≡ more
@@ -77,17 +77,17 @@ module _ (given values second third : List Value) (book units : Data) (more : Op
       by (x ∷ y ∷ z ∷ rest) same two = sym (third_is ∙ rw (last, next, ← same) refl)
 
 -- what was taken of each part was taken of the value
-pub parts_are : (o : Option BookArrays) (value book units : Data) (more : Option Data) → book_part value ≡ book → units_part value ≡ Some units → plurals_part value ≡ more
-    → IfSome o (λ arrays. book ≡ value_of_arrays arrays.book) → IfSome o (λ arrays. Some units ≡ option_map value_of_units arrays.units) → IfSome o (λ arrays. AreTaken more arrays.plurals)
+pub parts_are : (o : Option BookArrays) (value book units : Data) (more : Option Data) → book_part value ≡ book → units_part value ≡ Some units → more_part value ≡ more
+    → IfSome o (λ arrays. book ≡ value_of_arrays arrays.book) → IfSome o (λ arrays. Some units ≡ option_map value_of_units arrays.units) → IfSome o (λ arrays. AreTaken more arrays.more)
     → IfSome o (AreParts value)
 parts_are None value book units more one other last a b c = tt
 parts_are (Some arrays) value book units more one other last a b c =
-    record { book = one ∙ a; units = other ∙ b; plurals = subst (λ m. AreTaken m arrays.plurals) (sym last) c }
+    record { book = one ∙ a; units = other ∙ b; more = subst (λ m. AreTaken m arrays.more) (sym last) c }
 
 -- where one of the parts is of another form the value has no shape
-pub no_parts : (value book units : Data) (more : Option Data) → book_part value ≡ book → units_part value ≡ Some units → plurals_part value ≡ more
-    → (has_form book && (has_units_form units && are_plurals more)) ≡ false → book_fault value ≡ Some Shape
-no_parts value book units more one other last absent = rw (one, other, last) (by (has_form book) refl (has_units_form units && are_plurals more) absent)
+pub no_parts : (value book units : Data) (more : Option Data) → book_part value ≡ book → units_part value ≡ Some units → more_part value ≡ more
+    → (has_form book && (has_units_form units && are_more more)) ≡ false → book_fault value ≡ Some Shape
+no_parts value book units more one other last absent = rw (one, other, last) (by (has_form book) refl (has_units_form units && are_more more) absent)
   where
     by : (b : Bool) → has_form book ≡ b → (u : Bool) → (b && u) ≡ false
         → (if u then option_or (alone_fault book) (option_or (five_fault units) (fault_of more_fault more)) else Some Shape) ≡ Some Shape
@@ -104,8 +104,8 @@ alone_is value none = rw none refl
 pub no_units_part : (value : Data) → has_parts value ≡ false → units_part value ≡ None
 no_units_part value none = rw none refl
 
-pub no_plurals_part : (value : Data) → has_parts value ≡ false → plurals_part value ≡ None
-no_plurals_part value none = rw none refl
+pub no_more_part : (value : Data) → has_parts value ≡ false → more_part value ≡ None
+no_more_part value none = rw none refl
 
 pub nothing_taken : (more : Option Data) → more ≡ None → AreTaken more None
 nothing_taken more is = subst (λ m. AreTaken m None) (sym is) tt

@@ -74,6 +74,7 @@ sample_is_book = record {
   };
   units = tt;
   plurals = tt;
+  signs = refl;
 }
 
 pub sample_is_known : SampleBookIsKnown

@@ -114,6 +114,7 @@ sample_is_book = record {
     digits_are = refl;
   };
   plurals = tt;
+  signs = refl;
 }
 
 pub sample_units_is_known : SampleUnitsBookIsKnown

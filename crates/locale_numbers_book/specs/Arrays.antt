@@ -1,20 +1,24 @@
--- A book as the value of its arrays, alone, with units or with units and plurals.
+-- A book as the value of its arrays, alone, with units, or with units, plurals and signs.
 -- Defined in docs/books.md, "The form", "Units", "More" and "Faults".
 -- Cited by the steps of `Book::from_json`.
-use Rattle.std.specs.Prelude.{◌≡◌, Bool, true, false, ◌||◌, Option, None, Some, option_map, unwrap_or}
+use Rattle.std.specs.Prelude.{◌≡◌, Bool, true, false, ◌||◌, List, Option, None, Some, option_map, unwrap_or}
 use Rattle.std.specs.Option.{option_or}
 use Rattle.serde_json.specs.Data.{Data, array, Items, no_items, item}
 use Rattle.serde_json.specs.View.{items_view}
+use Rattle.icu_decimal.specs.Identifiers.{Identifier}
 use Rattle.locale_numbers_tables.specs.declared.BookError.{BookError}
-use Rattle.locale_numbers_plurals.specs.Form.{has_form, items_at}
 use Rattle.locale_numbers_plurals.specs.Plurals.{ArePlurals, PluralTables, plurals_fault, plurals_may_grow}
-use Rattle.locale_numbers_plurals.specs.declared.PluralArrays.{PluralArrays}
+use Rattle.locale_numbers_signs.specs.NumberSigns.{SignTexts}
+use Rattle.locale_numbers_signs.specs.SignsEntries.{signs_entry, signs_faults, signs_may_grow}
+use Rattle.locale_numbers_tables.specs.Allocation.{begins_with}
+use Rattle.locale_numbers_tables.specs.Keys.{same_key, table_in}
 use Rattle.locale_numbers_units.specs.declared.UnitArrays.{UnitArrays}
 use Rattle.locale_numbers_units.specs.Units.{units_fault, units_may_grow}
 use Rattle.locale_numbers_book.specs.Book.{BookTables, HasTables, HasUnits}
 use Rattle.locale_numbers_book.specs.BookAllocation.{arrays_may_grow}
-use Rattle.locale_numbers_book.specs.Form.{arrays_fault, book_part, plurals_part, units_part}
+use Rattle.locale_numbers_book.specs.Form.{arrays_fault, book_part, has_more_form, items_at, more_part, units_part}
 use Rattle.locale_numbers_book.specs.declared.json.form.Arrays.{Arrays}
+use Rattle.locale_numbers_book.specs.declared.json.more.MoreArrays.{MoreArrays}
 use Rattle.locale_numbers_book.specs.declared.json.parts.BookArrays.{BookArrays}
 
 -- the sixth array as the last of the value, or nothing
@@ -70,33 +74,44 @@ units_may_grow_in (Some arrays) =
     units_may_grow (items_view arrays.percents.items) (items_view arrays.currencies.items) (items_view arrays.accounts.items)
     (items_view arrays.symbols.items) (items_view arrays.digits.items)
 
--- ---- arrays of plurals
+-- ---- arrays of plurals and of signs
 
--- they are the first two arrays of this value, which has the form
-pub record AreOf (value : Data) (arrays : PluralArrays) : Type 0 where
-  pub form : has_form value ≡ true
-  pub ordinals : items_view arrays.ordinals.items ≡ items_at 0 value
-  pub ranges : items_view arrays.ranges.items ≡ items_at 1 value
+-- they are the first three arrays of this value, which has the form
+pub record AreOf (value : Data) (arrays : MoreArrays) : Type 0 where
+  pub form : has_more_form value ≡ true
+  pub ordinals : items_view arrays.plurals.ordinals.items ≡ items_at 0 value
+  pub ranges : items_view arrays.plurals.ranges.items ≡ items_at 1 value
+  pub signs : items_view arrays.signs.items ≡ items_at 2 value
 
 -- without a value there are none
-abbrev pub AreTaken : Option Data → Option PluralArrays → Type 0
+abbrev pub AreTaken : Option Data → Option MoreArrays → Type 0
 AreTaken None None = Unit {0}
 AreTaken (Some value) (Some arrays) = AreOf value arrays
 AreTaken value arrays = ⊥
 
-abbrev pub plurals_fault_in : Option PluralArrays → Option BookError
-plurals_fault_in None = None
-plurals_fault_in (Some arrays) = plurals_fault (items_view arrays.ordinals.items) (items_view arrays.ranges.items)
+abbrev pub more_fault_in : Option MoreArrays → Option BookError
+more_fault_in None = None
+more_fault_in (Some arrays) =
+    option_or (plurals_fault (items_view arrays.plurals.ordinals.items) (items_view arrays.plurals.ranges.items)) (signs_faults (items_view arrays.signs.items))
 
-abbrev pub plurals_may_grow_in : Option PluralArrays → Bool
-plurals_may_grow_in None = false
-plurals_may_grow_in (Some arrays) = plurals_may_grow (items_view arrays.ordinals.items) (items_view arrays.ranges.items)
+abbrev pub more_may_grow_in : Option MoreArrays → Bool
+more_may_grow_in None = false
+more_may_grow_in (Some arrays) =
+    plurals_may_grow (items_view arrays.plurals.ordinals.items) (items_view arrays.plurals.ranges.items) || begins_with signs_may_grow (items_view arrays.signs.items)
 
 -- plurals are those of arrays, and without these there are none
-abbrev pub ArePluralsIn : Option PluralArrays → Option PluralTables → Type 0
+abbrev pub ArePluralsIn : Option MoreArrays → Option PluralTables → Type 0
 ArePluralsIn None None = Unit {0}
-ArePluralsIn (Some arrays) (Some plurals) = ArePlurals (items_view arrays.ordinals.items) (items_view arrays.ranges.items) plurals
+ArePluralsIn (Some arrays) (Some plurals) = ArePlurals (items_view arrays.plurals.ordinals.items) (items_view arrays.plurals.ranges.items) plurals
 ArePluralsIn arrays plurals = ⊥
+
+-- and so are signs
+abbrev pub signs_in : Option MoreArrays → Items
+signs_in None = no_items
+signs_in (Some arrays) = items_view arrays.signs.items
+
+abbrev pub AreSignsIn : Option MoreArrays → List (Identifier × SignTexts) → Type 0
+AreSignsIn arrays signs = table_in same_key signs_entry (signs_in arrays) ≡ Some signs
 
 -- ---- all
 
@@ -104,24 +119,25 @@ ArePluralsIn arrays plurals = ⊥
 pub record AreParts (value : Data) (arrays : BookArrays) : Type 0 where
   pub book : book_part value ≡ value_of_arrays arrays.book
   pub units : units_part value ≡ option_map value_of_units arrays.units
-  pub plurals : AreTaken (plurals_part value) arrays.plurals
+  pub more : AreTaken (more_part value) arrays.more
 
--- the fault of the units, and then of the plurals; and whether one of them may want memory
-abbrev pub fault_beside : Option UnitArrays → Option PluralArrays → Option BookError
-fault_beside units plurals = option_or (units_fault_in units) (plurals_fault_in plurals)
+-- the fault of the units, and then of the plurals and of the signs; and whether one of them may want memory
+abbrev pub fault_beside : Option UnitArrays → Option MoreArrays → Option BookError
+fault_beside units more = option_or (units_fault_in units) (more_fault_in more)
 
-abbrev pub may_grow_beside : Option UnitArrays → Option PluralArrays → Bool
-may_grow_beside units plurals = units_may_grow_in units || plurals_may_grow_in plurals
+abbrev pub may_grow_beside : Option UnitArrays → Option MoreArrays → Bool
+may_grow_beside units more = units_may_grow_in units || more_may_grow_in more
 
 abbrev pub fault_of_parts : BookArrays → Option BookError
-fault_of_parts arrays = option_or (fault_in arrays.book) (fault_beside arrays.units arrays.plurals)
+fault_of_parts arrays = option_or (fault_in arrays.book) (fault_beside arrays.units arrays.more)
 
 abbrev pub may_grow_of_parts : BookArrays → Bool
-may_grow_of_parts arrays = may_grow_in arrays.book || may_grow_beside arrays.units arrays.plurals
+may_grow_of_parts arrays = may_grow_in arrays.book || may_grow_beside arrays.units arrays.more
 
 -- they have no fault, and these are their tables
 pub record HasParts (taken : BookArrays) (tables : BookTables) : Type 0 where
   pub sound : fault_of_parts taken ≡ None
   pub arrays : HasTables (value_of_arrays taken.book) tables
   pub units : HasUnits (option_map value_of_units taken.units) tables.units
-  pub plurals : ArePluralsIn taken.plurals tables.plurals
+  pub plurals : ArePluralsIn taken.more tables.plurals
+  pub signs : AreSignsIn taken.more tables.signs

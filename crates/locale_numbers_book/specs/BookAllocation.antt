@@ -1,13 +1,14 @@
 -- Where the reading of a whole book may run out of memory: never at a fault that is found before memory is asked for.
--- Defined in docs/books.md, "Faults"; entries of tables in `Allocation.antt` of `locale_numbers_tables`, those of units in `locale_numbers_units`, of plurals in `locale_numbers_plurals`.
+-- Defined in docs/books.md, "Faults"; entries of tables in `Allocation.antt` of `locale_numbers_tables`, those of units in `locale_numbers_units`, of plurals in `locale_numbers_plurals`, of signs in `locale_numbers_signs`.
 -- Cited by the steps of `Book::from_json`.
 use Rattle.std.specs.Prelude.{Bool, false, not, ◌&&◌, ◌||◌, List, [], Option, None, Some, is_some}
 use Rattle.serde_json.specs.Data.{Data, Items}
 use Rattle.locale_numbers_parents.specs.Parents.{Entry}
 use Rattle.locale_numbers_tables.specs.Allocation.{begins_with, compact_may_grow, digits_may_grow, locale_may_grow, rules_may_grow, symbols_may_grow}
 use Rattle.locale_numbers_plurals.specs.Plurals.{plurals_may_grow}
+use Rattle.locale_numbers_signs.specs.SignsEntries.{signs_may_grow}
 use Rattle.locale_numbers_units.specs.Units.{units_may_grow}
-use Rattle.locale_numbers_book.specs.Form.{are_plurals, are_units, book_part, has_form, items_at, plurals_part, units_part}
+use Rattle.locale_numbers_book.specs.Form.{are_more, are_units, book_part, has_form, items_at, more_part, units_part}
 use Rattle.locale_numbers_book.specs.ParentEntries.{has_parent_shape, parent_fault}
 
 -- parents, after these: an entry of two texts, of which a locale may take memory, or one that has no fault
@@ -29,9 +30,9 @@ alone_may_grow value =
 abbrev pub five_may_grow : Data → Bool
 five_may_grow units = units_may_grow (items_at 0 units) (items_at 1 units) (items_at 2 units) (items_at 3 units) (items_at 4 units)
 
--- arrays of plurals that are so
+-- arrays of plurals or of signs that are so
 abbrev pub more_may_grow : Data → Bool
-more_may_grow more = plurals_may_grow (items_at 0 more) (items_at 1 more)
+more_may_grow more = plurals_may_grow (items_at 0 more) (items_at 1 more) || begins_with signs_may_grow (items_at 2 more)
 
 -- what is not there asks for none
 abbrev pub grows_if_there : (Data → Bool) → Option Data → Bool
@@ -41,8 +42,8 @@ grows_if_there grows (Some value) = grows value
 -- where each part has its form, and one of them is so
 abbrev pub parts_may_grow : Data → Option Data → Option Data → Bool
 parts_may_grow book units more =
-    has_form book && are_units units && are_plurals more
+    has_form book && are_units units && are_more more
     && (alone_may_grow book || grows_if_there five_may_grow units || grows_if_there more_may_grow more)
 
 abbrev pub book_may_grow : Data → Bool
-book_may_grow value = parts_may_grow (book_part value) (units_part value) (plurals_part value)
+book_may_grow value = parts_may_grow (book_part value) (units_part value) (more_part value)

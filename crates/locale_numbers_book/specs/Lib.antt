@@ -24,10 +24,14 @@ pub mod BookAllocation
 pub mod Laws
 -- Of the inner crate of parents: the step from a locale to the next, and the entries that close no cycle.
 pub use Rattle.locale_numbers_parents.specs.Parents
--- Of the inner crate of plurals: the form of their arrays, entries and tables.
+-- Of the inner crate of plurals: arrays in a value, entries and tables.
 pub use Rattle.locale_numbers_plurals.specs.Form as PluralsForm
 pub use Rattle.locale_numbers_plurals.specs.Plurals
 pub use Rattle.locale_numbers_plurals.specs.RangesEntries
+-- Of the inner crate of signs: their texts and entries, and which are taken.
+pub use Rattle.locale_numbers_signs.specs.NumberSigns
+pub use Rattle.locale_numbers_signs.specs.SignChoice
+pub use Rattle.locale_numbers_signs.specs.SignsEntries
 -- Of the inner crate of tables: entries, fields and keys.
 pub use Rattle.locale_numbers_tables.specs.Allocation
 pub use Rattle.locale_numbers_tables.specs.BookError

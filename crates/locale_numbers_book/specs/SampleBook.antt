@@ -82,4 +82,5 @@ sample_tables = record {
   parents = None;
   units = None;
   plurals = None;
+  signs = [];
 }

@@ -177,4 +177,5 @@ sample_units_tables = record {
   parents = Some [];
   units = Some sample_units;
   plurals = None;
+  signs = [];
 }

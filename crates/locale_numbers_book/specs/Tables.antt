@@ -1,7 +1,7 @@
 -- What is in a book under an identifier, of each of its tables, and the locales of a book.
 -- Defined in docs/books.md, "Choosing tables", "Choosing units", "More" and "The locales of a book".
 -- Cited by the impls of `DataProvider` for `Book`, by `Book::locale`, and by the answer to a line.
--- A book has five tables, five of units and two of plurals, and the type and the key of each are imported.
+-- A book has five tables, five of units, two of plurals and one of signs, and the type and the key of each are imported.
 use Rattle.std.specs.Prelude.{ℕ, ◌==◌, length, filter, map, List, Option, None, Some, option_and_then, Result, if◌then◌else◌}
 use Rattle.std.specs.Str.{bytes_eq}
 use Rattle.icu_locale_core.specs.DataLocales.{unknown_data}
@@ -18,6 +18,7 @@ use Rattle.icu_dimension.specs.declared.FractionInfo.{FractionInfo}
 use Rattle.icu_plurals.specs.declared.PluralRange.{PluralRange}
 use Rattle.locale_numbers_parents.specs.Parents.{Entry, most_steps, parent_step}
 use Rattle.locale_numbers_plurals.specs.Plurals.{PluralTables}
+use Rattle.locale_numbers_signs.specs.NumberSigns.{SignTexts}
 use Rattle.locale_numbers_book.specs.Book.{BookTables}
 use Rattle.locale_numbers_tables.specs.Keys.{same_data_locale, same_key, table_at}
 use Rattle.locale_numbers_units.specs.Units.{UnitsTables}
@@ -89,6 +90,12 @@ ordinals_under book id = answered (option_and_then (λ plurals. ordinals_there p
 -- the categories of its ranges
 abbrev pub ranges_under : BookTables → Identifier → Result (List PluralRange) DataError
 ranges_under book id = answered (option_and_then (λ plurals. ranges_there plurals id) book.plurals)
+
+-- ---- signs
+
+-- the signs of the entry with this locale and this system, or with none
+abbrev pub signs_under : BookTables → Identifier → Result SignTexts DataError
+signs_under book id = answered (table_at same_key id book.signs)
 
 -- ---- parents
 

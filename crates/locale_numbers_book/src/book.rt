@@ -3,7 +3,7 @@
 ghost use Rattle.std.specs.Prelude.{◌≡◌, true, IfOk, IsErrOf, IfErr, None, OnOk, option_map};
 ghost use Rattle.serde_json.specs.Data.{Data};
 ghost use Rattle.serde_json.specs.View.{view};
-ghost use Rattle.locale_numbers_book.specs.Arrays.{ArePluralsIn, HasParts, fault_beside, fault_in, fault_of_parts, may_grow_beside, may_grow_in, may_grow_of_parts, plurals_fault_in, plurals_may_grow_in, units_fault_in, units_may_grow_in, value_of_arrays, value_of_units};
+ghost use Rattle.locale_numbers_book.specs.Arrays.{ArePluralsIn, AreSignsIn, HasParts, fault_beside, fault_in, fault_of_parts, may_grow_beside, may_grow_in, may_grow_of_parts, more_fault_in, more_may_grow_in, units_fault_in, units_may_grow_in, value_of_arrays, value_of_units};
 ghost use Rattle.locale_numbers_book.specs.Book.{HasTables, HasUnits, IsBook};
 ghost use Rattle.locale_numbers_book.specs.Form.{book_fault};
 ghost use Rattle.locale_numbers_book.specs.Json.{Reads};
@@ -11,12 +11,16 @@ ghost use Rattle.locale_numbers_book.specs.Refusal.{IsRefused};
 ghost use Rattle.locale_numbers_book.specs.BookAllocation.{book_may_grow};
 ghost use Rattle.locale_numbers_tables.specs.Telling.{IsTold};
 
-use crate::json::{Arrays, BookArrays, book_arrays_of, parents_in, plurals_in, units_in, value_of};
+use crate::json::{
+    Arrays, BookArrays, More, MoreArrays, book_arrays_of, more_in, no_signs, parents_in, units_in,
+    value_of,
+};
 use icu_decimal::plurals::PluralRules;
 use icu_decimal::provider::{CompactPatterns, DataIdentifier, DecimalSymbols};
 use icu_locale_core::DataLocale;
 use locale_numbers_parents::Parents;
-use locale_numbers_plurals::{PluralArrays, Plurals};
+use locale_numbers_plurals::Plurals;
+use locale_numbers_signs::NumberSigns;
 use locale_numbers_tables::{BookError, Seed, Table, table_of};
 use locale_numbers_units::{UnitArrays, Units};
 use serde_json::Value;
@@ -25,9 +29,9 @@ use std::marker::Model;
 use tinystr::TinyAsciiStr;
 
 /// Tables of symbols, of digits, of plural rules and of short and long patterns, the parents of locales, the units that
-/// percents and amounts of money are written with, and what it has of plurals beside its rules, as a JSON text names
-/// them. `SAMPLE_BOOK` names the symbols of `en`, whose separators are `.` and `,`, and no parents, no units and no more
-/// of plurals.
+/// percents and amounts of money are written with, what it has of plurals beside its rules, and the signs of scientific
+/// text, of about and of ranges, as a JSON text names them. `SAMPLE_BOOK` names the symbols of `en`, whose separators are
+/// `.` and `,`, and no parents, no units, no more of plurals and no signs.
 pub struct Book {
     pub(crate) symbols: Table<DataIdentifier, DecimalSymbols>,
     pub(crate) digits: Table<TinyAsciiStr<8>, [char; 10]>,
@@ -37,6 +41,7 @@ pub struct Book {
     pub(crate) parents: Option<Parents>,
     pub(crate) units: Option<Units>,
     pub(crate) plurals: Option<Plurals>,
+    pub(crate) signs: Table<DataIdentifier, NumberSigns>,
 }
 
 impl Model for Book {
@@ -53,6 +58,7 @@ impl Model for Book {
       parents = b.parents;
       units = b.units;
       plurals = b.plurals;
+      signs = b.signs.map.entries;
     } };
 }
 
@@ -69,11 +75,12 @@ impl Drop for Book {
             parents: _parents,
             units: _units,
             plurals: _plurals,
+            signs: _signs,
         } = self;
     }
 }
 
-// The book of these arrays, its tables hashed by this seed, without units and plurals.
+// The book of these arrays, its tables hashed by this seed, without units, plurals and signs.
 #[tactic(auto, using(crate::proofs::BookLemmas::or_second, crate::proofs::BookLemmas::or_third, crate::proofs::BookLemmas::or_fourth, crate::proofs::BookLemmas::or_fifth, crate::proofs::BookLemmas::or_sixth))]
 fn tables_of(alloc: Global, seed: Seed, arrays: Arrays) -> Result<Book, BookError>
     ensures value { IfOk result (HasTables (value_of_arrays arrays)) }
@@ -104,6 +111,7 @@ fn tables_of(alloc: Global, seed: Seed, arrays: Arrays) -> Result<Book, BookErro
             parents,
             units: None,
             plurals: None,
+            signs: no_signs(alloc, seed),
         }),
         Err(fault) => Err(fault),
     }
@@ -131,47 +139,52 @@ fn add_units(
     }
 }
 
-// Gives a book the plurals of arrays that may be missing.
-fn add_plurals(
+// Gives a book the plurals and the signs of arrays that may be missing.
+fn add_more(
     alloc: Global,
     seed: Seed,
     book: &mut Book,
-    arrays: Option<PluralArrays>,
+    arrays: Option<MoreArrays>,
 ) -> Result<(), BookError>
     ensures plurals { OnOk result (ArePluralsIn arrays book.new.plurals) }
-    ensures same { OnOk result (book.new ≡ record book.old { plurals = book.new.plurals }) }
-    ensures sound { OnOk result (plurals_fault_in arrays ≡ None) }
-    ensures fault { IfErr result (λ fault. IsTold (plurals_fault_in arrays) fault) }
-    ensures room { IsErrOf result BookError.Memory → plurals_may_grow_in arrays ≡ true }
+    ensures signs { OnOk result (AreSignsIn arrays book.new.signs) }
+    ensures same { OnOk result
+        (book.new ≡ record book.old { plurals = book.new.plurals; signs = book.new.signs }) }
+    ensures sound { OnOk result (more_fault_in arrays ≡ None) }
+    ensures fault { IfErr result (λ fault. IsTold (more_fault_in arrays) fault) }
+    ensures room { IsErrOf result BookError.Memory → more_may_grow_in arrays ≡ true }
 {
-    match plurals_in(alloc, seed, arrays) {
-        Ok(plurals) => {
+    match more_in(alloc, seed, arrays) {
+        Ok(More { plurals, signs }) => {
             book.plurals = plurals;
+            book.signs = signs;
             Ok(())
         }
         Err(fault) => Err(fault),
     }
 }
 
-// Gives a book both: the faults of the units are told before those of the plurals.
+// Gives a book all of them: the faults of the units are told before those of the plurals and of the signs.
 #[tactic(auto, using(crate::proofs::BookLemmas::or_beside))]
 fn add_beside(
     alloc: Global,
     seed: Seed,
     book: &mut Book,
     units: Option<UnitArrays>,
-    plurals: Option<PluralArrays>,
+    more: Option<MoreArrays>,
 ) -> Result<(), BookError>
     ensures units { OnOk result (HasUnits (option_map value_of_units units) book.new.units) }
-    ensures plurals { OnOk result (ArePluralsIn plurals book.new.plurals) }
+    ensures plurals { OnOk result (ArePluralsIn more book.new.plurals) }
+    ensures signs { OnOk result (AreSignsIn more book.new.signs) }
     ensures same { OnOk result
-        (book.new ≡ record book.old { units = book.new.units; plurals = book.new.plurals }) }
-    ensures sound { OnOk result (fault_beside units plurals ≡ None) }
-    ensures fault { IfErr result (λ fault. IsTold (fault_beside units plurals) fault) }
-    ensures room { IsErrOf result BookError.Memory → may_grow_beside units plurals ≡ true }
+        (book.new
+        ≡ record book.old { units = book.new.units; plurals = book.new.plurals; signs = book.new.signs }) }
+    ensures sound { OnOk result (fault_beside units more ≡ None) }
+    ensures fault { IfErr result (λ fault. IsTold (fault_beside units more) fault) }
+    ensures room { IsErrOf result BookError.Memory → may_grow_beside units more ≡ true }
 {
     match add_units(alloc, seed, book, units) {
-        Ok(()) => match add_plurals(alloc, seed, book, plurals) {
+        Ok(()) => match add_more(alloc, seed, book, more) {
             Ok(()) => Ok(()),
             Err(fault) => Err(fault),
         },
@@ -179,20 +192,17 @@ fn add_beside(
     }
 }
 
-// The book of these arrays, these units and these plurals: the faults of the book are told before those of the others.
+// The book of these arrays, these units, these plurals and these signs: the faults of the book are told before those of
+// the others.
 #[tactic(auto, using(crate::proofs::BookLemmas::or_beside))]
 fn parts_of(alloc: Global, seed: Seed, arrays: BookArrays) -> Result<Book, BookError>
     ensures value { IfOk result (HasParts arrays) }
     ensures fault { IfErr result (λ fault. IsTold (fault_of_parts arrays) fault) }
     ensures room { IsErrOf result BookError.Memory → may_grow_of_parts arrays ≡ true }
 {
-    let BookArrays {
-        book,
-        units,
-        plurals,
-    } = arrays;
+    let BookArrays { book, units, more } = arrays;
     match tables_of(alloc, seed, book) {
-        Ok(mut book) => match add_beside(alloc, seed, &mut book, units, plurals) {
+        Ok(mut book) => match add_beside(alloc, seed, &mut book, units, more) {
             Ok(()) => Ok(book),
             Err(fault) => Err(fault),
         },
@@ -225,14 +235,14 @@ impl Book {
     /// and of short and long patterns; and of a sixth or none, of locales and their parents. `SAMPLE_BOOK` is one,
     /// `[[],[],[],[],[]]` the shortest. A book with units is a pair of such an array and of the five arrays of its
     /// units, as `SAMPLE_UNITS_BOOK`; the shortest is `[[[],[],[],[],[]],[[],[],[],[],[]]]`. A third item beside both is
-    /// an array of two arrays, of ordinal rules and of the categories of ranges, and of up to six empty ones. It
-    /// allocates. The form and the faults are defined in docs/books.md.
+    /// an array of two arrays, of ordinal rules and of the categories of ranges, of a third or none, of signs, and of up to
+    /// five empty ones. It allocates. The form and the faults are defined in docs/books.md.
     ///
     /// - Json: the bytes have no reading as JSON, as `[1`.
     /// - Shape: the value is neither an array of five arrays or six, nor has two or three such items, as `[]`.
     /// - Shape to Cycle, Unit, Code: else the first faulty entry decides, those of the book before those of the units and
-    ///   these before those of plurals, and in an entry the least number: Cycle of `[[],[],[],[],[],[["en","en"]]]`, Code
-    ///   of `[[[],[],[],[],[]],[[],[],[],[],[["CH",2,1,2,5]]]]`.
+    ///   these before those of plurals and of signs, and in an entry the least number: Cycle of
+    ///   `[[],[],[],[],[],[["en","en"]]]`, Code of `[[[],[],[],[],[]],[[],[],[],[],[["CH",2,1,2,5]]]]`.
     /// - Memory: out of memory.
     pub fn from_json(alloc: Global, bytes: &[u8]) -> Result<Book, BookError>
         ensures value { IfOk result (λ book. (value : Data) × Reads bytes.now value × IsBook value book) }

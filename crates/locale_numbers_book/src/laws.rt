@@ -1,6 +1,6 @@
 //! Laws of the definitions, each the contract of a function that does nothing.
 
-ghost use Rattle.locale_numbers_book.specs.Laws.{TagsAreRead, DataLocalesAreRead, KeysAreOneWhereEqual, TablesAreMade, IsOneBook, AloneStays, PairsStay, BookTablesAreSound, BookTablesAreTexts, FoundPercentsAreTexts, FoundAmountsAreTexts, BookChainsEnd, SampleBookIsKnown, SampleUnitsBookIsKnown};
+ghost use Rattle.locale_numbers_book.specs.Laws.{TagsAreRead, DataLocalesAreRead, KeysAreOneWhereEqual, TablesAreMade, IsOneBook, AloneStays, PairsStay, TriplesStay, BookTablesAreSound, BookTablesAreTexts, FoundPercentsAreTexts, FoundAmountsAreTexts, BookChainsEnd, SampleBookIsKnown, SampleUnitsBookIsKnown};
 ghost use Rattle.locale_numbers_book.specs.FoundLocale.{SymbolsAreOfFoundLocales};
 
 pub use locale_numbers_parents::laws::cycles_are_met;
@@ -34,13 +34,15 @@ pub fn is_one_book()
     ensures { IsOneBook }
 {}
 
-/// A book of five arrays or six, and a pair of one and of units, are what they were before books had units and plurals. A
-/// value that is no array of two items or of three has the fault of five arrays or six, and as a book their tables, no
-/// units and no plurals; one of two items has the fault of both, and their tables and units. So `[[],[],[],[],[]]` is the
-/// book without tables, and seven arrays are none.
+/// A book of five arrays or six, a pair of one and of units, and a triple of these and of plurals are what they were
+/// before books had units, plurals and signs. A value that is no array of two items or of three has the fault of five
+/// arrays or six, and as a book their tables, no units, no plurals and no signs; one of two items has the fault of both,
+/// and their tables and units; one of three, of which the third has no third array or an empty one, has the fault of the
+/// three, and their tables, units and plurals. So `[[],[],[],[],[]]` is the book without tables, and seven arrays are none.
 pub fn old_books_stay()
     ensures alone { AloneStays }
     ensures pairs { PairsStay }
+    ensures triples { TriplesStay }
 {}
 
 /// The types of each table of patterns of a book rise strictly, each exponent fits its type, and both fit into bytes:

@@ -1,5 +1,5 @@
-//! Books: tables of symbols, digits, plural rules, patterns, units and plurals as a JSON text names them, which formatters
-//! borrow.
+//! Books: tables of symbols, digits, plural rules, patterns, units, plurals and signs as a JSON text names them, which
+//! formatters borrow.
 //!
 //! From `SAMPLE_BOOK` the preferences of `ar-EG-u-nu-thai` get the Arabic separators of the entry `ar-EG` and the
 //! digits of the entry `thai`; those of `en` get `.`, `,` and the digits of `latn`, which its symbols name.
@@ -19,6 +19,7 @@ mod plural_providers;
 mod plural_rules;
 mod providers;
 mod sample_book;
+mod sign_providers;
 mod tables;
 mod tag_formatters;
 mod tag_reader;

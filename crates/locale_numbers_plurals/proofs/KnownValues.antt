@@ -1,9 +1,8 @@
--- Entries of CLDR, and forms that a wrong definition does not survive.
-use Rattle.std.proofs.Common.{◌≡◌, true, false, List, ℕ, [], Some, None, codes, refl}
+-- Entries of CLDR, and fields that a wrong definition does not survive.
+use Rattle.std.proofs.Common.{◌≡◌, List, ℕ, [], Some, None, codes, refl}
 use Rattle.serde_json.specs.Data.{Data, array, string, item, no_items}
 use Rattle.icu_decimal.specs.declared.plurals.PluralCategory.TheVariants.{One, Other}
 use Rattle.locale_numbers_faults.specs.declared.BookError.TheVariants.{Shape}
-use Rattle.locale_numbers_plurals.specs.Form.{has_form}
 use Rattle.locale_numbers_plurals.specs.RangesEntries.{range_in, range_of, ranges_fault, ranges_in}
 
 abbrev words : List ℕ → List ℕ → List ℕ → Data
@@ -21,24 +20,3 @@ no_ranges = refl
 
 no_array : ranges_fault (array (item (string (codes "en")) (item (string []) no_items))) ≡ Some Shape
 no_array = refl
-
--- ---- the form
-
-abbrev empty : Data
-empty = array no_items
-
-two_arrays : has_form (array (item empty (item empty no_items))) ≡ true
-two_arrays = refl
-
-eight_arrays : has_form (array (item empty (item empty (item empty (item empty (item empty (item empty (item empty (item empty no_items))))))))) ≡ true
-eight_arrays = refl
-
-nine_arrays : has_form (array (item empty (item empty (item empty (item empty (item empty (item empty (item empty (item empty (item empty no_items)))))))))) ≡ false
-nine_arrays = refl
-
-one_array : has_form (array (item empty no_items)) ≡ false
-one_array = refl
-
--- the arrays of names are not read yet
-third_with_items : has_form (array (item empty (item empty (item (array (item empty no_items)) no_items)))) ≡ false
-third_with_items = refl

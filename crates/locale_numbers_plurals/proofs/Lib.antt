@@ -1,4 +1,3 @@
 mod KnownValues
-pub mod FormLemmas
 pub mod PluralsLemmas
 pub mod RangesLemmas

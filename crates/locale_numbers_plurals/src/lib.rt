@@ -10,7 +10,7 @@ mod marker;
 mod plurals;
 mod ranges;
 
-pub use arrays::{PluralArrays, is_array_at, items_of, next_array, next_items, plural_arrays_of};
+pub use arrays::{PluralArrays, is_array_at, items_of, next_array, next_items};
 pub use marker::{PluralsOrdinalV1, PluralsRangesV1};
 pub use plurals::Plurals;
 pub use ranges::PluralRanges;

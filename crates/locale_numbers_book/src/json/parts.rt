@@ -1,5 +1,5 @@
 //! The outer form of a book: five arrays or six, alone, in a pair with five arrays of units, or with these and arrays of
-//! plurals.
+//! plurals and of signs.
 
 ghost use Rattle.std.specs.Prelude.{◌≡◌, ◌&&◌, true, false, IfSome, None, Some, drop, option_map, unwrap_or};
 ghost use Rattle.std.specs.Vec.Iter.{into_iter_items};
@@ -8,22 +8,23 @@ ghost use Rattle.serde_json.specs.Find.{at};
 ghost use Rattle.serde_json.specs.View.{view, items_view};
 ghost use Rattle.locale_numbers_tables.specs.declared.BookError.TheVariants.{Shape};
 ghost use Rattle.locale_numbers_book.specs.Arrays.{AreParts, AreTaken, of_arrays, value_of_arrays, value_of_units};
-ghost use Rattle.locale_numbers_book.specs.Form.{are_plurals, book_fault, has_form, has_parts, has_units_form};
+ghost use Rattle.locale_numbers_book.specs.Form.{are_more, book_fault, has_form, has_parts, has_units_form};
 
 use crate::json::form::{Arrays, arrays_of};
-use locale_numbers_plurals::{PluralArrays, items_of, plural_arrays_of};
+use crate::json::more::{MoreArrays, more_arrays_of};
+use locale_numbers_plurals::items_of;
 use locale_numbers_tables::fields::has_count;
 use locale_numbers_units::UnitArrays;
 use serde_json::Value;
 use std::alloc::Global;
 use std::vec::IntoIter;
 
-/// The arrays of a book, and those of its units and of its plurals where it has some.
+/// The arrays of a book, and those of its units, and of its plurals and its signs, where it has some.
 #[derive(Drop)]
 pub struct BookArrays {
     pub book: Arrays,
     pub units: Option<UnitArrays>,
-    pub plurals: Option<PluralArrays>,
+    pub more: Option<MoreArrays>,
 }
 
 // Five arrays as those of units.
@@ -62,40 +63,40 @@ fn units_of(alloc: Global, value: Value) -> Option<UnitArrays>
     }
 }
 
-// The arrays of plurals that a value is, where it is there; `None` where it is of another form.
-fn plurals_of(alloc: Global, more: Option<Value>) -> Option<Option<PluralArrays>>
+// The arrays of plurals and of signs that a value is, where it is there; `None` where it is of another form.
+fn more_of(alloc: Global, more: Option<Value>) -> Option<Option<MoreArrays>>
     ensures some { IfSome result (AreTaken (option_map view more)) }
-    ensures none { result ≡ None → are_plurals (option_map view more) ≡ false }
+    ensures none { result ≡ None → are_more (option_map view more) ≡ false }
 {
     let Some(more) = more else {
         return Some(None);
     };
-    match plural_arrays_of(alloc, more) {
+    match more_arrays_of(alloc, more) {
         Some(arrays) => Some(Some(arrays)),
         None => None,
     }
 }
 
-// The arrays of a book, of its units, and of its plurals where these are there.
-#[tactic(auto, using(crate::proofs::PartLemmas::no_units, crate::proofs::PartLemmas::no_plurals, crate::proofs::PartLemmas::no_book))]
+// The arrays of a book, of its units, and of its plurals and its signs where these are there.
+#[tactic(auto, using(crate::proofs::PartLemmas::no_units, crate::proofs::PartLemmas::no_more, crate::proofs::PartLemmas::no_book))]
 fn all_of(alloc: Global, book: Value, units: Value, more: Option<Value>) -> Option<BookArrays>
     ensures book { IfSome result (λ arrays. view book ≡ value_of_arrays arrays.book) }
     ensures units { IfSome result (λ arrays. Some (view units) ≡ option_map value_of_units arrays.units) }
-    ensures plurals { IfSome result (λ arrays. AreTaken (option_map view more) arrays.plurals) }
+    ensures more { IfSome result (λ arrays. AreTaken (option_map view more) arrays.more) }
     ensures none { result ≡ None
-        → (has_form (view book) && (has_units_form (view units) && are_plurals (option_map view more))) ≡ false }
+        → (has_form (view book) && (has_units_form (view units) && are_more (option_map view more))) ≡ false }
 {
     let Some(units) = units_of(alloc, units) else {
         return None;
     };
-    let Some(plurals) = plurals_of(alloc, more) else {
+    let Some(more) = more_of(alloc, more) else {
         return None;
     };
     match arrays_of(alloc, book) {
         Some(book) => Some(BookArrays {
             book,
             units: Some(units),
-            plurals,
+            more,
         }),
         None => None,
     }
@@ -155,7 +156,7 @@ fn alone_in(alloc: Global, value: Value) -> Option<BookArrays>
         Some(book) => Some(BookArrays {
             book,
             units: None,
-            plurals: None,
+            more: None,
         }),
         None => None,
     }

@@ -7,8 +7,9 @@ pub returns-in-Ok-add_beside-clause-value : goal.returns-in-Ok-add_beside-clause
 returns-in-Ok-add_beside-clause-value c =
     let a = c.args.arrays in
     record {
-      sound = none_of_both (fault_in a.book) (fault_beside a.units a.plurals) c.in-Ok.ensures.sound c.in-Ok-add_beside.ensures.sound;
+      sound = none_of_both (fault_in a.book) (fault_beside a.units a.more) c.in-Ok.ensures.sound c.in-Ok-add_beside.ensures.sound;
       arrays = with_beside (value_of_arrays a.book) _ _ c.in-Ok-add_beside.ensures.same c.in-Ok.ensures.value;
       units = c.in-Ok-add_beside.ensures.units;
       plurals = c.in-Ok-add_beside.ensures.plurals;
+      signs = c.in-Ok-add_beside.ensures.signs;
     }

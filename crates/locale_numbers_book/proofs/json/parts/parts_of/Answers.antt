@@ -10,7 +10,7 @@ returns-clause-some c =
     (book_is c.args.values.items _ _ _ _ _ _ c.into_iter-values.ensures.rest c.next_value-book.ensures.rest c.next_value-units.ensures.rest c.next_value-book.ensures.first c.next_value-units.ensures.first c.next_of-more.ensures.first c.requires)
     (units_are c.args.values.items _ _ _ _ _ _ c.into_iter-values.ensures.rest c.next_value-book.ensures.rest c.next_value-units.ensures.rest c.next_value-book.ensures.first c.next_value-units.ensures.first c.next_of-more.ensures.first c.requires)
     (more_is c.args.values.items _ _ _ _ _ _ c.into_iter-values.ensures.rest c.next_value-book.ensures.rest c.next_value-units.ensures.rest c.next_value-book.ensures.first c.next_value-units.ensures.first c.next_of-more.ensures.first c.requires)
-    c.all_of.ensures.book c.all_of.ensures.units c.all_of.ensures.plurals
+    c.all_of.ensures.book c.all_of.ensures.units c.all_of.ensures.more
 
 pub returns-clause-none : goal.returns-clause-none
 returns-clause-none c = λ none.

@@ -1,0 +1,2 @@
+mod KnownValues
+pub mod SignsLemmas
