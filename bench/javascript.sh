@@ -30,8 +30,8 @@ node "$package/make-page.js" en de >"$made/page.wasm"
 for module in "" "$made/page.wasm"; do
     for _ in 1 2 3 4 5 6 7 8 9 10 11; do
         node "$here/start.js" "$package" ${module:+"$module"}
-    done | sort -n | awk -v of="${module:+, that of a page}" '{ ms[NR] = $1; other[NR] = $2 }
-        END { printf "start%s, milliseconds: least %.0f, middle %.0f; Intl %.0f, %.0f\n", of, ms[1], ms[6], other[1], other[6] }'
+    done | sort -n | awk -v of="${module:+, that of a page}" '{ ms[NR] = $1; other[NR] = $2; if (NR == 1 || $3 < least) least = $3 }
+        END { printf "start%s, milliseconds: least %.0f, middle %.0f; Intl %.0f, %.0f; of the processor at the least %.0f\n", of, ms[1], ms[6], other[1], other[6], least }'
 done
 echo "bytes       plain     gzip   brotli"
 node "$here/sizes.js" "$package"

@@ -4,8 +4,6 @@ import { Open, handleOf, openHandle } from "./open.js";
 import { plain, sourceOf, withBook } from "./books.js";
 import { whole } from "./options.js";
 
-const { at: atOf } = Open;
-
 // Lines are answered in pieces of so many characters or bytes, or of one line where it is longer.
 const PIECE = 1 << 16;
 
@@ -20,10 +18,10 @@ function pieceEnd(lines, feed, start) {
 
 function allAnswered(it, lines, feed) {
   const texts = [];
-  atOf(it); // closed ones are refused also where there is no line
+  Open.at(it); // closed ones are refused also where there is no line
   for (let start = 0; start < lines.length; ) {
     const end = pieceEnd(lines, feed, start);
-    const at = atOf(it);
+    const at = Open.at(it);
     linesAnswered(at, calls.js_answers_answer, lines.slice(start, end), texts);
     start = end;
   }

@@ -7,9 +7,11 @@ import { listed } from "./tags.js";
 const { at: atOf } = Open;
 
 /**
- * What a book is opened from, again too: `isKept` says whether its memory is never given back, and `other` is open in its place where it was closed.
- * That which is inside the module has no JSON.
- * @typedef {{ json: string | Uint8Array | null, isKept: boolean, handle: import("./open.js").Handle, other?: import("./open.js").Handle }} Source
+ * What a book is opened from, again too: `isKept` says whether its memory is never given back, and `other` is open in its place where it was closed, or was
+ * not opened before. `smallFor` finds what a formatter of a tag, and of a kind of numbers where one is named, is opened from in its place; null where that
+ * is the book itself. That which is inside the module has no JSON.
+ * @typedef {{ json: string | Uint8Array | null, isKept: boolean, handle: import("./open.js").Handle, other?: import("./open.js").Handle,
+ *   smallFor?: (tag: string, kind: string | null) => Source | null }} Source
  */
 
 /** The same memory as a typed array of JavaScript's own, where it is one of a subclass. */
@@ -89,6 +91,15 @@ function openBook(source, handle) {
   });
 }
 
+/** Whether a book that is opened when it is used first is open. */
+export const isRead = (source) => source.other !== undefined && isOpen(source.other);
+
+/**
+ * That of a book which is opened when it is used first, and kept.
+ * @returns {Source}
+ */
+export const unread = (json) => ({ json, isKept: true, handle: handleOf("js_book_close") });
+
 /**
  * Calls with where the book is. Of one that was closed since, which a formatter is opened from again, another is opened meanwhile; where it is
  * kept, once for each instance, since its memory is never given back.
@@ -141,6 +152,14 @@ export function useInside(form) {
   tagFor = form;
 }
 
+/**
+ * Makes what is opened when it is used first that of formatters for which no book is named.
+ * @param {Source} source
+ */
+export function useUnread(source) {
+  world = source;
+}
+
 /** Whether formatters have a book for which none is named. */
 export function hasWorld() {
   return world !== null;
@@ -160,5 +179,5 @@ export function sourceOf(book = world) {
   if (book === null && world === null) {
     throw new TypeError("no book is named, and there is none of the world: await init() of legumeyet/inline, setWorld(..) of legumeyet/core or load(..) of legumeyet/page comes first");
   }
-  return book === INSIDE ? book : Book.source(book);
+  return book === world && !(book instanceof Book) ? book : Book.source(book);
 }

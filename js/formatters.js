@@ -5,7 +5,7 @@ import { allWritten } from "./columns.js";
 import { categoriesOf, currencyDigitsOf, symbolsOf } from "./facts.js";
 import { digitsOf } from "./numbers.js";
 import { closesAtEnd, isOpen, openHandle } from "./open.js";
-import { read as readOptions, readCall } from "./options.js";
+import { readCall, readOptions } from "./options.js";
 import { howFor, placed } from "./rounding.js";
 import { CLOSED, shared } from "./sharing.js";
 import { reading } from "./skeletons.js";
@@ -39,7 +39,8 @@ function openNative(native, { source, tag, opening: { format, unit, isSkeleton, 
     const told = open(book, ...putBoth(handed ?? UNKNOWN, unit), at);
     return handed === null && (told === 0 || told === -ErrorNumber.TABLE) ? -ErrorNumber.TAG : told;
   };
-  const opened = () => withBook(source, (book) => openHandle(native, (at) => fill(book, at), (number) => hint(number, tag, unit)));
+  const from = source.smallFor?.(tag, isSkeleton || hasPlurals ? null : call.kind) ?? source;
+  const opened = () => withBook(from, (book) => openHandle(native, (at) => fill(book, at), (number) => hint(number, tag, unit)));
   isSkeleton ? reading(unit, opened) : opened();
 }
 

@@ -1,7 +1,7 @@
 // The library with the module and the world's book inside, for bundlers that find no files by their addresses, and for programs of one file. Nothing
 // is awaited where it is imported: `await init()` comes before the first book or formatter.
 import { load } from "./instance.js";
-import { setWorld } from "./books.js";
+import { setLargeWorld } from "./small-books.js";
 import { module, world } from "./files.js";
 
 // The bytes of a file, which is in a text in base64, by gzip.
@@ -15,7 +15,7 @@ async function bytesOf(text) {
 async function begin() {
   const [bytes, json] = await Promise.all([module, world].map(bytesOf));
   await load(bytes);
-  setWorld(json);
+  setLargeWorld(json);
 }
 
 let begun = null;

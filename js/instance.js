@@ -92,27 +92,39 @@ function take(from, instance) {
   module = from; // not before: after another module the right one may be given
 }
 
-/** The bytes of a file that was asked for: of the response, or of the promise of one. Throws a LoadError. */
-export async function fetched(file, asked) {
+// What `read` makes of a file that was asked for: of the response, or of the promise of one.
+async function answered(file, asked, read) {
   try {
     const response = await asked;
-    if (response.ok) return new Uint8Array(await response.arrayBuffer());
+    if (response.ok) return await read(response);
     throw new Error(`${response.status} ${response.statusText}`.trim());
   } catch (error) {
-    throw new LoadError(file, "fetch", error.message, error);
+    throw error instanceof WebAssembly.CompileError ? error : new LoadError(file, "fetch", error.message, error);
   }
 }
+
+const bytesOf = async (response) => new Uint8Array(await response.arrayBuffer());
+
+// The module of a response. It is compiled while it comes, and an engine may keep what it made, where the response says that it is one.
+async function compiledOf(response) {
+  const { compileStreaming } = WebAssembly;
+  const isTold = compileStreaming && response instanceof Response && response.headers.get("content-type") === "application/wasm";
+  return isTold ? compileStreaming(response) : WebAssembly.compile(await bytesOf(response));
+}
+
+/** The bytes of a file that was asked for: of the response, or of the promise of one. Throws a LoadError. */
+export const fetched = (file, asked) => answered(file, asked, bytesOf);
 
 /** Takes the module: its bytes, a WebAssembly.Module, or the response to a request for it, or its promise. A second call does nothing. Throws a LoadError. */
 export async function load(source) {
   if (module !== null) return;
   const isAsked = typeof source?.arrayBuffer === "function" || typeof source?.then === "function";
-  const given = isAsked ? await fetched("legumeyet.wasm", source) : source;
   try {
+    const given = isAsked ? await answered("legumeyet.wasm", source, compiledOf) : source;
     const compiled = given instanceof WebAssembly.Module ? given : await WebAssembly.compile(given);
     take(compiled, await WebAssembly.instantiate(compiled, {}));
   } catch (error) {
-    throw loadError(error);
+    throw error instanceof LoadError ? error : loadError(error);
   }
 }
 

@@ -2,7 +2,7 @@
 // both files by their literal addresses.
 import { readFileSync } from "node:fs";
 import { LoadError, loadSync } from "./instance.js";
-import { setWorld } from "./books.js";
+import { setLargeWorld } from "./small-books.js";
 
 function bytesOf(name, address) {
   try {
@@ -13,6 +13,6 @@ function bytesOf(name, address) {
 }
 
 loadSync(bytesOf("legumeyet.wasm", new URL("./legumeyet.wasm", import.meta.url)));
-setWorld(bytesOf("world.json", new URL("./world.json", import.meta.url)));
+setLargeWorld(bytesOf("world.json", new URL("./world.json", import.meta.url)));
 
 export * from "./classes.js";

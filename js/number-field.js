@@ -1,7 +1,7 @@
 // <number-field locale="de">: a form field of a number, which is written as the readers of a locale write it while somebody types. With
 // `currency="EUR"` it is of amounts of money, with `percent` of percents. docs/field.md of the repository says what it does. It is defined where
 // this module is imported, over what was loaded before, as a module of pages, and else over the world's book.
-import * as formatters from "./formatters.js";
+import { CurrencyFormatter, DecimalFormatter, PercentFormatter } from "./formatters.js";
 import { hasWorld } from "./books.js";
 import { FieldText, History, plainOf } from "./field.js";
 import { compare, neighbours, padded, plus } from "./field-decimals.js";
@@ -31,7 +31,7 @@ const STYLE = `
 const SHEET = new CSSStyleSheet();
 SHEET.replaceSync(STYLE);
 // Where the library does not load a field can be typed into, and says why no text is a number.
-const library = hasWorld() ? formatters : await import("./index.js").catch((error) => ({ error }));
+const library = hasWorld() ? { CurrencyFormatter, DecimalFormatter, PercentFormatter } : await import("./index.js").catch((error) => ({ error }));
 
 // A tag, those of its parents and that of English, for the first that has tables.
 function tagsOf(locale) {

@@ -1,6 +1,6 @@
 // NumberFormat, which stands in for Intl.NumberFormat: its options, defaults, calls and errors, over the formatters of the library. What these cannot
 // write is refused by its name; but NaN and infinity, which are no numbers to them, are written here.
-import { USUAL } from "./compact-digits.js";
+import { USUAL_COMPACT } from "./compact-digits.js";
 import { CompactDecimalFormatter, CurrencyFormatter, DecimalFormatter, PercentFormatter, isWithoutTables } from "./formatters.js";
 import { readMatcher, readNumberFormat } from "./intl-options.js";
 import { intlParts, withSymbol } from "./intl-parts.js";
@@ -13,14 +13,14 @@ const DIGITS = [
   "roundingIncrement", "roundingMode", "roundingPriority", "trailingZeroDisplay",
 ];
 // The numbering systems of ten digits, each with the number of its zero in Unicode.
-const ZEROS =
+const ZERO_DIGITS =
   "adlm:1e950 ahom:11730 arab:660 arabext:6f0 bali:1b50 beng:9e6 bhks:11c50 brah:11066 cakm:11136 cham:aa50 deva:966 diak:11950 fullwide:ff10 gara:10d40 " +
   "gong:11da0 gonm:11d50 gujr:ae6 gukh:16130 guru:a66 hanidec:3007 hmng:16b50 hmnp:1e140 java:a9d0 kali:a900 kawi:11f50 khmr:17e0 knda:ce6 krai:16d70 " +
   "lana:1a80 lanatham:1a90 laoo:ed0 latn:30 lepc:1c40 limb:1946 mathbold:1d7ce mathdbl:1d7d8 mathmono:1d7f6 mathsanb:1d7ec mathsans:1d7e2 mlym:d66 " +
   "modi:11650 mong:1810 mroo:16a60 mtei:abf0 mymr:1040 mymrepka:116da mymrpao:116d0 mymrshan:1090 mymrtlng:a9f0 nagm:1e4f0 newa:11450 nkoo:7c0 olck:1c50 " +
   "onao:1e5f1 orya:b66 osma:104a0 outlined:1ccf0 rohg:10d30 saur:a8d0 segment:1fbf0 shrd:111d0 sind:112f0 sinh:de6 sora:110f0 sund:1bb0 sunu:11bf0 " +
   "takr:116c0 talu:19d0 tamldec:be6 telu:c66 thai:e50 tibt:f20 tirh:114d0 tnsa:16ac0 tols:11de0 vaii:a620 wara:118e0 wcho:1e2f0";
-const SYSTEMS = new Map(Array.from(ZEROS.matchAll(/(\w+):(\w+)/g), ([, name, zero]) => [name, String.fromCodePoint(parseInt(zero, 16))]));
+const SYSTEMS = new Map(Array.from(ZERO_DIGITS.matchAll(/(\w+):(\w+)/g), ([, name, zero]) => [name, String.fromCodePoint(parseInt(zero, 16))]));
 const WITHOUT_LETTERS = ["XXX", "EUR"]; // currencies whose symbols, `¤` and `€`, have no letter, each in most locales
 const LEGACY = Symbol("IntlLegacyConstructedSymbol");
 
@@ -39,11 +39,11 @@ function lackOf(resolved) {
 
 // Whether compact numbers have the digits that they have without an option.
 function hasUsualDigits(resolved) {
-  return resolved.minimumIntegerDigits === 1 && Object.entries(USUAL).every(([name, value]) => resolved[name] === value);
+  return resolved.minimumIntegerDigits === 1 && Object.entries(USUAL_COMPACT).every(([name, value]) => resolved[name] === value);
 }
 
 // In compact numbers the engines' `auto` is `min2`.
-function groupingOf({ notation, useGrouping }) {
+function groupingFor({ notation, useGrouping }) {
   return notation === "compact" && useGrouping === "auto" ? "min2" : useGrouping;
 }
 
@@ -53,7 +53,7 @@ function groupingOf({ notation, useGrouping }) {
  */
 function formatterOf(tag, resolved) {
   const { style, notation, currency, currencySign, currencyDisplay, compactDisplay, signDisplay, roundingMode } = resolved;
-  const useGrouping = groupingOf(resolved);
+  const useGrouping = groupingFor(resolved);
   const isUsual = notation === "compact" && hasUsualDigits(resolved);
   const digits = isUsual ? { roundingMode } : Object.fromEntries(DIGITS.filter((it) => it in resolved).map((it) => [it, resolved[it]]));
   const options = { useGrouping, signDisplay, ...digits };
@@ -124,7 +124,7 @@ function systemOf(formatter) {
 function partsBeside({ formatter, tag, resolved }, digits) {
   if (!hasUsualDigits(resolved)) return [];
   const [significand] = formatter.shown(digits).split("c");
-  return new DecimalFormatter(tag, { useGrouping: groupingOf(resolved), signDisplay: "never" }).formatToParts(significand);
+  return new DecimalFormatter(tag, { useGrouping: groupingFor(resolved), signDisplay: "never" }).formatToParts(significand);
 }
 
 // The first symbol of those that a locale has a key of.

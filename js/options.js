@@ -1,5 +1,5 @@
 // The options of formatters: Intl's words, and what these are in the library's words, those of legumeyet_format and legumeyet_options.
-import { MOST as MOST_OF_WORDS, SIGNS as SIGNS_OF_WORDS, USUAL, compactSkeleton } from "./compact-digits.js";
+import { MOST_OF_WORDS, SIGNS_OF_WORDS, USUAL_COMPACT, compactSkeleton } from "./compact-digits.js";
 import { NONE } from "./instance.js";
 
 const GROUPINGS = { auto: 0, false: 1, always: 4, true: 4, min2: 3 };
@@ -214,7 +214,7 @@ function openedBy(skeleton, kind, resolved) {
 
 // Compact numbers with digits of their own: how these are said is as of plain numbers, and without a precision they are the usual ones.
 function ofCompactDigits(given) {
-  const options = PRECISIONS.some((it) => given[it] !== undefined) || (given.roundingPriority ?? "auto") !== "auto" ? given : { ...given, ...USUAL };
+  const options = PRECISIONS.some((it) => given[it] !== undefined) || (given.roundingPriority ?? "auto") !== "auto" ? given : { ...given, ...USUAL_COMPACT };
   if (options.position !== undefined) throw new RangeError("position is of compact numbers without options of digits");
   chosen(options, "useGrouping", GROUPINGS, "min2");
   chosen(options, "compactDisplay", WIDTHS, "short");
@@ -251,7 +251,7 @@ const defaults = new Map();
  * @typedef {{ format: Int32Array, unit: string, isSkeleton: boolean, hasPlurals?: boolean, key: string, call: Call, resolved: Record<string, any> }} Opening
  * @returns {Opening}
  */
-export function read(kind, options) {
+export function readOptions(kind, options) {
   checked(options, [...HOW_OPENED, ...OF_FORMATS[kind], ...OF_CALLS[kind]], "");
   if (kind === "skeleton") return ofSkeleton(options);
   if (kind === "compact" && OF_OWN_DIGITS.some((it) => options[it] !== undefined)) return ofCompactDigits(options);

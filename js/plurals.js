@@ -1,6 +1,6 @@
 // Plural categories in the manner of Intl.PluralRules: those of numbers as they are shown.
 import { calls, written } from "./instance.js";
-import { USUAL as COMPACT } from "./compact-digits.js";
+import { USUAL_COMPACT } from "./compact-digits.js";
 import { CompactDecimalFormatter, Formatter, openedOf } from "./formatters.js";
 import { digitsOf } from "./numbers.js";
 import { closesAtEnd } from "./open.js";
@@ -15,7 +15,7 @@ const DIGITS = OF_DIGITS.filter((it) => !["signDisplay", "position"].includes(it
 // What Intl has where no option says it.
 const USUAL = { minimumIntegerDigits: 1, roundingIncrement: 1, roundingMode: "halfExpand", roundingPriority: "auto", trailingZeroDisplay: "auto" };
 // The options that give compact numbers digits of their own, as does a roundingPriority.
-const PRECISIONS = Object.keys(COMPACT).filter((it) => it !== "roundingPriority");
+const PRECISIONS = Object.keys(USUAL_COMPACT).filter((it) => it !== "roundingPriority");
 // Numbers that have among them each category of a language.
 const SAMPLES = [...Array.from({ length: 101 }, (_, number) => String(number)), "1000000", "0.1", "1.5"];
 
@@ -58,7 +58,7 @@ function openingOf(options) {
   const width = chosen(options, "compactDisplay", WIDTHS, "short");
   const isCompact = form === NOTATIONS.compact;
   const isUsual = isCompact && !hasOwnDigits(options);
-  const digits = isUsual ? { ...USUAL, ...given(options, Object.keys(USUAL)), ...COMPACT } : digitsBy(options);
+  const digits = isUsual ? { ...USUAL, ...given(options, Object.keys(USUAL)), ...USUAL_COMPACT } : digitsBy(options);
   const read = readCall("decimal", digits); // and says what is wrong
   const call = isCompact ? readCall("compact", isUsual ? { roundingMode: digits.roundingMode } : {}) : read;
   const format = Int32Array.of(7, form, isCompact ? width : 0, 0, 0, 0, 0, type);

@@ -5,7 +5,7 @@ import { calls, written } from "./instance.js";
 import { magnitudeOf, mayBeHalfway } from "./numbers.js";
 import { asGiven, isOfHalves, multiplesOf, wordsOf } from "./options.js";
 
-const [LEAST, MOST] = [-32768, 32767]; // magnitudes of numbers
+const [LEAST_MAGNITUDE, MOST_MAGNITUDE] = [-32768, 32767]; // magnitudes of numbers
 /** The words of options without one. */
 export const AS_IT_IS = wordsOf({});
 // The multiples of the last digit that a currency may be rounded to.
@@ -18,7 +18,7 @@ function unitOf(native, magnitude) {
   native.units ??= new Map();
   if (!native.units.has(magnitude)) {
     const [, exponent = "0"] = shown(native, AS_IT_IS, `1e${magnitude}`).split("c");
-    native.units.set(magnitude, Math.max(LEAST, Math.min(Number(exponent), magnitude - 1)));
+    native.units.set(magnitude, Math.max(LEAST_MAGNITUDE, Math.min(Number(exponent), magnitude - 1)));
   }
   return native.units.get(magnitude);
 }
@@ -61,7 +61,7 @@ export function howFor(native, call, digits) {
   const { how } = call;
   if (call.learned !== "shown" || (how[2] === 0 && isOfHalves(call.rounding) && !mayBeHalfway(digits))) return how;
   const magnitude = magnitudeOf(digits);
-  if (magnitude === null || magnitude < LEAST || magnitude > MOST) return how;
+  if (magnitude === null || magnitude < LEAST_MAGNITUDE || magnitude > MOST_MAGNITUDE) return how;
   const unit = unitOf(native, magnitude);
   if (how[2] !== 0 && how[3] >= unit) return how;
   call.units ??= new Map();

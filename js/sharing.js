@@ -3,7 +3,7 @@ import { begun } from "./instance.js";
 import { closeHandle, handleOf, isOpen } from "./open.js";
 
 // Where one more is asked for, all are closed; each is opened again when it is used next, as after its instance was lost.
-const MOST = 1000;
+const MOST_OPEN = 1000;
 
 /**
  * A formatter of the module, for calls with any options. `units` says at which place a compact one rounds numbers of a magnitude, and `currencies` how
@@ -26,7 +26,7 @@ let natives = [];
 let bySource = new WeakMap();
 
 function makeRoom() {
-  if (natives.length < MOST) return;
+  if (natives.length < MOST_OPEN) return;
   natives.forEach(closeHandle);
   natives = [];
   bySource = new WeakMap();

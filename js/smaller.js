@@ -1,4 +1,5 @@
 // A book of fewer locales, made of a larger one.
+import { chainOf } from "./tags.js";
 
 const UNDETERMINED = "und";
 const ANY_SYSTEM = "latn"; // whose digits every book has
@@ -6,16 +7,6 @@ const ANY_SYSTEM = "latn"; // whose digits every book has
 // The tag of a locale without what says how it is written, as books have it.
 function localeOf(tag) {
   return new Intl.Locale(tag).baseName;
-}
-
-// The locales whose tables stand in for those of a locale that has none: itself first.
-function chainOf(locale, parents) {
-  const chain = [locale];
-  for (let it = locale; ; chain.push(it)) {
-    const cut = it.lastIndexOf("-");
-    if (!parents.has(it) && cut < 0) return chain;
-    it = parents.get(it) ?? it.slice(0, cut);
-  }
 }
 
 // Of the locales of a book those of the tags, and those below them by their chain or by their name; and those that stand in for one of these.

@@ -57,7 +57,7 @@ export function isTag(text) {
 }
 
 // A tag of the language part with one variant at most, and with the keyword `nu` at most.
-const SHORT = /^[a-z]{2,3}(?:-[a-z]{4})?(?:-(?:[a-z]{2}|\d{3}))?(?:-(?:[a-z\d]{5,8}|\d[a-z\d]{3}))?(?:-u-nu-(?!true$)[a-z\d]{3,8})?$/i;
+const SHORT_TAG = /^[a-z]{2,3}(?:-[a-z]{4})?(?:-(?:[a-z]{2}|\d{3}))?(?:-(?:[a-z\d]{5,8}|\d[a-z\d]{3}))?(?:-u-nu-(?!true$)[a-z\d]{3,8})?$/i;
 // The language, script and region of a tag, and its variants.
 const LANGUAGE_PART = /^([a-z]{2,3}(?:-[a-z]{4})?(?:-(?:[a-z]{2}|\d{3}))?)((?:-(?:[a-z\d]{5,8}|\d[a-z\d]{3}))*)(?![a-z\d])/;
 // What the engine takes for a tag and the library does not: a language of five letters or more behind `t`, and a key of `u` that ends in a digit.
@@ -70,7 +70,7 @@ const SYSTEM = /-nu(?![a-z\d])((?:-[a-z\d]{3,8})*)/;
  * and its numbering system. A module of pages reads no others. `null` where the text is no tag.
  */
 export function shortTag(tag) {
-  if (SHORT.test(tag)) return tag;
+  if (SHORT_TAG.test(tag)) return tag;
   if (!isTag(tag)) return null;
   const text = tag.toLowerCase().replace(/-x-.*/, "");
   const [, language, variants] = LANGUAGE_PART.exec(text) ?? [];
@@ -80,6 +80,20 @@ export function shortTag(tag) {
   const [, value = ""] = SYSTEM.exec(keywords) ?? [];
   const [system, ...others] = value.split("-").filter((it) => it !== "" && it !== "true");
   return `${language}${variant === undefined ? "" : `-${variant}`}${system === undefined || others.length > 0 ? "" : `-u-nu-${system}`}`;
+}
+
+/**
+ * The locales whose tables stand in for those of a locale that has none, itself first. Where they come back it ends.
+ * @param {string} locale
+ * @param {{ get: (locale: string) => string | undefined }} parents
+ */
+export function chainOf(locale, parents) {
+  const chain = [];
+  for (let it = locale; it !== "" && !chain.includes(it); ) {
+    chain.push(it);
+    it = parents.get(it) ?? it.slice(0, Math.max(0, it.lastIndexOf("-")));
+  }
+  return chain;
 }
 
 /** The direction in which a locale is written: `rtl` or `ltr`. */

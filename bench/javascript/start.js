@@ -1,5 +1,5 @@
-// Prints the milliseconds from the import of the package to its first text, and those that Intl.NumberFormat takes for the same. With MODULE, that of
-// a page, it is the package for pages, with that module.
+// Prints the milliseconds from the import of the package to its first text, and those that Intl.NumberFormat takes for the same, and of the processor those
+// of the package. With MODULE, that of a page, it is the package for pages, with that module.
 // usage: node start.js PACKAGE [MODULE]
 import { readFileSync } from "node:fs";
 
@@ -12,11 +12,11 @@ async function classes() {
   return page;
 }
 
-const start = performance.now();
+const [start, before] = [performance.now(), process.cpuUsage()];
 const { DecimalFormatter } = await classes();
 const ours = new DecimalFormatter("de").format("1234.5");
-const middle = performance.now();
+const [middle, used] = [performance.now(), process.cpuUsage(before)];
 const theirs = new Intl.NumberFormat("de").format("1234.5");
 const end = performance.now();
 if (ours !== theirs) console.error(`bench: the texts differ: ${ours} ${theirs}`);
-console.log((middle - start).toFixed(1), (end - middle).toFixed(1));
+console.log((middle - start).toFixed(1), (end - middle).toFixed(1), ((used.user + used.system) / 1000).toFixed(1));

@@ -11,7 +11,7 @@ import { memorySize } from "legumeyet/core";
 
 // The package's own module of the instance, which is in no export.
 const root = createRequire(import.meta.url).resolve("legumeyet/legumeyet.wasm");
-const instance = await import(new URL("instance.js", pathToFileURL(root)));
+const instance = await import(new URL("library.js", pathToFileURL(root)));
 
 setFlagsFromString("--expose-gc");
 const gc = runInNewContext("gc");
@@ -152,16 +152,21 @@ test("where memory is refused, the call says so, and its formatter stays", () =>
 });
 
 test("after what is no module the right one may be given", async () => {
-  const { LoadError, load, loadSync, memorySize: size } = await import(new URL("instance.js?fresh", pathToFileURL(root)));
+  const { LoadError, load, loadSync, memorySize: size } = await import(new URL("library.js?fresh", pathToFileURL(root)));
   const empty = new Uint8Array([0, 0x61, 0x73, 0x6d, 1, 0, 0, 0]);
-  const rows = [[new Uint8Array(0), "module"], [empty, "module"], [new WebAssembly.Module(empty), "module"], [new Response("", { status: 404 }), "fetch"], [new Response("x"), "module"]];
+  const typed = { headers: { "content-type": "application/wasm" } };
+  const cut = () => new ReadableStream({ pull: (it) => it.error(new Error("cut")) });
+  const rows = [
+    [new Uint8Array(0), "module"], [empty, "module"], [new WebAssembly.Module(empty), "module"], [new Response("", { status: 404 }), "fetch"], [new Response("x"), "module"],
+    [new Response("x", typed), "module"], [new Response(empty, typed), "module"], [new Response(cut(), typed), "fetch"], [new Response(cut()), "fetch"],
+  ];
   for (const [source, reason] of rows) {
     const isTold = (error) => error instanceof LoadError && error.file === "legumeyet.wasm" && error.reason === reason;
     await assert.rejects(load(source), isTold);
     if (!(source instanceof Response)) assert.throws(() => loadSync(source), isTold);
   }
   assert.equal(size(), 0);
-  await load(readFileSync(root));
+  await load(new Response(readFileSync(root), typed));
   assert.ok(size() > 0);
 });
 

@@ -7,6 +7,7 @@ from launching.common import Fault
 from releasing.common import TOP, committed, version, write_tar
 from releasing.notices import licences
 
+from .joining import with_joined
 from .module import OF_PAGE, WHOLE
 from .sections import HEAD
 
@@ -31,7 +32,7 @@ def packed(data):
 
 def files_of(modules):
     """The files of the package, by their paths. The modules are in a folder."""
-    files = {name: data for name, data in committed("js").items() if not name.startswith(LEFT_OUT)}
+    files = with_joined({name: data for name, data in committed("js").items() if not name.startswith(LEFT_OUT)})
     files["package.json"] = stamped_manifest(files["package.json"])
     for name in (WHOLE, OF_PAGE):
         files[name] = (modules / name).read_bytes()
