@@ -2,7 +2,7 @@
 
 The scripts of this folder go only by this model; nothing in it is taken from the program. A book with units is a pair
 of a book and of five arrays of units: percents, currencies, accounts, symbols and digits of currencies. One with ordinal
-rules and ranges too is a triple of both and of two arrays more.
+rules, ranges and signs too is a triple of both and of three arrays more, of which the third may be missing.
 """
 import json
 import re
@@ -12,7 +12,8 @@ from cldr import Fault
 
 ARRAYS = ("symbols", "digits", "plural rules", "short", "long", "parents")
 UNIT_ARRAYS = ("percents", "currencies", "accounts", "currency symbols", "currency digits")
-MORE_ARRAYS = ("ordinal rules", "plural ranges")
+MORE_ARRAYS = ("ordinal rules", "plural ranges", "signs")
+LEAST_MORE, MOST_MORE = 2, 8  # arrays
 LOOKED_UP = ("symbols", "plural rules", "short", "long")
 FORMS = ("plain", "short", "long")
 PLACEHOLDER = "¤"  # of the unit, in a pattern
@@ -113,6 +114,15 @@ def parents_fault(entries):
 def is_code(text):
     """Whether a text is the code of a currency: three capitals."""
     return CODE.fullmatch(text) is not None
+
+
+def find_under(table, along, system):
+    """What a chain of locales finds in a table by locales and systems: for a system, and then for none; or None."""
+    for its in (system, "") if system else ("",):
+        for locale in along:
+            if (locale, its) in table:
+                return table[locale, its]
+    return None
 
 
 class Units:
@@ -229,14 +239,13 @@ class Book:
         """The categories of the ranges of a locale that are not those of the second end: none where it has no entry."""
         return (self.more and self.first_in(self.more["plural ranges"], locale)) or []
 
+    def signs(self, locale, system):
+        """The signs of a locale, and the texts of its ranges, for a system or for none; or None."""
+        return self.more and find_under(self.more["signs"], self.unit_chain(locale), system)
+
     def find(self, kind, along, system):
         """The table of a kind that a chain of locales finds for a system, or for none, or None."""
-        table = self.entries[kind]
-        for its in (system, "") if system else ("",):
-            for locale in along:
-                if (locale, its) in table:
-                    return table[locale, its]
-        return None
+        return find_under(self.entries[kind], along, system)
 
     def tables(self, form, along, system):
         """The tables that a line of a form asks for, by their kinds; None where one is not found."""
@@ -255,8 +264,12 @@ class Book:
     def standing(self):
         """The locales that have an entry, of units and of more too, or are the parent of another one, in the order of their tags."""
         of_units = self.units.locales() if self.units else []
-        of_more = [locale for table in (self.more or {}).values() for locale in table]
-        return sorted({*self.locales(), *of_units, *of_more, *(self.parents or {}).values()}, key=text_of)
+        return sorted({*self.locales(), *of_units, *self.more_locales(), *(self.parents or {}).values()}, key=text_of)
+
+    def more_locales(self):
+        """The locales that have an entry of more."""
+        ordinals, ranges, signs = self.more.values() if self.more else ({}, {}, {})
+        return [*ordinals, *ranges, *(locale for locale, _ in signs)]
 
     def systems(self):
         """The systems that the book has digits or an entry for, in order."""
@@ -264,11 +277,13 @@ class Book:
 
 
 def more_tables(arrays):
-    """The tables of the arrays of more, by their kinds and locales. Faults where there are not two to eight, or one after the
-    second has entries."""
-    if not 2 <= len(arrays) <= 8 or any(arrays[2:]):
-        raise ValueError("more is two arrays, and up to six empty ones")
-    return {kind: {locale_of(tag): its for tag, its in array} for kind, array in zip(MORE_ARRAYS, arrays)}
+    """The tables of the arrays of more, by their kinds, and by locales or, of signs, by locales and systems. Faults where there
+    are not two to eight, or one after the third has entries."""
+    if not LEAST_MORE <= len(arrays) <= MOST_MORE or any(arrays[len(MORE_ARRAYS) :]):
+        raise ValueError("more is two arrays or three, and up to five empty ones")
+    *by_locale, signs = (*arrays, [])[: len(MORE_ARRAYS)]
+    tables = [{locale_of(tag): its for tag, its in array} for array in by_locale]
+    return dict(zip(MORE_ARRAYS, (*tables, {(locale_of(tag), system): rest for tag, system, *rest in signs})))
 
 
 def parts_of(value):
@@ -343,10 +358,15 @@ def unit_differences(full, book):
 
 
 def more_differences(full, book):
-    """What each locale of the full book finds otherwise of more in the other book: (array, locale, differs)."""
+    """What each locale of the full book finds otherwise of more in the other book: (array, locale, system, differs). Signs are asked
+    for where the locale has symbols."""
+    systems = sorted({"", *(system for its in (full, book) for _, system in its.more["signs"])})
     for locale in full.locales():
-        yield "ordinal rules", locale, full.ordinal_rules(locale) != book.ordinal_rules(locale)
-        yield "plural ranges", locale, full.plural_ranges(locale) != book.plural_ranges(locale)
+        yield "ordinal rules", locale, "", full.ordinal_rules(locale) != book.ordinal_rules(locale)
+        yield "plural ranges", locale, "", full.plural_ranges(locale) != book.plural_ranges(locale)
+        if full.find("symbols", full.unit_chain(locale), "") is not None:
+            for system in systems:
+                yield "signs", locale, system, full.signs(locale, system) != book.signs(locale, system)
 
 
 def say_differences(full, book, shown):
@@ -360,34 +380,25 @@ def say_differences(full, book, shown):
     for form in FORMS:
         print(f"{form:<6} {counts[form]:>8} triples of locale, system and form, {alike[form]} find the same tables")
     if full.units and book.units:
-        first += say_unit_differences(full, book)
+        first += say_found(UNIT_ARRAYS, unit_differences(full, book))
     elif full.units or book.units:
         first.append("one of the books has units, and the other has none")
     if full.more and book.more:
-        first += say_more_differences(full, book)
+        first += say_found(MORE_ARRAYS, more_differences(full, book))
     elif full.more or book.more:
         first.append("one of the books has ordinal rules and ranges, and the other has none")
     print(*first[:shown], sep="\n", end="\n" if first[:shown] else "")
     return not first
 
 
-def say_unit_differences(full, book):
-    """Prints how often the same units are found; answers a line for each that is not."""
-    counts, alike, first = dict.fromkeys(UNIT_ARRAYS, 0), dict.fromkeys(UNIT_ARRAYS, 0), []
-    for kind, locale, what, differs in unit_differences(full, book):
+def say_found(kinds, questions):
+    """Prints how often the same entries of these arrays are found; answers a line for each question that finds another one."""
+    counts, alike, first = dict.fromkeys(kinds, 0), dict.fromkeys(kinds, 0), []
+    for kind, locale, what, differs in questions:
         counts[kind] += 1
         alike[kind] += not differs
         if differs:
-            first.append(f"{kind} of {text_of(locale)} with {what or 'nothing'}: another entry")
-    for kind in UNIT_ARRAYS:
+            first.append(f"{kind} of {text_of(locale)}{what and f' with {what}'}: another entry")
+    for kind in kinds:
         print(f"{kind:<16} {counts[kind]:>8} questions, {alike[kind]} find the same entry")
     return first
-
-
-def say_more_differences(full, book):
-    """Prints how often the same ordinal rules and ranges are found; answers a line for each that is not."""
-    found = list(more_differences(full, book))
-    for kind in MORE_ARRAYS:
-        alike = [not differs for its, _, differs in found if its == kind]
-        print(f"{kind:<16} {len(alike):>8} locales, {sum(alike)} find the same entry")
-    return [f"{kind} of {text_of(locale)}: another entry" for kind, locale, differs in found if differs]
