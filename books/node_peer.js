@@ -1,4 +1,4 @@
-// Answers request lines by Intl.NumberFormat of Node: forms plain, short and long with the rounding `-`, each as `ok`, a
+// Answers request lines by Intl.NumberFormat of Node: forms plain, short, long, scientific and engineering with the rounding `-`, each as `ok`, a
 // tab and the text. So too the form percent, and of a currency currency-EUR, code-EUR and accounting-EUR; for cash, which
 // Node does not know, the rounding names digits and increment, as in `cash 2 5`. A form may be an object of options in JSON,
 // with the grouping auto, the sign keep and the rounding `-`. The forms plural and ordinal are answered with the category that
@@ -10,7 +10,14 @@
 "use strict";
 
 const compact = (display) => ({ notation: "compact", compactDisplay: display, roundingMode: "halfEven" });
-const FORMS = { plain: { maximumFractionDigits: 20 }, short: compact("short"), long: compact("long") };
+const exponential = (notation) => ({ notation, maximumFractionDigits: 20 });
+const FORMS = {
+  plain: { maximumFractionDigits: 20 },
+  short: compact("short"),
+  long: compact("long"),
+  scientific: exponential("scientific"),
+  engineering: exponential("engineering"),
+};
 const GROUPINGS = { auto: "auto", never: false, always: "always", min2: "min2" };
 const kept = new Map();
 

@@ -121,6 +121,25 @@ SKELETONS = [
     "K .+",
     "K rounding-mode-up",
     "K 000 .0",
+    # scientific numbers
+    "E0",
+    "EE0",
+    "E00",
+    "EE+!00",
+    "scientific/*eee",
+    "E0 .",
+    "EE0 .00",
+    "E0 .##",
+    "E0 .0/w",
+    "E0 @@@",
+    "EE0 @@#",
+    "EE0 .0#/@@r",
+    "E0 .+",
+    "E0 rounding-mode-up",
+    "EE0 000 .0",
+    "E0 +!",
+    "EE0 +? .",
+    "E0 0000 ,_",
 ]
 # Words beside those of the definition: what it refuses by its first part, short forms, and texts with faults.
 WORDS = """\
@@ -129,7 +148,9 @@ precision-increment/0.5/w precision-increment/x precision-increment/0 precision-
 precision-increment/.5 precision-increment/050 precision-increment/5. precision-increment/0.3 precision-increment/1.2.3 precision-increment/0.5/x
 precision-increment/5e-2 precision-increment decimal-auto unit/kilometer unit/foo unit/ unit/kilometer-per-hour
 measure-unit/length-kilometer measure-unit/foo per-measure-unit/duration-hour usage/road usage/foo scientific/*ee
-scientific/+ee/sign-always engineering/sign-never E+!00 E+?0 EE+!00 E00 EEE0 E E+0 E+! E0x currency/EUR currency/usd currency/EURO currency/E
+scientific/+ee/sign-always engineering/sign-never scientific/*e scientific/* scientific/+ scientific/ scientific/+! engineering/() scientific/+?
+engineering/*ee/sign-auto scientific/sign-always/*eee/sign-auto/*ee scientific/*ee/ scientific/*ee//sign-always scientific/ee scientific/*e0 scientific/K
+engineering/group-off scientific/sign-autox E0/sign-always E0 EE0 E+!00 E+?0 E+_0 EE+!00 E00 EEE0 E EE E+0 E+! E0x currency/EUR currency/usd currency/EURO currency/E
 currency/ currency currency/US1 currency/ÄÖÜ integer-width/+000 integer-width/*0 integer-width/##00 integer-width/00##
 integer-width/+ integer-width/* integer-width/ integer-width integer-width/0 integer-width/+#0 0 000 0# +0 00x . .. .0x .#0
 .00 .## .0## .#* .0#* .00* .00+ .00/w ./w .##/w .00*/w .+/w precision-integer/w precision-unlimited/w .00/@@ .00/@@* .00/@@+ .00/@@#

@@ -9,14 +9,14 @@ from comparison import CARRY, LIKELY, NEGATIVE, answers, carries, causes_of, loc
 from look_up import locale_of, read_book
 from peers import NODE, NOT_IN_ICU, NOT_IN_NODE, VERSION, book_of_peer, known, with_tags_cut
 from skeleton_cases import NUMBERS, SKELETONS, WORDS
-from skeletons import REFUSED, SPELLINGS, Refused, Skeleton, has_own_digits, is_amount, is_of_intl, line_of, options_of, read_skeleton
+from skeletons import REFUSED, SPELLINGS, Refused, Skeleton, has_own_digits, is_amount, is_compact, is_of_intl, is_scientific, line_of, options_of, read_skeleton
 from unit_comparison import cause_of
 from unit_text import Symbols
 
 NO_PLACE = -1  # of a fault that ICU4C finds when all words are read
 CAPACITY = "64"  # formatters that are kept: all of a locale
 AT_A_TIME = 100_000  # lines that a peer is asked
-KINDS = ("numbers", "percents", "amounts", "compact")
+KINDS = ("numbers", "percents", "amounts", "compact", "scientific")
 PADDED = "an integer width of a compact number: digits of the number here, of what is shown before the pattern there"
 GROUPED = "group-auto beside a compact notation: taken here, and there the usual grouping is"
 UNGROUPED = "group-on-aligned in a locale without groups: none here, groups of three there"
@@ -70,7 +70,7 @@ def cause_of_fault(word, fault, place, there, is_taken):
             return next((name for name, is_so in TAKEN_THERE.items() if is_so(word)), None)
         return None if fault == "Twice" or fault == "Code" and len(word) != len("currency/EUR") else f"{fault} here, taken there"
     if there == NO_PLACE:
-        return "an increment of nothing: refused there at the end, without a place"
+        return "an increment or an exponent of nothing: refused there at the end, without a place"
     if place < there <= place + len(word.encode()):
         return "the place of the word here, of what is wrong in it there"
     return "a word that is refused here, and taken there, before the fault there" if there > place and is_taken else None
@@ -152,7 +152,7 @@ class Peer(typing.NamedTuple):
 
 def kind_of(its):
     """What a skeleton is for."""
-    return KINDS[3] if its.notation else KINDS[2] if is_amount(its) else KINDS[1] if its.unit else KINDS[0]
+    return KINDS[4] if is_scientific(its) else KINDS[3] if is_compact(its) else KINDS[2] if is_amount(its) else KINDS[1] if its.unit else KINDS[0]
 
 
 def digits_of(book, its):
@@ -261,7 +261,8 @@ def causes_of_groups(book, ours, peer, found):
 
 def causes_by_rule(book, ours, peer, found):
     """The cause of each of these where one is known: what is done otherwise there under the same data. A cause is that of the line
-    of other words, so what is not answered as that line has none."""
+    of other words, so what is not answered as that line has none, nor has a scientific number."""
+    found = [it for it in found if not is_scientific(it.its)]
     digits = [it for it in found if has_own_digits(it.its)]
     found = [it for it in found if not has_own_digits(it.its)]
     lines = [line_by_words(book, it) for it in found]

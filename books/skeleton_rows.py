@@ -43,8 +43,22 @@ percent precision-integer/@@+/w | percent ./@@*/w
 @@#/w ,! | @@#/w group-on-aligned
 precision-integer/@@#s/w | ./@@#s/w
 unit/kilometer | Later at 0
-E+!00 | Later at 0
+E+!00 | scientific/*ee/sign-always
+E0 .00 | scientific .00
+000 EE0 | engineering integer-width/*000
+engineering/+eee ,? | engineering/*eee group-min2
+scientific/sign-always/*e/sign-auto | scientific
+scientific/+!/*eee/*ee group-auto | scientific/*ee/sign-always
 E+0 | Unknown at 0
+scientific/* | Unknown at 0
+scientific/*ee/ | Unknown at 0
+. E0/sign-always | Unknown at 2
+engineering/group-off | Unknown at 0
+K E0 | Twice at 2
+. EE+?00 | Unsupported at 2
+scientific/sign-never | Unsupported at 0
+percent scientific | Later at 8
+E0 currency/EUR | Later at 0
 %x100 | Later at 0
 integer-width/##00 | Unsupported at 0
 decimal-auto precision-increment/00.50/w | precision-increment/0.50/w
@@ -91,6 +105,7 @@ permille . | 1234.5 | - | permille auto auto - 1234
 KK | 1234567.00 | - | long min2 auto - 1234567
 K group-auto +_ | 1234 | - | short auto never - 1234
 K .00 | 1234 | - | None
+scientific | 1234 | - | None
 KK rounding-mode-up | 1234 | - | None
 currency/JPY | 2.5 | 0 1 0 1 | currency-JPY auto auto 0,half-even,1 2
 currency/CHF precision-currency-cash | 5.03 | 2 1 2 5 | currency-CHF auto auto -2,half-even,1 5.05
@@ -98,4 +113,31 @@ currency/USD ()! precision-currency-standard/w | 5 | 2 1 2 1 | accounting-USD au
 currency/USD unit-width-iso-code .0# | 5 | 2 1 2 1 | code-USD auto auto -1,half-even,1 5.0
 currency/USD unit-width-iso-code () | 5 | 2 1 2 1 | None
 K currency/EUR | 5 | 2 1 2 1 | None""".split("\n")
+]
+# A skeleton, a number, and what is shown of it before it is written in a locale.
+SHOWN = [
+    tuple(row.split(" | "))
+    for row in """\
+scientific | 1234567.8910 | 1.234568E6
+E0 | 0 | 0E0
+E0 | -0.00 | -0E0
+E0 | 1.00 | 1E0
+E0 .00 | 1.5 | 1.50E0
+E0 .00/w | 100 | 1E2
+E0 @@ | 9.99 | 1.0E1
+E0 @@@ | 999999 | 1.00E6
+EE0 . | 999999 | 1E6
+EE0 @@ | 9.99 | 10E0
+EE0 | 0.00012 | 120E-6
+EE0 .0 | 12345678 | 12.3E6
+E+!00 | 1200000 | 1.2E+06
+E+!0 | 0 | 0E+0
+E00 | -0.00012 | -1.2E-04
+scientific/*eee | 1234567 | 1.234567E006
+E0 000 | 1234567.891 | 001.234568E6
+E0 rounding-mode-up . | 1.1 | 2E0
+E0 . sign-except-zero | 0.00001 | 1E-5
+E0 precision-unlimited | 1.23456789012 | 1.23456789012E0
+E0 precision-increment/5 rounding-mode-up | 8 | 5E1
+E0 precision-increment/50 | 123 | 0E2""".split("\n")
 ]

@@ -13,6 +13,8 @@ ROWS = """\
 notation = notation-simple
 notation compact-short K
 notation compact-long KK
+notation scientific
+notation engineering
 unit = base-unit
 unit percent %
 unit permille
@@ -50,8 +52,7 @@ point = decimal-auto
 """
 REFUSED = {
     "System": ("latin", "numbering-system/"),
-    "Later": ("scientific E0 engineering EE0 unit-width-narrow unit-width-full-name %x100 scale/ "
-              "unit/ measure-unit/ scientific/ engineering/").split(),
+    "Later": "unit-width-narrow unit-width-full-name %x100 scale/ unit/ measure-unit/".split(),
     "Unsupported": ("decimal-always integer-width-trunc unit-width-hidden unit-width-formal unit-width-variant group-thousands "
                     "rounding-mode-half-odd rounding-mode-unnecessary per-measure-unit/ usage/").split(),
 }
@@ -69,7 +70,8 @@ DIGITS = [
 ]
 PADDED = re.compile(r"integer-width/[*+](0+)|(0+)")
 INCREMENT = re.compile(r"precision-increment/([0-9]*)(?:\.([0-9]*))?(/w)?")
-SCIENTIFIC = re.compile(r"EE?(\+[!?])?0+")
+SHORT_EXPONENT = re.compile(r"E(E?)(\+[!?])?(0+)")
+EXPONENT_DIGITS = re.compile(r"[*+](e+)")
 EXACT = decimal.Context(prec=200)
 MODES = {
     "": decimal.ROUND_HALF_EVEN,
@@ -119,8 +121,6 @@ SPELLINGS = spellings()
 
 def fault_named(word):
     """The name of the fault that a word is."""
-    if SCIENTIFIC.fullmatch(word):
-        return "Later"
     front, slash, _ = word.partition("/")
     return next((name for name, words in REFUSED.items() if front + slash in words), "Unknown")
 
@@ -147,6 +147,36 @@ def digits_setting(word):
     return None
 
 
+def scientific_word(stem, digits, sign):
+    """The word of a notation with exponents of so many digits at least and this sign."""
+    if digits > MOST:
+        raise Refused("Unknown")
+    if sign not in ("", "sign-always"):
+        raise Refused("Unsupported")
+    return "/".join(filter(None, (stem, f"*{'e' * digits}" if digits > 1 else "", sign)))
+
+
+def scientific_setting(word):
+    """The normal text of a word of scientific notation, or None where it is no such word: by its options the last one of a kind."""
+    short = SHORT_EXPONENT.fullmatch(word)
+    if short:
+        return scientific_word("engineering" if short[1] else "scientific", len(short[3]), SPELLINGS[short[2]][1] if short[2] else "")
+    stem, *options = word.split("/")
+    if stem not in ("scientific", "engineering"):
+        return None
+    digits, sign = 1, ""
+    for option in options:
+        found = EXPONENT_DIGITS.fullmatch(option)
+        if found:
+            digits = len(found[1])
+        elif SPELLINGS.get(option, ("",))[0] == "sign":
+            sign = SPELLINGS[option][1]
+        else:
+            raise Refused("Unknown")
+        scientific_word(stem, digits, sign)
+    return scientific_word(stem, digits, sign)
+
+
 def increment_setting(word):
     """The normal text of a word of an increment."""
     found = INCREMENT.fullmatch(word)
@@ -167,6 +197,9 @@ def setting(word):
     found = digits_setting(word)
     if found:
         return found
+    notation = scientific_setting(word)
+    if notation:
+        return "notation", notation
     if word.startswith("currency/"):
         code = word[len("currency/") :]
         if not re.fullmatch("[A-Za-z]{3}", code, re.A):
@@ -183,7 +216,8 @@ def pair_fault(its):
     """The kind and the fault of what does not go with another word, or None."""
     of_currency = its.precision.startswith("precision-currency")
     for kind, is_wrong, name in (
-        ("precision", its.notation and (of_currency or (is_amount(its) and its.precision)), "Later"),
+        ("notation", is_scientific(its) and its.unit, "Later"),
+        ("precision", is_compact(its) and (of_currency or (is_amount(its) and its.precision)), "Later"),
         ("precision", of_currency and not is_amount(its), "Pair"),
         ("mode", its.mode and (of_currency or (is_amount(its) and not its.precision)), "Later"),
         ("width", its.width and not is_amount(its), "Pair"),
@@ -207,7 +241,7 @@ def read_skeleton(text):
                 raise Refused("Twice", place)
             found[kind], places[kind] = normal, place
         place += len(word.encode()) + 1
-    usual = "group-min2" if found.get("notation") else "group-auto"
+    usual = "group-min2" if found.get("notation", "").startswith("compact-") else "group-auto"
     if found.get("grouping") == usual:
         found["grouping"] = ""
     its = Skeleton(**found)
@@ -235,17 +269,27 @@ def is_amount(its):
     return its.unit.startswith("currency/")
 
 
+def is_compact(its):
+    """Whether a skeleton writes digits with a compact pattern."""
+    return its.notation.startswith("compact-")
+
+
+def is_scientific(its):
+    """Whether a skeleton writes a significand with an exponent."""
+    return bool(its.notation) and not is_compact(its)
+
+
 def has_own_digits(its):
-    """Whether a skeleton asks for digits of what is before a compact pattern."""
-    return bool(its.notation and (its.precision or its.mode))
+    """Whether a skeleton asks for digits of what is before a compact pattern, or of a significand."""
+    return is_scientific(its) or bool(is_compact(its) and (its.precision or its.mode))
 
 
 def digits_asked(its, of_currency):
-    """The digits that a skeleton asks for, of a compact number those of what is before the pattern, or None where the pattern says which;
-    those of the currency are its digits, its increment, its digits of cash and their increment."""
+    """The digits that a skeleton asks for, of a compact number those of what is before the pattern, of a scientific one those of the
+    significand, or None where the pattern says which; those of the currency are its digits, its increment, its digits of cash and their increment."""
     word, *options = its.precision.split("/")
     is_whole = "w" in options
-    if its.notation and not word:
+    if is_compact(its) and not word:
         return Digits(0, 0, significant=(1, 2), priority="r") if its.mode else None
     if word.startswith("precision-currency") or (is_amount(its) and not word):
         digits, increment = of_currency[2:] if word.endswith("cash") else of_currency[:2]
@@ -312,17 +356,46 @@ def rounded(value, asked, mode):
     return found[0][1:]
 
 
+def exponent_of(value, step):
+    """The greatest multiple of a step that is not above the magnitude of a number, and 0 of zero."""
+    return magnitude(value) // step * step
+
+
+def significand(value, asked, mode, step):
+    """The significand that is shown of a number, how many digits of its fraction are shown at least, and the exponent: it is divided
+    again where the rounding brought it to a higher one."""
+    exponent = exponent_of(value, step)
+    its, least = rounded(EXACT.scaleb(value, -exponent), asked, mode)
+    reached = max(0, exponent_of(its, step))
+    if reached:
+        its, least = rounded(EXACT.scaleb(its, -reached), asked, mode)
+    return its, least, exponent + reached
+
+
+def exponent_text(its, exponent):
+    """The text of an exponent, as a skeleton shows it."""
+    _, *options = its.notation.split("/")
+    digits = next((len(option) - 1 for option in options if option[0] == "*"), 1)
+    sign = "-" if exponent < 0 else "+" if "sign-always" in options else ""
+    return f"E{sign}{abs(exponent):0{digits}}"
+
+
 def shown(its, number, of_currency):
-    """The text of what a skeleton shows of a number before it is written in a locale: its digits and its minus sign."""
-    value, asked = decimal.Decimal(number), digits_asked(its, of_currency)
-    if asked:
+    """The text of what a skeleton shows of a number before it is written in a locale: its digits and its minus sign, and an exponent after
+    an E."""
+    value, asked, end = decimal.Decimal(number), digits_asked(its, of_currency), ""
+    if is_scientific(its):
+        step = 3 if its.notation.startswith("engineering") else 1
+        value, least, exponent = significand(value, asked, mode_of(its, value.is_signed()), step)
+        end = exponent_text(its, exponent)
+    elif asked:
         value, least = rounded(value, asked, mode_of(its, value.is_signed()))
     whole, _, fraction = f"{value.copy_abs():f}".partition(".")
     fraction = fraction.rstrip("0")
     if asked and not (asked.hides_zeros and not fraction):
         fraction = fraction.ljust(least, "0")
     whole = (whole.lstrip("0") or "0").rjust(its.integer.count("0"), "0")
-    return f"{'-' if value.is_signed() else ''}{whole}{'.' if fraction else ''}{fraction}"
+    return f"{'-' if value.is_signed() else ''}{whole}{'.' if fraction else ''}{fraction}{end}"
 
 
 GROUPINGS = {"group-auto": "auto", "group-off": "never", "group-min2": "min2", "group-on-aligned": "on-aligned"}
@@ -330,7 +403,7 @@ GROUPINGS = {"group-auto": "auto", "group-off": "never", "group-min2": "min2", "
 
 def grouping_of(its):
     """The word of a line for the grouping of a skeleton."""
-    return GROUPINGS[its.grouping] if its.grouping else "min2" if its.notation else "auto"
+    return GROUPINGS[its.grouping] if its.grouping else "min2" if is_compact(its) else "auto"
 
 
 def sign_of(its):
@@ -339,7 +412,8 @@ def sign_of(its):
 
 
 def form_of(its):
-    """The word of a line for the notation and the unit of a skeleton, or None where none says both, or digits of a compact number."""
+    """The word of a line for the notation and the unit of a skeleton, or None where none says both, or digits of a compact number or of a
+    significand."""
     if its.notation:
         return None if its.unit or has_own_digits(its) else its.notation.partition("-")[2]
     if not is_amount(its):
@@ -361,9 +435,9 @@ def line_of(its, tag, number, of_currency=None):
 
 
 def is_of_intl(its):
-    """Whether Intl.NumberFormat has the unit of a skeleton, and its digits: there those of a fraction are not shown in any case beside
-    significant ones."""
-    return its.unit != "permille" and not re.fullmatch(r"\.0+#*/(@+\*|@#*)(/w)?", its.precision)
+    """Whether Intl.NumberFormat has the unit of a skeleton, its exponents, and its digits: there those of a fraction are not shown in any
+    case beside significant ones."""
+    return its.unit != "permille" and "/" not in its.notation and not re.fullmatch(r"\.0+#*/(@+\*|@#*)(/w)?", its.precision)
 
 
 def options_of(its, of_currency=None):
@@ -384,8 +458,10 @@ def options_of(its, of_currency=None):
         found |= {"trailingZeroDisplay": "stripIfInteger"} if asked.hides_zeros else {}
     if its.integer:
         found["minimumIntegerDigits"] = its.integer.count("0")
-    if its.notation:
+    if is_compact(its):
         found |= {"notation": "compact", "compactDisplay": its.notation.partition("-")[2]}
+    elif its.notation:
+        found["notation"] = its.notation
     if is_amount(its):
         found |= {"style": "currency", "currency": its.unit[-3:]}
         found |= {"currencyDisplay": "code"} if its.width else {}

@@ -12,10 +12,12 @@
 #define SPACE "\xc2\xa0"
 #define EURO "\xe2\x82\xac"
 #define ARABIC_NUMBER "\xd9\xa1\xd9\xac\xd9\xa2\xd9\xa3\xd9\xa4\xd9\xab\xd9\xa5" /* 1,234.5 with Arabic digits and separators */
+#define ARABIC_POWER "\xd9\xa1\xd9\xab\xd9\xa2\xd8\xa3\xd8\xb3-\xd9\xa4" /* 1.2E-4 with them, and the text before exponents */
 
 enum { ROOM = 64 };
 
-/* Arabic, Swiss German, English, Turkish, and a locale whose numbers can't be read back; with euros, francs in cash, and percents. */
+/* Arabic, Swiss German, English, Turkish, and a locale whose numbers can't be read back; with euros, francs in cash, and percents; of two of
+   them the text before exponents. */
 static const char BOOK[] =
     "[[[[\"ar\",\"\",\"arab\",\"-\",\"\",\"+\",\"\",\"\\u066b\",\"\\u066c\",3,3,1],[\"ar\",\"latn\",\"latn\",\"-\",\"\",\"+\",\"\",\".\",\",\",3,3,1],"
     "[\"bad\",\"\",\"latn\",\"\",\"\",\"+\",\"\",\".\",\",\",3,3,1],[\"de-CH\",\"\",\"latn\",\"-\",\"\",\"+\",\"\",\".\",\"'\",3,3,1],"
@@ -28,7 +30,9 @@ static const char BOOK[] =
     "[[\"de-CH\",\"\",null,[\"\\u00a4\\u00a0\",\"\",\"\\u00a4-\",\"\",\"\\u00a4+\",\"\"],null],"
     "[\"en\",\"\",null,[\"\\u00a4\",\"\"],[\"\\u00a4\\u00a0\",\"\"]]],"
     "[[\"en\",\"\",null,[\"\\u00a4\",\"\",\"(\\u00a4\",\")\",\"+\\u00a4\",\"\"],null]],"
-    "[[\"en\",\"EUR\",\"\\u20ac\",0]],[[\"CHF\",2,1,2,5],[\"JPY\",0,1,0,1]]]]";
+    "[[\"en\",\"EUR\",\"\\u20ac\",0]],[[\"CHF\",2,1,2,5],[\"JPY\",0,1,0,1]]],"
+    "[[],[],[[\"ar\",\"\",\"\\u0623\\u0633\",\"\\u00d7\",\"\\u0609\",\"~\",[\"\",\"\\u2013\",\"\"],[\"+\",\"\"],[\"\\u2264\",\"\"]],"
+    "[\"en\",\"\",\"E\",\"\\u00d7\",\"\\u2030\",\"~\",[\"\",\"\\u2013\",\"\"],[\"\",\"+\"],[\"\\u2264\",\"\"]]]]]";
 
 /* A format for a tag, by words, with the text of its unit, or by a skeleton. */
 typedef struct {
@@ -37,7 +41,7 @@ typedef struct {
     const char *unit, *skeleton;
 } asked;
 
-enum { PLAIN, BAD, SHORT, LONG, HUNDREDTHS, PERCENT, EUROS, ACCOUNTS, FRANCS, ARABIC, ARABIC_PERCENT, FORMATS };
+enum { PLAIN, BAD, SHORT, LONG, HUNDREDTHS, PERCENT, EUROS, ACCOUNTS, FRANCS, ARABIC, ARABIC_PERCENT, SCIENTIFIC, ENGINEERING, TWO_DIGITS, ARABIC_POWERS, FORMATS };
 
 /* Those of the tests. */
 static const asked ASKED[FORMATS] = {
@@ -52,6 +56,10 @@ static const asked ASKED[FORMATS] = {
     [FRANCS] = {"de-CH", {.unit = LEGUMEYET_UNIT_CURRENCY, .currency_width = LEGUMEYET_CURRENCY_CODE}, "CHF", NULL},
     [ARABIC] = {"ar", {0}, "", NULL},
     [ARABIC_PERCENT] = {"ar", {.unit = LEGUMEYET_UNIT_PERCENT}, "", NULL},
+    [SCIENTIFIC] = {"en", {.notation = LEGUMEYET_NOTATION_SCIENTIFIC}, "", NULL},
+    [ENGINEERING] = {"en", {.notation = LEGUMEYET_NOTATION_ENGINEERING, .width = LEGUMEYET_WIDTH_LONG}, "", NULL},
+    [TWO_DIGITS] = {"en", {0}, "", "scientific/*ee"},
+    [ARABIC_POWERS] = {"ar", {.notation = LEGUMEYET_NOTATION_SCIENTIFIC}, "", NULL},
 };
 
 /* What a call is made by: a formatter, or a shared one. */

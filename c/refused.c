@@ -23,7 +23,8 @@ static const char BOOK[] = "[[[[\"ar\",\"\",\"arab\",\"-\",\"\",\"+\",\"\",\"\\u
                            "[[\"en\",[[\"one\",\"i = 1\"]]]],[[\"en\",\"\",[[3,3,[[\"one\",[\"\",\" k\"]],[\"other\",[\"\",\" ks\"]]]]],null]],[]],"
                            "[[[\"en\",\"\",\"%\",null,[\"\",\"\\u00a4\"]]],[[\"en\",\"\",null,[\"\\u00a4\",\"\"],null]],"
                            "[[\"en\",\"\",null,[\"\\u00a4\",\"\",\"(\\u00a4\",\")\",\"+\\u00a4\",\"\"],null]],[[\"en\",\"USD\",\"$\",0]],"
-                           "[[\"USD\",2,1,2,25]]]]";
+                           "[[\"USD\",2,1,2,25]]],"
+                           "[[],[],[[\"en\",\"\",\"E\",\"\\u00d7\",\"\\u2030\",\"~\",[\"\",\"\\u2013\",\"\"],[\"\",\"+\"],[\"\\u2264\",\"\"]]]]]";
 
 static int refused, wrong;
 static uint8_t out[64];
@@ -56,6 +57,8 @@ static const struct {
     {TAG, "", DIGITS, {.rounding = LEGUMEYET_ROUND_HALF_EVEN, .maximum_significant_digits = 5, .rounding_priority = LEGUMEYET_PRIORITY_LESS_PRECISION}, "-98,765,000,000,000,000,000", 8, NULL, NULL, NULL},
     {TAG, "compact-short", DIGITS, {.rounding = LEGUMEYET_ROUND_HALF_EVEN}, "-98,765,432,109,876,543 ks", 1, NULL, NULL, NULL},
     {TAG, "compact-short precision-increment/0.25", DIGITS, {0}, "-98,765,432,109,876,543.25 ks", 9, NULL, NULL, NULL},
+    {TAG, "scientific/*ee", DIGITS, {0}, "-9.87654321098765432105E19", 6, NULL, NULL, NULL},
+    {TAG, "engineering", "-9876543.21098765", {.rounding = LEGUMEYET_ROUND_HALF_EVEN, .position = -16, .increment = 25}, "-9.8765432109876500E6", 6, NULL, NULL, NULL},
     {TAG, "percent", DIGITS, {0}, "-98,765,432,109,876,543,210.5%", 11, "-98,765,432,109.5%", "-98765432109.5", "-98765432109.5"},
     {TAG, "currency/USD sign-accounting", "-12345.5", {.rounding = LEGUMEYET_ROUND_CASH}, "($12,345.50)", 7, "($123,456,789.50)", "USD -123456789.50", "-123456789.50"},
     {"ar", ".00", "-5", {0}, "-\xd9\xa5", 2, "-\xd9\xa5", "-5.", "-5"},

@@ -53,7 +53,8 @@ static const struct {
     {"currency/EURO", Code::SkeletonCode, 0},
     {"percent sign-accounting", Code::SkeletonPair, 8},
     {"percent latin", Code::SkeletonSystem, 8},
-    {"sign-always scientific", Code::SkeletonLater, 12},
+    {"sign-always scientific/sign-never", Code::SkeletonUnsupported, 12},
+    {"compact-short scientific", Code::SkeletonTwice, 14},
     {"compact-short scale/100", Code::SkeletonLater, 14},
     {"percent scale/100", Code::SkeletonLater, 8},
     {"percent .0#/@@", Code::SkeletonUnknown, 8},
@@ -115,6 +116,9 @@ static void skeletons(Book &book) {
     expect(plain.format(7, 0, Options().with_sign(Sign::Never).with_minimum_fraction_digits(1)), "7.0");
     expect(NumberFormatter::skeleton("es", "@@# ,!").format(1234.5) + ' ' + NumberFormatter::skeleton("es", "@@#").format(5), "1.230 5,0");
     expect(NumberFormatter::skeleton("en", "K .00").format(-1234) + ' ' + NumberFormatter::skeleton("de", "KK .0").format(1234567), "-1.23K 1,2 Millionen");
+    auto powers = NumberFormatter::skeleton("en", "scientific/*ee .00"), thousands = NumberFormatter::skeleton(book, "de", "engineering");
+    expect(powers.format(1234567) + ' ' + powers.format("1234567.891", {}) + ' ' + thousands.format(0.00012) + ' ' + powers.shown(-999999),
+           "1.23E06 1.234567891E06 120E-6 -1.00e06");
     expect(*plain.try_format(5) + *plain.try_format(5, Options()) + plain.format(500, -2), "+55+5");
     std::string text;
     std::ostringstream out;
@@ -139,6 +143,7 @@ static void designates(Book &book) {
     NumberFormatter euros("de", {.currency = "EUR", .grouping = Grouping::Never}), dollars(book, "en", {.currency = "USD"}, {.sign = Sign::Always});
     expect(euros.format(1234.5) + ' ' + dollars.format(5) + ' ' + dollars.format(5, {.rounding = Rounding::None}), "1234,50\u00a0€ +$5.00 $5");
     expect(NumberFormatter("en", {.notation = Notation::Compact}).format(1650), "1.6K");
+    expect(NumberFormatter("en", {.notation = Notation::Scientific}).format(1650, {.rounding = Rounding::HalfEven, .position = -1}), "1.6E3");
 }
 #endif
 
@@ -151,6 +156,14 @@ static void formats(Book &book) {
     NumberFormatter dollars(book, "en", money), compact("en", Format{Notation::Compact, Width::Long, {}, {}, {}, {}, Grouping::Min2});
     expect(plain.format("007.50") + ' ' + own.format("9.65") + ' ' + own.format("9.65", {}) + ' ' + percents.format(12.5), "007.50 +9.6 9.65 %12,5");
     expect(dollars.format(-5) + ' ' + compact.format(1650) + ' ' + compact.format(10000e12), "(USD\u00a05.00) 1.6 thousand 10,000 trillion");
+    NumberFormatter powers("en", Format{Notation::Scientific}), thousands(book, "de", Format{Notation::Engineering}, rounded);
+    expect(powers.format("1234567.891") + ' ' + powers.format(1234567, rounded) + ' ' + thousands.format(0.00012) + ' ' + thousands.format(-1250000),
+           "1.234567891E6 +1.2E6 +120,0E-6 -1,2E6");
+    const auto [text, parts] = powers.format_parts("-0.00012");
+    expect(text + ' ' + std::to_string(parts.size()), "-1.2E-4 7");
+    expect(Kind{parts[4].kind} == Kind::ExponentSeparator && Kind{parts[5].kind} == Kind::ExponentMinusSign && Kind{parts[6].kind} == Kind::ExponentInteger ? "exponent" : "", "exponent");
+    expect_code(powers.try_read("1.2E6").error(), Code::Unreadable);
+    expect_code(powers.try_format_exact("1.2").error(), Code::Exponent);
     const auto name = [](CurrencyFormatter it) { return it.format(5); };
     expect(name({"en", "USD"}) + name({book, "en", "USD", CurrencyStyle::Accounting}), "$5.00$5.00");
     own = std::move(rest);
@@ -163,10 +176,11 @@ static void formats(Book &book) {
     expect_error(message(Code::Code) + ": `usd`", [&] { NumberFormatter("e", money); });
     expect_error(message(Code::Code) + ": ``", [] { NumberFormatter("e", Format{{}, {}, Unit::Currency}); });
     expect_error(message(Code::Code) + ": `EUR`", [] { NumberFormatter("e", Format{{}, {}, Unit::Percent, "EUR"}); });
-    for (const Format &it : {Format{Notation{2}}, Format{{}, Width{2}}, Format{{}, {}, Unit{4}}, Format{{}, {}, {}, {}, CurrencyStyle{2}},
+    for (const Format &it : {Format{Notation{4}}, Format{{}, Width{2}}, Format{{}, {}, Unit{4}}, Format{{}, {}, {}, {}, CurrencyStyle{2}},
                              Format{{}, {}, {}, {}, {}, CurrencyWidth{2}}, Format{{}, {}, {}, {}, {}, {}, Grouping{5}}, Format{{}, {}, {}, {}, {}, {}, Grouping{-1}}})
         expect_code(NumberFormatter::try_open("e", it).error(), Code::Option);
     expect_error(message(Code::Table), [] { NumberFormatter("en", Format{Notation::Compact, {}, Unit::Percent}); });
+    expect_error(message(Code::Table), [] { NumberFormatter("en", Format{Notation::Scientific, {}, Unit::Percent}); });
     expect_error("no locale tag: `de_DE` is written `de-DE`", [] { NumberFormatter("de_DE"); });
 }
 

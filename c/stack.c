@@ -117,6 +117,9 @@ static const struct {
     {{0}, "", "currency/CHF precision-currency-cash sign-accounting-except-zero unit-width-iso-code group-min2 integer-width/*000"},
     {{0}, "", "compact-short sign-always"},
     {{0}, "", "compact-long precision-increment/0.25"},
+    {{.notation = LEGUMEYET_NOTATION_ENGINEERING}, "", NULL},
+    {{.notation = LEGUMEYET_NOTATION_SCIENTIFIC, .plurals = LEGUMEYET_PLURALS_CARDINAL}, "", NULL},
+    {{0}, "", "scientific/*ee/sign-always precision-increment/0.25"},
 };
 
 /* Formatters for some of the world's locales, by a book, and some of them shared. */
@@ -158,7 +161,7 @@ static void *formatters(void *given) { return formatters_of(&world, given); }
 /* Skeletons with a word of each kind, and with faults. */
 static void *skeletons(void *given) {
     static const char *const TEXTS[] = {"currency/CHF precision-currency-cash sign-accounting-except-zero unit-width-iso-code group-min2 integer-width/*000",
-                                        "percent .00##", "KK ,_ +! 000", ".00 rounding-mode-half-ceiling", "", "foo", "percent percent", "scientific"};
+                                        "percent .00##", "KK ,_ +! 000", ".00 rounding-mode-half-ceiling", "", "foo", "percent percent", "scale/100", "EE+!00 @@#", "scientific/sign-never"};
     static uint8_t wide[STACK];
     legumeyet_formatter it = {0};
     size_t row, place = 0;
@@ -185,7 +188,8 @@ static const struct {
     {"plural", "s1-3,half-even", "-1234.5"}, {"ordinal", "-", "22"}, {"range-plural", "f0-2,half-even,1", "1..1234.5"},
     {"plural::currency/USD", "-", "1"}, {"ordinal::compact-long", "-", "1234567"}, {"range-plural::compact-short", "-", "1..1234567"},
     {"::currency/CHF precision-currency-cash sign-accounting-except-zero unit-width-iso-code group-min2 integer-width/*000", "-", "-1234.5"},
-    {"exact::compact-short sign-always", "-", "1.20c6"}, {"read::percent", "-", "5%"}, {"read-lenient::currency/EUR", "-", "EUR 1234.5"}};
+    {"scientific", "-", "-987654.321"}, {"engineering", "f0-2,half-even,1", "0.00012"}, {"::scientific/*ee sign-always", "-", "1234567"},
+    {"plural::engineering", "-", "1234567"}, {"exact::compact-short sign-always", "-", "1.20c6"}, {"read::percent", "-", "5%"}, {"read-lenient::currency/EUR", "-", "EUR 1234.5"}};
 
 /* Lines of each form for tags with ASCII digits and with others, and for one with all that a tag may have. */
 static void *lines(void *given) {

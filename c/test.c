@@ -87,6 +87,7 @@ static const struct {
     {LEGUMEYET_TAG, {"", {0}, "", NULL}},
     {LEGUMEYET_TAG, {"\xff\xfe", {0}, "", NULL}},
     {LEGUMEYET_TAG, {"e", {.notation = LEGUMEYET_NOTATION_COMPACT}, "", NULL}},
+    {LEGUMEYET_TAG, {"e", {.notation = LEGUMEYET_NOTATION_SCIENTIFIC}, "", NULL}},
     {LEGUMEYET_TAG, {"e", {.unit = LEGUMEYET_UNIT_CURRENCY}, "EUR", NULL}},
     {LEGUMEYET_TABLE, {"xx", {0}, "", NULL}},
     {LEGUMEYET_TABLE, {"bad", {.notation = LEGUMEYET_NOTATION_COMPACT}, "", NULL}},
@@ -94,6 +95,10 @@ static const struct {
     {LEGUMEYET_TABLE, {"tr", {.unit = LEGUMEYET_UNIT_CURRENCY}, "EUR", NULL}},
     {LEGUMEYET_TABLE, {"en", {.notation = LEGUMEYET_NOTATION_COMPACT, .unit = LEGUMEYET_UNIT_PERCENT}, "", NULL}},
     {LEGUMEYET_TABLE, {"en", {.notation = LEGUMEYET_NOTATION_COMPACT, .unit = LEGUMEYET_UNIT_CURRENCY}, "EUR", NULL}},
+    {LEGUMEYET_TABLE, {"tr", {.notation = LEGUMEYET_NOTATION_SCIENTIFIC}, "", NULL}},
+    {LEGUMEYET_TABLE, {"xx", {.notation = LEGUMEYET_NOTATION_ENGINEERING}, "", NULL}},
+    {LEGUMEYET_TABLE, {"en", {.notation = LEGUMEYET_NOTATION_SCIENTIFIC, .unit = LEGUMEYET_UNIT_PERCENT}, "", NULL}},
+    {LEGUMEYET_TABLE, {"en", {.notation = LEGUMEYET_NOTATION_ENGINEERING, .unit = LEGUMEYET_UNIT_CURRENCY}, "EUR", NULL}},
     {LEGUMEYET_CODE, {"e", {.unit = LEGUMEYET_UNIT_CURRENCY}, "eur", NULL}},
     {LEGUMEYET_CODE, {"e", {.unit = LEGUMEYET_UNIT_CURRENCY}, "EURO", NULL}},
     {LEGUMEYET_CODE, {"e", {.unit = LEGUMEYET_UNIT_CURRENCY}, "", NULL}},
@@ -101,7 +106,7 @@ static const struct {
     {LEGUMEYET_CODE, {"e", {.unit = LEGUMEYET_UNIT_PERCENT}, "EUR", NULL}},
     {LEGUMEYET_CODE, {"e", {.unit = LEGUMEYET_UNIT_PERMILLE}, "EUR", NULL}},
     {LEGUMEYET_CODE, {"e", {.notation = LEGUMEYET_NOTATION_COMPACT, .unit = LEGUMEYET_UNIT_CURRENCY}, "eur", NULL}},
-    {LEGUMEYET_OPTION, {"e", {.notation = 2}, "EUR", NULL}},
+    {LEGUMEYET_OPTION, {"e", {.notation = 4}, "EUR", NULL}},
     {LEGUMEYET_OPTION, {"e", {.notation = -1}, "", NULL}},
     {LEGUMEYET_OPTION, {"e", {.width = 2}, "", NULL}},
     {LEGUMEYET_OPTION, {"e", {.unit = 4}, "EUR", NULL}},
@@ -224,6 +229,29 @@ static const struct {
     {HUNDREDTHS, "999999", {0}, WELL, "1.00M"},
     {HUNDREDTHS, "1234", AT(2, 0), WELL, "1.20K"},
     {HUNDREDTHS, "+5", SIGNED(LEGUMEYET_SIGN_ALWAYS), WELL, "5.00"},
+    /* scientific numbers: what is made of their significand, and it is divided again where that reached the next exponent */
+    {SCIENTIFIC, "1234567.891", {0}, WELL, "1.234567891E6"},
+    {SCIENTIFIC, "-0.00012", {0}, WELL, "-1.2E-4"},
+    {SCIENTIFIC, "0.00", {0}, WELL, "0E0"},
+    {SCIENTIFIC, "+005.0", {0}, WELL, "+5E0"},
+    {SCIENTIFIC, "1e32767", {0}, WELL, "1E32767"},
+    {SCIENTIFIC, "5", SIGNED(LEGUMEYET_SIGN_ALWAYS), WELL, "+5E0"},
+    {SCIENTIFIC, "1234567.891", AT(-2, 0), WELL, "1.23E6"},
+    {SCIENTIFIC, "1234567.891", AT(-2, .increment = 25), WELL, "1.25E6"},
+    {SCIENTIFIC, "999999", AT(-2, 0), WELL, "1.00E6"},
+    {SCIENTIFIC, "999999", AT(-2, TRIM(TRIM)), WELL, "1E6"},
+    {SCIENTIFIC, "1200000", LEAST(2, 3), WELL, "01.200E6"},
+    {SCIENTIFIC, "1234567", DIGITS(0, 3, 0), WELL, "1.23E6"},
+    {SCIENTIFIC, "12", DIGITS(3, 3, 0), WELL, "1.20E1"},
+    {SCIENTIFIC, "1650", ROUND(CASH), WELL, "1.65E3"},
+    {ENGINEERING, "0.00012", {0}, WELL, "120E-6"},
+    {ENGINEERING, "1234567.891", {0}, WELL, "1.234567891E6"},
+    {ENGINEERING, "999999", AT(0, 0), WELL, "1E6"},
+    {ENGINEERING, "12345", DIGITS(0, 3, 0), WELL, "12.3E3"},
+    {TWO_DIGITS, "1200000", {0}, WELL, "1.2E06"},
+    {TWO_DIGITS, "1234567.891", {0}, WELL, "1.234567891E06"},
+    {TWO_DIGITS, "1e100", AT(-1, 0), WELL, "1.0E100"},
+    {ARABIC_POWERS, "0.00012", {0}, WELL, ARABIC_POWER},
     {PERCENT, "-12.50", {0}, WELL, "-12.50%"},
     {EUROS, "-1234.5", {0}, WELL, "-" EURO "1,234.50"},
     {EUROS, "0.125", {0}, WELL, EURO "0.12"},
@@ -403,9 +431,12 @@ static const struct {
     {PLAIN, "\xff", {0}, LEGUMEYET_NUMBER, NULL},
     {PLAIN, "", {0}, LEGUMEYET_NUMBER, NULL},
     {SHORT, "5.", {0}, LEGUMEYET_NUMBER, NULL},
+    {SCIENTIFIC, "1e+3", {0}, LEGUMEYET_NUMBER, NULL},
+    {SCIENTIFIC, "x", {.sign = 6}, LEGUMEYET_OPTION, NULL},
     {EUROS, "1,5", {0}, LEGUMEYET_NUMBER, NULL},
     {PLAIN, "1e40000", {0}, LEGUMEYET_LIMIT, NULL},
     {SHORT, "1e40000", {0}, LEGUMEYET_LIMIT, NULL},
+    {SCIENTIFIC, "1e40000", {0}, LEGUMEYET_LIMIT, NULL},
     {EUROS, "1e40000", {0}, LEGUMEYET_LIMIT, NULL},
 };
 
@@ -442,6 +473,9 @@ static const struct {
     {SHORT, false, UINT64_MAX, -9, {0}, WELL, "18,447M"},
     {SHORT, true, 10, INT16_MAX, {0}, LEGUMEYET_LIMIT, NULL},
     {SHORT, false, 10, INT16_MAX, {0}, LEGUMEYET_LIMIT, NULL},
+    {SCIENTIFIC, true, (uint64_t)-123456, -2, {0}, WELL, "-1.23456E3"},
+    {SCIENTIFIC, true, 0, 3, {0}, WELL, "0E0"},
+    {SCIENTIFIC, false, UINT64_MAX, 0, AT(-2, 0), WELL, "1.84E19"},
     {EUROS, true, (uint64_t)-12345, -1, {0}, WELL, "-" EURO "1,234.50"},
     {EUROS, false, UINT64_MAX, -2, {0}, WELL, EURO "184,467,440,737,095,516.15"},
     {EUROS, true, 1, 0, {.sign = 6}, LEGUMEYET_OPTION, NULL},
@@ -481,6 +515,10 @@ static const struct {
     {PLAIN, 5.0, LEAST(0, 2), WELL, "5.00"},
     {PLAIN, 400, AT(3, 0), WELL, "0"},
     {SHORT, -1172700.0, {0}, WELL, "-1.2M"},
+    {SCIENTIFIC, -1.5e-7, {0}, WELL, "-1.5E-7"},
+    {SCIENTIFIC, 5e-324, {0}, WELL, "5E-324"},
+    {ENGINEERING, 1e21, {0}, WELL, "1E21"},
+    {SCIENTIFIC, INFINITY, {0}, LEGUMEYET_NUMBER, NULL},
     {EUROS, 2.675, {0}, WELL, EURO "2.68"},
     {PLAIN, NAN, {0}, LEGUMEYET_NUMBER, NULL},
     {PLAIN, INFINITY, {0}, LEGUMEYET_NUMBER, NULL},
@@ -513,6 +551,12 @@ static const struct {
     {false, SHORT, "-1172700", AT(6, 0), WELL, "-1c6"},
     {false, HUNDREDTHS, "1234", {0}, WELL, "1.23c3"},
     {false, HUNDREDTHS, "5", {0}, WELL, "5.00"},
+    {false, SCIENTIFIC, "-1172700", {0}, WELL, "-1.1727e6"},
+    {false, SCIENTIFIC, "0.00012", AT(-2, 0), WELL, "1.20e-4"},
+    {false, ENGINEERING, "0.00012", {0}, WELL, "120e-6"},
+    {false, TWO_DIGITS, "1200000", {0}, WELL, "1.2e06"},
+    {false, ARABIC_POWERS, "0.00012", {0}, WELL, "1.2e-4"},
+    {false, SCIENTIFIC, "1.2e", {0}, LEGUMEYET_NUMBER, NULL},
     {false, SHORT, "\xff", {0}, LEGUMEYET_NUMBER, NULL},
     {false, SHORT, "1", {.sign = 6}, LEGUMEYET_OPTION, NULL},
     {false, PLAIN, "-1234.50", {0}, WELL, "-1234.50"},
@@ -541,6 +585,9 @@ static const struct {
     {true, PLAIN, "1.25", AT(-1, .sign = LEGUMEYET_SIGN_ALWAYS), WELL, "+1.2"},
     {true, PLAIN, "1.2c3", {0}, LEGUMEYET_EXPONENT, NULL},
     {true, PLAIN, "1.2e3", {0}, LEGUMEYET_NUMBER, NULL},
+    {true, SCIENTIFIC, "1.2", {0}, LEGUMEYET_EXPONENT, NULL},
+    {true, SCIENTIFIC, "1.2c6", {0}, LEGUMEYET_EXPONENT, NULL},
+    {true, ENGINEERING, "1.2e6", {0}, LEGUMEYET_NUMBER, NULL},
     {true, PERCENT, "1.20", {0}, WELL, "1.20%"},
     {true, PERCENT, "1c3", {0}, LEGUMEYET_EXPONENT, NULL},
     {true, EUROS, "1.2", {0}, WELL, EURO "1.20"},
@@ -590,6 +637,9 @@ static const struct {
     {SHORT, "950", LEGUMEYET_UNREADABLE, LEGUMEYET_UNREADABLE, NULL, NULL},
     {LONG, "\xff", LEGUMEYET_UTF8, LEGUMEYET_UTF8, NULL, NULL},
     {HUNDREDTHS, "1.23K", LEGUMEYET_UNREADABLE, LEGUMEYET_UNREADABLE, NULL, NULL},
+    {SCIENTIFIC, "1.2E6", LEGUMEYET_UNREADABLE, LEGUMEYET_UNREADABLE, NULL, NULL},
+    {ARABIC_POWERS, "1.2E6", LEGUMEYET_UNREADABLE, LEGUMEYET_UNREADABLE, NULL, NULL},
+    {ENGINEERING, "\xff", LEGUMEYET_UTF8, LEGUMEYET_UTF8, NULL, NULL},
     {PERCENT, "-12.50%", WELL, WELL, "-12.50", "-12.50"},
     {PERCENT, "12.5 %", LEGUMEYET_NOT_WRITTEN, WELL, NULL, "12.5"},
     {PERCENT, "-12.5", LEGUMEYET_NOT_WRITTEN, WELL, NULL, "-12.5"},
@@ -649,6 +699,8 @@ static void many_digits(void) {
     expect_error("the value shown", CALL(by[SHORT], shown, (uint8_t *)digits, 32768, NOTHING, out, ROOM, &length), LEGUMEYET_RANGE);
     expect("hundredths", CALL(by[HUNDREDTHS], format, (uint8_t *)digits, 32768, NOTHING, wide, sizeof wide, &needed), WELL);
     expect("hundredths", (int64_t)needed, 32763 + 10920 + 4);
+    expect("a power", CALL(by[SCIENTIFIC], format, (uint8_t *)digits, 32768, NOTHING, wide, sizeof wide, &needed), WELL);
+    expect("a power", (int64_t)needed, 32768 + 1 + 6);
     expect("no compact number", CALL(by[EUROS], shown, (uint8_t *)digits, 32768, NOTHING, wide, sizeof wide, &needed), WELL);
     expect("no compact number", (int64_t)needed, 32768 + 3);
     memset(digits + 1, '0', 32767);
@@ -661,6 +713,8 @@ static void many_digits(void) {
     digits[5 + 32767] = '1';
     expect_error("a digit beyond thousands", CALL(by[HUNDREDTHS], format, (uint8_t *)digits, 5 + 32768, NOTHING, out, ROOM, &length), LEGUMEYET_RANGE);
     expect_error("a digit beyond thousands", CALL(by[HUNDREDTHS], shown, (uint8_t *)digits, 5 + 32768, NOTHING, out, ROOM, &length), LEGUMEYET_RANGE);
+    expect_error("a digit beyond a power", CALL(by[SCIENTIFIC], format, (uint8_t *)digits, 5 + 32768, NOTHING, out, ROOM, &length), LEGUMEYET_RANGE);
+    expect_error("a digit beyond a power", CALL(by[ENGINEERING], shown, (uint8_t *)digits, 5 + 32768, NOTHING, out, ROOM, &length), LEGUMEYET_RANGE);
 }
 
 /* Texts with their parts. */
@@ -677,6 +731,11 @@ static const struct {
     {SHORT, "950", "950", 0, {{0, 0, 0}}},
     {HUNDREDTHS, "-1234", "-1.23K", 4, {{0, 1, LEGUMEYET_PART_MINUS_SIGN}, {1, 2, LEGUMEYET_PART_INTEGER}, {2, 3, LEGUMEYET_PART_DECIMAL},
                                         {3, 5, LEGUMEYET_PART_FRACTION}}},
+    {SCIENTIFIC, "-0.00012", "-1.2E-4", 7, {{0, 1, LEGUMEYET_PART_MINUS_SIGN}, {1, 2, LEGUMEYET_PART_INTEGER}, {2, 3, LEGUMEYET_PART_DECIMAL},
+                                            {3, 4, LEGUMEYET_PART_FRACTION}, {4, 5, LEGUMEYET_PART_EXPONENT_SEPARATOR},
+                                            {5, 6, LEGUMEYET_PART_EXPONENT_MINUS_SIGN}, {6, 7, LEGUMEYET_PART_EXPONENT_INTEGER}}},
+    {TWO_DIGITS, "1200000", "1.2E06", 5, {{0, 1, LEGUMEYET_PART_INTEGER}, {1, 2, LEGUMEYET_PART_DECIMAL}, {2, 3, LEGUMEYET_PART_FRACTION},
+                                          {3, 4, LEGUMEYET_PART_EXPONENT_SEPARATOR}, {4, 6, LEGUMEYET_PART_EXPONENT_INTEGER}}},
     {PERCENT, "5", "5%", 2, {{0, 1, LEGUMEYET_PART_INTEGER}, {1, 2, LEGUMEYET_PART_PERCENT_SIGN}}},
     {EUROS, "-1234.5", "-" EURO "1,234.50", 6, {{0, 1, LEGUMEYET_PART_MINUS_SIGN}, {1, 4, LEGUMEYET_PART_CURRENCY}, {4, 9, LEGUMEYET_PART_INTEGER},
                                                {5, 6, LEGUMEYET_PART_GROUP}, {9, 10, LEGUMEYET_PART_DECIMAL}, {10, 12, LEGUMEYET_PART_FRACTION}}},
@@ -724,6 +783,7 @@ static int32_t answer(const char *line) { return legumeyet_book_answer(&book, TE
 static void answers(void) {
     expect_text("a line", answer("en\tplain\tauto\tkeep\t-\t-987654.321"), "ok\t-987,654.321");
     expect_text("a short form", answer("en\tshort\tauto\tkeep\t-\t1650"), "ok\t1.6K\t1.6c3");
+    expect_text("a power", answer("en\tscientific\tauto\tkeep\t-\t1650"), "ok\t1.65E3\t1.65e3");
     expect_text("a text", answer("en\tread\tauto\tkeep\t-\t-1,234.50"), "ok\t-1234.50");
     expect_text("a typed text", answer("ar\tread-lenient\tauto\tkeep\t-\t1,234.5"), "ok\t1234.5");
     expect_text("no tag", answer("e\tplain\tauto\tkeep\t-\t1"), "err\ttag");
@@ -754,6 +814,8 @@ static void rooms(void) {
         expect_front(CALL(by[SHORT], format, TEXT("-12345678901"), NOTHING, out, room, &length), "-12,346M", room);
         expect_front(CALL(by[SHORT], shown, TEXT("-1172700"), NOTHING, out, room, &length), "-1.2c6", room);
         expect_front(CALL(by[SHORT], format_exact, TEXT("-1.20c6"), NOTHING, out, room, &length), "-1.20M", room);
+        expect_front(CALL(by[SCIENTIFIC], format, TEXT("-0.00012"), NOTHING, out, room, &length), "-1.2E-4", room);
+        expect_front(CALL(by[SCIENTIFIC], shown, TEXT("-0.00012"), NOTHING, out, room, &length), "-1.2e-4", room);
         expect_front(CALL(by[EUROS], format, TEXT("-1234.5"), NOTHING, out, room, &length), "-" EURO "1,234.50", room);
         expect_front(CALL(by[EUROS], shown, TEXT("-1234.5"), NOTHING, out, room, &length), "-1234.50", room);
         expect_front(CALL(by[EUROS], read_lenient, TEXT("5 EUR"), out, room, &length), "5", room);
@@ -769,7 +831,8 @@ static void nulls(void) {
     legumeyet_interval none;
     size_t row, count = 77;
     for (row = 0; row < FORMATS; row++) {
-        const int32_t unread = row == SHORT || row == LONG || row == HUNDREDTHS || row == BAD ? LEGUMEYET_UNREADABLE : LEGUMEYET_NOT_WRITTEN;
+        const int is_read = row != BAD && row != SHORT && row != LONG && row != HUNDREDTHS && row < SCIENTIFIC;
+        const int32_t unread = is_read ? LEGUMEYET_NOT_WRITTEN : LEGUMEYET_UNREADABLE;
         expect_error("a number", CALL(by[row], format, NOTHING, NOTHING, out, ROOM, &length), LEGUMEYET_NUMBER);
         expect_error("parts", CALL(by[row], format_parts, NOTHING, NOTHING, out, ROOM, &length, &none, 1, &count), LEGUMEYET_NUMBER);
         expect_error("what is shown", CALL(by[row], shown, NOTHING, NOTHING, out, ROOM, &length), LEGUMEYET_NUMBER);

@@ -61,6 +61,7 @@ static const struct {
 } ROWS[] = {
     {PLAIN, {"1,234.5", "-7", "0.25"}, {"1,234.50", "-7.00", "0.00"}, {"1,234.50", "-7", "1,000"}},
     {SHORT, {"1.2K", "-7", "0.25"}, {"1.2K", "-7", "0"}, {"1.2K", "-7", "1K"}},
+    {SCIENTIFIC, {"1.2345E3", "-7E0", "2.5E-1"}, {"1.2345E3", "-7E0", "0E0"}, {"1.2345E3", "-7E0", "1E3"}},
     {PERCENT, {"1,234.5%", "-7%", "0.25%"}, {"1,234.50%", "-7.00%", "0.00%"}, {"1,234.50%", "-7%", "1,000%"}},
     {EUROS, {EURO "1,234.50", "-" EURO "7.00", EURO "0.25"}, {EURO "1,234.50", "-" EURO "7.00", EURO "0.00"}, {EURO "1,234.50", "-" EURO "7.00", EURO "1,000.00"}},
 };
@@ -76,6 +77,8 @@ static void columns(void) {
     }
     EXPECT(CALL(by[PLAIN], format_doubles, DOUBLES, 3, LEGUMEYET_WORDS(digits), WRITTEN), LEGUMEYET_OK, "1,230", "-7.0", "0.25", NULL);
     EXPECT(CALL(by[PLAIN], format_integers, INTEGERS, 3, -2, LEGUMEYET_WORDS(digits), WRITTEN), LEGUMEYET_OK, "1,230", "-7.0", "0.0", NULL);
+    EXPECT(CALL(by[SCIENTIFIC], format_doubles, DOUBLES, 3, LEGUMEYET_WORDS(digits), WRITTEN), LEGUMEYET_OK, "1.23E3", "-7.0E0", "2.5E-1", NULL);
+    EXPECT(CALL(by[TWO_DIGITS], format_texts, TEXT(LINES), OWN, WRITTEN), LEGUMEYET_OK, "1.2345E03", "-7E00", "1E03", NULL);
     EXPECT(CALL(by[EUROS], format_texts, TEXT(LINES), LEGUMEYET_WORDS(digits), WRITTEN), LEGUMEYET_OK, EURO "1,230", "-" EURO "7.0", EURO "1,000", NULL);
 }
 

@@ -32,13 +32,16 @@ static const struct {
     {"percent precision-currency-cash", LEGUMEYET_SKELETON_PAIR, 8},
     {"latin", LEGUMEYET_SKELETON_SYSTEM, 0},
     {"percent numbering-system/thai", LEGUMEYET_SKELETON_SYSTEM, 8},
-    {"scientific", LEGUMEYET_SKELETON_LATER, 0},
+    {"K scientific", LEGUMEYET_SKELETON_TWICE, 2},
+    {"scientific engineering", LEGUMEYET_SKELETON_TWICE, 11},
+    {"scientific/foo", LEGUMEYET_SKELETON_UNKNOWN, 0},
     {"percent scale/100", LEGUMEYET_SKELETON_LATER, 8},
     {"%x100", LEGUMEYET_SKELETON_LATER, 0},
-    {"scientific/*ee", LEGUMEYET_SKELETON_LATER, 0},
-    {"engineering", LEGUMEYET_SKELETON_LATER, 0},
-    {"E0", LEGUMEYET_SKELETON_LATER, 0},
-    {"K EE+?0", LEGUMEYET_SKELETON_LATER, 2},
+    {"scientific/sign-except-zero", LEGUMEYET_SKELETON_UNSUPPORTED, 0},
+    {". engineering/*ee/sign-never", LEGUMEYET_SKELETON_UNSUPPORTED, 2},
+    {"EE+?0", LEGUMEYET_SKELETON_UNSUPPORTED, 0},
+    {"percent scientific", LEGUMEYET_SKELETON_LATER, 8},
+    {"E0 currency/EUR", LEGUMEYET_SKELETON_LATER, 0},
     {"unit/kilometer", LEGUMEYET_SKELETON_LATER, 0},
     {". measure-unit/length-meter", LEGUMEYET_SKELETON_LATER, 2},
     {"unit-width-narrow currency/USD", LEGUMEYET_SKELETON_LATER, 0},
@@ -80,6 +83,7 @@ static void faults(void) {
     expect("no percents", legumeyet_formatter_open_skeleton(&book, TEXT("de-CH"), TEXT("percent"), &place, &it), LEGUMEYET_TABLE);
     expect("no currencies", legumeyet_formatter_open_skeleton(&book, TEXT("tr"), TEXT("currency/EUR"), &place, &it), LEGUMEYET_TABLE);
     expect("compact amounts", legumeyet_formatter_open_skeleton(&book, TEXT("en"), TEXT("K currency/EUR"), &place, &it), LEGUMEYET_TABLE);
+    expect("no exponents", legumeyet_formatter_open_skeleton(&book, TEXT("tr"), TEXT("E0"), &place, &it), LEGUMEYET_TABLE);
     expect("no place", (int64_t)place, PLACE);
     expect("it stayed closed", legumeyet_formatter_close(&it), LEGUMEYET_CLOSED);
 }
@@ -135,6 +139,19 @@ static const struct {
     {"en", "compact-short rounding-mode-down", "1999", "1.9K", "1.9c3"},
     {"en", "compact-short precision-unlimited", "1234567", "1.234567M", "1.234567c6"},
     {"en", "compact-long .##", "1234.567", "1.23 thousand", "1.23c3"},
+    {"en", "scientific", "1234567.891", "1.234568E6", "1.234568e6"},
+    {"en", "scientific", "1200000.0", "1.2E6", "1.2e6"},
+    {"en", "E0", "+0.00", "0E0", "0e0"},
+    {"en", "scientific/*ee", "1200000", "1.2E06", "1.2e06"},
+    {"en", "scientific/sign-always", "1200000", "1.2E+6", "1.2e+6"},
+    {"en", "E+!00", "-0.00012", "-1.2E-04", "-1.2e-04"},
+    {"en", "engineering", "0.00012", "120E-6", "120e-6"},
+    {"en", "EE000", "12000", "12E003", "12e003"},
+    {"en", "scientific .00", "999999", "1.00E6", "1.00e6"},
+    {"en", "engineering @@#", "999999", "1.0E6", "1.0e6"},
+    {"en", "scientific .0 sign-always rounding-mode-down", "1999", "+1.9E3", "+1.9e3"},
+    {"en", "scientific precision-unlimited", "1234567.891", "1.234567891E6", "1.234567891e6"},
+    {"ar", "scientific", "0.00012", ARABIC_POWER, "1.2e-4"},
     {"ar", "", "1234.5", ARABIC_NUMBER, "1234.5"},
 };
 
@@ -190,6 +207,10 @@ static void options(void) {
     expect("a column", legumeyet_formatter_format_texts(&it, TEXT("007\n1"), NOTHING, out, ROOM, ends, 2, &count), LEGUMEYET_OK);
     length = ends[1];
     expect_text("a column", LEGUMEYET_OK, "+7.00+1.00");
+    expect("a power", legumeyet_formatter_open_skeleton(&book, TEXT("en"), TEXT("E00 .00 sign-always"), &place, &it), LEGUMEYET_OK);
+    expect_text("its own", legumeyet_formatter_format(&it, TEXT("1234567"), NOTHING, out, ROOM, &length), "+1.23E06");
+    expect_text("given ones", legumeyet_formatter_format(&it, TEXT("1234567"), LEGUMEYET_WORDS(as_given), out, ROOM, &length), "1.234567E06");
+    expect_text("the value", legumeyet_formatter_shown(&it, TEXT("1234567"), &as_given, 1, out, ROOM, &length), "1.234567e06");
     expect("words over it", legumeyet_formatter_open(&book, TEXT("en"), NOTHING, NOTHING, &it), LEGUMEYET_OK);
     expect_text("no options of its own", legumeyet_formatter_format(&it, TEXT("007"), NOTHING, out, ROOM, &length), "007");
     expect("a close", legumeyet_formatter_close(&it), LEGUMEYET_OK);
@@ -209,6 +230,10 @@ static const char *const NORMAL[][2] = {
     {"K group-min2", "compact-short"},
     {"000 .00##", ".00## integer-width/*000"},
     {".+ notation-simple base-unit", "precision-unlimited"},
+    {"E0", "scientific"},
+    {"EE+!00", "engineering/*ee/sign-always"},
+    {"scientific/sign-always/+ee", "scientific/*ee/sign-always"},
+    {".00 engineering/sign-auto", "engineering .00"},
     {"rounding-mode-half-even", ""},
     {"()! unit-width-iso-code currency/CHF precision-currency-cash", "currency/CHF precision-currency-cash unit-width-iso-code sign-accounting-always"},
 };

@@ -2,7 +2,7 @@
  * Legumeyet: numbers written as their readers write them, from C.
  *
  * A book has the tables that numbers are written with; that of the world's locales is in the library. From it formatters are opened, one for
- * each locale tag and format: of plain or compact numbers, percents or amounts of money. They write into bytes of the caller's:
+ * each locale tag and format: of plain, compact or scientific numbers, percents or amounts of money. They write into bytes of the caller's:
  *
  *     legumeyet_book world = {0};
  *     legumeyet_formatter german = {0};
@@ -29,11 +29,10 @@
  * bytes are the first of the text, which may end inside a character, and `length` is what it needs. Any other error leaves both as they were.
  * What a call writes to overlaps nothing else that it is given, and nothing else writes meanwhile to what a call is given.
  *
- * Threads: one call at a time has a handle, also a call that only reads, as legumeyet_formatter_format, but for the calls that take the handle
- * of a shared formatter as `const`: any number of these run at once. A handle may go to another thread by a lock, a thread's start or join, or
- * a sequentially consistent atomic. Two handles may be used at once, also two formatters of one book; to open a formatter is a call on its
- * book. No call is made in a signal handler, or in a forked child of a process with threads. A call takes at most 48 KiB of stack, and 168 KiB
- * where it opens a book of a JSON that is nested far deeper than a book.
+ * Threads: one call at a time has a handle, also a call that only reads; any number of calls that take the handle of a shared formatter as
+ * `const` run at once. A handle may go to another thread by a lock, a thread's start or join, or a sequentially consistent atomic. Two handles
+ * may be used at once, also two formatters of one book; to open a formatter is a call on its book. No call is made in a signal handler, or in a
+ * forked child of a process with threads. A call takes at most 48 KiB of stack, and 168 KiB to open a JSON nested far deeper than a book.
  */
 #ifndef LEGUMEYET_H
 #define LEGUMEYET_H
@@ -64,14 +63,14 @@ enum {
     LEGUMEYET_TOO_SMALL = 3,    /* the text needs more room; how much was written to `length` */
     LEGUMEYET_OPTION = 4,       /* a word has a number that is not in its list, as a grouping of 5, or is unknown, or two exclude each other */
     LEGUMEYET_TAG = 5,          /* the text is no locale tag, as `e`, or `de_DE`, which is written `de-DE`: legumeyet_tag_of_locale_name */
-    LEGUMEYET_TABLE = 6,        /* the book lacks a table for the tag, or compact numbers with a unit are asked for */
+    LEGUMEYET_TABLE = 6,        /* the book lacks a table for the tag, or compact or scientific numbers with a unit are asked for */
     LEGUMEYET_NUMBER = 7,       /* the text is no decimal number, as `5.`, or `1e+3`, which is written `1e3` */
     LEGUMEYET_LIMIT = 8,        /* a digit of the number is beyond the magnitudes -32768 to 32767 */
-    LEGUMEYET_RANGE = 9,        /* what the number is shown as in compact form, or an exact form, has a digit beyond these magnitudes */
+    LEGUMEYET_RANGE = 9,        /* what a number is shown as, compact or scientific, or an exact form, has a digit beyond these magnitudes */
     LEGUMEYET_UTF8 = 10,        /* the text is not UTF-8 */
-    LEGUMEYET_UNREADABLE = 11,  /* two numbers may have one text: under the symbols, or since compact numbers or words are written */
+    LEGUMEYET_UNREADABLE = 11,  /* two numbers may have one text, by the symbols, or of compact numbers or words; or numbers are scientific */
     LEGUMEYET_NOT_WRITTEN = 12, /* the formatter writes no number so, as `98,7654` in English */
-    LEGUMEYET_EXPONENT = 13,    /* numbers of the magnitude of an exact form have another exponent, as 3 that of `1.2c5` in English */
+    LEGUMEYET_EXPONENT = 13,    /* numbers of the magnitude of an exact form have another exponent, as 3 that of `1.2c5`; scientific ones any */
     LEGUMEYET_CODE = 14,        /* the text is no code of a currency, three letters `A` to `Z`, as `eur`; or no currency is asked for */
     LEGUMEYET_UNKEPT = 15,      /* the book is not kept, as by legumeyet_book_keep */
     /* Why a text is no book: the first faulty entry decides, and of an entry the least number. */
@@ -94,14 +93,16 @@ enum {
     LEGUMEYET_SKELETON_CODE = 203,       /* what follows `currency/` is no code of a currency, as in `currency/EURO` */
     LEGUMEYET_SKELETON_PAIR = 204,       /* a word is for amounts, and there is no currency, as `sign-accounting` alone */
     LEGUMEYET_SKELETON_SYSTEM = 205,     /* a word names a numbering system, which the tag has, as `latin` */
-    LEGUMEYET_SKELETON_LATER = 206,      /* a word, or what it says beside another one, is not written yet, as `scientific` */
+    LEGUMEYET_SKELETON_LATER = 206,      /* a word, or what it says beside another one, is not written yet, as `scale/100` */
     LEGUMEYET_SKELETON_UNSUPPORTED = 207 /* a word asks for what is not written here, as `decimal-always` */
 };
 
 /* How the digits are written. */
 enum {
-    LEGUMEYET_NOTATION_STANDARD = 0, /* all of them: `1,650` in English */
-    LEGUMEYET_NOTATION_COMPACT = 1   /* the first two or three, in a pattern: `1.6K` */
+    LEGUMEYET_NOTATION_STANDARD = 0,   /* all of them: `1,650` in English */
+    LEGUMEYET_NOTATION_COMPACT = 1,    /* the first two or three, in a pattern: `1.6K` */
+    LEGUMEYET_NOTATION_SCIENTIFIC = 2, /* those of a significand below 10, and a power of ten: `1.65E3` */
+    LEGUMEYET_NOTATION_ENGINEERING = 3 /* of one below 1,000, with an exponent that is a multiple of three: 0.00012 as `120E-6` */
 };
 
 /* In which patterns compact numbers are written. */
@@ -196,7 +197,11 @@ enum {
     LEGUMEYET_PART_DECIMAL = 5,  /* the decimal separator */
     LEGUMEYET_PART_FRACTION = 6, /* the fraction digits */
     LEGUMEYET_PART_CURRENCY = 7, /* the currency */
-    LEGUMEYET_PART_PERCENT_SIGN = 8
+    LEGUMEYET_PART_PERCENT_SIGN = 8,
+    LEGUMEYET_PART_EXPONENT_SEPARATOR = 9,   /* the text before an exponent: `E` of `1.2E-6` */
+    LEGUMEYET_PART_EXPONENT_MINUS_SIGN = 10, /* the sign of the exponent */
+    LEGUMEYET_PART_EXPONENT_PLUS_SIGN = 11,
+    LEGUMEYET_PART_EXPONENT_INTEGER = 12 /* its digits */
 };
 
 /* The facts of a formatter that legumeyet_formatter_tell tells. */
@@ -233,7 +238,7 @@ typedef struct { void *content; bool is_open; } legumeyet_answers;              
 typedef struct {
     int32_t notation;       /* a LEGUMEYET_NOTATION */
     int32_t width;          /* a LEGUMEYET_WIDTH; it counts only for compact numbers */
-    int32_t unit;           /* a LEGUMEYET_UNIT; compact numbers have none: LEGUMEYET_TABLE */
+    int32_t unit;           /* a LEGUMEYET_UNIT; compact and scientific numbers have none: LEGUMEYET_TABLE */
     int32_t currency_style; /* a LEGUMEYET_STYLE; it counts only for amounts */
     int32_t currency_width; /* a LEGUMEYET_CURRENCY; it counts only for amounts */
     int32_t grouping;       /* a LEGUMEYET_GROUPING; people mostly expect MIN2 of compact numbers: `1000T`, `10,000T` */
@@ -245,7 +250,7 @@ typedef struct {
  * sign is chosen. Zeroed, the number stays as it is, and an amount has the digits of its currency. `NULL, 0` are the formatter's own options:
  * those of its skeleton, or zeroes where it was opened without one. Options that are given replace them wholly. Of LEGUMEYET_ROUND_USUAL,
  * LEGUMEYET_ROUND_CASH and LEGUMEYET_ROUND_NONE the position and the increment count for nothing. A zero that a rounding above the ones leaves
- * is one `0`: 400 to thousands, at 3, is `0`, and of dollars `$0`.
+ * is one `0`: 400 to thousands, at 3, is `0`, and of dollars `$0`. Of a scientific number they change the significand: at -2 1234567 is `1.23E6`.
  *
  * Significant digits are counted from the first one on that is not zero: at most 3 of 12345 are `12,300`, and of 0.012345 `0.0123`; at least
  * 3 of 5 are `5.00`. Of zeros at the end of the fraction only those of the least count stay. The least count of fraction digits does nothing,
@@ -337,11 +342,9 @@ int32_t legumeyet_answers_close(legumeyet_answers *answers);
 /*
  * Answers request lines, each ended by a line feed, in order: what is written is their answers, as legumeyet_book_answer has them, each
  * ended by a line feed. What is after the last line feed of `lines` is not read: a caller passes it again with what follows it, and at the
- * end of all adds a line feed where the last line has none.
- *
- * `read` is how many bytes of `lines` were answered, and `written` how many of `out` were written, also with an error. `needs` is 0, but
- * where the call returns LEGUMEYET_TOO_SMALL: then it is how many bytes the answer to the next line has with its line feed, which are more
- * than are left, and these are its first ones. A caller takes what is written, and goes on from `read`:
+ * end of all adds a line feed where the last line has none. `read` is how many bytes of `lines` were answered, and `written` how many of `out`
+ * were written, also with an error. `needs` is 0, but where the call returns LEGUMEYET_TOO_SMALL: then it is how many bytes the answer to the
+ * next line has with its line feed, which are more than are left, and these are its first ones. A caller takes what is written, and goes on:
  *
  *     do {
  *         error = legumeyet_answers_answer(&answers, lines + at, length - at, out, sizeof out, &read, &written, &needs);
@@ -355,20 +358,20 @@ int32_t legumeyet_answers_answer(legumeyet_answers *answers, const uint8_t *line
 
 /*
  * Opens the formatter of a format for a locale tag. Without words that of `en` writes -1234.5 as `-1,234.5`; of compact numbers that of `en`
- * writes 1650 as `1.6K`, of percents that of `tr` 12.5 as `%12,5`, and of amounts that of `de-CH` and `CHF` -5 as `CHF-5.00`. `unit` is the
- * code of the currency, three letters `A` to `Z`, where the format is of amounts, and else `NULL, 0`. A currency that the book does not know is
- * written by its code, and has two digits. The formatter has its own copy of the tables, unless the book is kept. With `plurals` each call that
- * writes the text of a number writes its plural category instead, by what would be shown: of `1` with two fraction digits at least `other` in
- * English, and of 1200000 compact `many` in French, as `1,2 M`. It has no parts, and reads no text.
+ * writes 1650 as `1.6K`, of scientific ones as `1.65E3`, of percents that of `tr` 12.5 as `%12,5`, and of amounts that of `de-CH` and `CHF`
+ * -5 as `CHF-5.00`. `unit` is the code of the currency, three letters `A` to `Z`, where the format is of amounts, and else `NULL, 0`. A currency
+ * that the book does not know is written by its code, and has two digits. The formatter has its own copy of the tables, unless the book is kept.
+ * With `plurals` each call that writes the text of a number writes its plural category instead, by what would be shown: of `1` with two fraction
+ * digits at least `other` in English, and of 1200000 compact `many` in French, as `1,2 M`. It has no parts, and reads no text.
  * Returns 0; LEGUMEYET_CLOSED, of the book; LEGUMEYET_OPTION, of the format; LEGUMEYET_CODE; LEGUMEYET_TAG; LEGUMEYET_TABLE, where the book
- * has no symbols or no digits for the tag, or lacks what the format needs: plural rules, patterns of the width, percents, or currencies;
- * LEGUMEYET_MEMORY, also in place of the last two.
+ * has no symbols or no digits for the tag, or lacks what the format needs: plural rules, patterns of the width, percents, currencies, or the
+ * text before exponents; LEGUMEYET_MEMORY, also in place of the last two.
  */
 int32_t legumeyet_formatter_open(legumeyet_book *book, const uint8_t *tag, size_t tag_length, const legumeyet_format *format,
     size_t format_words, const uint8_t *unit, size_t unit_length, legumeyet_formatter *formatter);
 
 /*
- * Opens the formatter of a skeleton, the text by which ICU asks for a format: `currency/EUR .00`, `compact-short`, `percent .##`. The
+ * Opens the formatter of a skeleton, the text by which ICU asks for a format: `currency/EUR .00`, `compact-short`, `scientific .00`. The
  * options that it says are the formatter's own, but for the digits of compact numbers, as of `compact-short .00`, which are of its format.
  * docs/skeletons.md of the repository has the words, and where ICU differs.
  * Returns 0; LEGUMEYET_CLOSED, of the book; LEGUMEYET_SKELETON_UNKNOWN to LEGUMEYET_SKELETON_UNSUPPORTED, and only then `place` is written:
@@ -393,8 +396,8 @@ int32_t legumeyet_formatter_close(legumeyet_formatter *formatter);
  * LEGUMEYET_ROUND_NONE 5 dollars `$5`. A compact number is changed by the options before it is shown: -1172700 is `-1.2M`, rounded at 6 `-1M`.
  * What is shown has no zeros at the end of its fraction, so a least count of digits does nothing. The digits that a skeleton has for what is
  * before the pattern stay, whatever options are given: with `compact-short .00` 1234 is `1.23K`, rounded at 2 `1.20K`.
- * Returns 0; LEGUMEYET_CLOSED; LEGUMEYET_OPTION, of the options; LEGUMEYET_NUMBER; LEGUMEYET_LIMIT; LEGUMEYET_RANGE, of compact numbers;
- * LEGUMEYET_MEMORY, which a number of sixteen digits at most takes only where multiples of 25 give it a seventeenth; LEGUMEYET_TOO_SMALL.
+ * Returns 0; LEGUMEYET_CLOSED; LEGUMEYET_OPTION, of the options; LEGUMEYET_NUMBER; LEGUMEYET_LIMIT; LEGUMEYET_RANGE, of compact and scientific
+ * numbers; LEGUMEYET_MEMORY, of a number of sixteen digits at most only where multiples of 25 give it a seventeenth; LEGUMEYET_TOO_SMALL.
  */
 int32_t legumeyet_formatter_format(legumeyet_formatter *formatter, const uint8_t *number, size_t number_length,
     const legumeyet_options *options, size_t option_words, uint8_t *out, size_t room, size_t *length);
@@ -432,8 +435,8 @@ int32_t legumeyet_formatter_format_parts(legumeyet_formatter *formatter, const u
     size_t intervals_room, size_t *count);
 
 /*
- * Writes the value that the text of a number shows: of `-1172700` in short English `-1.2c6`, which is -1.2 times ten to the power 6. Where
- * the exponent is 0, as always but in compact numbers, it is only the number, as the options leave it: `950`, and of `5` dollars `5.00`.
+ * Writes the value that the text of a number shows: of `-1172700` in short English `-1.2c6`, which is -1.2 times ten to the power 6, and of a
+ * scientific text `-1.1727e6`. Else it is the number, as the options leave it, as of a compact one without a pattern: `950`; of 5 dollars `5.00`.
  * Returns as legumeyet_formatter_format; LEGUMEYET_MEMORY also where what is shown has more than sixteen digits.
  */
 int32_t legumeyet_formatter_shown(legumeyet_formatter *formatter, const uint8_t *number, size_t number_length, const legumeyet_options *options,
@@ -441,7 +444,7 @@ int32_t legumeyet_formatter_shown(legumeyet_formatter *formatter, const uint8_t 
 
 /*
  * Writes an exact form, as legumeyet_formatter_shown writes one, its digits as they are given: `-1.20c6` as `-1.20M` in short English. In
- * other formats than compact ones it has no exponent: `1.20`. The options change the significand: rounded at -1 it is `-1.2M`.
+ * other formats than compact ones it has no exponent: `1.20`; scientific ones have none. Options change the significand: at -1 it is `-1.2M`.
  * Returns 0; LEGUMEYET_CLOSED; LEGUMEYET_OPTION, of the options; LEGUMEYET_NUMBER, where the text is no compact number, as `1.2e6`;
  * LEGUMEYET_LIMIT, also of an exponent above 255; LEGUMEYET_MEMORY, as of legumeyet_formatter_format; LEGUMEYET_RANGE, where the magnitude
  * of both together is above 32767; LEGUMEYET_EXPONENT; LEGUMEYET_TOO_SMALL.
@@ -451,16 +454,14 @@ int32_t legumeyet_formatter_format_exact(legumeyet_formatter *formatter, const u
 
 /*
  * Writes the plural category of the range from one number to another, by those of both ends, as they are shown: of `0` and `1` in French
- * `one`, in English `other`. It is for a formatter with `plurals`; of another one it returns LEGUMEYET_OPTION: texts of ranges are not
- * written yet. Returns as legumeyet_formatter_format, of `first` before `second`.
+ * `one`, in English `other`. Without `plurals` it is LEGUMEYET_OPTION. Returns as legumeyet_formatter_format, of `first` before `second`.
  */
 int32_t legumeyet_formatter_format_range(legumeyet_formatter *formatter, const uint8_t *first, size_t first_length, const uint8_t *second,
     size_t second_length, const legumeyet_options *options, size_t option_words, uint8_t *out, size_t room, size_t *length);
 
 /*
  * Tells a fact of a formatter, a LEGUMEYET_FACT, as text. Amounts have the separators and signs of their currency, where it has its own.
- * Returns 0; LEGUMEYET_CLOSED; LEGUMEYET_OPTION, of a number that is not in the list, of 8 to 10 where there is no currency, and of 11
- * where there are no `plurals`; LEGUMEYET_TOO_SMALL.
+ * Returns 0; LEGUMEYET_CLOSED; LEGUMEYET_OPTION, of another number, of 8 to 10 without a currency, of 11 without `plurals`; LEGUMEYET_TOO_SMALL.
  */
 int32_t legumeyet_formatter_tell(legumeyet_formatter *formatter, uint32_t fact, uint8_t *out, size_t room, size_t *length);
 
@@ -468,8 +469,8 @@ int32_t legumeyet_formatter_tell(legumeyet_formatter *formatter, uint32_t fact, 
  * Reads a text back as the one number that the formatter writes so, and writes it as digits: in English `-1,234.50` as `-1234.50`, and with
  * euros `-€1,234.50`. How many digits the currency has is not looked at: `€1.5` is 1.5. A formatter of a kept book keeps what it makes of its
  * tables at the first call that reads, until it is closed. Another one, or one to which memory for that is refused, makes it for each text.
- * Returns 0; LEGUMEYET_CLOSED; LEGUMEYET_UTF8; LEGUMEYET_UNREADABLE, as always of compact numbers and of `plurals`; LEGUMEYET_NOT_WRITTEN, as of
- * `$1.00` with euros; LEGUMEYET_MEMORY, which a plain number of sixteen digits at most never takes; LEGUMEYET_TOO_SMALL.
+ * Returns 0; LEGUMEYET_CLOSED; LEGUMEYET_UTF8; LEGUMEYET_UNREADABLE, as always of compact and scientific numbers and `plurals`;
+ * LEGUMEYET_NOT_WRITTEN, as of `$1.00` with euros; LEGUMEYET_MEMORY, never of a plain number of sixteen digits at most; LEGUMEYET_TOO_SMALL.
  */
 int32_t legumeyet_formatter_read(legumeyet_formatter *formatter, const uint8_t *text, size_t text_length, uint8_t *out, size_t room,
     size_t *length);
@@ -503,11 +504,10 @@ int32_t legumeyet_formatter_read_lenient(legumeyet_formatter *formatter, const u
  *
  * The call returns 0 where all were written. Else it returns why the next number, that at `count`, was not: LEGUMEYET_TOO_SMALL where
  * `count` is `ends_room`, or where its text has not room in `out` after the others; or what the call for one number returns. A caller takes
- * what is written, and goes on from the number at `count`, or from the one after it.
- *
- * LEGUMEYET_CLOSED and LEGUMEYET_OPTION come before all numbers, also where there is none: `count` is 0. The ends from `count` on stay as they
- * were, and so do the bytes of `out` after the last text, but that with LEGUMEYET_TOO_SMALL these may be the first of the next text. A column
- * of texts has one number a line. A line ends at a line feed; what is after the last one is a line too, where it is not empty.
+ * what is written, and goes on from the number at `count`, or from the one after it. LEGUMEYET_CLOSED and LEGUMEYET_OPTION come before all
+ * numbers, also where there is none: `count` is 0. The ends from `count` on stay as they were, and so do the bytes of `out` after the last text,
+ * but that with LEGUMEYET_TOO_SMALL these may be the first of the next text. A column of texts has one number a line. A line ends at a line
+ * feed; what is after the last one is a line too, where it is not empty.
  */
 
 /* Writes doubles, each as legumeyet_formatter_format_double does. */

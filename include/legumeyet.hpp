@@ -87,7 +87,10 @@ enum class Code : int32_t {
 };
 
 // How the digits are written: LEGUMEYET_NOTATION.
-enum class Notation : int32_t { Standard = LEGUMEYET_NOTATION_STANDARD, Compact = LEGUMEYET_NOTATION_COMPACT };
+enum class Notation : int32_t {
+    Standard = LEGUMEYET_NOTATION_STANDARD, Compact = LEGUMEYET_NOTATION_COMPACT, Scientific = LEGUMEYET_NOTATION_SCIENTIFIC,
+    Engineering = LEGUMEYET_NOTATION_ENGINEERING
+};
 // In which patterns compact numbers are written: LEGUMEYET_WIDTH.
 enum class Width : int32_t { Short = LEGUMEYET_WIDTH_SHORT, Long = LEGUMEYET_WIDTH_LONG };
 // What is written beside the digits: LEGUMEYET_UNIT.
@@ -141,7 +144,9 @@ enum class RoundingPriority : int32_t {
 // What a part of a text is: LEGUMEYET_PART. A later library may have other kinds.
 enum class Kind : uint32_t {
     MinusSign = LEGUMEYET_PART_MINUS_SIGN, PlusSign = LEGUMEYET_PART_PLUS_SIGN, Integer = LEGUMEYET_PART_INTEGER, Group = LEGUMEYET_PART_GROUP,
-    Decimal = LEGUMEYET_PART_DECIMAL, Fraction = LEGUMEYET_PART_FRACTION, Currency = LEGUMEYET_PART_CURRENCY, PercentSign = LEGUMEYET_PART_PERCENT_SIGN
+    Decimal = LEGUMEYET_PART_DECIMAL, Fraction = LEGUMEYET_PART_FRACTION, Currency = LEGUMEYET_PART_CURRENCY, PercentSign = LEGUMEYET_PART_PERCENT_SIGN,
+    ExponentSeparator = LEGUMEYET_PART_EXPONENT_SEPARATOR, ExponentMinusSign = LEGUMEYET_PART_EXPONENT_MINUS_SIGN,
+    ExponentPlusSign = LEGUMEYET_PART_EXPONENT_PLUS_SIGN, ExponentInteger = LEGUMEYET_PART_EXPONENT_INTEGER
 };
 
 // What a formatter tells of itself: LEGUMEYET_FACT.
@@ -798,11 +803,12 @@ template <class Base> class Formatter : Base {
         found.parts.resize(count);
         return found;
     }
-    // The value that the text of a number shows: `-1.2c6` of `-1.2M`, and where it is not compact its digits after the options.
+    // The value that the text of a number shows: `-1.2c6` of `-1.2M`, `-1.2e6` of `-1.2E6`, and of any other its digits after the options.
     Result<std::string> try_shown(const Digits &number, Options options = OWN) {
         return text_of(writing(twin(&handle, legumeyet_formatter_shown, legumeyet_shared_formatter_shown), number, options));
     }
-    // The text of a significand with an exponent, its digits as they are: `-1.20M` of `-1.20c6`. Where it is not compact it has no exponent.
+    // The text of a significand with an exponent, its digits as they are: `-1.20M` of `-1.20c6`. Where it is not compact it has no exponent, and
+    // in scientific notation there is none: Code::Exponent.
     Result<std::string> try_format_exact(Text number, Options options = OWN) {
         return text_of(writing(twin(&handle, legumeyet_formatter_format_exact, legumeyet_shared_formatter_format_exact), number, options));
     }
@@ -819,7 +825,7 @@ template <class Base> class Formatter : Base {
         const auto tell = twin(&handle, legumeyet_formatter_tell, legumeyet_shared_formatter_tell);
         return text_of([&](auto... out) { return tell(&handle, static_cast<uint32_t>(fact), out...); });
     }
-    // The number that is written so, as digits: in English `-1234.50` of `-1,234.50`, and of `-€1,234.50` with euros. Not of a compact one.
+    // The number that is written so, as digits: in English `-1234.50` of `-1,234.50`, and of `-€1,234.50` with euros. Not of a compact or scientific one.
     Result<std::string> try_read(Text text) {
         const auto read = twin(&handle, legumeyet_formatter_read, legumeyet_shared_formatter_read);
         return text_of([&](auto... out) { return read(&handle, text.bytes(), text.size(), out...); });
@@ -1077,7 +1083,7 @@ class NumberFormatter : public inner::Formatter<inner::Owned<legumeyet_formatter
 
   public:
     explicit NumberFormatter(Closed) noexcept {}
-    // Of a format, and with options of its own, which its calls look at. Code::Table of compact numbers with a unit.
+    // Of a format, and with options of its own, which its calls look at. Code::Table of compact or scientific numbers with a unit.
     static Result<NumberFormatter> try_open(Book &book, Text tag, const Format &format, Options options = OWN) noexcept {
         return opened<NumberFormatter>(book, tag, format, options);
     }

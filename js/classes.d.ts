@@ -82,6 +82,12 @@ export interface CompactDecimalFormatterOptions extends FormatterOptions, Decima
   compactDisplay?: "short" | "long";
 }
 
+/** The options of digits and of the rounding are those of the significand, as of 1.23 in `1.23E4`. */
+export interface ScientificFormatterOptions extends FormatterOptions, DecimalCallOptions {
+  /** `scientific` without it: 12345 is `1.2345E4`. `engineering` has exponents that are multiples of three: `12.345E3`. */
+  notation?: "scientific" | "engineering";
+}
+
 export type PercentFormatterOptions = DecimalFormatterOptions;
 
 export interface CurrencyFormatterOptions extends FormatterOptions, CurrencyCallOptions {
@@ -94,7 +100,7 @@ export interface CurrencyFormatterOptions extends FormatterOptions, CurrencyCall
 }
 
 export interface NumberFormatterOptions extends OpeningOptions {
-  /** What is written, and how, by ICU's words: `currency/EUR .00`, `compact-short`, `percent .##`. docs/skeletons.md of the repository has them. */
+  /** What is written, and how, by ICU's words: `currency/EUR .00`, `compact-short`, `scientific .##`. docs/skeletons.md of the repository has them. */
   skeleton: string;
 }
 
@@ -122,7 +128,9 @@ export interface Symbols {
 }
 
 export interface Part {
-  type: "minusSign" | "plusSign" | "integer" | "group" | "decimal" | "fraction" | "currency" | "percentSign" | "literal";
+  type:
+    | "minusSign" | "plusSign" | "integer" | "group" | "decimal" | "fraction" | "currency" | "percentSign" | "literal"
+    | "exponentSeparator" | "exponentMinusSign" | "exponentPlusSign" | "exponentInteger";
   value: string;
 }
 
@@ -168,11 +176,11 @@ declare abstract class Formatter<Options, Call> extends Open {
   formatAll(numbers: Float64Array | BigInt64Array | Iterable<Num>, options?: Call): string[];
   /** The parts of a number's text. */
   formatToParts(number: Num, options?: Call): Part[];
-  /** The value that the text of a number shows: `-1.2c6` is -1.2 times ten to the power 6, of a compact number; `1.50` of any other. */
+  /** The value that the text of a number shows: `-1.2c6` is -1.2 times ten to the power 6, of a compact number, and `-1.2e6` of a scientific one; `1.50` of any other. */
   shown(number: Num, options?: Call): string;
-  /** The text of a value as `shown` gives it, its digits as they are: `-1.20c6` is `-1.20M` in short English. */
+  /** The text of a value as `shown` gives it, its digits as they are: `-1.20c6` is `-1.20M` in short English. No scientific number is written so. */
   formatExact(value: string, options?: Call): string;
-  /** The digits of the one number that is written so: `-1,234.50` is `-1234.50` in English. No compact number is read. */
+  /** The digits of the one number that is written so: `-1,234.50` is `-1234.50` in English. No compact or scientific number is read. */
   read(text: string): string;
   /** The digits of the number that was typed so: in English also `1234.5`, `.5` and ` 5`; `12.5`, `12.5 %` and `%12.5`; `5 €` and `EUR 5`. */
   readLenient(text: string): string;
@@ -203,6 +211,13 @@ export class CompactDecimalFormatter extends Formatter<CompactDecimalFormatterOp
   static supportedLocalesOf(locales: Locales, options?: CompactDecimalFormatterOptions): string[];
 }
 
+/** Writes scientific numbers for a locale. */
+export class ScientificFormatter extends Formatter<ScientificFormatterOptions, DecimalCallOptions> {
+  constructor(locales?: Locales, options?: ScientificFormatterOptions);
+  /** Those of the locales that the book has tables for. */
+  static supportedLocalesOf(locales: Locales, options?: ScientificFormatterOptions): string[];
+}
+
 /** Writes percents for a locale, and reads them back. A percent is written as it is given: a ratio is multiplied by 100 first. */
 export class PercentFormatter extends Formatter<PercentFormatterOptions, DecimalCallOptions> {
   constructor(locales?: Locales, options?: PercentFormatterOptions);
@@ -230,7 +245,7 @@ export interface NumberFormatOptions {
   currencySign?: "standard" | "accounting";
   unit?: string;
   unitDisplay?: "short" | "narrow" | "long";
-  /** Compact numbers are of the style `decimal`; the two of exponents are not written yet. */
+  /** All but `standard` are of the style `decimal`. */
   notation?: "standard" | "scientific" | "engineering" | "compact";
   compactDisplay?: "short" | "long";
   useGrouping?: UseGrouping | "true" | "false";
@@ -259,7 +274,7 @@ export interface ResolvedNumberFormatOptions {
   minimumSignificantDigits?: number;
   maximumSignificantDigits?: number;
   useGrouping: "auto" | "always" | "min2" | false;
-  notation: "standard" | "compact";
+  notation: "standard" | "scientific" | "engineering" | "compact";
   compactDisplay?: "short" | "long";
   signDisplay: Exclude<SignDisplay, "keep">;
   roundingIncrement: RoundingIncrement;
@@ -305,7 +320,7 @@ export interface PluralRulesOptions extends OpeningOptions, Omit<DecimalCallOpti
   /** `cardinal` without it: how many there are. `ordinal` is which one it is: `1st`, `2nd`. */
   type?: "cardinal" | "ordinal";
   /** `standard` without it. */
-  notation?: "standard" | "compact";
+  notation?: "standard" | "scientific" | "engineering" | "compact";
   /** `short` without it, of compact numbers. */
   compactDisplay?: "short" | "long";
   /** Changes nothing. */
@@ -315,7 +330,7 @@ export interface PluralRulesOptions extends OpeningOptions, Omit<DecimalCallOpti
 export type ResolvedPluralRulesOptions = Omit<PluralRulesOptions, "book" | "fallback"> & {
   locale: string;
   type: "cardinal" | "ordinal";
-  notation: "standard" | "compact";
+  notation: "standard" | "scientific" | "engineering" | "compact";
   pluralCategories: PluralCategory[];
 };
 

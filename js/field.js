@@ -74,7 +74,7 @@ export class FieldText {
     this.#formatter = formatter;
     this.#digits = new Digits(formatter?.symbols());
     const shown = formatter?.shown("9876543210.5") ?? ".5";
-    if (!/\.50*$/.test(shown)) throw new RangeError("the formatter of a field shows a fraction as it is: it rounds no number, and is not compact");
+    if (!/\.50*$/.test(shown)) throw new RangeError("the formatter of a field shows a fraction as it is: it rounds no number, and is neither compact nor scientific");
   }
 
   /** What is shown, as it is kept for `restore`: its text, the caret, and its value. */

@@ -134,7 +134,7 @@ export class Formatter {
     return this.#made(partsWritten, "js_formatter_parts", number, options);
   }
 
-  /** The value that the text of a number shows: `-1.2c6` is -1.2 times ten to the power 6. */
+  /** The value that the text of a number shows: `-1.2c6` is -1.2 times ten to the power 6, and so is `-1.2e6` of a scientific one. */
   shown(number, options) {
     return this.#made(written, "js_formatter_shown", number, options);
   }
@@ -212,6 +212,8 @@ export class NumberFormatter extends of("skeleton") {}
 export class DecimalFormatter extends of("decimal") {}
 /** Writes compact numbers for a locale. */
 export class CompactDecimalFormatter extends of("compact") {}
+/** Writes scientific numbers for a locale. */
+export class ScientificFormatter extends of("scientific") {}
 /** Writes percents for a locale, and reads them back. A percent is written as it is given: a ratio is multiplied by 100 first. */
 export class PercentFormatter extends of("percent") {}
 /** Writes amounts of money in a currency for a locale, and reads them back. */

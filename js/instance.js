@@ -354,7 +354,10 @@ export function linesAnswered(at, call, lines, texts) {
   expected(-error);
 }
 
-const KINDS = ["literal", "minusSign", "plusSign", "integer", "group", "decimal", "fraction", "currency", "percentSign"];
+const KINDS = [
+  "literal", "minusSign", "plusSign", "integer", "group", "decimal", "fraction", "currency", "percentSign",
+  "exponentSeparator", "exponentMinusSign", "exponentPlusSign", "exponentInteger",
+];
 
 // Whether parts may be inside one of this kind: groups in an integer, the unit in a sign that has affixes of its own.
 function isOuter(kind) {

@@ -2,6 +2,7 @@
 // around them, and what else is beside a number is a literal.
 const EDGES = /^([\p{Zs}\t\p{Bidi_Control}\p{Variation_Selector}]*)(.*?)([\p{Zs}\t\p{Bidi_Control}\p{Variation_Selector}]*)$/su;
 const SIGN = /[-+\u2212]/u;
+const OF_SIGNS = ["minusSign", "plusSign", "exponentMinusSign", "exponentPlusSign"];
 
 /**
  * The parts of a text as Intl has them. Of a compact number `number` are the parts of the number before or behind its word, where the library has these
@@ -39,7 +40,7 @@ export function intlParts(parts, number) {
     addTrimmed("compact", value.slice(at + text.length));
   };
   for (const { type, value } of parts) {
-    if (type === "minusSign" || type === "plusSign") addSign(type, value);
+    if (OF_SIGNS.includes(type)) addSign(type, value);
     else if (type === "currency" || type === "percentSign") addTrimmed(type, value);
     else if (type === "literal" && text !== undefined) addCompact(value);
     else add(type, value);

@@ -1,10 +1,12 @@
 // NumberFormat, which stands in for Intl.NumberFormat: its options, defaults, calls and errors, over the formatters of the library. What these cannot
 // write is refused by its name; but NaN and infinity, which are no numbers to them, are written here.
 import { USUAL_COMPACT } from "./compact-digits.js";
-import { CompactDecimalFormatter, CurrencyFormatter, DecimalFormatter, PercentFormatter, isWithoutTables } from "./formatters.js";
+import { CompactDecimalFormatter, CurrencyFormatter, DecimalFormatter, PercentFormatter, ScientificFormatter, isWithoutTables } from "./formatters.js";
 import { readMatcher, readNumberFormat } from "./intl-options.js";
 import { intlParts, withSymbol } from "./intl-parts.js";
 import { intlDigits, timesHundred } from "./intl-numbers.js";
+import { magnitudeOf } from "./numbers.js";
+import { SCIENTIFIC } from "./options.js";
 import { INFINITY, NAN } from "./specials.js";
 import { canonicalTags, isUndetermined, machineTag } from "./tags.js";
 
@@ -33,8 +35,7 @@ function lackOf(resolved) {
   const { style, currencyDisplay, notation } = resolved;
   if (style === "unit") return "style unit";
   if (currencyDisplay === "narrowSymbol" || currencyDisplay === "name") return `currencyDisplay ${currencyDisplay}`;
-  if (notation === "scientific" || notation === "engineering") return `notation ${notation}`;
-  return notation === "compact" && style !== "decimal" ? `notation compact with style ${style}` : null;
+  return notation !== "standard" && style !== "decimal" ? `notation ${notation} with style ${style}` : null;
 }
 
 // Whether compact numbers have the digits that they have without an option.
@@ -58,15 +59,23 @@ function formatterOf(tag, resolved) {
   const digits = isUsual ? { roundingMode } : Object.fromEntries(DIGITS.filter((it) => it in resolved).map((it) => [it, resolved[it]]));
   const options = { useGrouping, signDisplay, ...digits };
   if (notation === "compact") return new CompactDecimalFormatter(tag, { ...options, compactDisplay });
+  if (notation in SCIENTIFIC) return new ScientificFormatter(tag, { ...options, notation });
   if (style === "currency") return new CurrencyFormatter(tag, { ...options, currency, currencySign, currencyDisplay });
   return new (style === "percent" ? PercentFormatter : DecimalFormatter)(tag, options);
 }
 
+// How many integer digits are behind the first one of what is rounded: of the number, but with an exponent of its significand.
+function placesOf({ notation }, digits) {
+  const magnitude = magnitudeOf(digits);
+  const step = { scientific: 1, engineering: 3 }[notation];
+  return step === undefined ? magnitude : ((magnitude % step) + step) % step;
+}
+
 // The library leaves as many zeros as a number had digits: by multiples of 25 it makes `00` of 12. What 1 is rounded to has one zero; it is 1 times
-// ten to the exponent that is shown, of compact numbers.
+// ten to the exponent that is shown, of numbers that have one: in engineering notation 0.012 is `00E-3`.
 function withOneZero({ formatter, resolved }, digits) {
-  if (resolved.roundingIncrement === 1 || Math.abs(Number(digits)) < 10) return digits;
-  const [significand, exponent = "0"] = formatter.shown(digits).split("c");
+  if (resolved.roundingIncrement === 1 || placesOf(resolved, digits) < 1) return digits;
+  const [significand, exponent = "0"] = formatter.shown(digits).split(/[ce]/);
   return /[1-9]/.test(significand) ? digits : digits.replace(/[\d.].*/, `1e${exponent}`);
 }
 

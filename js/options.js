@@ -5,6 +5,8 @@ import { NONE } from "./instance.js";
 const GROUPINGS = { auto: 0, false: 1, always: 4, true: 4, min2: 3 };
 const SIGNS = { keep: 0, auto: 1, never: 2, always: 3, exceptZero: 4, negative: 5 };
 const MODES = { expand: 1, trunc: 2, ceil: 3, floor: 4, halfExpand: 5, halfTrunc: 6, halfCeil: 7, halfFloor: 8, halfEven: 9 };
+/** The notations of scientific numbers. */
+export const SCIENTIFIC = { scientific: 2, engineering: 3 };
 /** How wide compact numbers are. */
 export const WIDTHS = { short: 0, long: 1 };
 const CURRENCY_SIGNS = { standard: 0, accounting: 1 };
@@ -23,9 +25,9 @@ const COUNTS = ["minimumIntegerDigits", ...PRECISIONS];
 const OF_OWN_DIGITS = [...COUNTS, "roundingPriority", "trailingZeroDisplay"];
 /** The options of digits and signs. */
 export const OF_DIGITS = [...OF_EACH, ...OF_OWN_DIGITS];
-const OF_CALLS = { decimal: OF_DIGITS, compact: OF_EACH, compactDigits: [], percent: OF_DIGITS, currency: [...OF_DIGITS, "currencyDigits"], skeleton: [] };
+const OF_CALLS = { decimal: OF_DIGITS, compact: OF_EACH, compactDigits: [], scientific: OF_DIGITS, percent: OF_DIGITS, currency: [...OF_DIGITS, "currencyDigits"], skeleton: [] };
 const OF_FORMATS = {
-  decimal: ["useGrouping"], compact: ["useGrouping", "compactDisplay", ...OF_OWN_DIGITS], percent: ["useGrouping"],
+  decimal: ["useGrouping"], compact: ["useGrouping", "compactDisplay", ...OF_OWN_DIGITS], scientific: ["useGrouping", "notation"], percent: ["useGrouping"],
   currency: ["useGrouping", "currency", "currencySign", "currencyDisplay"], skeleton: ["skeleton"],
 };
 /** What resolvedOptions does not tell. */
@@ -184,6 +186,7 @@ function resolvedOf(kind, options, how) {
   const found = { useGrouping: kind === "compact" ? "min2" : "auto", signDisplay: "auto", ...Object.fromEntries(given) };
   if (found.useGrouping === true) found.useGrouping = "always";
   if (kind === "compact") found.compactDisplay ??= "short";
+  if (kind === "scientific") found.notation ??= "scientific";
   if (kind === "currency") {
     found.currencySign ??= "standard";
     found.currencyDisplay ??= "symbol";
@@ -230,7 +233,8 @@ function ofWords(kind, options) {
   const grouping = chosen(options, "useGrouping", GROUPINGS, kind === "compact" ? "min2" : "auto");
   const [style, display] = [chosen(options, "currencySign", CURRENCY_SIGNS, "standard"), chosen(options, "currencyDisplay", CURRENCY_DISPLAYS, "symbol")];
   const width = chosen(options, "compactDisplay", WIDTHS, "short");
-  const format = Int32Array.of(6, kind === "compact" ? 1 : 0, width, UNITS[kind] ?? 0, style, display, grouping);
+  const notation = { compact: 1, scientific: chosen(options, "notation", SCIENTIFIC, "scientific") }[kind] ?? 0;
+  const format = Int32Array.of(6, notation, width, UNITS[kind] ?? 0, style, display, grouping);
   const call = callOf(kind, options);
   return { format, unit, isSkeleton: false, key: `${format} ${unit}`, call, resolved: resolvedOf(kind, options, call.how) };
 }

@@ -4,7 +4,7 @@ export {
   DecimalCallOptions, DecimalFormatter, DecimalFormatterOptions, ErrorNumber, FormatterOptions, LegumeyetError, LoadError, Locales, Num, NumberFormat,
   NumberFormatConstructor, NumberFormatOptions, NumberFormatPart, NumberFormatter, NumberFormatterOptions, Part, PercentFormatter, PercentFormatterOptions,
   PluralCategory, PluralRules, PluralRulesOptions, ResolvedNumberFormatOptions, ResolvedOptions, ResolvedPluralRulesOptions, RoundingIncrement, RoundingMode,
-  SignDisplay, SkeletonError, Symbols, UseGrouping, memorySize, normalSkeleton, version,
+  ScientificFormatter, ScientificFormatterOptions, SignDisplay, SkeletonError, Symbols, UseGrouping, memorySize, normalSkeleton, version,
 } from "./core.js";
 
 /** Takes the module that `legumeyet-page` makes: its bytes, a WebAssembly.Module, or the response to a request for it, or its promise. A second call does nothing. */

@@ -4,11 +4,11 @@ import { USUAL_COMPACT } from "./compact-digits.js";
 import { CompactDecimalFormatter, Formatter, openedOf } from "./formatters.js";
 import { digitsOf } from "./numbers.js";
 import { closesAtEnd } from "./open.js";
-import { HOW_OPENED, OF_DIGITS, WIDTHS, checked, chosen, readCall } from "./options.js";
+import { HOW_OPENED, OF_DIGITS, SCIENTIFIC, WIDTHS, checked, chosen, readCall } from "./options.js";
 import { AS_IT_IS, howFor } from "./rounding.js";
 
 const TYPES = { cardinal: 1, ordinal: 2 };
-const NOTATIONS = { standard: 0, compact: 1 };
+const NOTATIONS = { standard: 0, compact: 1, ...SCIENTIFIC };
 const MATCHERS = { lookup: 0, "best fit": 1 }; // of which neither changes anything
 const OF_RULES = ["type", "notation", "compactDisplay"];
 const DIGITS = OF_DIGITS.filter((it) => !["signDisplay", "position"].includes(it));

@@ -4,14 +4,14 @@ import { isRead, setWorld, unread, useUnread } from "./books.js";
 import { chainOf, shortTag } from "./tags.js";
 
 // What is before each array of a book with an entry a line, and after the last.
-const BRACKETS = ["[[[", ",[", ",[", ",[", ",[", ",[", "],[[", ",[", ",[", ",[", ",[", "],[[", ",[", "]]"];
+const BRACKETS = ["[[[", ",[", ",[", ",[", ",[", ",[", "],[[", ",[", ",[", ",[", ",[", "],[[", ",[", ",[", "]]"];
 const AT = { symbols: 0, digits: 1, parents: 5, currencyDigits: 10 };
-// The arrays that formatters of a kind ask for: of plain numbers symbols, digits and parents, of compact ones all but units and plurals. Others may ask for all.
+// The arrays that formatters of a kind ask for: of plain numbers symbols, digits and parents, of compact ones all but units, plurals and signs. Others may ask for all.
 const OF_PLAIN = [0, 1, 5];
 const OF_COMPACT = [0, 1, 2, 3, 4, 5];
-const OF_ALL = [0, 1, 2, 3, 4, 5, 6, 7, 8, 9, 10, 11, 12];
+const OF_ALL = [0, 1, 2, 3, 4, 5, 6, 7, 8, 9, 10, 11, 12, 13];
 const NEEDS = { decimal: OF_PLAIN, compact: OF_COMPACT };
-const UNDETERMINED = "und"; // where units and plurals are looked for last
+const UNDETERMINED = "und"; // where units, plurals and signs are looked for last
 const ANY_SYSTEM = "latn"; // by whose symbols lenient readers read too
 // So many are read at most, which take less time together than the whole. After them that is read.
 const MOST_SMALL = 16;

@@ -190,7 +190,7 @@ refuse_formatter(const Asked *asked, int32_t error, size_t place) {
     if (error == LEGUMEYET_TABLE)
         ereport(ERROR, (errcode(ERRCODE_INVALID_PARAMETER_VALUE),
                         errmsg("no number format \"%s\" for locale tag \"%s\"", shown(asked->format, asked->format_length), tag),
-                        errdetail("The locale has no data for it, or it is of compact numbers with a unit, which are not supported yet.")));
+                        errdetail("The locale has no data for it, or it is of compact or scientific numbers with a unit, which are not supported yet.")));
     refuse(error);
 }
 
@@ -412,7 +412,7 @@ read_digits(legumeyet_formatter *formatter, const Asked *asked, const text *type
         ereport(ERROR, (errcode(ERRCODE_INVALID_PARAMETER_VALUE),
                         errmsg("cannot read numbers in format \"%s\" for locale tag \"%s\"", shown(asked->format, asked->format_length),
                                shown(asked->tag, asked->tag_length)),
-                        errdetail("Two numbers may have one text in it, as compact ones have.")));
+                        errdetail("Two numbers may have one text in it, as compact ones have, or it is scientific, which is not read yet.")));
     if (error == LEGUMEYET_NOT_WRITTEN)
         return NULL;
     if (error != LEGUMEYET_OK)

@@ -24,6 +24,7 @@ WRITTEN = [
     (-0.0, "en", "", "-0"), ("1e3", "en", "", "1,000"), ("12345678901234567890.5", "en", "", "12,345,678,901,234,567,890.5"),
     (1234.5, "de", "currency/EUR", "1.234,50\u00a0€"), (1.005, "en", ".00", "1.00"), (5, "ja", "currency/JPY", "￥5"),
     (12.5, "tr", "percent", "%12,5"), (1650, "en", "compact-short", "1.6K"), (12345678, "hi", "compact-long", "1.2 करोड़"),
+    (1234567.891, "de", "scientific", "1,234568E6"),
     (1234567, "de", "group-off", "1234567"), (5, "en", "sign-always", "+5"), (1.2, "en", ".00##", "1.20"),
     ("0.123456789", "en", "sign-auto", "0.123457"), ("1.50", "en", "sign-auto", "1.5"),
     (1234567.891, "de", "@@#", "1.230.000"), (0.0012345, "de", "@@#", "0,00123"), (5, "en", "@@#", "5.0"), ("1.500", "en", "@@#", "1.5"),
@@ -52,7 +53,7 @@ REFUSED = [
     # a call; what the message has
     ("legumeyet_format(1, 'e')", "'e'"), ("legumeyet_format(1, '')", "''"), ("legumeyet_format(1, 'de_DE')", "'de_DE'"),
     ("legumeyet_format(1, 'xx')", "'xx'"), ("legumeyet_format(1, 'en', 'percent foo')", "'foo'"), ("legumeyet_format(1, 'en', 'currency/EURO')", "'currency/EURO'"),
-    ("legumeyet_format(1, 'en', 'compact-short currency/EUR')", "'compact-short currency/EUR'"), ("legumeyet_format(1, 'en', 'scientific')", "'scientific'"),
+    ("legumeyet_format(1, 'en', 'compact-short currency/EUR')", "'compact-short currency/EUR'"), ("legumeyet_format(1, 'en', 'unit/meter')", "'unit/meter'"),
     ("legumeyet_format(1, 'en', 'compact-short scale/100')", "'scale/100'"),
     ("legumeyet_format('5.', 'en')", "'5.'"), ("legumeyet_format('12 apples', 'en')", "'12 apples'"), ("legumeyet_format('', 'en')", "''"),
     ("legumeyet_format(x'31', 'en')", "a blob is no number"), ("legumeyet_format(9e999, 'en')", "infinity"), ("legumeyet_format(-9e999, 'en')", "infinity"),
@@ -62,7 +63,7 @@ REFUSED = [
     ("legumeyet_plural(1, 'en', 'ordinals')", "a type of plural categories is"), ("legumeyet_plural(1, 'en', '')", "a type of plural categories is"),
     ("legumeyet_plural('x', 'en')", "'x'"), ("legumeyet_plural(1, 'xx', 'ordinal')", "'xx'"), ("legumeyet_plural(x'31', 'en')", "a blob is no number"),
     ("legumeyet_read('1,23', 'en')", "'1,23'"), ("legumeyet_read('', 'en')", "''"), ("legumeyet_read(cast(x'31ff' as text), 'en')", "legumeyet: "),
-    ("legumeyet_read('1,2M', 'en', 'compact-short')", "'1,2M'"), ("legumeyet_read_or_null('1', 'e')", "'e'"), ("legumeyet_read(x'31', 'en')", "a blob is no text"),
+    ("legumeyet_read('1,2M', 'en', 'compact-short')", "'1,2M'"), ("legumeyet_read('1.2E6', 'en', 'scientific')", "'1.2E6'"), ("legumeyet_read_or_null('1', 'e')", "'e'"), ("legumeyet_read(x'31', 'en')", "a blob is no text"),
     ("legumeyet_format(1, replace(hex(zeroblob(200)), '0', 'é'))", "é'"), ("legumeyet_format(1)", "wrong number of arguments"),
 ]
 NULLS = [

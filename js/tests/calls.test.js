@@ -3,7 +3,7 @@ import assert from "node:assert/strict";
 import { readFileSync } from "node:fs";
 import { createRequire } from "node:module";
 import { test } from "node:test";
-import { Book, CompactDecimalFormatter, CurrencyFormatter, DecimalFormatter, ErrorNumber, LegumeyetError, NumberFormatter, PercentFormatter, version } from "legumeyet";
+import { Book, CompactDecimalFormatter, CurrencyFormatter, DecimalFormatter, ErrorNumber, LegumeyetError, NumberFormatter, PercentFormatter, ScientificFormatter, version } from "legumeyet";
 
 const JSON_OF_ONE = '[[["xx","","latn","-","","+","",";","_",3,3,1]],[["latn","0123456789"]],[],[],[]]';
 const en = new DecimalFormatter("en");
@@ -158,6 +158,30 @@ test("compact numbers", () => {
   refuses(ErrorNumber.RANGE, () => short.format("9".repeat(32768)));
   refuses(ErrorNumber.NUMBER, () => short.shown(NaN));
   assert.throws(() => short.formatExact(1), TypeError);
+});
+
+test("scientific numbers", () => {
+  const powers = new ScientificFormatter("en");
+  assert.deepEqual([1234567.891, "-0.00012", 5n, "0", "-0", "1000.0", 1e21, "1e-400"].map(powers.format), ["1.234567891E6", "-1.2E-4", "5E0", "0E0", "-0E0", "1E3", "1E21", "1E-400"]);
+  assert.deepEqual([999999, "0.00012", "-12000"].map(new ScientificFormatter("en", { notation: "engineering" }).format), ["999.999E3", "120E-6", "-12E3"]);
+  assert.deepEqual(["1234567.891", "999999", "0"].map((it) => powers.format(it, { maximumSignificantDigits: 3 })), ["1.23E6", "1E6", "0E0"]);
+  const tags = { de: "-1,2E-4", sv: "\u22121,2×10^\u22124", "ar-EG": "\u061c-١٫٢أس\u061c-٤", uk: "-1,2\u0415-4", fa: "\u200e\u2212۱٫۲×۱۰^\u200e\u2212۴" };
+  for (const [tag, text] of Object.entries(tags)) assert.equal(new ScientificFormatter(tag).format("-0.00012"), text);
+  assert.deepEqual(["-1234567.891", "0.00012", "5", "0.00"].map((it) => powers.shown(it)), ["-1.234567891e6", "1.2e-4", "5e0", "0e0"]);
+  const types = (parts) => parts.map(({ type, value }) => `${type} ${value}`);
+  assert.deepEqual(types(powers.formatToParts("-0.00012")), ["minusSign -", "integer 1", "decimal .", "fraction 2", "exponentSeparator E", "exponentMinusSign -", "exponentInteger 4"]);
+  assert.deepEqual(types(new NumberFormatter("ar-EG", { skeleton: "scientific/*ee/sign-always" }).formatToParts("1200000")), ["integer ١", "decimal ٫", "fraction ٢", "exponentSeparator أس", "exponentPlusSign \u061c+", "exponentInteger ٠٦"]);
+  for (const exact of ["1.2", "1.2c6"]) refuses(ErrorNumber.EXPONENT, () => powers.formatExact(exact));
+  refuses(ErrorNumber.NUMBER, () => powers.formatExact("1.2e6"));
+  for (const read of ["read", "readLenient"]) refuses(ErrorNumber.UNREADABLE, () => powers[read]("1.2E6"));
+  refuses(ErrorNumber.RANGE, () => powers.format(`1${"0".repeat(300)}.${"0".repeat(32767)}1`));
+  refuses(ErrorNumber.NUMBER, () => powers.shown(NaN));
+  assert.deepEqual(powers.resolvedOptions(), { locale: "en", useGrouping: "auto", signDisplay: "auto", notation: "scientific" });
+  assert.deepEqual(new ScientificFormatter("de", { notation: "engineering", maximumFractionDigits: 1 }).resolvedOptions(), { locale: "de", useGrouping: "auto", signDisplay: "auto", notation: "engineering", maximumFractionDigits: 1, roundingMode: "halfExpand" });
+  for (const wrong of [{ notation: "compact" }, { notation: "standard" }, { notation: null }, { compactDisplay: "short" }, { style: "percent" }, { currency: "EUR" }]) assert.throws(() => new ScientificFormatter("en", wrong), RangeError);
+  const book = new Book('[[["en","","latn","-","","+","",".",",",3,3,1]],[["latn","0123456789"]],[],[],[]]'); // which has no text before exponents
+  refuses(ErrorNumber.TABLE, () => new ScientificFormatter("en", { book }));
+  assert.equal(new DecimalFormatter("en", { book }).format(5), "5");
 });
 
 // A formatter of amounts.

@@ -1,12 +1,13 @@
 // Many numbers by one call, well and badly.
 import assert from "node:assert/strict";
 import { test } from "node:test";
-import { Book, CompactDecimalFormatter, CurrencyFormatter, DecimalFormatter, ErrorNumber, LegumeyetError, PercentFormatter } from "legumeyet";
+import { Book, CompactDecimalFormatter, CurrencyFormatter, DecimalFormatter, ErrorNumber, LegumeyetError, PercentFormatter, ScientificFormatter } from "legumeyet";
 
 const en = new DecimalFormatter("en");
 const formatters = [
   en, new DecimalFormatter("ar-EG", { position: -2 }), new DecimalFormatter("fr"), new CompactDecimalFormatter("hi", { compactDisplay: "long" }),
   new PercentFormatter("tr"), new CurrencyFormatter("de", { currency: "EUR" }), new CurrencyFormatter("en", { currency: "USD", currencySign: "accounting" }),
+  new ScientificFormatter("ps", { notation: "engineering", maximumFractionDigits: 2 }),
 ];
 
 // The call is refused by the error of this number, of the number at this place.

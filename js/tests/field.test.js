@@ -1,7 +1,7 @@
 // What a field shows after each key; `<` is a step to the left, `~` a deletion of the character before the caret.
 import assert from "node:assert/strict";
 import { test } from "node:test";
-import { CompactDecimalFormatter, CurrencyFormatter, DecimalFormatter, PercentFormatter } from "legumeyet";
+import { CompactDecimalFormatter, CurrencyFormatter, DecimalFormatter, PercentFormatter, ScientificFormatter } from "legumeyet";
 import { FieldText, plainOf } from "legumeyet/field";
 import { compare, neighbours, padded, plus } from "../node_modules/legumeyet/field-decimals.js";
 
@@ -91,7 +91,7 @@ test("a paste is read as it is", () => {
 });
 
 test("a formatter that shows no fraction is refused", () => {
-  for (const it of [new DecimalFormatter("en", { position: 0 }), new CurrencyFormatter("en", { currency: "JPY" }), new CompactDecimalFormatter("en"), new CompactDecimalFormatter("en", { maximumFractionDigits: 2 })]) {
+  for (const it of [new DecimalFormatter("en", { position: 0 }), new CurrencyFormatter("en", { currency: "JPY" }), new CompactDecimalFormatter("en"), new CompactDecimalFormatter("en", { maximumFractionDigits: 2 }), new ScientificFormatter("en")]) {
     assert.throws(() => new FieldText(it), RangeError);
   }
 });

@@ -223,7 +223,7 @@ each("digits", ({ NumberFormat, resolved }) => {
   const rows = [
     [{}, 0, 3, none, none, "auto"], [{ style: "percent" }, 0, 0, none, none, "auto"], [{ style: "currency", currency: "USD" }, 2, 2, none, none, "auto"], [{ style: "currency", currency: "JPY" }, 0, 0, none, none, "auto"],
     [{ style: "currency", currency: "KWD" }, 3, 3, none, none, "auto"], [{ style: "currency", currency: "CLF" }, 4, 4, none, none, "auto"], [{ style: "currency", currency: "QQQ" }, 2, 2, none, none, "auto"],
-    [{ notation: "compact" }, 0, 0, 1, 2, "morePrecision"], [{ minimumFractionDigits: 5 }, 5, 5, none, none, "auto"], [{ maximumFractionDigits: 1 }, 0, 1, none, none, "auto"], [{ minimumFractionDigits: 1 }, 1, 3, none, none, "auto"],
+    [{ notation: "compact" }, 0, 0, 1, 2, "morePrecision"], [{ notation: "scientific" }, 0, 3, none, none, "auto"], [{ notation: "engineering", maximumSignificantDigits: 3 }, none, none, 1, 3, "auto"], [{ minimumFractionDigits: 5 }, 5, 5, none, none, "auto"], [{ maximumFractionDigits: 1 }, 0, 1, none, none, "auto"], [{ minimumFractionDigits: 1 }, 1, 3, none, none, "auto"],
     [{ style: "currency", currency: "USD", maximumFractionDigits: 1 }, 1, 1, none, none, "auto"], [{ style: "currency", currency: "USD", maximumFractionDigits: 5 }, 2, 5, none, none, "auto"], [{ style: "currency", currency: "USD", minimumFractionDigits: 1 }, 1, 2, none, none, "auto"],
     [{ style: "percent", minimumFractionDigits: 1 }, 1, 1, none, none, "auto"], [{ maximumSignificantDigits: 3 }, none, none, 1, 3, "auto"], [{ minimumSignificantDigits: 3 }, none, none, 3, 21, "auto"],
     [{ maximumSignificantDigits: 3, minimumFractionDigits: 5, maximumFractionDigits: 2 }, none, none, 1, 3, "auto"], [{ roundingPriority: "morePrecision" }, 0, 3, 1, 21, "morePrecision"],
@@ -246,6 +246,7 @@ each("grouping", ({ resolved }) => {
   for (const [useGrouping, wanted] of rows) {
     assert.equal(resolved({ useGrouping }).useGrouping, wanted, String(useGrouping));
     assert.equal(resolved({ useGrouping, notation: "compact" }).useGrouping, wanted === "auto" && useGrouping !== "auto" ? "min2" : wanted, String(useGrouping));
+    assert.equal(resolved({ useGrouping, notation: "engineering" }).useGrouping, wanted, String(useGrouping));
   }
 });
 
@@ -257,6 +258,7 @@ each("resolved options, in their order", ({ NumberFormat, isOwn, resolved }) => 
   const money = ["currency", "currencyDisplay", "currencySign"];
   const rows = [
     [{}, [...first, "minimumIntegerDigits", ...fraction, "useGrouping", "notation", "signDisplay", ...last]],
+    [{ notation: "scientific", compactDisplay: "long" }, [...first, "minimumIntegerDigits", ...fraction, "useGrouping", "notation", "signDisplay", ...last]],
     [{ currency: "EUR", unit: "meter", compactDisplay: "long" }, [...first, "minimumIntegerDigits", ...fraction, "useGrouping", "notation", "signDisplay", ...last]],
     [{ style: "currency", currency: "EUR", minimumSignificantDigits: 1, maximumSignificantDigits: 2 }, [...first, ...money, "minimumIntegerDigits", ...significant, "useGrouping", "notation", "signDisplay", ...last]],
     [{ notation: "compact" }, [...first, "minimumIntegerDigits", ...fraction, ...significant, "useGrouping", "notation", "compactDisplay", "signDisplay", ...last]],
@@ -325,8 +327,8 @@ test("what the library cannot write is refused by name", () => {
   const { NumberFormat, text } = kindOf(Own);
   const rows = [
     [{ style: "unit", unit: "meter" }, "style unit"], [{ style: "currency", currency: "EUR", currencyDisplay: "name" }, "currencyDisplay name"], [{ style: "currency", currency: "EUR", currencyDisplay: "narrowSymbol" }, "currencyDisplay narrowSymbol"],
-    [{ notation: "scientific" }, "notation scientific"], [{ notation: "engineering" }, "notation engineering"], [{ notation: "compact", style: "percent" }, "notation compact with style percent"],
-    [{ notation: "compact", style: "currency", currency: "EUR" }, "notation compact with style currency"],
+    [{ notation: "scientific", style: "percent" }, "notation scientific with style percent"], [{ notation: "engineering", style: "currency", currency: "EUR" }, "notation engineering with style currency"], [{ notation: "scientific", style: "unit", unit: "meter" }, "style unit"],
+    [{ notation: "compact", style: "percent" }, "notation compact with style percent"], [{ notation: "compact", style: "currency", currency: "EUR" }, "notation compact with style currency"],
   ];
   for (const [options, what] of rows) throwsOwn(RangeError, () => new NumberFormat("en", options), what);
   for (const [options, what] of rows) assert.throws(() => new NumberFormat("en", options), { name: "RangeError", message: `${what}: the library cannot write this yet` });
@@ -351,6 +353,7 @@ each("values that are no digits", ({ NumberFormat, text }) => {
   for (const [signDisplay, wanted] of Object.entries(signs)) assert.equal([NaN, Infinity, -Infinity].map((it) => text(it, { signDisplay })).join(" "), wanted);
   const rows = [
     ["en", { style: "percent" }, -Infinity, "minusSign - infinity ∞ percentSign %"], ["de", { style: "percent" }, NaN, "nan NaN literal \u00a0 percentSign %"], ["en", { notation: "compact", compactDisplay: "long" }, Infinity, "infinity ∞"],
+    ["en", { notation: "engineering", minimumIntegerDigits: 3 }, -Infinity, "minusSign - infinity ∞"], ["fa", { notation: "scientific" }, NaN, "nan ناعدد"],
     ["en", { minimumIntegerDigits: 5, minimumFractionDigits: 2, useGrouping: "always" }, Infinity, "infinity ∞"], ["en", { maximumFractionDigits: 0, roundingIncrement: 5000 }, -Infinity, "minusSign - infinity ∞"],
     ["en", { style: "currency", currency: "USD", currencySign: "accounting" }, -Infinity, "literal ( currency $ infinity ∞ literal )"], ["en", { style: "currency", currency: "CHF" }, NaN, "currency CHF nan NaN"],
     ["de", { style: "currency", currency: "CHF", signDisplay: "always" }, NaN, "plusSign + nan NaN literal \u00a0 currency CHF"], ["zh", { style: "currency", currency: "EUR", currencyDisplay: "code" }, -Infinity, "minusSign - currency EUR infinity ∞"],
@@ -371,6 +374,9 @@ each("parts", ({ NumberFormat, text }) => {
     ["en", { notation: "compact" }, 1234567, "integer 1 decimal . fraction 2 compact M"], ["en", { notation: "compact" }, 12, "integer 12"], ["en", { notation: "compact", compactDisplay: "long" }, 9999, "integer 10 literal   compact thousand"],
     ["es", { notation: "compact", compactDisplay: "long" }, 12345, "integer 12 literal   compact mil"], ["ar-u-nu-arab", { style: "percent" }, -0.05, "literal \u061c minusSign - integer ٥ percentSign ٪ literal \u061c"],
     ["de-CH", { style: "currency", currency: "CHF" }, -5, "currency CHF minusSign - integer 5 decimal . fraction 00"], ["nl", { style: "currency", currency: "USD" }, -5, "currency US$ literal \u00a0 minusSign - integer 5 decimal , fraction 00"],
+    ["en", { notation: "scientific" }, -0.00012, "minusSign - integer 1 decimal . fraction 2 exponentSeparator E exponentMinusSign - exponentInteger 4"], ["en", { notation: "engineering" }, 1234567, "integer 1 decimal . fraction 235 exponentSeparator E exponentInteger 6"],
+    ["sv", { notation: "engineering", maximumFractionDigits: 0 }, -0.000999999, "minusSign − integer 1 exponentSeparator ×10^ exponentMinusSign − exponentInteger 3"], ["en", { notation: "scientific", signDisplay: "always", minimumIntegerDigits: 5 }, 0, "plusSign + integer 00 group , integer 000 exponentSeparator E exponentInteger 0"],
+    ["ps", { notation: "scientific", minimumFractionDigits: 1 }, 3e-12, "integer ۳ decimal ٫ fraction ۰ exponentSeparator ×۱۰^ literal \u200e exponentMinusSign - literal \u200e exponentInteger ۱۲"], ["ar-EG", { notation: "scientific", maximumSignificantDigits: 2 }, 0.000996, "integer ١ exponentSeparator أس literal \u061c exponentMinusSign - exponentInteger ٣"],
     ["ja", { notation: "compact" }, 12345678, "integer 1235 compact 万"], ["hi", { notation: "compact" }, -1e21, "minusSign - integer 10 group , integer 00 group , integer 00 group , integer 000 literal \u00a0 compact नील"],
   ];
   for (const [tag, options, number, wanted] of rows) {

@@ -78,11 +78,11 @@ function someStyle(options) {
 // Options as a caller gives them: some that go together, and some that do not.
 function someOptions() {
   const options = {};
-  const isCompact = oneIn(4);
-  if (isCompact) Object.assign(options, { notation: "compact" }, oneIn(2) ? { compactDisplay: oneOf(["short", "long"]) } : {});
-  if (!isCompact || oneIn(10)) someStyle(options);
-  if (!isCompact || oneIn(2)) someDigits(options);
-  if (oneIn(60)) options.notation = oneOf(["scientific", "engineering", "standard"]);
+  const notation = oneOf(["compact", "compact", "scientific", "engineering", undefined, undefined, undefined, undefined]);
+  if (notation !== undefined || oneIn(60)) options.notation = notation ?? "standard";
+  if (notation === "compact" && oneIn(2)) options.compactDisplay = oneOf(["short", "long"]);
+  if (notation === undefined || oneIn(10)) someStyle(options);
+  if (notation !== "compact" || oneIn(2)) someDigits(options);
   if (oneIn(3)) options.signDisplay = oneOf(SIGNS);
   if (oneIn(3)) options.useGrouping = oneOf(["auto", "always", "min2", "true", "false", true, false]);
   if (oneIn(3)) options.roundingMode = oneOf(MODES);
@@ -179,7 +179,8 @@ function entryOf(chain, ...questions) {
 }
 
 const DIGIT = /[\p{Nd}〇一二三四五六七八九]/gu;
-const digitsOf = (text) => (text.match(DIGIT) ?? []).join("");
+// The digits of a number's text, without those of the text before its exponent.
+const digitsOf = (it, number) => (joined(it.formatToParts(number).filter(({ type }) => type !== "exponentSeparator")).match(DIGIT) ?? []).join("");
 const isCode = (key) => /^[A-Z]{3}$/.test(key);
 
 // Why the text of a number or its parts are others in Node, as books/README.md has it; null where no cause is known.
@@ -189,11 +190,12 @@ function causeOf(tag, options, number, ours, theirs) {
   if (system !== theirs.resolvedOptions().numberingSystem) return causeOfOption("numberingSystem", tag, options);
   if (currencySign === "accounting" && signDisplay === "never") return causeOfOption("currencySign", tag, options);
   const chain = chainOf(new Intl.Locale(tag).baseName);
-  const hasSameDigits = digitsOf(ours.format(number)) === digitsOf(theirs.format(number));
+  const hasSameDigits = digitsOf(ours, number) === digitsOf(theirs, number);
   const isNamed = entryOf(chain, [symbols, system]) !== null || entryOf(chain, [symbols, ""])[2] === system;
   if (hasSameDigits && !isNamed) return "a numbering system that the data of the locale does not name";
   if (typeof number !== "bigint" && !Number.isFinite(Number(number))) return causeOfSpecial(chain, ours, style);
   if (notation === "compact") return causeOfCompact(tag, number, ours);
+  if (notation !== "standard") return causeOfScientific(tag, options, number, ours);
   return style === "currency" && hasSameDigits ? causeOfAmount(chain, ours.resolvedOptions()) : null;
 }
 
@@ -236,6 +238,21 @@ function causeOfCompact(tag, number, ours) {
   if (significand.split(".")[1]?.length > 18) return "a plural by more than 18 digits of the fraction: there by others of them";
   if (significand === "-1") return "slot 1 for minus one: not there";
   return OF_COMPACT[new Intl.Locale(tag).language] ?? null;
+}
+
+const partOf = (it, number, name) => it.formatToParts(number).filter(({ type }) => type === name).map(({ value }) => value).join("");
+
+function causeOfScientific(tag, options, number, ours) {
+  const { notation, roundingIncrement, signDisplay } = ours.resolvedOptions();
+  const [whole, exponent] = ["integer", "exponentInteger"].map((it) => [...partOf(ours, number, it)]);
+  if (exponent.length > 1 && exponent[0].length > 1) return "digits beyond the first 65,536 characters in an exponent: there cut";
+  if (roundingIncrement === 1) return null;
+  if (whole.length > (notation === "scientific" ? 1 : 3)) return "multiples that reach above the next power: there one power at most is taken";
+  if (signDisplay !== "never") return null;
+  const signed = { ...options, signDisplay: "auto" };
+  const [it, other] = [NumberFormat, Engine].map((Type) => new Type(tag, signed));
+  if (it.format(number) !== other.format(number)) return causeOfScientific(tag, signed, number, it);
+  return "a sign that is left out, and multiples that are carried and rounded once more: there with the sign";
 }
 
 // Why an option is resolved otherwise.

@@ -3,12 +3,13 @@
 import assert from "node:assert/strict";
 import { readFileSync, readdirSync } from "node:fs";
 import { test } from "node:test";
-import { Answers, Book, CompactDecimalFormatter, DecimalFormatter, LegumeyetError } from "legumeyet";
+import { Answers, Book, CompactDecimalFormatter, DecimalFormatter, LegumeyetError, ScientificFormatter } from "legumeyet";
 
 const FOLDER = process.env.LINES;
 const WORDS = { 5: "tag", 6: "table", 7: "number", 8: "limit", 9: "range", 10: "shape", 11: "unreadable", 12: "not-written", 13: "exponent" };
-const FORMS = ["plain", "read", "short", "long", "exact-short", "exact-long"];
+const FORMS = ["plain", "read", "short", "long", "exact-short", "exact-long", "scientific", "engineering"];
 const WIDTHS = ["short", "long"];
+const NOTATIONS = ["scientific", "engineering"];
 const camel = (word) => word.replace(/-(.)/g, (_, it) => it.toUpperCase());
 
 function linesOf(name) {
@@ -57,7 +58,8 @@ function said(book, line) {
   } else if (WIDTHS.includes(width)) options.roundingMode = "halfEven";
   let it = null;
   try {
-    it = ["plain", "read"].includes(form) ? new DecimalFormatter(tag, options) : new CompactDecimalFormatter(tag, { ...options, compactDisplay: width });
+    if (["plain", "read"].includes(form)) it = new DecimalFormatter(tag, options);
+    else it = NOTATIONS.includes(form) ? new ScientificFormatter(tag, { ...options, notation: form }) : new CompactDecimalFormatter(tag, { ...options, compactDisplay: width });
     if (form === "plain") return `ok\t${it.format(number)}`;
     if (form === "read") return `ok\t${it.read(number)}`;
     return form === width ? `ok\t${it.format(number)}\t${it.shown(number)}` : `ok\t${it.formatExact(number)}`;

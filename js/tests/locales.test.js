@@ -1,7 +1,7 @@
 // Locales that are asked for: lists, what is fallen back to, and grouping in each locale.
 import assert from "node:assert/strict";
 import { test } from "node:test";
-import { Book, CompactDecimalFormatter, CurrencyFormatter, DecimalFormatter, ErrorNumber, LegumeyetError, PercentFormatter } from "legumeyet";
+import { Book, CompactDecimalFormatter, CurrencyFormatter, DecimalFormatter, ErrorNumber, LegumeyetError, PercentFormatter, ScientificFormatter } from "legumeyet";
 import locales from "legumeyet/locales";
 
 const machine = new Intl.NumberFormat().resolvedOptions().locale;
@@ -36,7 +36,7 @@ test("lists of locales, as Intl has them", () => {
 });
 
 test("a locale to fall back to", () => {
-  for (const kind of [DecimalFormatter, CompactDecimalFormatter, PercentFormatter, CurrencyFormatter]) {
+  for (const kind of [DecimalFormatter, CompactDecimalFormatter, ScientificFormatter, PercentFormatter, CurrencyFormatter]) {
     const options = kind === CurrencyFormatter ? { currency: "EUR" } : {};
     const own = new kind("de", options).format(1234567);
     for (const asked of ["zz", ["yy", "zz"], new Intl.Locale("tlh")]) {

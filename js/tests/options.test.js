@@ -1,7 +1,7 @@
 // Options that a call is given, in place of those of its formatter.
 import assert from "node:assert/strict";
 import { test } from "node:test";
-import { CompactDecimalFormatter, CurrencyFormatter, DecimalFormatter, LegumeyetError, PercentFormatter } from "legumeyet";
+import { CompactDecimalFormatter, CurrencyFormatter, DecimalFormatter, LegumeyetError, PercentFormatter, ScientificFormatter } from "legumeyet";
 
 const MODES = [undefined, "expand", "trunc", "ceil", "floor", "halfExpand", "halfTrunc", "halfCeil", "halfFloor", "halfEven"];
 const SIGNS = ["keep", "auto", "never", "always", "exceptZero", "negative"].map((signDisplay) => ({ signDisplay }));
@@ -15,7 +15,7 @@ const SHOWN = [...SIGNS, { position: 2, roundingIncrement: 5 }, ...MODES.flatMap
 const AMOUNTS = [...DIGITS, ...["standard", "cash", "given"].map((currencyDigits) => ({ currencyDigits })), ...MODES.map((roundingMode) => ({ currencyDigits: "cash", roundingMode })), { roundingIncrement: 5 }];
 const KINDS = [
   [DecimalFormatter, {}, { position: -3, signDisplay: "always" }, DIGITS], [PercentFormatter, {}, { minimumIntegerDigits: 3 }, DIGITS], [CompactDecimalFormatter, { compactDisplay: "long" }, { roundingMode: "ceil" }, SHOWN],
-  [CurrencyFormatter, { currency: "CHF", currencySign: "accounting" }, { roundingMode: "floor", minimumFractionDigits: 3 }, AMOUNTS],
+  [CurrencyFormatter, { currency: "CHF", currencySign: "accounting" }, { roundingMode: "floor", minimumFractionDigits: 3 }, AMOUNTS], [ScientificFormatter, { notation: "engineering" }, { maximumFractionDigits: 2, signDisplay: "always" }, DIGITS],
 ];
 
 test("a call with options is one of a formatter that has them", () => {
@@ -31,7 +31,7 @@ test("a call with options is one of a formatter that has them", () => {
         assert.deepEqual(it.formatAll(Float64Array.of(1650, -2.325), options), other.formatAll([1650, -2.325]));
         for (const number of ["-1250", "2.5"]) {
           assert.deepEqual([it.formatToParts(number, options), it.shown(number, options)], [other.formatToParts(number), other.shown(number)]);
-          assert.equal(it.formatExact(other.shown(number), options), other.formatExact(other.shown(number)));
+          if (Type !== ScientificFormatter) assert.equal(it.formatExact(other.shown(number), options), other.formatExact(other.shown(number)));
         }
         assert.equal(alike.format(NUMBERS[4]), before[4]);
       }

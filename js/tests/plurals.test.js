@@ -32,6 +32,8 @@ test("numbers of each type", () => {
     ["fr", {}, { 0: "one", 1.9: "one", 2: "other", 1000000: "many", 1500000: "other" }], ["fr", { notation: "compact" }, { 1500000: "many", 1000: "other", 1: "one" }],
     ["fr", { notation: "compact", minimumFractionDigits: 2 }, { 1230000: "many", 1: "one", 1000: "other" }], ["en", { notation: "compact", minimumSignificantDigits: 2 }, { 1: "other", 12: "other" }], ["en", { notation: "compact", maximumFractionDigits: 0 }, { 1.4: "one", 1400: "other" }],
     ["lv", { notation: "compact", minimumFractionDigits: 2, maximumFractionDigits: 2 }, { 0.21: "one", 0.215: "other", 0.11: "zero" }], ["es", { notation: "compact", compactDisplay: "long" }, { 1234567: "many", 1650: "other", 1: "one" }], ["ja", {}, { 1: "other" }], ["it", { type: "ordinal" }, { 8: "many", 11: "many", 1: "other" }],
+    ["fr", { notation: "scientific" }, { 1: "one", 1000: "other", 1000000: "many", 1234567: "many", 123456: "other" }], ["fr", { notation: "engineering", maximumSignificantDigits: 2 }, { 999600: "many", 99960: "other", 12345678: "many" }],
+    ["en", { notation: "scientific" }, { 1: "one", 1.5: "other", 10: "other" }], ["en", { notation: "engineering", minimumFractionDigits: 1 }, { 1: "other", 1000: "other" }],
     ["en", { maximumSignificantDigits: 1 }, { 1.04: "one", 1.5: "other" }], ["en", { roundingMode: "trunc", maximumFractionDigits: 0 }, { 1.9: "one", 0.9: "other" }],
   ];
   for (const [tag, options, wanted] of rows) {
@@ -62,7 +64,7 @@ test("ranges", () => {
   const rows = [
     ["en", {}, 0, 1, "other"], ["en", {}, 1, 2, "other"], ["fr", {}, 0, 1, "one"], ["fr", {}, 1, 2, "other"], ["sl", {}, 1, 1, "few"], ["lv", {}, 0, 1, "one"], ["ar", {}, 1, 2, "other"], ["ar", {}, "0", "3", "few"],
     ["fr", { notation: "compact" }, 1, 1650000, "many"], ["en", { minimumFractionDigits: 1 }, 1, 1, "other"], ["fr", { notation: "compact", roundingMode: "floor" }, 1, 1999, "other"],
-    ["fr", { notation: "compact", maximumFractionDigits: 2 }, 1, 1234567, "many"], ["ar", { notation: "compact", minimumFractionDigits: 1 }, 0, 3, "few"], ["sl", { notation: "compact", maximumSignificantDigits: 3 }, 1, 1, "few"],
+    ["fr", { notation: "scientific" }, 1, 1000000, "many"], ["fr", { notation: "compact", maximumFractionDigits: 2 }, 1, 1234567, "many"], ["ar", { notation: "compact", minimumFractionDigits: 1 }, 0, 3, "few"], ["sl", { notation: "compact", maximumSignificantDigits: 3 }, 1, 1, "few"],
   ];
   for (const [tag, options, start, end, category] of rows) assert.equal(new PluralRules(tag, options).selectRange(start, end), category, `${tag} ${start} ${end}`);
 });
@@ -84,7 +86,7 @@ test("options that are none, as Intl has them", () => {
     const Theirs = rows.some((row) => row[1] === options) ? Intl.PluralRules : Intl.NumberFormat;
     if (isNew) assert.throws(() => new Theirs("en", options), wanted, JSON.stringify(options));
   }
-  const own = [{ notation: "scientific" }, { notation: "compact", minimumFractionDigits: 2, maximumFractionDigits: 1 }, { notation: "compact", compactDisplay: "x" }, { position: 1 }, { signDisplay: "auto" }, { useGrouping: false }, { minimumIntegerDigits: 1.5 }];
+  const own = [{ notation: "x" }, { notation: "compact", minimumFractionDigits: 2, maximumFractionDigits: 1 }, { notation: "compact", compactDisplay: "x" }, { position: 1 }, { signDisplay: "auto" }, { useGrouping: false }, { minimumIntegerDigits: 1.5 }];
   for (const options of own) assert.throws(() => new PluralRules("en", options), (error) => error.constructor === RangeError, JSON.stringify(options));
   assert.throws(() => PluralRules("en"), TypeError);
 });
@@ -117,6 +119,7 @@ test("resolved options, as Intl has them", () => {
   assert.deepEqual(new PluralRules("en", { compactDisplay: "long", notation: undefined }).resolvedOptions(), wanted);
   const compact = new PluralRules("de", { notation: "compact", roundingMode: "floor" }).resolvedOptions();
   assert.deepEqual(compact, { ...wanted, locale: "de", notation: "compact", compactDisplay: "short", maximumFractionDigits: 0, minimumSignificantDigits: 1, maximumSignificantDigits: 2, roundingMode: "floor", roundingPriority: "morePrecision" });
+  assert.deepEqual(new PluralRules("en", { notation: "engineering", compactDisplay: "long" }).resolvedOptions(), { ...wanted, notation: "engineering" });
   const own = { notation: "compact", compactDisplay: "long", minimumFractionDigits: 1, maximumFractionDigits: 4 };
   assert.deepEqual(new PluralRules("en", own).resolvedOptions(), { ...wanted, ...own });
   const all = [{}, { type: "ordinal" }, { minimumFractionDigits: 5 }, { maximumFractionDigits: 5 }, { maximumFractionDigits: 0 }, { minimumFractionDigits: 1, maximumFractionDigits: 2 }, { minimumIntegerDigits: 3 }, { maximumSignificantDigits: 3 }, { minimumSignificantDigits: 2 }, { minimumSignificantDigits: 2, maximumFractionDigits: 1 }];

@@ -69,7 +69,7 @@ function isOfEngine(it, Type = EngineNumbers) {
 
 test("numbers", { skip: !hasRanges }, () => {
   restore = install();
-  const rows = [[{}, 1234.5], [{ style: "percent" }, 0.125], [{ style: "currency", currency: "EUR" }, -5], [{ notation: "compact" }, 1234567], [{ notation: "compact", maximumFractionDigits: 2 }, 1234567], [{ maximumSignificantDigits: 2 }, 12345n]];
+  const rows = [[{}, 1234.5], [{ style: "percent" }, 0.125], [{ style: "currency", currency: "EUR" }, -5], [{ notation: "compact" }, 1234567], [{ notation: "compact", maximumFractionDigits: 2 }, 1234567], [{ notation: "engineering" }, -0.000012345], [{ maximumSignificantDigits: 2 }, 12345n]];
   for (const [options, number] of rows) {
     const [ours, theirs] = [new Intl.NumberFormat("de", options), new EngineNumbers("de", options)];
     assert.ok(!isOfEngine(ours) && ours instanceof Intl.NumberFormat);
@@ -91,7 +91,7 @@ test("numbers", { skip: !hasRanges }, () => {
 test("what the library cannot write the engine writes", { skip: !hasRanges }, () => {
   restore = install();
   const rows = [
-    { style: "unit", unit: "kilometer-per-hour" }, { style: "currency", currency: "EUR", currencyDisplay: "name" }, { style: "currency", currency: "USD", currencyDisplay: "narrowSymbol" }, { notation: "scientific" }, { notation: "engineering" },
+    { style: "unit", unit: "kilometer-per-hour" }, { style: "currency", currency: "EUR", currencyDisplay: "name" }, { style: "currency", currency: "USD", currencyDisplay: "narrowSymbol" }, { notation: "scientific", style: "percent" }, { notation: "engineering", style: "currency", currency: "EUR" },
     { notation: "compact", style: "currency", currency: "EUR" },
   ];
   for (const options of rows) {

@@ -1,7 +1,7 @@
 // Where halves go, and other roundings: as in Intl, in each kind.
 import assert from "node:assert/strict";
 import { test } from "node:test";
-import { Book, CompactDecimalFormatter, CurrencyFormatter, DecimalFormatter, LegumeyetError, PercentFormatter } from "legumeyet";
+import { Book, CompactDecimalFormatter, CurrencyFormatter, DecimalFormatter, LegumeyetError, PercentFormatter, ScientificFormatter } from "legumeyet";
 
 const MODES = ["expand", "trunc", "ceil", "floor", "halfExpand", "halfTrunc", "halfCeil", "halfFloor", "halfEven"];
 const isNew = new Intl.NumberFormat("en", { roundingMode: "floor" }).format(1.5) === "1.5" && new Intl.NumberFormat("en", { roundingMode: "floor", maximumFractionDigits: 0 }).format(1.5) === "1";
@@ -166,6 +166,36 @@ test("compact numbers with digits of their own, as Intl has them", { skip: !isNe
         for (const [name, value] of Object.entries(options)) assert.equal(ours.resolvedOptions()[name], value);
       }
     }
+  }
+});
+
+test("scientific numbers, as Intl has them", { skip: !isNew }, () => {
+  const precisions = [
+    { maximumFractionDigits: 20 }, { maximumFractionDigits: 3 }, { minimumFractionDigits: 2, maximumFractionDigits: 2 }, { maximumFractionDigits: 0 }, { minimumSignificantDigits: 3, maximumSignificantDigits: 3 }, { maximumSignificantDigits: 2 },
+    { minimumFractionDigits: 0, maximumFractionDigits: 1, maximumSignificantDigits: 4, roundingPriority: "morePrecision" }, { minimumFractionDigits: 1, maximumFractionDigits: 2, maximumSignificantDigits: 2, roundingPriority: "lessPrecision" },
+    { minimumFractionDigits: 2, maximumFractionDigits: 2, roundingIncrement: 25 }, { minimumFractionDigits: 1, maximumFractionDigits: 1, roundingIncrement: 20 }, { minimumFractionDigits: 0, maximumFractionDigits: 0, roundingIncrement: 5 },
+    { minimumIntegerDigits: 3, maximumFractionDigits: 1 }, { minimumFractionDigits: 1, maximumFractionDigits: 1, trailingZeroDisplay: "stripIfInteger" },
+  ];
+  for (const precision of precisions) {
+    for (const [tag, more] of [["en", {}], ["de", { signDisplay: "always" }], ["sv", { useGrouping: false }], ["ar-EG", { signDisplay: "exceptZero" }], ["fa", { useGrouping: "always", signDisplay: "never" }]]) {
+      for (const [notation, roundingMode] of ["scientific", "engineering"].flatMap((it) => [undefined, "floor", "halfEven"].map((mode) => [it, mode]))) {
+        const options = { notation, ...precision, ...more, ...(roundingMode === undefined ? {} : { roundingMode }) };
+        const [ours, theirs] = [new ScientificFormatter(tag, options), new Intl.NumberFormat(tag, options)];
+        const texts = all.map((it) => ours.format(it));
+        assert.deepEqual(texts, all.map((it) => theirs.format(it)), `${tag} ${JSON.stringify(options)}`);
+        assert.deepEqual(ours.formatAll(all), texts);
+        assert.deepEqual(ours.formatAll(Float64Array.from(all, Number)), all.map((it) => ours.format(Number(it))));
+        for (const number of all) assert.equal(ours.formatToParts(number).map(({ value }) => value).join(""), ours.format(number));
+      }
+    }
+  }
+});
+
+test("a significand that a rounding raises by several powers of ten", () => {
+  // Node takes one power at most, and has `500E1` and `5,000E0`
+  for (const [notation, roundingIncrement, text, shown] of [["scientific", 500, "500E2", "500e2"], ["engineering", 5000, "5,000E3", "5000e3"]]) {
+    const it = new ScientificFormatter("en", { notation, minimumFractionDigits: 0, maximumFractionDigits: 0, roundingIncrement, roundingMode: "expand" });
+    assert.deepEqual([it.format("3"), it.shown("3")], [text, shown]);
   }
 });
 

@@ -2,7 +2,7 @@
 import assert from "node:assert/strict";
 import { test } from "node:test";
 import {
-  Book, CompactDecimalFormatter, CurrencyFormatter, DecimalFormatter, ErrorNumber, LegumeyetError, NumberFormatter, PercentFormatter, SkeletonError, normalSkeleton,
+  Book, CompactDecimalFormatter, CurrencyFormatter, DecimalFormatter, ErrorNumber, LegumeyetError, NumberFormatter, PercentFormatter, ScientificFormatter, SkeletonError, normalSkeleton,
 } from "legumeyet";
 
 const by = (locale, skeleton) => new NumberFormatter(locale, { skeleton });
@@ -20,7 +20,7 @@ test("numbers by skeletons", () => {
     ["en", "currency/USD unit-width-iso-code", "5", "USD\u00a05.00"], ["en", "currency/CHF precision-currency-cash", "2.345", "CHF\u00a02.35"], ["en", "currency/USD .", "5.5", "$6"], ["en", "currency/USD .00/w", "5", "$5"],
     ["en", "compact-short", "-1172700", "-1.2M"], ["de", "KK", "1234567", "1,2 Millionen"], ["en", "compact-short", "1650", "1.6K"], ["en", "K +!", "1650", "+1.6K"],
     ["en", "compact-short .00", "-1234", "-1.23K"], ["en", "compact-short .00", "999999", "1.00M"], ["en", "compact-short .0", "999949", "999.9K"], ["en", "compact-short .0", "999950", "1.0M"], ["en", "K @@@", "5", "5.00"], ["en", "K .", "1500", "2K"],
-    ["en", "KK .##", "1234567", "1.23 million"], ["en", "K rounding-mode-down", "1999", "1.9K"], ["en", "K .+", "1234567", "1.234567M"], ["de", "KK .0", "1234567", "1,2 Millionen"], ["en", "K 000 .0", "1234", "001.2K"],
+    ["en", "KK .##", "1234567", "1.23 million"], ["en", "K rounding-mode-down", "1999", "1.9K"], ["en", "K .+", "1234567", "1.234567M"], ["en", "scientific", "1234567.891", "1.234568E6"], ["en", "EE+!00 .+", "-0.00012", "-120E-06"], ["de", "engineering/*ee/sign-always .00", "1234", "1,23E+03"], ["sv", "E0 @@@", "0.000999999", "1,00×10^\u22123"], ["de", "KK .0", "1234567", "1,2 Millionen"], ["en", "K 000 .0", "1234", "001.2K"],
   ];
   for (const [locale, skeleton, number, text] of rows) {
     const it = by(locale, skeleton);
@@ -51,6 +51,7 @@ test("skeletons as Intl means them", () => {
     ["compact-short", { notation: "compact" }], ["compact-long", { notation: "compact", compactDisplay: "long" }], ["K sign-always", { notation: "compact", signDisplay: "always" }],
     ["K .00", { notation: "compact", minimumFractionDigits: 2, maximumFractionDigits: 2, roundingMode: "halfEven" }], ["KK @@# sign-except-zero", { notation: "compact", compactDisplay: "long", minimumSignificantDigits: 2, maximumSignificantDigits: 3, roundingMode: "halfEven", signDisplay: "exceptZero" }],
     ["K rounding-mode-ceiling", { notation: "compact", roundingMode: "ceil" }], ["K .0/@@@@r", { notation: "compact", minimumFractionDigits: 1, maximumFractionDigits: 1, minimumSignificantDigits: 4, maximumSignificantDigits: 4, roundingPriority: "morePrecision", roundingMode: "halfEven" }],
+    ["scientific", { notation: "scientific", ...six, roundingMode: "halfEven" }], ["EE0 .00", { notation: "engineering", minimumFractionDigits: 2, maximumFractionDigits: 2, roundingMode: "halfEven" }], ["scientific sign-always @@#", { notation: "scientific", signDisplay: "always", minimumSignificantDigits: 2, maximumSignificantDigits: 3, roundingMode: "halfEven" }],
     ["K precision-increment/0.25", { notation: "compact", minimumFractionDigits: 2, maximumFractionDigits: 2, roundingIncrement: 25, roundingMode: "halfEven" }],
   ];
   for (const [skeleton, options] of choices) {
@@ -68,6 +69,7 @@ test("skeletons as the other formatters have them", () => {
   const pairs = [
     [".00", DecimalFormatter, { minimumFractionDigits: 2, maximumFractionDigits: 2, roundingMode: "halfEven" }], ["percent .+ +!", PercentFormatter, { signDisplay: "always" }],
     ["currency/USD sign-accounting", CurrencyFormatter, { currency: "USD", currencySign: "accounting", roundingMode: "halfEven" }], ["KK", CompactDecimalFormatter, { compactDisplay: "long", roundingMode: "halfEven" }],
+    ["EE0 .00 group-off", ScientificFormatter, { notation: "engineering", useGrouping: false, minimumFractionDigits: 2, maximumFractionDigits: 2, roundingMode: "halfEven" }],
   ];
   for (const [skeleton, Type, options] of pairs) {
     for (const locale of ["de-CH", "ar-EG", "en-IN", "pl", "fa"]) {
@@ -75,7 +77,7 @@ test("skeletons as the other formatters have them", () => {
       for (const number of ["0", "-1234.565", "1650", "12.5", "999999.995"]) {
         const text = theirs.format(number);
         assert.deepEqual([ours.format(number), ours.formatToParts(number), ours.shown(number)], [text, theirs.formatToParts(number), theirs.shown(number)], `${locale} ${skeleton} ${number}`);
-        if (Type !== CompactDecimalFormatter) assert.deepEqual([ours.read(text), ours.readLenient(text)], [theirs.read(text), theirs.readLenient(text)]);
+        if (![CompactDecimalFormatter, ScientificFormatter].includes(Type)) assert.deepEqual([ours.read(text), ours.readLenient(text)], [theirs.read(text), theirs.readLenient(text)]);
       }
     }
   }
@@ -88,7 +90,7 @@ const FAULTS = [
   ["foo", 201, "unknown", 0], ["percent foo", 201, "unknown", 8], ["  .0x", 201, "unknown", 2], ["percent \ud800", 201, "unknown", 8], [".00 ä", 201, "unknown", 4], ["\0", 201, "unknown", 0],
   ["percent\u00a0.00", 201, "unknown", 0], ["percent currency/EUR", 202, "twice", 8], [".00 .0", 202, "twice", 4], ["currency/EURO", 203, "code", 0], ["K currency/", 203, "code", 2],
   ["sign-accounting", 204, "pair", 0], ["percent unit-width-iso-code", 204, "pair", 8], ["latin", 205, "system", 0], ["numbering-system/thai", 205, "system", 0],
-  ["scientific", 206, "later", 0], ["compact-short unit-width-narrow", 206, "later", 14], ["decimal-always", 207, "unsupported", 0], [`percent ${"x".repeat(5000)}`, 201, "unknown", 8],
+  ["scale/100", 206, "later", 0], ["compact-short unit-width-narrow", 206, "later", 14], ["percent scientific", 206, "later", 8], ["E+?0", 207, "unsupported", 0], ["percent scientific/sign-never", 207, "unsupported", 8], ["decimal-always", 207, "unsupported", 0], [`percent ${"x".repeat(5000)}`, 201, "unknown", 8],
 ];
 
 test("texts that are no skeleton", () => {
@@ -115,6 +117,7 @@ test("the normal text", () => {
     ["", ""], ["   ", ""], ["sign-auto", ""], ["K  sign-auto", "compact-short"], ["KK", "compact-long"], ["% .00", "percent .00"], ["currency/eur .00", "currency/EUR .00"], [".", "precision-integer"],
     ["K currency/EUR", "compact-short currency/EUR"], ["currency/EUR K", "compact-short currency/EUR"], ["000", "integer-width/*000"], [",_ +! .0#", ".0# group-off sign-always"], ["K group-auto", "compact-short group-auto"], ["group-auto", ""],
     ["currency/USD ()! unit-width-iso-code", "currency/USD unit-width-iso-code sign-accounting-always"], [".00/w", ".00/w"], [".00+", ".00*"], ["@@+ ,!", "@@* group-on-aligned"], [".##/@@@+", ".##/@@@*"],
+    ["E0", "scientific"], ["EE+!00 +!", "engineering/*ee/sign-always sign-always"], ["scientific/+ee", "scientific/*ee"], [".00 engineering/sign-auto", "engineering .00"],
   ];
   for (const [skeleton, normal] of rows) assert.deepEqual([skeleton, normal].map(normalSkeleton), [normal, normal], skeleton);
   assert.equal(normalSkeleton(`.${"0".repeat(100)}`).length, 101);

@@ -31,7 +31,7 @@ function saysTheSame(tags, linesOf) {
 test("each locale is written and read as by the whole book", () => {
   const drawn = drawer(SEED);
   const tags = [...locales, ...locales.filter((it) => drawn([true, ...Array(11)])).map((it) => `${it}-u-nu-${drawn(["latn", "arab", "deva", "thai", "beng", "foo"])}`)];
-  const taken = new Map(tags.map((tag) => [tag, new Set(Array.from({ length: 5 }, () => drawn([...Array(64).keys()])))]));
+  const taken = new Map(tags.map((tag) => [tag, new Set(Array.from({ length: 5 }, () => drawn([...Array(71).keys()])))]));
   const some = (tag) => {
     let at = 0;
     return () => taken.get(tag).has(at++);

@@ -5,7 +5,7 @@ import { readFileSync } from "node:fs";
 import { createRequire } from "node:module";
 import { test } from "node:test";
 import { fileURLToPath, pathToFileURL } from "node:url";
-import { Book, CompactDecimalFormatter, CurrencyFormatter, DecimalFormatter, LegumeyetError, PercentFormatter } from "legumeyet";
+import { Book, CompactDecimalFormatter, CurrencyFormatter, DecimalFormatter, LegumeyetError, PercentFormatter, ScientificFormatter } from "legumeyet";
 import locales from "legumeyet/locales";
 import { smallerBook } from "legumeyet/smaller";
 
@@ -15,7 +15,7 @@ const CURRENCIES = ["EUR", "USD", "CHF", "JPY", "QQQ", "INR"];
 
 function textsOf(tag, book) {
   const made = [
-    new DecimalFormatter(tag, { book, signDisplay: "always" }), new PercentFormatter(tag, { book }), ...["short", "long"].map((compactDisplay) => new CompactDecimalFormatter(tag, { book, compactDisplay })),
+    new DecimalFormatter(tag, { book, signDisplay: "always" }), new PercentFormatter(tag, { book }), new ScientificFormatter(tag, { book }), ...["short", "long"].map((compactDisplay) => new CompactDecimalFormatter(tag, { book, compactDisplay })),
     ...CURRENCIES.flatMap((currency) => [{}, { currencySign: "accounting" }, { currencyDisplay: "code" }].map((options) => new CurrencyFormatter(tag, { book, currency, ...options }))),
   ];
   return made.flatMap((it) => ["-1234567.5", "1", "2500", "0"].map((number) => it.format(number)));
@@ -37,9 +37,11 @@ test("each locale of a smaller book is written as by the world's", () => {
   for (const tags of [["zz"], ["en", "zz"], ["de_DE"], [""]]) assert.throws(() => smallerBook(world, tags), RangeError);
 });
 
-test("ordinal rules and ranges of the locales that are kept", () => {
+test("ordinal rules, ranges and signs of the locales that are kept", () => {
   const [, , more] = JSON.parse(smallerBook(world, ["sl", "mr"]));
-  assert.deepEqual(more.map((array) => array.map(([locale]) => locale)), [["mr", "und"], ["sl"]]);
+  const [ordinals, ranges, signs] = more.map((array) => array.map(([locale]) => locale));
+  assert.deepEqual([ordinals, ranges], [["mr", "und"], ["sl"]]);
+  assert.ok(signs.includes("sl") && signs.includes("und") && signs.every((it) => ["mr", "sl", "und"].includes(it)));
   const pair = JSON.stringify(JSON.parse(world).slice(0, 2));
   assert.equal(JSON.parse(smallerBook(pair, ["de"])).length, 2);
 });

@@ -5,10 +5,11 @@ const TYPED = ["1234.5", "1.234,5", "1,234.50", "-5", "−5", " 7 ", "5.", ".5",
 const PLAIN = [{}, { useGrouping: "always" }, { useGrouping: false }, { useGrouping: "min2" }, { signDisplay: "exceptZero" }, { maximumFractionDigits: 2, roundingMode: "floor" }, { minimumIntegerDigits: 5, minimumFractionDigits: 1 }, { minimumSignificantDigits: 2, maximumSignificantDigits: 3, maximumFractionDigits: 1, roundingPriority: "morePrecision" }];
 const COMPACT = [{}, { compactDisplay: "long" }, { useGrouping: "always" }, { roundingMode: "ceil" }, { position: 3 }, { maximumFractionDigits: 2, signDisplay: "always" }];
 const AMOUNTS = ["EUR", "JPY", "CHF", "QQQ", "eur"].flatMap((currency) => [{ currency }, { currency, currencySign: "accounting", currencyDisplay: "code" }, { currency, currencyDigits: "cash", useGrouping: "always" }, { currency, maximumSignificantDigits: 3, roundingPriority: "lessPrecision" }]);
-const SKELETONS = ["", ".00", "percent .0#", "currency/EUR", "currency/CHF sign-accounting precision-currency-cash", "K", "compact-long +!", "K @@@", "foo"].map((skeleton) => ({ skeleton }));
-const KINDS = { DecimalFormatter: PLAIN, PercentFormatter: PLAIN, CompactDecimalFormatter: COMPACT, CurrencyFormatter: AMOUNTS, NumberFormatter: SKELETONS };
-const BY_INTL = [{}, { style: "percent", useGrouping: "min2" }, { style: "currency", currency: "EUR", currencySign: "accounting" }, { notation: "compact", compactDisplay: "long" }, { notation: "compact", minimumFractionDigits: 1 }, { minimumSignificantDigits: 2, maximumSignificantDigits: 3 }, { style: "unit", unit: "meter" }];
-const PLURALS = [{}, { type: "ordinal" }, { minimumFractionDigits: 1 }, { notation: "compact" }, { notation: "compact", minimumFractionDigits: 1 }, { type: "ordinal", notation: "compact", roundingMode: "floor" }];
+const SKELETONS = ["", ".00", "percent .0#", "currency/EUR", "currency/CHF sign-accounting precision-currency-cash", "K", "compact-long +!", "K @@@", "scientific/*ee", "EE+!0 .00", "foo"].map((skeleton) => ({ skeleton }));
+const POWERS = [{}, { notation: "engineering", useGrouping: "always" }, { maximumFractionDigits: 2, minimumIntegerDigits: 2, signDisplay: "always" }];
+const KINDS = { DecimalFormatter: PLAIN, PercentFormatter: PLAIN, CompactDecimalFormatter: COMPACT, ScientificFormatter: POWERS, CurrencyFormatter: AMOUNTS, NumberFormatter: SKELETONS };
+const BY_INTL = [{}, { style: "percent", useGrouping: "min2" }, { style: "currency", currency: "EUR", currencySign: "accounting" }, { notation: "compact", compactDisplay: "long" }, { notation: "compact", minimumFractionDigits: 1 }, { notation: "engineering" }, { minimumSignificantDigits: 2, maximumSignificantDigits: 3 }, { style: "unit", unit: "meter" }];
+const PLURALS = [{}, { type: "ordinal" }, { minimumFractionDigits: 1 }, { notation: "compact" }, { notation: "compact", minimumFractionDigits: 1 }, { notation: "scientific" }, { type: "ordinal", notation: "compact", roundingMode: "floor" }];
 const RANGES = [["0", "1"], ["1", "2"], [2, 5n], ["1.5", "1650000"], ["x", "1"], ["1", "x"]];
 
 function said(call) {

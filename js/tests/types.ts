@@ -1,6 +1,6 @@
 // What `tsc --strict` has to take, and what it has to refuse: a line after `@ts-expect-error` is refused.
 import {
-  Answers, Book, CompactDecimalFormatter, CurrencyFormatter, DecimalFormatter, ErrorNumber, LegumeyetError, LoadError, NumberFormat, NumberFormatter, PercentFormatter, PluralRules, SkeletonError, normalSkeleton, version,
+  Answers, Book, CompactDecimalFormatter, CurrencyFormatter, DecimalFormatter, ErrorNumber, LegumeyetError, LoadError, NumberFormat, NumberFormatter, PercentFormatter, PluralRules, ScientificFormatter, SkeletonError, normalSkeleton, version,
 } from "legumeyet";
 import type { CurrencyCallOptions, CurrencyFormatterOptions, DecimalFormatterOptions, NumberFormatOptions, NumberFormatPart, NumberFormatterOptions, Part, PluralCategory, PluralRulesOptions, Symbols } from "legumeyet";
 import { load, loadSync, memorySize, setWorld } from "legumeyet/core";
@@ -28,6 +28,8 @@ const bytes: Uint8Array = new Answers(undefined, 1).answer(new Uint8Array(1));
 const inAccounts: CurrencyFormatterOptions = { currency: "USD", currencySign: "accounting", currencyDisplay: "code", currencyDigits: "cash" };
 const dollars = new CurrencyFormatter(undefined, { ...inAccounts, maximumFractionDigits: 2, fallback: new Intl.Locale("en") });
 const same: CurrencyFormatter = new Inside("de", { currency: "EUR", useGrouping: "always", fallback: "en" });
+const powers = new ScientificFormatter(["de", "en"], { notation: "engineering", maximumFractionDigits: 2, useGrouping: "min2", fallback: "en" });
+texts.push(powers.format(5), powers.shown(5), powers.resolvedOptions().notation ?? "", ...ScientificFormatter.supportedLocalesOf("de", { notation: "scientific" }), ...powers.formatToParts(5).filter(({ type }) => type === "exponentInteger").map((it) => it.value));
 const percent: string = new PercentFormatter("tr", options).read(dollars.readLenient(dollars.format(5)));
 const types: string[] = [...dollars.formatToParts(5), ...new PercentFormatter().formatToParts("1")].filter(({ type }) => type === "currency" || type === "percentSign").map((it) => it.type);
 const listed: string[] = [...new Book("[]").locales(), new Book("[]").foundLocale(new Intl.Locale("de-XX")), ...CurrencyFormatter.supportedLocalesOf("de", inAccounts), dollars.resolvedOptions().currency];
@@ -76,6 +78,9 @@ new DecimalFormatter("de", { style: "percent" });
 texts.push(new CompactDecimalFormatter("de", { maximumFractionDigits: 2, maximumSignificantDigits: 2, roundingPriority: "lessPrecision" }).format(5));
 // @ts-expect-error
 short.format(5, { maximumFractionDigits: 2 });
+powers.format(5, { maximumFractionDigits: 2 });
+// @ts-expect-error
+new ScientificFormatter("de", { notation: "compact" });
 // @ts-expect-error
 german.format(5, { roundingPriority: "more" });
 // @ts-expect-error

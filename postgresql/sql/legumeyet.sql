@@ -22,6 +22,7 @@ SELECT legumeyet.format('1234.50', 'de'), legumeyet.format('1234.50'::numeric, '
 SELECT legumeyet.format(1234.5, 'de', 'currency/EUR'), legumeyet.format(1.005, 'en', 'currency/USD'), legumeyet.format(5, 'ja', 'currency/JPY');
 SELECT legumeyet.format(12.5, 'tr', 'percent'), legumeyet.format(1.005, 'en', '.00'), legumeyet.format(1.23456, 'en', '.00##'), legumeyet.format(1.2, 'en', '.00##');
 SELECT legumeyet.format(1650, 'en', 'compact-short'), legumeyet.format(12345678, 'hi', 'compact-long'), legumeyet.format(-1172700.0, 'en', 'compact-short');
+SELECT legumeyet.format(1234567.891, 'de', 'scientific'), legumeyet.format(0.00012, 'sv', 'engineering');
 SELECT legumeyet.format(1234567, 'de', 'group-off'), legumeyet.format(5, 'en', 'sign-always');
 SELECT legumeyet.format(0.123456789, 'en', 'sign-auto'), legumeyet.format(1.50, 'en', 'sign-auto');
 -- significant digits, either of two precisions, and groups of four digits too
@@ -68,7 +69,7 @@ SELECT legumeyet.format(1, 'en', 'percent currency/EUR');
 SELECT legumeyet.format(1, 'en', 'currency/EURO');
 SELECT legumeyet.format(1, 'en', '.00 sign-accounting');
 SELECT legumeyet.format(1, 'en', 'latin');
-SELECT legumeyet.format(1, 'en', 'scientific');
+SELECT legumeyet.format(1, 'en', 'unit/meter');
 SELECT legumeyet.format(1, 'en', 'decimal-always');
 SELECT legumeyet.format(1, 'en', 'compact-short currency/EUR');
 SELECT legumeyet.format(1, 'en', 'compact-short scale/100');

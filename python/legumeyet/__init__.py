@@ -11,10 +11,10 @@ A formatter is made of a locale tag, and writes numbers:
 >>> CompactDecimalFormatter("de", width=Width.LONG).format(1234567)
 '1,2 Millionen'
 
-Percents and amounts of money have formatters of their own:
+Scientific numbers, percents and amounts of money have formatters of their own:
 
->>> PercentFormatter("tr").format(12.5), CurrencyFormatter("en", "USD").format(Decimal("-1234.5"))
-('%12,5', '-$1,234.50')
+>>> ScientificFormatter("en").format(0.00012), PercentFormatter("tr").format(12.5), CurrencyFormatter("en", "USD").format(Decimal("-1234.5"))
+('1.2E-4', '%12,5', '-$1,234.50')
 
 Any format can be asked for by its number skeleton, as ICU and message formatters have them:
 
@@ -37,8 +37,8 @@ try:
 except ImportError as error:
     raise ImportError(f"{error}: the wheel of tools/build_wheel has this module, and `pip install ./python` compiles it") from None
 from ._formatters import (
-    Answers, Book, CompactDecimalFormatter, CurrencyDigits, CurrencyFormatter, DecimalFormatter, NumberFormatter, Part, PercentFormatter, Symbols,
-    normal_skeleton,
+    Answers, Book, CompactDecimalFormatter, CurrencyDigits, CurrencyFormatter, DecimalFormatter, NumberFormatter, Part, PercentFormatter,
+    ScientificFormatter, Symbols, normal_skeleton,
 )
 from ._locales import minor, tag_of_locale_name, version, world_locales
 from ._options import Fault, Grouping, Kind, Options, Rounding, RoundingPriority, Sign, TrailingZeros, Width
@@ -66,6 +66,7 @@ __all__ = [
     "PluralRules",
     "Rounding",
     "RoundingPriority",
+    "ScientificFormatter",
     "Sign",
     "SkeletonError",
     "Symbols",

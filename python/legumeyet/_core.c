@@ -1024,7 +1024,7 @@ static PyMethodDef formatter_methods[] = {
      "which are counted from the first one that is not zero on. Options that do not go together, as an increment without a position, are a\n"
      "ValueError. Options that are given take the place of all that a skeleton says.\n\n"
      "Raises Error 7 where the text is no number, or a float is not finite, 8 where a digit is beyond the magnitudes -32768 to 32767, 9 where\n"
-     "what is shown in compact form does, 2 where the formatter is closed, 1 where memory was refused.\n\n"
+     "what is shown in compact form or in scientific notation does, 2 where the formatter is closed, 1 where memory was refused.\n\n"
      ">>> german, yen = DecimalFormatter('de'), CurrencyFormatter('en', 'JPY')\n"
      ">>> german.format(Decimal('1234.50')), german.format(1234), german.format(0.1), german.format(-12345, exponent=-2)\n"
      "('1.234,50', '1.234', '0,1', '-123,45')\n"
@@ -1056,8 +1056,8 @@ static PyMethodDef formatter_methods[] = {
      "The number that is written so, with all digits that are shown; how many digits a currency has is not looked at. With lenient also the\n"
      "number of a text that somebody typed: without separators, with blanks around it, in ASCII digits, with the unit or its code before or\n"
      "after the number, or without it. A separator is never dropped: digits are grouped wholly, or not at all. Another unit is none.\n\n"
-     "Raises Error 10 where the text is not UTF-8, 11 where two numbers may have one text, as in compact form, 12 where no number is written\n"
-     "so, 2 where the formatter is closed, 1 where memory was refused.\n\n"
+     "Raises Error 10 where the text is not UTF-8, 11 where two numbers may have one text, as in compact form, and of scientific numbers, 12 where\n"
+     "no number is written so, 2 where the formatter is closed, 1 where memory was refused.\n\n"
      ">>> german, dollars = DecimalFormatter('de'), CurrencyFormatter('en', 'USD', accounting=True)\n"
      ">>> german.read('-1.234,50'), dollars.read('($1,234.50)')\n"
      "(Decimal('-1234.50'), Decimal('-1234.50'))\n"
@@ -1068,15 +1068,16 @@ static PyMethodDef formatter_methods[] = {
      "(Decimal('1234.5'), Decimal('-5'))"},
     {"shown", CALL(shown),
      "shown($self, number, /, **options)\n--\n\n"
-     "The value that the text of format shows: a significand and, in compact form, its exponent after 'c'. Raises as format.\n\n"
-     ">>> CompactDecimalFormatter('en').shown(-1172700), CurrencyFormatter('en', 'USD').shown(5)\n"
-     "('-1.2c6', '5.00')"},
+     "The value that the text of format shows: a significand and, in compact form, its exponent after 'c', or of a scientific number after 'e', as\n"
+     "Decimal takes it. Raises as format.\n\n"
+     ">>> CompactDecimalFormatter('en').shown(-1172700), CurrencyFormatter('en', 'USD').shown(5), ScientificFormatter('en').shown(1200)\n"
+     "('-1.2c6', '5.00', '1.2e3')"},
     {"format_exact", CALL(format_exact),
      "format_exact($self, number, /, **options)\n--\n\n"
      "The text of a significand with an exponent, its digits as they are; it is the significand that is rounded.\n\n"
      "Raises Error 7 where the text is no such number, 8 where a digit of the significand is beyond the magnitudes -32768 to 32767, or the\n"
-     "exponent is above 255, 9 where the magnitude of both together is above 32767, 13 where numbers of this magnitude have another exponent,\n"
-     "2 where the formatter is closed, 1 where memory was refused.\n\n"
+     "exponent is above 255, 9 where the magnitude of both together is above 32767, 13 where numbers of this magnitude have another exponent, as\n"
+     "scientific ones always have, 2 where the formatter is closed, 1 where memory was refused.\n\n"
      ">>> CompactDecimalFormatter('en').format_exact('-1.20c6')\n"
      "'-1.20M'\n"
      ">>> CompactDecimalFormatter('en').format_exact('1.2c5')\n"

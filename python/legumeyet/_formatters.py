@@ -3,17 +3,18 @@ import os
 import sys
 from decimal import Decimal
 from types import TracebackType
-from typing import TYPE_CHECKING, Any, Dict, NamedTuple, NoReturn, Optional, Tuple, Type, TypeVar, Union, overload
+from typing import TYPE_CHECKING, Any, Dict, Literal, NamedTuple, NoReturn, Optional, Tuple, Type, TypeVar, Union, overload
 
 from . import _core
 from ._errors import refusal, wrong_number
-from ._options import Fact, Grouping, Kind, Options, Rounding, RoundingPriority, Sign, TrailingZeros, Width, kind_of, number_of
+from ._options import Fact, Grouping, Kind, Options, Rounding, RoundingPriority, Sign, TrailingZeros, Width, kind_of, known, number_of
 
 if TYPE_CHECKING:
     from typing_extensions import Unpack
 
 Self = TypeVar("Self", bound="Open")
 Text = Union[str, bytes]
+Notation = Literal["scientific", "engineering"]
 
 
 class Part(NamedTuple):
@@ -102,6 +103,7 @@ class Format(NamedTuple):
 
 
 COMPACT, PERCENT, CURRENCY = 1, 1, 2
+SCIENTIFIC = {"scientific": 2, "engineering": 3}  # notations
 kept_world: Dict[str, "Book"] = {}  # one process has one, which threads may open at once
 
 
@@ -197,7 +199,8 @@ class NumberFormatter(Open, _core.NumberFormatter):
     opens once and keeps, or of another one, which it may outlive. It writes as the skeleton says; options that a call is given take the
     place of all that it says of rounding, digits and signs. docs/skeletons.md of the repository has the words.
 
-    The formatters of plain and compact numbers, of percents and of amounts are such formatters too, and have options in place of a skeleton.
+    The formatters of plain, compact and scientific numbers, of percents and of amounts are such formatters too, and have options in place of a
+    skeleton.
 
     Raises `Error` 5 where the text is no locale tag, 6 where the book lacks a table for it, 2 where the book is closed, 1 where memory was
     refused, and a `SkeletonError`, 201 to 207, where the text is no skeleton.
@@ -312,6 +315,41 @@ class CompactDecimalFormatter(NumberFormatter):
         **options: Any,
     ) -> None:
         self._open(*named_by(book, tag), Format(COMPACT, number_of(Width, width), grouping=number_of(Grouping, grouping)), options)
+
+
+class ScientificFormatter(NumberFormatter):
+    """The formatter of scientific numbers for a locale tag, with the notation "engineering" of those whose exponents are multiples of three: of the
+    world's book, or of one that is given first. It may outlive the book. Options change the significand.
+
+    Raises as `DecimalFormatter`, and a `ValueError` of another notation.
+
+    >>> ScientificFormatter("en").format(1234567.891), ScientificFormatter("en", notation="engineering").format("0.00012")
+    ('1.234567891E6', '120E-6')
+    >>> swedish = ScientificFormatter("sv", maximum_significant_digits=3)
+    >>> swedish.format(1234567), swedish.shown(1234567), Decimal(swedish.shown(1234567))
+    ('1,23×10^6', '1.23e6', Decimal('1.23E+6'))
+    """
+
+    __slots__ = ()
+
+    @overload
+    def __init__(self, tag: Text, /, *, notation: Notation = ..., grouping: Grouping = ..., **options: "Unpack[Options]") -> None: ...
+
+    @overload
+    def __init__(self, book: Book, tag: Text, /, *, notation: Notation = ..., grouping: Grouping = ..., **options: "Unpack[Options]") -> None: ...
+
+    def __init__(
+        self,
+        book: Union[Book, Text],
+        tag: Optional[Text] = None,
+        /,
+        *,
+        notation: Notation = "scientific",
+        grouping: Grouping = Grouping.AUTO,
+        **options: Any,
+    ) -> None:
+        format = Format(known("notation", SCIENTIFIC, notation), grouping=number_of(Grouping, grouping))
+        self._open(*named_by(book, tag), format, options)
 
 
 class PercentFormatter(Grouped):

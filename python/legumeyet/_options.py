@@ -1,6 +1,6 @@
 """Options by their names, and the numbers of options, of parts and of faults, as legumeyet.h has them."""
 from enum import IntEnum
-from typing import Optional, SupportsIndex, Type, TypedDict, Union
+from typing import Dict, Optional, SupportsIndex, Type, TypedDict, Union
 
 
 class Grouping(IntEnum):
@@ -53,7 +53,8 @@ class Sign(IntEnum):
 
 class Kind(IntEnum):
     """What a part of a text is. INTEGER: the integer digits with their separators; GROUP: a separator inside them; DECIMAL: the decimal
-    separator; FRACTION: the fraction digits; CURRENCY: the symbol or the code of a currency, which may be inside a sign.
+    separator; FRACTION: the fraction digits; CURRENCY: the symbol or the code of a currency, which may be inside a sign. EXPONENT_SEPARATOR: the
+    text before an exponent; the other three are of its sign and its digits.
 
     >>> text, parts = DecimalFormatter("de").format_parts("1234.5")
     >>> {it.kind.name: text[it.start : it.end] for it in parts}
@@ -68,6 +69,10 @@ class Kind(IntEnum):
     FRACTION = 6
     CURRENCY = 7
     PERCENT_SIGN = 8
+    EXPONENT_SEPARATOR = 9
+    EXPONENT_MINUS_SIGN = 10
+    EXPONENT_PLUS_SIGN = 11
+    EXPONENT_INTEGER = 12
 
 
 class Rounding(IntEnum):
@@ -129,7 +134,7 @@ class Fault(IntEnum):
 
     UNKNOWN: a word is none of a skeleton, as `foo`. TWICE: it sets what another has set, as the second of `percent currency/EUR`. CODE: what
     follows `currency/` is no code of a currency. PAIR: a word is for amounts, and there is no currency, as `sign-accounting` alone. SYSTEM: it
-    names a numbering system, which the tag has, as `latin`. LATER: what it says is not written yet, as `scientific`. UNSUPPORTED: it asks
+    names a numbering system, which the tag has, as `latin`. LATER: what it says is not written yet, as `scale/100`. UNSUPPORTED: it asks
     for what is not written here, as `decimal-always`.
 
     >>> Fault(201)
@@ -187,6 +192,13 @@ def number_of(kind: Type[IntEnum], option: IntEnum) -> int:
     if not isinstance(option, kind):
         raise TypeError(f"an option is a {kind.__name__}, and not {option!r}")
     return int(option)
+
+
+def known(name: str, numbers: Dict[str, int], given: str) -> int:
+    """The number of a word of an option. Raises a ValueError where it is none of the words."""
+    if not isinstance(given, str) or given not in numbers:
+        raise ValueError(f"{name} is {' or '.join(map(repr, numbers))}, and not {given!r}")
+    return numbers[given]
 
 
 def kind_of(number: int) -> Union[Kind, int]:

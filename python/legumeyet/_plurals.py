@@ -1,27 +1,20 @@
 """Plural rules."""
-from typing import TYPE_CHECKING, Dict, Literal, Optional, Tuple
+from typing import TYPE_CHECKING, Literal, Optional, Tuple
 
 from . import _core
-from ._formatters import COMPACT, CURRENCY, Book, Format, Open, Text, world
-from ._options import Fact, Options, Width, number_of
+from ._formatters import COMPACT, CURRENCY, SCIENTIFIC, Book, Format, Open, Text, world
+from ._options import Fact, Options, Width, known, number_of
 
 if TYPE_CHECKING:
     from typing_extensions import Unpack
 
-TYPES, NOTATIONS = {"cardinal": 1, "ordinal": 2}, {"standard": 0, "compact": COMPACT}
-
-
-def known(name: str, numbers: Dict[str, int], given: str) -> int:
-    """The number of a word of an option. Raises a ValueError where it is none of the words."""
-    if not isinstance(given, str) or given not in numbers:
-        raise ValueError(f"{name} is {' or '.join(map(repr, numbers))}, and not {given!r}")
-    return numbers[given]
+TYPES, NOTATIONS = {"cardinal": 1, "ordinal": 2}, {"standard": 0, "compact": COMPACT, **SCIENTIFIC}
 
 
 class PluralRules(Open, _core.PluralRules):
     """The plural rules of a locale tag: which word for a number a language has. The category of a number is that of the number as it is shown:
-    by the options, which are those of formatters; with the notation "compact" as `CompactDecimalFormatter` of this width shows it; and of
-    a currency with the digits of its amounts. The type "cardinal" is of how many there are, and "ordinal" of which one it is. The book is the
+    by the options, which are those of formatters; with the notation "compact" as `CompactDecimalFormatter` of this width shows it, with
+    "scientific" or "engineering" as `ScientificFormatter` does; and of a currency with the digits of its amounts. The type "cardinal" is of how many there are, and "ordinal" of which one it is. The book is the
     world's, which the process opens once and keeps, or another one, which the rules may outlive.
 
     Raises as `DecimalFormatter`, `Error` 14 where the currency is no code of one, and a `ValueError` of another type or notation.
@@ -45,7 +38,7 @@ class PluralRules(Open, _core.PluralRules):
         type: Literal["cardinal", "ordinal"] = "cardinal",
         *,
         book: Optional[Book] = None,
-        notation: Literal["standard", "compact"] = "standard",
+        notation: Literal["standard", "compact", "scientific", "engineering"] = "standard",
         width: Width = Width.SHORT,
         currency: Optional[Text] = None,
         **options: "Unpack[Options]",

@@ -7,7 +7,9 @@ import sys
 from decimal import Decimal
 
 import legumeyet
-from legumeyet import Book, CompactDecimalFormatter, DecimalFormatter, Error, Grouping, PluralRules, Rounding, RoundingPriority, Sign, TrailingZeros, Width
+from legumeyet import (
+    Book, CompactDecimalFormatter, DecimalFormatter, Error, Grouping, PluralRules, Rounding, RoundingPriority, ScientificFormatter, Sign, TrailingZeros, Width,
+)
 
 WORDS = {5: "tag", 6: "table", 7: "number", 8: "limit", 9: "range", 11: "unreadable", 12: "not-written", 13: "exponent"}
 
@@ -64,10 +66,13 @@ def text_for(book, fields):
     if form in ("plural", "ordinal", "range-plural"):
         return category_for(PluralRules(tag, "ordinal" if form == "ordinal" else "cardinal", book=book), form, number, options)
     is_exact, _, width = form.rpartition("-")
-    compact = CompactDecimalFormatter(book, tag, width=option(Width, width), grouping=grouping)
+    if form in ("scientific", "engineering"):
+        shortened = ScientificFormatter(book, tag, notation=form, grouping=grouping)
+    else:
+        shortened = CompactDecimalFormatter(book, tag, width=option(Width, width), grouping=grouping)
     if is_exact:
-        return compact.format_exact(number, **options)
-    return f"{compact.format(number, **options)}\t{compact.shown(number, **options)}"
+        return shortened.format_exact(number, **options)
+    return f"{shortened.format(number, **options)}\t{shortened.shown(number, **options)}"
 
 
 def by_formatter(book, line):

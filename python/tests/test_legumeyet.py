@@ -31,7 +31,8 @@ from fractions import Fraction
 import legumeyet
 from legumeyet import (
     Answers, Book, ClosedError, CompactDecimalFormatter, CurrencyFormatter, DecimalFormatter, Error, Grouping, InputError, Kind,
-    OutOfMemoryError, PercentFormatter, Rounding, RoundingPriority, Sign, TrailingZeros, Width, _core, _errors, _formatters, _locales, _options, _plurals, messages,
+    OutOfMemoryError, PercentFormatter, Rounding, RoundingPriority, ScientificFormatter, Sign, TrailingZeros, Width, _core, _errors, _formatters, _locales,
+    _options, _plurals, messages,
 )
 from legumeyet.__main__ import main
 
@@ -217,6 +218,41 @@ class Calls(unittest.TestCase):
         for number, tag in ((5, "e"), (5, "\udcff"), (6, "xx"), (6, "ar")):
             self.refused(number, CompactDecimalFormatter, self.book, tag)
 
+    def test_scientific(self):
+        powers, engineering = ScientificFormatter("en"), ScientificFormatter("en", notation="engineering")
+        for number, text, multiple in [
+            (1234567.891, "1.234567891E6", "1.234567891E6"), ("-0.00012", "-1.2E-4", "-120E-6"), (Decimal("1.20E+5"), "1.2E5", "120E3"), (0, "0E0", "0E0"),
+            (2**70, "1.180591620717411303424E21", "1.180591620717411303424E21"), (Decimal("0.00"), "0E0", "0E0"), (-5.0, "-5E0", "-5E0"),
+            ("1e-400", "1E-400", "100E-402"), ("999999", "9.99999E5", "999.999E3"),
+        ]:
+            self.assertEqual((powers.format(number), engineering.format(number)), (text, multiple))
+            self.assertEqual(powers.format_all([number] * 2), [text] * 2)
+            self.assertEqual(Decimal(powers.shown(number)), Decimal(str(number)))
+            self.assertEqual(powers.shown(number), text.lower())
+        self.assertEqual((powers.format(12345, exponent=-2), powers.format_all([5, -250], exponent=3)), ("1.2345E2", ["5E3", "-2.5E5"]))
+        for options, text in [
+            ({"position": -2}, "1.00E1"), ({"maximum_significant_digits": 2}, "1E1"), ({"minimum_significant_digits": 6}, "9.99500E0"),
+            ({"minimum_integer_digits": 3}, "009.995E0"), ({"sign": Sign.ALWAYS}, "+9.995E0"), ({"position": -2, "rounding": Rounding.TRUNC}, "9.99E0"),
+            ({"position": -1, "increment": 5, "rounding": Rounding.FLOOR}, "9.5E0"),
+        ]:
+            self.assertEqual((powers.format(9.995, **options), ScientificFormatter("en", **options).format(9.995)), (text, text))
+        text, parts = ScientificFormatter("ar-EG").format_parts("-0.00012")
+        self.assertEqual(text, "\u061c-١٫٢أس\u061c-٤")
+        self.assertEqual([(it.kind, text[it.start : it.end]) for it in parts][-3:], [(9, "أس"), (10, "\u061c-"), (12, "٤")])
+        for number, call, words in [
+            (7, powers.format, ("5.",)), (9, powers.format, (f"1{'0' * 300}.{'0' * 32767}1",)), (7, powers.format_exact, ("1.2e6",)),
+            (13, powers.format_exact, ("1.2",)), (13, powers.format_exact, ("1.2c6",)), (11, powers.read, ("1.2E6",)),
+            (11, functools.partial(powers.read, lenient=True), ("1.2E6",)), (6, ScientificFormatter, (self.book, "en")), (5, ScientificFormatter, ("de_DE",)),
+        ]:
+            self.refused(number, call, *words)
+        for wrong in ("compact", "standard", "", 2, None):
+            self.assertRaises(ValueError, ScientificFormatter, "en", notation=wrong)
+        self.assertRaises(TypeError, ScientificFormatter, "en", width=Width.SHORT)
+        with self.assertRaisesRegex(ValueError, "^notation is 'scientific' or 'engineering', and not 'x'$"):
+            ScientificFormatter("en", notation="x")
+        powers.share()
+        self.assertEqual(powers.format(1200), "1.2E3")
+
     def test_reads(self):
         for text, number in [("-987,654.321", "-987654.321"), ("1.50", "1.50"), ("-0", "-0"), ("0.00", "0.00"), (b"1,234", "1234")]:
             self.assertEqual(str(self.english.read(text)), number)
@@ -296,11 +332,11 @@ class Calls(unittest.TestCase):
         self.assertRaises(TypeError, CompactDecimalFormatter, self.book, "en", Width.LONG)
 
     def test_kind_of_a_later_library(self):
-        self.assertEqual([_options.kind_of(it) for it in (6, 8, 9)], [Kind.FRACTION, Kind.PERCENT_SIGN, 9])
+        self.assertEqual([_options.kind_of(it) for it in (6, 12, 13)], [Kind.FRACTION, Kind.EXPONENT_INTEGER, 13])
 
     def test_what_is_no_book(self):
         for words in ((self.english, "en"), (None, "en"), ("de", "en"), (self.book,), (self.book, None), (None,), (1,), (self.book, 1)):
-            for kind in (DecimalFormatter, CompactDecimalFormatter):
+            for kind in (DecimalFormatter, CompactDecimalFormatter, ScientificFormatter):
                 self.assertRaises(TypeError, kind, *words)
 
     def test_errors_travel(self):
@@ -1045,7 +1081,7 @@ class Calls(unittest.TestCase):
             self.assertEqual(str(CurrencyFormatter("ar-EG", "EGP").read(text, lenient=True)), "1234")
 
     def test_what_was_never_opened(self):
-        for kind in (Book, DecimalFormatter, CompactDecimalFormatter, PercentFormatter, CurrencyFormatter, Answers):
+        for kind in (Book, DecimalFormatter, CompactDecimalFormatter, ScientificFormatter, PercentFormatter, CurrencyFormatter, Answers):
             it = kind.__new__(kind)
             it.close()
             self.assertRegex(repr(it), "closed>$")
@@ -1068,7 +1104,7 @@ class Calls(unittest.TestCase):
             (self.english, self.book, "en", (0, 0, 0, 0, 0, 0, "0"), None, {}), (self.english, self.book, "en", None, "", None),
         ):
             self.assertRaises(TypeError, _core.open_formatter, *words)
-        for format, number in (((2, 0, 0, 0, 0, 0, 0), 4), ((0, 0, 0, 0, 0, -1, 0), 4), ((0, 0, 2, 0, 0, 0, 0), 14), ((0, 7, 0, 0, 0, 0, 0), 4), ((0, 0, 0, 0, 0, 0, 3), 4)):
+        for format, number in (((4, 0, 0, 0, 0, 0, 0), 4), ((2, 0, 0, 0, 0, 0, 0), 6), ((0, 0, 0, 0, 0, -1, 0), 4), ((0, 0, 2, 0, 0, 0, 0), 14), ((0, 7, 0, 0, 0, 0, 0), 4), ((0, 0, 0, 0, 0, 0, 3), 4)):
             self.refused(number, _core.open_formatter, self.english, self.book, "en", format, None, {})
         self.assertEqual(self.english.format(1234), "1,234")
         self.assertRaises(TypeError, _core.open_book, self.english, None)

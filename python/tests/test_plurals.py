@@ -48,8 +48,11 @@ class Rules(unittest.TestCase):
             (PluralRules("en"), 1, {"minimum_fraction_digits": 1}, "other"), (PluralRules("en"), 1.2, {"position": 0}, "one"),
             (PluralRules("en", position=-1), 1, {}, "other"), (PluralRules("en", position=-1), 1, {"position": 0}, "one"),
             (PluralRules("en"), 100, {"exponent": -2}, "other"), (PluralRules("fr", notation="compact"), 1200000, {}, "many"),
-            (PluralRules("fr", notation="compact", width=Width.LONG), 1200000, {}, "many"), (PluralRules("en", currency="USD"), 1, {}, "other"),
-            (PluralRules("en", currency="JPY"), 1, {}, "one"), (PluralRules("en", currency="USD"), 1, {"rounding": Rounding.NONE}, "one"),
+            (PluralRules("fr", notation="compact", width=Width.LONG), 1200000, {}, "many"), (PluralRules("fr", notation="scientific"), 1200000, {}, "many"),
+            (PluralRules("fr", notation="engineering"), 999600, {}, "other"),
+            (PluralRules("fr", notation="engineering"), 999600, {"maximum_significant_digits": 2}, "many"),
+            (PluralRules("en", currency="USD"), 1, {}, "other"), (PluralRules("en", currency="JPY"), 1, {}, "one"),
+            (PluralRules("en", currency="USD"), 1, {"rounding": Rounding.NONE}, "one"),
             (PluralRules("en"), 0.99, {"maximum_significant_digits": 1}, "one"), (PluralRules("en"), 1, {"minimum_significant_digits": 2}, "other"),
         ]:
             self.assertEqual(rules.select(number, **options), word)

@@ -12,7 +12,7 @@ from decimal import Decimal
 
 from legumeyet import (
     Book, ClosedError, CompactDecimalFormatter, CurrencyFormatter, DecimalFormatter, Error, Fault, InputError, NumberFormatter, PercentFormatter,
-    Rounding, Sign, SkeletonError, TrailingZeros, Width, normal_skeleton,
+    Rounding, ScientificFormatter, Sign, SkeletonError, TrailingZeros, Width, normal_skeleton,
 )
 
 WORLD = pathlib.Path(__file__).parents[2] / "books/world.json"
@@ -30,6 +30,8 @@ class Skeletons(unittest.TestCase):
             ("en", "currency/CHF precision-currency-cash", "2.345", "CHF\xa02.35"), ("en", "currency/USD precision-currency-standard/w", 5, "$5"),
             ("en", "K", -1172700, "-1.2M"), ("en", "compact-long", 1650, "1.6 thousand"), ("en", "compact-short", 1000, "1K"),
             ("en", "compact-short .00", -1234, "-1.23K"), ("de", "KK .0", 1234567, "1,2 Millionen"), ("en", "K rounding-mode-down", 1999, "1.9K"),
+            ("en", "scientific", 1234567.891, "1.234568E6"), ("de", "EE+!00 .00", 1234, "1,23E+03"),
+            ("sv", "engineering @@@ group-off", "-0.000999999", "\u22121,00×10^\u22123"),
             ("en", ".00", 5, "5.00"), ("en", ".00##", 1.5, "1.50"), ("en", ".00##", 1.23456, "1.2346"), ("en", ".", 2.5, "2"), ("en", ".0*", 2, "2.0"),
             ("en", "rounding-mode-ceiling .", 2.1, "3"), ("en", "group-off", 12345, "12345"), ("en", "group-min2", 1234, "1234"),
             ("en", "sign-always", 5, "+5"), ("en", "sign-never", -5, "5"), ("en", "sign-except-zero", 0, "0"), ("en", "000", 7, "007"),
@@ -101,7 +103,8 @@ class Skeletons(unittest.TestCase):
             ("percent currency/EUR", Fault.TWICE, 8, "currency/EUR"), (".00 .00", Fault.TWICE, 4, ".00"), ("base-unit percent", Fault.TWICE, 10, "percent"),
             ("currency/EURO", Fault.CODE, 0, "currency/EURO"), ("percent sign-accounting", Fault.PAIR, 8, "sign-accounting"),
             ("unit-width-iso-code", Fault.PAIR, 0, "unit-width-iso-code"), ("latin", Fault.SYSTEM, 0, "latin"),
-            ("numbering-system/thai", Fault.SYSTEM, 0, "numbering-system/thai"), ("scientific", Fault.LATER, 0, "scientific"),
+            ("numbering-system/thai", Fault.SYSTEM, 0, "numbering-system/thai"), ("percent scientific", Fault.LATER, 8, "scientific"),
+            ("scientific/sign-never", Fault.UNSUPPORTED, 0, "scientific/sign-never"),
             ("compact-short unit-width-narrow", Fault.LATER, 14, "unit-width-narrow"), ("decimal-always", Fault.UNSUPPORTED, 0, "decimal-always"),
             ("percent £ é", Fault.UNKNOWN, 8, "£"), ("percent \udcff", Fault.UNKNOWN, 8, "\udcff"), ("percent \U0001f600 x", Fault.UNKNOWN, 8, "\U0001f600"),
             (b"percent \xff\xfe", Fault.UNKNOWN, 8, b"\xff\xfe"), ("percent\0", Fault.UNKNOWN, 0, "percent\0"), ("  \0", Fault.UNKNOWN, 2, "\0"),
@@ -139,6 +142,7 @@ class Skeletons(unittest.TestCase):
             ("+! KK", "compact-long sign-always"), (b".00##", ".00##"), (".", "precision-integer"), ("K group-auto", "compact-short group-auto"),
             ("K group-min2", "compact-short"), ("notation-simple base-unit sign-auto", ""), ("000", "integer-width/*000"),
             ("@@+ ,!", "@@* group-on-aligned"), (".##/@@@+", ".##/@@@*"),
+            ("E0", "scientific"), ("+! EE+!00", "engineering/*ee/sign-always sign-always"), ("scientific/sign-auto/+ee", "scientific/*ee"),
         ]:
             self.assertEqual(normal_skeleton(skeleton), text)
             self.assertEqual(normal_skeleton(text), text)
@@ -188,7 +192,7 @@ class Skeletons(unittest.TestCase):
             NumberFormatter("de", "percent", book=book)
         with Book('[[["en","","latn","-","","+","",".",",",3,3,1]],[["latn","0123456789"]],[],[],[]]') as own:
             self.assertEqual(NumberFormatter("en", ".0", book=own).format(1234), "1,234.0")
-            for skeleton in ("percent", "currency/EUR", "compact-short", "compact-short currency/EUR"):
+            for skeleton in ("percent", "currency/EUR", "compact-short", "scientific", "compact-short currency/EUR"):
                 with self.assertRaises(InputError) as caught:
                     NumberFormatter("en", skeleton, book=own)
                 self.assertEqual(caught.exception.number, 6)
@@ -197,8 +201,9 @@ class Skeletons(unittest.TestCase):
         self.assertEqual(str(caught.exception), "6: the book lacks a table for the tag: 'en'")
 
     def test_faces(self):
-        """The formatters of plain and compact numbers, of percents and of amounts are formatters of numbers."""
-        for face in (DecimalFormatter("de"), CompactDecimalFormatter("de", width=Width.LONG), PercentFormatter("de"), CurrencyFormatter("de", "EUR")):
+        """The formatters of plain, compact and scientific numbers, of percents and of amounts are formatters of numbers."""
+        plain, others = DecimalFormatter("de"), (ScientificFormatter("de"), PercentFormatter("de"), CurrencyFormatter("de", "EUR"))
+        for face in (plain, CompactDecimalFormatter("de", width=Width.LONG), *others):
             self.assertIsInstance(face, NumberFormatter)
         formatter = NumberFormatter("de", "percent")
         self.assertEqual(repr(formatter), "<NumberFormatter of 'de' and 'percent', open>")

@@ -21,7 +21,7 @@ _legumeyet() {
         --invalid) _legumeyet_reply -W "empty keep skip abort" ;;
         -b | --book) _legumeyet_reply -f ;;
         --format | -r | --round | -d | --digits | --max-digits | --min-digits | --significant | -c | --currency | --read | --read-exact | --field | --delimiter | --padding | --capacity) ;;
-        *) [[ $word != -* ]] || _legumeyet_reply -W "--tag --form --format --grouping --sign --round --digits --max-digits --min-digits --significant --priority --currency --accounting --code --cash --percent --permille --plural --ordinal --read --read-exact --field --read-fields --delimiter --header --padding --parts --invalid --book --locales --lines --capacity --help --version" ;;
+        *) [[ $word != -* ]] || _legumeyet_reply -W "--tag --form --format --scientific --engineering --grouping --sign --round --digits --max-digits --min-digits --significant --priority --currency --accounting --code --cash --percent --permille --plural --ordinal --read --read-exact --field --read-fields --delimiter --header --padding --parts --invalid --book --locales --lines --capacity --help --version" ;;
     esac
 }
 complete -o filenames -F _legumeyet legumeyet

@@ -3,6 +3,8 @@ complete -c legumeyet -f
 complete -c legumeyet -s t -l tag -x -a '(legumeyet --locales)' -d 'The locale, as de or ar-EG-u-nu-thai, or as de_DE.UTF-8 [default: that of the environment]'
 complete -c legumeyet -s f -l form -x -a 'plain short long exact-short exact-long read read-lenient' -d 'What is written [default: plain]'
 complete -c legumeyet -l format -x -d 'Writes by a number skeleton of ICU, as \'currency/EUR .00\', which says all that is written'
+complete -c legumeyet -l scientific -d 'Writes in scientific notation: 12000 is 1.2E4 in English'
+complete -c legumeyet -l engineering -d 'The same with exponents that are multiples of three: 12000 is 12E3 in English'
 complete -c legumeyet -s g -l grouping -x -a 'auto always min2 on-aligned never' -d 'Which digits are grouped; min2 groups from 10000 on, on-aligned always from 1000 on [default: auto]'
 complete -c legumeyet -s s -l sign -x -a 'keep auto always never except-zero negative' -d 'When a sign is written; keep writes that of the number, a plus too [default: keep]'
 complete -c legumeyet -s r -l round -x -d 'Rounds first: -2 to hundredths, -2,floor down, -2,half-even,5 to multiples of 0.05'

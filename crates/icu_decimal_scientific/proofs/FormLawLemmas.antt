@@ -6,8 +6,8 @@ use Rattle.fixed_decimal.specs.Number.{Number, IsNumber}
 use Rattle.fixed_decimal.specs.Range.{IsHighest, IsLowest}
 use Rattle.fixed_decimal.specs.Shifts.{fall, rise}
 use Rattle.fixed_decimal.proofs.TenLemmas.{tens_positive}
-use Rattle.icu_decimal_scientific.specs.declared.notation.Notation.{Notation}
-use Rattle.icu_decimal_scientific.specs.declared.notation.Notation.TheVariants.{Scientific, Engineering}
+use Rattle.icu_decimal_scientific.specs.declared.notation.ScientificNotation.{ScientificNotation}
+use Rattle.icu_decimal_scientific.specs.declared.notation.ScientificNotation.TheVariants.{Scientific, Engineering}
 use Rattle.icu_decimal_scientific.specs.Scientific.{IsExponent, IsGreatestMultiple, IsSignificand, step}
 use Rattle.icu_decimal_scientific.specs.ScientificLaws.{BeyondHasNoForm, FormIsNormal, IsNormalSome, NormalFormIsTheForm, OneForm, OneNumber}
 use Rattle.icu_decimal_scientific.proofs.PowerLemmas.{HasFirst, above_place, below_scaled, cancel_same, cancel_zero, has_first, no_first, reaches_scaled, same_high, same_low, top_of, under_place}
@@ -41,7 +41,7 @@ form_is_normal notation number significand e is f =
 
 -- ---- one exponent
 
-same_multiple : (notation : Notation) (p : ℕ) (c d : ℤ) → IsGreatestMultiple (step notation) p c → IsGreatestMultiple (step notation) p d → c ≡ d
+same_multiple : (notation : ScientificNotation) (p : ℕ) (c d : ℤ) → IsGreatestMultiple (step notation) p c → IsGreatestMultiple (step notation) p d → c ≡ d
 same_multiple Scientific p (pos m) (pos n) f g = let a = f.under in let b = f.next in let x = g.under in let y = g.next in ap pos (omega arith)
 same_multiple Scientific p (pos m) (negsuc n) f g = let a = f.under in let b = f.next in let x = g.under in let y = g.next in absurd (omega arith)
 same_multiple Scientific p (negsuc m) (pos n) f g = let a = f.under in let b = f.next in let x = g.under in let y = g.next in absurd (omega arith)
@@ -51,7 +51,7 @@ same_multiple Engineering p (pos m) (negsuc n) f g = let a = f.under in let b = 
 same_multiple Engineering p (negsuc m) (pos n) f g = let a = f.under in let b = f.next in let x = g.under in let y = g.next in let k = f.multiple in let l = g.multiple in absurd (omega arith)
 same_multiple Engineering p (negsuc m) (negsuc n) f g = let a = f.under in let b = f.next in let x = g.under in let y = g.next in let k = f.multiple in let l = g.multiple in ap negsuc (omega arith)
 
-pub same_exponent : (notation : Notation) (number : Number) (c d : ℤ) → IsNumber number → IsExponent notation number.count c → IsExponent notation number.count d → c ≡ d
+pub same_exponent : (notation : ScientificNotation) (number : Number) (c d : ℤ) → IsNumber number → IsExponent notation number.count c → IsExponent notation number.count d → c ≡ d
 same_exponent notation number c d is f g =
     ⊎_elim (λ z. let none : number.count ≡ 0 = omega arith in f.zero none ∙ sym (g.zero none))
     (λ some. let h = first_of number is (omega arith) in same_multiple notation h.place c d (f.some h.place h.first) (g.some h.place h.first))
@@ -71,7 +71,7 @@ one_form notation number a b c d is f g =
 
 -- ---- what is normal is the form
 
-no_power : (notation : Notation) (s : ℕ) (e : ℤ) → IsNormalSome notation s e → s ≡ 0 → ⊥
+no_power : (notation : ScientificNotation) (s : ℕ) (e : ℤ) → IsNormalSome notation s e → s ≡ 0 → ⊥
 no_power notation s e n z = let l = n.least in let p = tens_positive 32768 in absurd (omega arith)
 
 pub normal_is_the_form : NormalFormIsTheForm

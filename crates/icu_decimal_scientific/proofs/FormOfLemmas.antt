@@ -1,93 +1,24 @@
 -- The form as a function is the form, and what a significand that is divided again is.
-use Rattle.std.proofs.Common.{◌≡◌, ℕ, zero, suc, ℤ, pos, negsuc, ◌+◌, ◌+ℤ◌, ◌-◌, ◌*◌, ◌/◌, ◌%◌, ◌^◌, ◌<◌, ◌≤◌, ◌==◌, ◌&&◌, nat_lt, Bool, true, false, cond, refl, sym, ap, ◌∙◌, subst, lit≤, arith, inl, inr, ⊎_elim}
-use Rattle.std.proofs.Math.Nat.{div-add-mod', mul-div_cancel, zero-mod}
+use Rattle.std.proofs.Common.{◌≡◌, ◌↔◌, IfNone, IfSome, IsFalse, IsSome, IsTrue, Option, None, Some, ℕ, zero, suc, ℤ, pos, negsuc, ◌+◌, ◌+ℤ◌, ◌-◌, ◌*◌, ◌/◌, ◌%◌, ◌^◌, ◌<◌, ◌≤◌, ◌==◌, ◌&&◌, nat_lt, Bool, true, false, cond, refl, sym, ap, ◌∙◌, subst, lit≤, arith, inl, inr, ⊎_elim}
+use Rattle.std.proofs.Math.Nat.{div-add-mod', div-le_self, mul-div_cancel, zero-mod}
 use Rattle.std.proofs.lemmas.Bool.{and_from, and_parts, cases_lt, eq-eqb, eqb-false, eqb-true, false≢true, lt-ltb, ltb-false, ltb-true, ne_eqb}
 use Rattle.fixed_decimal.specs.Number.{IsNumber, Number}
 use Rattle.fixed_decimal.specs.Range.{IsHighest, IsLowest}
 use Rattle.fixed_decimal.specs.Shifts.{TrimsEnd, TrimsStart, fall, rise}
+use Rattle.fixed_decimal.specs.SignedValue.{SignedValue}
+use Rattle.fixed_decimal.specs.TextLaws.{IsDecimal}
 use Rattle.fixed_decimal.proofs.TenLemmas.{tens_apart, tens_positive}
-use Rattle.icu_decimal_scientific.specs.CarryLaws.{BeyondIsBelow, CarriedIsNormal, FormIsFunction, UnchangedIsForm}
-use Rattle.icu_decimal_scientific.specs.FormOf.{bare, carried, counted, divided, does_carry, ending, exponent_at, exponent_in, form_of, holding, raised, reach, with_change}
-use Rattle.icu_decimal_scientific.specs.Scientific.{IsExponent, IsForm, IsGreatestMultiple, IsSignificand, ScientificParts, step}
+use Rattle.icu_decimal_scientific.specs.CarryLaws.{BeyondIsBelow, CarriedIsNormal, FormIsFunction, FunctionIsForm, UnchangedIsForm}
+use Rattle.icu_decimal_scientific.specs.FormOf.{bare, below_form, carried, counted, divided, does_carry, exponent_at, exponent_in, form_of, holding, raised, reach, with_change}
+use Rattle.icu_decimal_scientific.specs.Scientific.{IsBeyondPlaces, IsExponent, IsForm, IsGreatestMultiple, IsSignificand, ScientificParts, step}
 use Rattle.icu_decimal_scientific.specs.ScientificLaws.{IsNormal}
-use Rattle.icu_decimal_scientific.specs.declared.notation.Notation.{Notation}
-use Rattle.icu_decimal_scientific.specs.declared.notation.Notation.TheVariants.{Scientific, Engineering}
-use Rattle.icu_decimal_scientific.proofs.FormLawLemmas.{first_of, form_is_normal, same_exponent}
-use Rattle.icu_decimal_scientific.proofs.FormLemmas.{other_way}
+use Rattle.icu_decimal_scientific.specs.declared.notation.ScientificNotation.{ScientificNotation}
+use Rattle.icu_decimal_scientific.specs.declared.notation.ScientificNotation.TheVariants.{Scientific, Engineering}
+use Rattle.icu_decimal_scientific.proofs.BareLemmas.{bare_high, bare_is, ending_is, far, further, holding_is}
+use Rattle.icu_decimal_scientific.proofs.FormLawLemmas.{beyond_has_no_form, first_of, form_is_normal, same_exponent}
+use Rattle.icu_decimal_scientific.proofs.FormLemmas.{can_raise, other_way}
 use Rattle.icu_decimal_scientific.proofs.NotationLemmas.{is_significand}
-use Rattle.icu_decimal_scientific.proofs.PowerLemmas.{IsTop, below_scaled, first_at, lt_through, powers_lt, top_of, no_first, reached, reaches_scaled, same_first, same_high, same_low}
-
--- ---- the ends of a number
-
--- the lowest place from one upwards that holds a count
-record Holds (from count high : ℕ) : Type 0 where
-  keeps : from ≤ high
-  holds : count < 10 ^ (high + 1)
-  lowest : (h : ℕ) → from ≤ h → count < 10 ^ (h + 1) → high ≤ h
-
-not_here : (from count h : ℕ) → count < 10 ^ (h + 1) → h < suc from → 10 ^ (from + 1) ≤ count → ⊥
-not_here from count h few here over = let up = tens_apart (h + 1) (from + 1) (omega arith) in omega (arith, few, over, up)
-
-holds_on : (from count high : ℕ) → nat_lt count (10 ^ (from + 1)) ≡ false → Holds (suc from) count high → Holds from count high
-holds_on from count high test next =
-    let over : 10 ^ (from + 1) ≤ count = ltb-false count (10 ^ (from + 1)) test in
-    record {
-      keeps = let k = next.keeps in omega arith;
-      holds = next.holds;
-      lowest = λ h f few. ⊎_elim (λ here. absurd (not_here from count h few here over)) (λ above. next.lowest h above few) (cases_lt h (suc from));
-    }
-
-holding_is : (more from count : ℕ) → count < 10 ^ (from + more + 1) → Holds from count (holding more from count)
-unfolding holding
-holding_is zero from count l = record { keeps = omega arith; holds = subst (λ k. count < 10 ^ k) (omega arith) l; lowest = λ h f _. f }
-holding_is (suc more) from count l = go (nat_lt count (10 ^ (from + 1))) refl (holding_is more (suc from) count (subst (λ k. count < 10 ^ k) (omega arith) l))
-  where
-    go : (b : Bool) → nat_lt count (10 ^ (from + 1)) ≡ b → Holds (suc from) count (holding more (suc from) count) → Holds from count (cond b from (holding more (suc from) count))
-    go true test next = record { keeps = omega arith; holds = ltb-true count (10 ^ (from + 1)) test; lowest = λ h f _. f }
-    go false test next = holds_on from count (holding more (suc from) count) test next
-
-not_at : (most count p : ℕ) → (count % 10 ^ suc most == 0) ≡ false → count % 10 ^ p ≡ 0 → suc most ≤ p → p ≤ suc most → ⊥
-not_at most count p test w low high =
-    let at : p ≡ suc most = omega arith in
-    false≢true (sym test ∙ eq-eqb (count % 10 ^ suc most) 0 (subst (λ k. count % 10 ^ k ≡ 0) at w))
-
-ends_on : (most count low : ℕ) → (count % 10 ^ suc most == 0) ≡ false → IsLowest most count low → IsLowest (suc most) count low
-ends_on most count low test next = record {
-  under = let u = next.under in omega arith;
-  whole = next.whole;
-  highest = λ p l w. ⊎_elim (λ below. next.highest p (omega (arith, below)) w) (λ here. absurd (not_at most count p test w here l)) (cases_lt p (suc most));
-}
-
-ending_is : (most count : ℕ) → IsLowest most count (ending most count)
-unfolding ending
-ending_is zero count = record { under = omega arith; whole = omega arith; highest = λ p l _. l }
-ending_is (suc most) count = go (count % 10 ^ suc most == 0) refl (ending_is most count)
-  where
-    go : (b : Bool) → (count % 10 ^ suc most == 0) ≡ b → IsLowest most count (ending most count) → IsLowest (suc most) count (cond b (suc most) (ending most count))
-    go true test next = record { under = omega arith; whole = eqb-true (count % 10 ^ suc most) 0 test; highest = λ p l _. l }
-    go false test next = ends_on most count (ending most count) test next
-
--- counts of numbers
-far : (n : Number) → IsNumber n → n.count < 10 ^ 65536
-far n is = lt_through n.count (10 ^ (n.high + 1)) (10 ^ 65536) is.below (tens_apart (n.high + 1) 65536 (let high = is.high in omega arith))
-
-further : (n k : ℕ) → n < 10 ^ 65536 → 65536 ≤ k → n < 10 ^ k
-further n k l above = lt_through n (10 ^ 65536) (10 ^ k) l (tens_apart 65536 k above)
-
-bare_high : (n : ℕ) → n < 10 ^ 65536 → IsHighest 32768 0 n (holding 32768 32768 n)
-bare_high n l = let h = holding_is 32768 32768 n (further n 65537 l (lit≤ tt)) in record {
-  keeps = h.keeps;
-  position = omega arith;
-  holds = h.holds;
-  lowest = λ k above _ few. h.lowest k above few;
-}
-
-pub bare_is : (n : Number) → n.count < 10 ^ 65536 → IsLowest 32768 n.count n.low → IsHighest 32768 0 n.count n.high → n ≡ bare n.count
-unfolding bare
-bare_is n l low high =
-    let at : n.low ≡ ending 32768 n.count = same_low 32768 n.count n.low (ending 32768 n.count) low (ending_is 32768 n.count) in
-    let to : n.high ≡ holding 32768 32768 n.count = same_high 32768 n.count n.high (holding 32768 32768 n.count) high (bare_high n.count l) in
-    λ i. record { count = n.count; low = at i; high = to i }
+use Rattle.icu_decimal_scientific.proofs.PowerLemmas.{IsTop, below_scaled, first_at, lt_through, powers_lt, top_of, no_first, reached, reaches_scaled, same_first}
 
 -- ---- the exponent
 
@@ -111,7 +42,7 @@ singly place x e r f is = record { multiple = omega arith; under = omega arith; 
 by_threes : (place x : ℕ) (e : ℤ) → rise e ≡ x - 32769 → fall e ≡ 32769 - x → x ≡ (place + 1) / 3 * 3 → IsGreatestMultiple 3 place e
 by_threes place x e r f is = record { multiple = omega arith; under = omega arith; next = omega arith }
 
-greatest_is : (notation : Notation) (place : ℕ) → IsGreatestMultiple (step notation) place (exponent_at notation place)
+greatest_is : (notation : ScientificNotation) (place : ℕ) → IsGreatestMultiple (step notation) place (exponent_at notation place)
 greatest_is Scientific place = singly place (place + 1) (counted (place + 1)) (counted_rises (place + 1)) (counted_falls (place + 1)) refl
 greatest_is Engineering place = by_threes place ((place + 1) / 3 * 3) (counted ((place + 1) / 3 * 3)) (counted_rises ((place + 1) / 3 * 3)) (counted_falls ((place + 1) / 3 * 3)) refl
 
@@ -128,7 +59,7 @@ first_is n some l =
 pub positive : (n : ℕ) → (n == 0) ≡ false → 0 < n
 positive n test = ⊎_elim (λ z. absurd (eqb-false n 0 test (omega arith))) (λ s. omega arith) (cases_lt n 1)
 
-pub exponent_of_count : (notation : Notation) (n : Number) → IsNumber n → IsExponent notation n.count (exponent_in notation n.count)
+pub exponent_of_count : (notation : ScientificNotation) (n : Number) → IsNumber n → IsExponent notation n.count (exponent_in notation n.count)
 unfolding exponent_in
 exponent_of_count notation n is = go (n.count == 0) refl
   where
@@ -143,7 +74,7 @@ exponent_of_count notation n is = go (n.count == 0) refl
               (greatest_is notation (holding 65536 0 n.count));
         }
 
-pub exponent_known : (notation : Notation) (n : Number) (e : ℤ) → IsNumber n → IsExponent notation n.count e → e ≡ exponent_in notation n.count
+pub exponent_known : (notation : ScientificNotation) (n : Number) (e : ℤ) → IsNumber n → IsExponent notation n.count e → e ≡ exponent_in notation n.count
 exponent_known notation n e is x = same_exponent notation n e (exponent_in notation n.count) is x (exponent_of_count notation n is)
 
 -- ---- the form
@@ -155,11 +86,11 @@ significand_is : (e : ℤ) (n s : Number) → s.count < 10 ^ 65536 → IsSignifi
 significand_is e n s l d = bare_is s l d.low d.high ∙ ap bare (quotient s.count n.count (rise e) (fall e) d.count)
 
 -- the form of a number is what the function answers
-record IsKnown (notation : Notation) (n s : Number) (e : ℤ) : Type 0 where
+record IsKnown (notation : ScientificNotation) (n s : Number) (e : ℤ) : Type 0 where
   significand : s ≡ divided (exponent_in notation n.count) n.count
   exponent : e ≡ exponent_in notation n.count
 
-form_known : (notation : Notation) (n s : Number) (e : ℤ) → IsNumber n → IsForm notation n s e → IsKnown notation n s e
+form_known : (notation : ScientificNotation) (n s : Number) (e : ℤ) → IsNumber n → IsForm notation n s e → IsKnown notation n s e
 form_known notation n s e is f =
     let known : e ≡ exponent_in notation n.count = exponent_known notation n e is f.power in
     record {
@@ -178,6 +109,79 @@ beyond_is_below notation d is = (
   λ part. record { exponent = exponent_in notation d.absolute.count; power = exponent_of_count notation d.absolute is; digit = part },
 )
 
+-- ---- what the function answers is a form
+
+by_one : (n : ℕ) → n % 10 ^ 0 ≡ 0
+by_one n = omega arith
+
+unit : (n : ℕ) → n * 10 ^ 0 ≡ n
+unit n = omega arith
+
+-- where no digit is lost, none of the number that is divided is either
+whole_scaled : (e : ℤ) (n : ℕ) → n % 10 ^ rise e ≡ 0 → n * 10 ^ fall e % 10 ^ rise e ≡ 0
+whole_scaled e n whole =
+    ⊎_elim (λ none. ap (λ k. n * 10 ^ k % 10 ^ rise e) none ∙ ap (λ k. k % 10 ^ rise e) (unit n) ∙ whole)
+    (λ none. ap (λ k. n * 10 ^ fall e % 10 ^ k) none ∙ by_one (n * 10 ^ fall e)) (other_way e)
+
+few_scaled : (notation : ScientificNotation) (n : Number) (e : ℤ) → IsNumber n → IsExponent notation n.count e → n.count * 10 ^ fall e < 10 ^ 65536
+few_scaled notation n e is x =
+    ⊎_elim (λ none. subst (λ k. k < 10 ^ 65536) (sym (ap (λ k. n.count * 10 ^ k) (stays (fall e) none) ∙ unit n.count)) (far n is))
+    (λ falls. let raise = can_raise notation n e is x falls in lt_through (n.count * 10 ^ fall e) (10 ^ 32772) (10 ^ 65536) raise.few (tens_apart 32772 65536 (lit≤ tt)))
+    (cases_lt (fall e) 1)
+  where
+    stays : (k : ℕ) → k < 1 → k ≡ 0
+    stays k l = omega arith
+
+few_divided : (notation : ScientificNotation) (n : Number) (e : ℤ) → IsNumber n → IsExponent notation n.count e → n.count * 10 ^ fall e / 10 ^ rise e < 10 ^ 65536
+few_divided notation n e is x = reached (n.count * 10 ^ fall e / 10 ^ rise e) (n.count * 10 ^ fall e) (10 ^ 65536) (div-le_self (n.count * 10 ^ fall e) (10 ^ rise e)) (few_scaled notation n e is x)
+
+divided_is : (notation : ScientificNotation) (n : Number) (e : ℤ) → IsNumber n → IsExponent notation n.count e → n.count % 10 ^ rise e ≡ 0 → IsSignificand e n (divided e n.count)
+unfolding bare
+divided_is notation n e is x whole =
+    let m : ℕ = n.count * 10 ^ fall e in
+    record {
+      count = let parts = div-add-mod' m (10 ^ rise e) in let none = whole_scaled e n.count whole in omega (arith, parts, none);
+      low = ending_is 32768 (m / 10 ^ rise e);
+      high = bare_high (m / 10 ^ rise e) (few_divided notation n e is x);
+    }
+
+pub function_is_form : FunctionIsForm
+function_is_form notation d is whole =
+    let power : IsExponent notation d.absolute.count (exponent_in notation d.absolute.count) = exponent_of_count notation d.absolute is in
+    record { sign = refl; absolute = record { power = power; divided = divided_is notation d.absolute (exponent_in notation d.absolute.count) is power whole } }
+
+-- ---- what the calls answer
+
+-- whether a digit is lost, by the exponent that the code finds
+pub below_is : (notation : ScientificNotation) (n : Number) (e : ℤ) → IsNumber n → IsExponent notation n.count e → n.count % 10 ^ rise e ≡ below_form notation n.count
+below_is notation n e is x = ap (λ z. n.count % 10 ^ rise z) (exponent_known notation n e is x)
+
+pub is_formed : (b : Bool) (part below : ℕ) → part ≡ below → (IsTrue b → part ≡ 0) → (IsFalse b → ¬ (part ≡ 0)) → IsTrue b ↔ (below ≡ 0)
+is_formed true part below same none some = (λ t. sym same ∙ none t, λ _. refl)
+is_formed false part below same none some = (λ t. absurd (false≢true t), λ z. absurd (some refl (same ∙ z)))
+
+form_loses_nothing : (notation : ScientificNotation) (d : SignedValue Number) (s : Number) (e : ℤ) → IsDecimal d → IsForm notation d.absolute s e → below_form notation d.absolute.count ≡ 0
+form_loses_nothing notation d s e is f = go (below_form notation d.absolute.count == 0) refl
+  where
+    go : (b : Bool) → (below_form notation d.absolute.count == 0) ≡ b → below_form notation d.absolute.count ≡ 0
+    go true test = eqb-true (below_form notation d.absolute.count) 0 test
+    go false test =
+        absurd (beyond_has_no_form notation d.absolute s e is ((beyond_is_below notation d is).1 (eqb-false (below_form notation d.absolute.count) 0 test)) f)
+
+-- where there is a form, it is made
+module _ (notation : ScientificNotation) (d : SignedValue Number) (new : Number) (is : IsDecimal d) where
+  pub made_value : (r : Option ℤ) → IfSome r (λ e. IsForm notation d.absolute new e) → IfSome r (λ e. record { significand = record { sign = d.sign; absolute = new }; exponent = e } ≡ form_of notation d)
+  made_value None f = tt
+  made_value (Some e) f = form_is_function notation d (record { significand = record { sign = d.sign; absolute = new }; exponent = e }) is (record { sign = refl; absolute = f })
+
+  pub made_none : (r : Option ℤ) → IfNone r (IsBeyondPlaces notation d.absolute.count) → IfNone r (¬ (below_form notation d.absolute.count ≡ 0))
+  made_none None b = (beyond_is_below notation d is).0 b
+  made_none (Some e) b = tt
+
+  pub made_some : (r : Option ℤ) → IfSome r (λ e. IsForm notation d.absolute new e) → IfNone r (IsBeyondPlaces notation d.absolute.count) → IsSome r ↔ (below_form notation d.absolute.count ≡ 0)
+  made_some None f b = (λ some. absurd (cc), λ none. absurd ((beyond_is_below notation d is).0 b none))
+  made_some (Some e) f b = (λ _. form_loses_nothing notation d new e is f, λ _. refl)
+
 -- ---- divided again
 
 pub bare_quotient : (old low trimmed new : Number) (by : ℕ) → low.count * 10 ^ by ≡ old.count → TrimsEnd low trimmed → TrimsStart trimmed new → IsNumber new → new ≡ bare (old.count / 10 ^ by)
@@ -190,7 +194,7 @@ bare_quotient old low trimmed new by d t u is =
     ∙ ap bare (sym (mul-div_cancel new.count (tens_positive by)) ∙ ap (λ k. k / 10 ^ by) whole)
 
 -- a carry takes place exactly where its two tests hold
-module _ (notation : Notation) (count : ℕ) where
+module _ (notation : ScientificNotation) (count : ℕ) where
   pub carries : 0 < reach notation count → count % 10 ^ reach notation count ≡ 0 → does_carry notation count ≡ true
   carries some whole =
       let first : nat_lt 0 (reach notation count) ≡ true = lt-ltb 0 (reach notation count) some in
@@ -209,26 +213,26 @@ module _ (notation : Notation) (count : ℕ) where
       never true = refl
       never false = refl
 
-pub carries_by : (notation : Notation) (count by : ℕ) → by ≡ reach notation count → 0 < by → count % 10 ^ by ≡ 0 → does_carry notation count ≡ true
+pub carries_by : (notation : ScientificNotation) (count by : ℕ) → by ≡ reach notation count → 0 < by → count % 10 ^ by ≡ 0 → does_carry notation count ≡ true
 carries_by notation count by at some whole = carries notation count (subst (λ k. 0 < k) at some) (subst (λ k. count % 10 ^ k ≡ 0) at whole)
 
-pub stays_by : (notation : Notation) (count by : ℕ) → by ≡ reach notation count → by ≡ 0 → does_carry notation count ≡ false
+pub stays_by : (notation : ScientificNotation) (count by : ℕ) → by ≡ reach notation count → by ≡ 0 → does_carry notation count ≡ false
 stays_by notation count by at none = reaches_nothing notation count (sym at ∙ none)
 
-pub loses_by : (notation : Notation) (count by : ℕ) → by ≡ reach notation count → ¬ (count % 10 ^ by ≡ 0) → does_carry notation count ≡ false
+pub loses_by : (notation : ScientificNotation) (count by : ℕ) → by ≡ reach notation count → ¬ (count % 10 ^ by ≡ 0) → does_carry notation count ≡ false
 loses_by notation count by at part = loses notation count (λ whole. part (subst (λ k. count % 10 ^ k ≡ 0) (sym at) whole))
 
-pub carried_some : (notation : Notation) (old : ScientificParts) → does_carry notation old.significand.absolute.count ≡ true → carried notation old ≡ raised (reach notation old.significand.absolute.count) old
+pub carried_some : (notation : ScientificNotation) (old : ScientificParts) → does_carry notation old.significand.absolute.count ≡ true → carried notation old ≡ raised (reach notation old.significand.absolute.count) old
 carried_some notation old carry = ap (λ b. cond b (raised (reach notation old.significand.absolute.count) old) old) carry
 
-pub carried_none : (notation : Notation) (old : ScientificParts) → does_carry notation old.significand.absolute.count ≡ false → carried notation old ≡ old
+pub carried_none : (notation : ScientificNotation) (old : ScientificParts) → does_carry notation old.significand.absolute.count ≡ false → carried notation old ≡ old
 carried_none notation old stays = ap (λ b. cond b (raised (reach notation old.significand.absolute.count) old) old) stays
 
 -- by the exponent that the code finds
-pub reach_is : (notation : Notation) (n : Number) (e : ℤ) → IsNumber n → IsExponent notation n.count e → rise e ≡ reach notation n.count
+pub reach_is : (notation : ScientificNotation) (n : Number) (e : ℤ) → IsNumber n → IsExponent notation n.count e → rise e ≡ reach notation n.count
 reach_is notation n e is x = ap rise (exponent_known notation n e is x)
 
-pub carried_by : (notation : Notation) (old : ScientificParts) (new : Number) (by : ℕ) (e : ℤ) → does_carry notation old.significand.absolute.count ≡ true → by ≡ reach notation old.significand.absolute.count
+pub carried_by : (notation : ScientificNotation) (old : ScientificParts) (new : Number) (by : ℕ) (e : ℤ) → does_carry notation old.significand.absolute.count ≡ true → by ≡ reach notation old.significand.absolute.count
     → new ≡ bare (old.significand.absolute.count / 10 ^ by) → e ≡ old.exponent +ℤ pos by → carried notation old ≡ record { significand = record { sign = old.significand.sign; absolute = new }; exponent = e }
 carried_by notation old new by e carry at is exponent =
     let same : raised by old ≡ record { significand = record { sign = old.significand.sign; absolute = new }; exponent = e } =
@@ -258,13 +262,10 @@ carried_is_normal notation n is carry =
       below = below_scaled n.count (n.count / 10 ^ rise e) h.place (rise e) (fall e) (32768 + step notation) h.top scaled (omega (arith, next));
     })
     (cases_lt n.count 1)
-  where
-    unit : (n : ℕ) → n * 10 ^ 0 ≡ n
-    unit n = omega arith
 
 -- ---- not changed
 
-normal_exponent : (notation : Notation) (n : Number) (e : ℤ) → IsNumber n → IsNormal notation n.count e → IsExponent notation n.count (pos 0)
+normal_exponent : (notation : ScientificNotation) (n : Number) (e : ℤ) → IsNumber n → IsNormal notation n.count e → IsExponent notation n.count (pos 0)
 normal_exponent notation n e is (inl z) = record { zero = λ _. refl; some = λ p f. absurd (no_first n.count p z.0 f) }
 normal_exponent notation n e is (inr some) = record {
   zero = λ _. refl;

@@ -5,9 +5,10 @@ use Rattle.fixed_decimal.specs.Shifts.{rise}
 use Rattle.fixed_decimal.specs.declared.Sign.TheVariants.{None as NoSign}
 use Rattle.icu_decimal_scientific.specs.FormOf.{bare, carried, does_carry, reach}
 use Rattle.icu_decimal_scientific.specs.Scientific.{IsForm}
-use Rattle.icu_decimal_scientific.specs.declared.notation.Notation.TheVariants.{Scientific, Engineering}
+use Rattle.icu_decimal_scientific.specs.declared.notation.ScientificNotation.TheVariants.{Scientific, Engineering}
+use Rattle.icu_decimal_scientific.proofs.BareLemmas.{bare_is}
 use Rattle.icu_decimal_scientific.proofs.FormLawLemmas.{normal_is_the_form}
-use Rattle.icu_decimal_scientific.proofs.FormOfLemmas.{bare_is, carried_some, carries, exponent_known, reaches_nothing}
+use Rattle.icu_decimal_scientific.proofs.FormOfLemmas.{carried_some, carries, exponent_known, reaches_nothing}
 use Rattle.icu_decimal_scientific.proofs.KnownValues.{highest_at, highest_ones, lowest_ones}
 
 -- 10 and 1

@@ -4,7 +4,7 @@ use Rattle.fixed_decimal.specs.Number.{Number}
 use Rattle.fixed_decimal.specs.Shifts.{IsShifted}
 use Rattle.icu_decimal_scientific.specs.Product.{HasProduct}
 use Rattle.icu_decimal_scientific.specs.ScientificLaws.{IsNormal}
-use Rattle.icu_decimal_scientific.specs.declared.notation.Notation.TheVariants.{Scientific, Engineering}
+use Rattle.icu_decimal_scientific.specs.declared.notation.ScientificNotation.TheVariants.{Scientific, Engineering}
 use Rattle.icu_decimal_scientific.proofs.ProductLemmas.{room_of, whole_of}
 
 -- 1.20 and 6 are 1200000

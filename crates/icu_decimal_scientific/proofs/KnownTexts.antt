@@ -1,6 +1,6 @@
 -- Rows of docs/scientific-text.md, "The text" and "Reading", so that a wrong definition does not pass.
 use Rattle.std.proofs.Common.{◌≡◌, ℕ, ◌*◌, ◌^◌, true, false, List, [], ◌∷◌, ◌++◌, refl}
-use Rattle.std.specs.Prelude.{codes}
+use Rattle.std.specs.Prelude.{codes, pos, negsuc}
 use Rattle.std.specs.Str.{chars}
 use Rattle.writeable.specs.AnnotatedText.{Interval, annotated, bytes, closing, opening}
 use Rattle.fixed_decimal.specs.Number.{Number}
@@ -11,7 +11,10 @@ use Rattle.icu_decimal_symbols.specs.Symbols.{SymbolStrings, english_strings, en
 use Rattle.icu_decimal_symbols.specs.declared.options.GroupingStrategy.TheVariants.{Auto, Never}
 use Rattle.icu_decimal_plain.specs.Affixes.{decimal_part}
 use Rattle.icu_decimal_plain.specs.PlainText.{Tables}
+use Rattle.icu_decimal_scientific.specs.FormOf.{holding}
 use Rattle.icu_decimal_scientific.specs.ScientificReading.{is_scientific_readable_by}
+use Rattle.icu_decimal_scientific.specs.ShownNumbers.{shown_exponent}
+use Rattle.icu_decimal_scientific.specs.declared.shown.ExponentSign.TheVariants as shows
 use Rattle.icu_decimal_scientific.specs.ExponentialText.{ScientificSettings, scientific_events, scientific_formatted, scientific_text}
 
 -- 1.2, 4, 6 and 06
@@ -64,6 +67,34 @@ english_parts : annotated (scientific_events (scientific_formatted (english (cod
     ≡ record { text = codes "-1.2E-4"; parts = part_at 0 1 (codes "minusSign") ∷ part_at 1 2 (codes "integer") ∷ part_at 2 3 (codes "decimal") ∷ part_at 3 4 (codes "fraction") ∷ part_at 4 5 (codes "exponentSeparator") ∷ part_at 5 6 (codes "exponentMinusSign") ∷ part_at 6 7 (codes "exponentInteger") ∷ [] }
 unfolding twelve_tenths four bytes opening closing lib.Utf8.encode
 english_parts = refl
+
+-- ---- exponents as they are shown
+
+shown_six : shown_exponent (record { sign = shows.Auto; least_digits = 0 }) (pos 6) ≡ record { sign = NoSign; absolute = six }
+unfolding six holding
+shown_six = refl
+
+shown_plus : shown_exponent (record { sign = shows.Always; least_digits = 2 }) (pos 6) ≡ record { sign = Positive; absolute = padded_six }
+unfolding padded_six holding
+shown_plus = refl
+
+shown_minus : shown_exponent (record { sign = shows.Auto; least_digits = 1 }) (negsuc 3) ≡ record { sign = Negative; absolute = four }
+unfolding four holding
+shown_minus = refl
+
+-- 0 has no sign, and has a plus sign where one is always shown
+shown_zero : shown_exponent (record { sign = shows.Auto; least_digits = 0 }) (pos 0) ≡ record { sign = NoSign; absolute = record { count = 0; low = 32768; high = 32768 } }
+unfolding holding
+shown_zero = refl
+
+shown_signed_zero : shown_exponent (record { sign = shows.Always; least_digits = 0 }) (pos 0) ≡ record { sign = Positive; absolute = record { count = 0; low = 32768; high = 32768 } }
+unfolding holding
+shown_signed_zero = refl
+
+-- more digits than are asked for
+shown_far : shown_exponent (record { sign = shows.Auto; least_digits = 2 }) (negsuc 119) ≡ record { sign = Negative; absolute = record { count = 120 * 10 ^ 32768; low = 32768; high = 32770 } }
+unfolding holding
+shown_far = refl
 
 -- ---- German, with raised digits
 

@@ -4,7 +4,7 @@ use Rattle.std.proofs.lemmas.Bool.{cases_lt}
 use Rattle.fixed_decimal.specs.Number.{Number, IsNumber}
 use Rattle.fixed_decimal.specs.Range.{IsHighest, IsLowest}
 use Rattle.fixed_decimal.proofs.TenLemmas.{tens_apart}
-use Rattle.icu_decimal_scientific.specs.declared.notation.Notation.TheVariants.{Scientific, Engineering}
+use Rattle.icu_decimal_scientific.specs.declared.notation.ScientificNotation.TheVariants.{Scientific, Engineering}
 use Rattle.icu_decimal_scientific.specs.Scientific.{IsForm}
 use Rattle.icu_decimal_scientific.proofs.DivisionLemmas.{whole_below}
 use Rattle.icu_decimal_scientific.proofs.FormLawLemmas.{normal_is_the_form}

@@ -2,6 +2,7 @@ mod KnownCarry
 mod KnownProducts
 mod KnownTexts
 pub mod KnownValues
+pub mod BareLemmas
 pub mod CutLemmas
 pub mod DivisionLemmas
 pub mod FormLawLemmas

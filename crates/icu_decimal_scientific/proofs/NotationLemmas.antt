@@ -18,8 +18,8 @@ use Rattle.icu_decimal_scientific.specs.ScientificLaws.{IsNormal}
 use Rattle.icu_decimal_scientific.specs.ScientificReading.{AreScientificTexts, HasNoScientific, IsScientificText, is_scientific_readable_by}
 use Rattle.icu_decimal_scientific.specs.ShownNumbers.{IsShownExponent}
 use Rattle.icu_decimal_scientific.specs.Steps.{IsFormExponent}
-use Rattle.icu_decimal_scientific.specs.declared.notation.Notation.{Notation}
-use Rattle.icu_decimal_scientific.specs.declared.notation.Notation.TheVariants.{Scientific, Engineering}
+use Rattle.icu_decimal_scientific.specs.declared.notation.ScientificNotation.{ScientificNotation}
+use Rattle.icu_decimal_scientific.specs.declared.notation.ScientificNotation.TheVariants.{Scientific, Engineering}
 use Rattle.icu_decimal_scientific.specs.declared.shown.ExponentOptions.{ExponentOptions}
 use Rattle.icu_decimal_scientific.proofs.FormLawLemmas.{first_of, form_is_normal}
 use Rattle.icu_decimal_scientific.proofs.FormLemmas.{other_way}
@@ -30,7 +30,7 @@ use Rattle.icu_decimal_scientific.proofs.ShownExponentLemmas.{one_highest, too_m
 
 -- ---- the exponent of a decimal
 
-step_small : (notation : Notation) → step notation ≤ 3
+step_small : (notation : ScientificNotation) → step notation ≤ 3
 step_small Scientific = omega arith
 step_small Engineering = omega arith
 
@@ -42,7 +42,7 @@ whole_reaches n f end some below whole =
 at_least_one : (n k : ℕ) → 10 ^ k ≤ n → 0 < n
 at_least_one n k l = let p = tens_positive k in omega arith
 
-pub few_exponents : (notation : Notation) (s : Number) (e : ℤ) → IsNormal notation s.count e → HasProduct e s → size_of e < 100000
+pub few_exponents : (notation : ScientificNotation) (s : Number) (e : ℤ) → IsNormal notation s.count e → HasProduct e s → size_of e < 100000
 few_exponents notation s (pos n) normal p = let room = room_of (pos n) s p refl in omega arith
 few_exponents notation s (negsuc n) (inl z) p = absurd (never n z.1)
   where
@@ -55,7 +55,7 @@ few_exponents notation s (negsuc n) (inr some) p =
 
 -- ---- what a shown number is
 
-module _ (notation : Notation) (o : ExponentOptions) (s : Number) (v : SignedValue Number) where
+module _ (notation : ScientificNotation) (o : ExponentOptions) (s : Number) (v : SignedValue Number) where
   pub no_exponent : 10 ^ 32773 ≤ v.absolute.count → (e : ℤ) → ¬ (IsFormExponent notation o s v e)
   no_exponent many e f = too_many o e v many (few_exponents notation s e f.normal f.product) f.so
 
@@ -72,7 +72,7 @@ module _ (notation : Notation) (o : ExponentOptions) (s : Number) (v : SignedVal
   form_exponent_is e so normal product = record { so = so; normal = normal; product = product }
 
 -- so is a scientific number
-module _ (notation : Notation) (o : ExponentOptions) (v : ScientificValue) where
+module _ (notation : ScientificNotation) (o : ExponentOptions) (v : ScientificValue) where
   pub shown_form_is : (e : ℤ) → IsFormExponent notation o v.significand.absolute v.exponent e → IsShownForm notation o (record { significand = v.significand; exponent = e }) v
   shown_form_is e f = record { shown = record { significand = refl; exponent = f.so }; normal = f.normal; product = f.product }
 
@@ -85,14 +85,14 @@ module _ (notation : Notation) (o : ExponentOptions) (v : ScientificValue) where
 
 -- ---- what is normal
 
-pub normal_zero : (notation : Notation) (n : ℕ) (e : ℤ) → n ≡ 0 → e ≡ pos 0 → IsNormal notation n e
+pub normal_zero : (notation : ScientificNotation) (n : ℕ) (e : ℤ) → n ≡ 0 → e ≡ pos 0 → IsNormal notation n e
 normal_zero notation n e none at = inl (none, at)
 
-pub zero_alone : (notation : Notation) (n : ℕ) (e : ℤ) → n ≡ 0 → ¬ (e ≡ pos 0) → ¬ (IsNormal notation n e)
+pub zero_alone : (notation : ScientificNotation) (n : ℕ) (e : ℤ) → n ≡ 0 → ¬ (e ≡ pos 0) → ¬ (IsNormal notation n e)
 zero_alone notation n e none other (inl z) = other z.1
 zero_alone notation n e none other (inr some) = let least = some.least in let t = tens_positive 32768 in absurd (omega (arith, none, least, t))
 
-pub normal_some : (notation : Notation) (n : ℕ) (e : ℤ) (p : ℕ) → 10 ^ p ≤ n → n < 10 ^ (p + 1) → 32768 ≤ p → p < 32768 + step notation → (rise e + fall e) % step notation ≡ 0 → IsNormal notation n e
+pub normal_some : (notation : ScientificNotation) (n : ℕ) (e : ℤ) (p : ℕ) → 10 ^ p ≤ n → n < 10 ^ (p + 1) → 32768 ≤ p → p < 32768 + step notation → (rise e + fall e) % step notation ≡ 0 → IsNormal notation n e
 normal_some notation n e p reaches holds over under multiple = inr (record {
   multiple = multiple;
   least = le_through (10 ^ 32768) (10 ^ p) n (tens_apart 32768 p over) reaches;
@@ -102,7 +102,7 @@ normal_some notation n e p reaches holds over under multiple = inr (record {
 pub multiple_by : (a b s i j k : ℕ) → a ≡ i → b ≡ j → s ≡ k → (a + b) % s ≡ 0 → (i + j) % k ≡ 0
 multiple_by a b s i j k e f g h = subst (λ x. (i + j) % x ≡ 0) g (subst (λ x. (i + x) % s ≡ 0) f (subst (λ x. (x + b) % s ≡ 0) e h))
 
-module _ (notation : Notation) (n : ℕ) (e : ℤ) (some : 0 < n) where
+module _ (notation : ScientificNotation) (n : ℕ) (e : ℤ) (some : 0 < n) where
   pub too_small : (p : ℕ) → n < 10 ^ (p + 1) → p < 32768 → ¬ (IsNormal notation n e)
   too_small p holds under (inl z) = let none = z.0 in absurd (omega (arith, some, none))
   too_small p holds under (inr normal) = absurd (apart p (powers_lt 32768 (p + 1) (reached (10 ^ 32768) n (10 ^ (p + 1)) normal.least holds)) under)
@@ -120,16 +120,16 @@ module _ (notation : Notation) (n : ℕ) (e : ℤ) (some : 0 < n) where
 
 -- ---- what a text is
 
-pub form_text_is : (s : ScientificSettings) (notation : Notation) (o : ExponentOptions) (text : List ℕ) (v : ScientificValue) (form : ScientificParts) → IsScientificText s text v → IsShownForm notation o form v → IsFormText s notation o text form
+pub form_text_is : (s : ScientificSettings) (notation : ScientificNotation) (o : ExponentOptions) (text : List ℕ) (v : ScientificValue) (form : ScientificParts) → IsScientificText s text v → IsShownForm notation o form v → IsFormText s notation o text form
 form_text_is s notation o text v form written shown = record { value = v; written = written; shown = shown }
 
-pub no_form_shown : (s : ScientificSettings) (notation : Notation) (o : ExponentOptions) (text : List ℕ) (v : ScientificValue) → AreScientificTexts s → is_scientific_readable_by s ≡ true → IsScientificText s text v
+pub no_form_shown : (s : ScientificSettings) (notation : ScientificNotation) (o : ExponentOptions) (text : List ℕ) (v : ScientificValue) → AreScientificTexts s → is_scientific_readable_by s ≡ true → IsScientificText s text v
     → ((form : ScientificParts) → ¬ (IsShownForm notation o form v)) → HasNoForm s notation o text
 no_form_shown s notation o text v are readable written none form f =
     let same : f.value ≡ v = one_value s f.value v are readable f.written.number written.number (f.written.written ∙ sym written.written) in
     none form (subst (IsShownForm notation o form) same f.shown)
 
-pub no_form_written : (s : ScientificSettings) (notation : Notation) (o : ExponentOptions) (text : List ℕ) → HasNoScientific s text → HasNoForm s notation o text
+pub no_form_written : (s : ScientificSettings) (notation : ScientificNotation) (o : ExponentOptions) (text : List ℕ) → HasNoScientific s text → HasNoForm s notation o text
 no_form_written s notation o text none form f = none f.value f.written.number f.written.written
 
 -- ---- the form of a number is a decimal
@@ -138,7 +138,7 @@ no_form_written s notation o text none form f = none f.value f.written.number f.
 first_small : (number : Number) (p : ℕ) → IsNumber number → 10 ^ p ≤ number.count → p < 65536
 first_small number p is l = let below = is.below in let less = powers_lt p (number.high + 1) (omega arith) in let high = is.high in omega arith
 
-module _ (notation : Notation) (number s : Number) (e : ℤ) (is : IsNumber number) (f : IsForm notation number s e) where
+module _ (notation : ScientificNotation) (number s : Number) (e : ℤ) (is : IsNumber number) (f : IsForm notation number s e) where
   normal : IsNormal notation s.count e
   normal = form_is_normal notation number s e is f
 

@@ -1,6 +1,6 @@
 -- Which exponent a whole number is, and how it is shown.
-use Rattle.std.proofs.Common.{◌≡◌, ◌≢◌, ℕ, ℤ, pos, negsuc, ◌+◌, ◌*◌, ◌/◌, ◌%◌, ◌^◌, ◌<◌, ◌≤◌, max, lit≤, refl, ap, subst, sym, ◌∙◌, arith, ⊎_elim}
-use Rattle.std.proofs.Math.Nat.{div-add-mod', div-div-eq-div-mul, div-eq_of_lt}
+use Rattle.std.proofs.Common.{◌≡◌, ◌≢◌, ℕ, ℤ, pos, negsuc, ◌+◌, ◌-◌, ◌*◌, ◌/◌, ◌%◌, ◌^◌, ◌<◌, ◌≤◌, max, lit≤, refl, ap, subst, sym, ◌∙◌, arith, ⊎_elim}
+use Rattle.std.proofs.Math.Nat.{div-add-mod', div-div-eq-div-mul, div-eq_of_lt, mul-lt-mul_of_pos_right}
 use Rattle.std.proofs.lemmas.Bool.{cases_lt}
 use Rattle.fixed_decimal.specs.Number.{IsNumber, Number, digit}
 use Rattle.fixed_decimal.specs.Range.{IsHighest}
@@ -9,11 +9,14 @@ use Rattle.fixed_decimal.specs.SignedValue.{SignedValue}
 use Rattle.fixed_decimal.specs.WholeNumbers.{size_of}
 use Rattle.fixed_decimal.specs.declared.Sign.TheVariants.{Negative}
 use Rattle.fixed_decimal.proofs.TenLemmas.{tens_apart, tens_next, tens_positive, tens_split}
-use Rattle.icu_decimal_scientific.specs.ShownNumbers.{IsShownExponent, exponent_sign}
+use Rattle.icu_decimal_scientific.specs.CarryLaws.{ShownExponentIsFunction}
+use Rattle.icu_decimal_scientific.specs.FormOf.{holding}
+use Rattle.icu_decimal_scientific.specs.ShownNumbers.{IsShownExponent, exponent_sign, shown_exponent}
 use Rattle.icu_decimal_scientific.specs.Steps.{IsExponentShown}
 use Rattle.icu_decimal_scientific.specs.declared.shown.ExponentOptions.{ExponentOptions}
 use Rattle.icu_decimal_scientific.specs.declared.shown.ExponentSign.{ExponentSign}
 use Rattle.icu_decimal_scientific.specs.declared.shown.ExponentSign.TheVariants.{Auto, Always}
+use Rattle.icu_decimal_scientific.proofs.BareLemmas.{Holds, below_power, holding_is}
 use Rattle.icu_decimal_scientific.proofs.PowerLemmas.{cancel_le, cancel_lt, cancel_same, le_through, lt_through, powers_lt}
 
 -- ---- five digits
@@ -139,3 +142,40 @@ too_many o e v many few shown = absurd (over (size_of e) 100000 (10 ^ 32768) (te
   where
     over : (n c t : ℕ) → 0 < t → n < c → c * t ≤ n * t → ⊥
     over n c t some few less = let up = cancel_le c n t some less in omega (arith, few, up)
+
+-- ---- as a function
+
+-- digits from a place of the whole number on, and those from the ones of the decimal on
+scaled : (n x high : ℕ) → high ≡ x + 32769 → n < 10 ^ (x + 1) → n * 10 ^ 32768 < 10 ^ high
+scaled n x high at few =
+    subst (λ t. n * 10 ^ 32768 < t) (sym (tens_split (x + 1) 32768 high (omega (arith, at)))) (mul-lt-mul_of_pos_right {m = n} {n = 10 ^ (x + 1)} few (tens_positive 32768))
+
+unscaled : (n x high : ℕ) → high ≡ x + 32769 → n * 10 ^ 32768 < 10 ^ high → n < 10 ^ (x + 1)
+unscaled n x high at few = cancel_lt n (10 ^ (x + 1)) (10 ^ 32768) (subst (λ t. n * 10 ^ 32768 < t) (tens_split (x + 1) 32768 high (omega (arith, at))) few)
+
+shown_high : (n least : ℕ) → IsHighest 32768 (32768 + least) (n * 10 ^ 32768) (32768 + holding n (least - 1) n)
+shown_high n least = highest (holding n (least - 1) n) (holding_is n (least - 1) n (lt_through n (10 ^ n) (10 ^ (least - 1 + n + 1)) (below_power n) (tens_apart n (least - 1 + n + 1) (omega arith))))
+  where
+    highest : (x : ℕ) → Holds (least - 1) n x → IsHighest 32768 (32768 + least) (n * 10 ^ 32768) (32768 + x)
+    highest x h = record {
+      keeps = omega arith;
+      position = let k = h.keeps in omega (arith, k);
+      holds = scaled n x (32768 + x + 1) (omega arith) h.holds;
+      lowest = λ y from position few.
+          let under = h.lowest (y - 32768) (omega (arith, from, position)) (unscaled n (y - 32768) (y + 1) (omega (arith, from)) few) in
+          omega (arith, from, under);
+    }
+
+shown_by_function : (o : ExponentOptions) (e : ℤ) → IsShownExponent o e (shown_exponent o e)
+shown_by_function o e = record { sign = refl; count = refl; low = refl; high = shown_high (size_of e) o.least_digits }
+
+function_alone : (o : ExponentOptions) (e : ℤ) (v : SignedValue Number) → IsShownExponent o e v → v ≡ shown_exponent o e
+function_alone o e v shown =
+    let function : IsShownExponent o e (shown_exponent o e) = shown_by_function o e in
+    let high : v.absolute.high ≡ (shown_exponent o e).absolute.high =
+    one_highest (32768 + o.least_digits) (size_of e * 10 ^ 32768) v.absolute.high (shown_exponent o e).absolute.high
+    (subst (λ c. IsHighest 32768 (32768 + o.least_digits) c v.absolute.high) shown.count shown.high) function.high in
+    λ i. record { sign = shown.sign i; absolute = record { count = shown.count i; low = shown.low i; high = high i } }
+
+pub shown_exponent_is_function : ShownExponentIsFunction
+shown_exponent_is_function o e v = (λ shown. function_alone o e v shown, λ same. subst (IsShownExponent o e) (sym same) (shown_by_function o e))

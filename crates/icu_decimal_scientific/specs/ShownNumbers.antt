@@ -1,7 +1,7 @@
 -- A scientific number as it is shown: the exponent with the sign and the digits that are asked for.
 -- Defined in docs/scientific-text.md, "The text".
--- Cited by `ScientificNumber::shown`, and by the laws of texts.
-use Rattle.std.specs.Prelude.{◌≡◌, ℤ, pos, negsuc, ◌+◌, ◌*◌, ◌^◌}
+-- Cited by `ScientificNumber::shown` and `shown_exponent`, and by the laws of texts.
+use Rattle.std.specs.Prelude.{◌≡◌, ℤ, pos, negsuc, ◌+◌, ◌-◌, ◌*◌, ◌^◌}
 use Rattle.fixed_decimal.specs.Number.{Number}
 use Rattle.fixed_decimal.specs.Range.{IsHighest}
 use Rattle.fixed_decimal.specs.ScientificText.{ScientificValue}
@@ -9,6 +9,7 @@ use Rattle.fixed_decimal.specs.SignedValue.{SignedValue}
 use Rattle.fixed_decimal.specs.WholeNumbers.{size_of}
 use Rattle.fixed_decimal.specs.declared.Sign.{Sign}
 use Rattle.fixed_decimal.specs.declared.Sign.TheVariants.{None as NoSign, Negative, Positive}
+use Rattle.icu_decimal_scientific.specs.FormOf.{holding}
 use Rattle.icu_decimal_scientific.specs.Scientific.{ScientificParts}
 use Rattle.icu_decimal_scientific.specs.declared.shown.ExponentOptions.{ExponentOptions}
 use Rattle.icu_decimal_scientific.specs.declared.shown.ExponentSign.{ExponentSign}
@@ -27,6 +28,17 @@ pub record IsShownExponent (o : ExponentOptions) (exponent : ℤ) (v : SignedVal
   pub count : v.absolute.count ≡ size_of exponent * 10 ^ 32768
   pub low : v.absolute.low ≡ 32768
   pub high : IsHighest 32768 (32768 + o.least_digits) v.absolute.count v.absolute.high
+
+-- the same as a function; its highest digit is the lowest place of the digits that are shown at least, or above, that holds the size
+abbrev pub shown_exponent : ExponentOptions → ℤ → SignedValue Number
+shown_exponent o exponent = record {
+  sign = exponent_sign o.sign exponent;
+  absolute = record {
+    count = size_of exponent * 10 ^ 32768;
+    low = 32768;
+    high = 32768 + holding (size_of exponent) (o.least_digits - 1) (size_of exponent);
+  };
+}
 
 -- the number as it is shown: the significand as it is
 pub record IsShownAs (o : ExponentOptions) (number : ScientificParts) (v : ScientificValue) : Type 0 where

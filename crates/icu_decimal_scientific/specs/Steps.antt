@@ -10,7 +10,7 @@ use Rattle.fixed_decimal.specs.declared.Sign.TheVariants.{Negative}
 use Rattle.icu_decimal_scientific.specs.Product.{HasProduct}
 use Rattle.icu_decimal_scientific.specs.ScientificLaws.{IsNormal}
 use Rattle.icu_decimal_scientific.specs.ShownNumbers.{IsShownExponent}
-use Rattle.icu_decimal_scientific.specs.declared.notation.Notation.{Notation}
+use Rattle.icu_decimal_scientific.specs.declared.notation.ScientificNotation.{ScientificNotation}
 use Rattle.icu_decimal_scientific.specs.declared.shown.ExponentOptions.{ExponentOptions}
 
 -- a number below one that stays small when it is multiplied by ten so often
@@ -37,7 +37,7 @@ pub record IsExponentShown (exponent : ℤ) (shown : SignedValue Number) : Type 
   pub above : shown.sign ≢ Negative → fall exponent ≡ 0
 
 -- and shown so in a notation, with a significand
-pub record IsFormExponent (notation : Notation) (o : ExponentOptions) (significand : Number) (shown : SignedValue Number) (exponent : ℤ) : Type 0 where
+pub record IsFormExponent (notation : ScientificNotation) (o : ExponentOptions) (significand : Number) (shown : SignedValue Number) (exponent : ℤ) : Type 0 where
   pub so : IsShownExponent o exponent shown
   pub normal : IsNormal notation significand.count exponent
   pub product : HasProduct exponent significand

@@ -1,5 +1,5 @@
 //! Laws of scientific forms and of their texts. No call is made: each clause is the law.
-ghost use Rattle.icu_decimal_scientific.specs.CarryLaws.{BeyondIsBelow, CarriedIsNormal, FormIsFunction, UnchangedIsForm};
+ghost use Rattle.icu_decimal_scientific.specs.CarryLaws.{BeyondIsBelow, CarriedIsNormal, FormIsFunction, FunctionIsForm, ShownExponentIsFunction, UnchangedIsForm};
 ghost use Rattle.icu_decimal_scientific.specs.NotationLaws.{DecimalHasFormText, DecimalIsReadBack, FormHasProduct, FormIsWrittenAgain, OneProduct, ProductIsTheNumber, TextHasOneForm};
 ghost use Rattle.icu_decimal_scientific.specs.ScientificLaws.{BeyondHasNoForm, FormIsNormal, FormIsTheNumber, NormalFormIsTheForm, OneForm, OneNumber};
 ghost use Rattle.icu_decimal_scientific.specs.ScientificTextLaws.{HasOneScientificReading, ReadIsWrittenAgain, ScientificIsText, TextsHaveOneNumber, TextsHaveOneValue, WrittenIsReadBack};
@@ -73,6 +73,13 @@ pub fn notation_trips()
 pub fn form_is_a_function()
     ensures value { FormIsFunction }
     ensures beyond { BeyondIsBelow }
+    ensures form { FunctionIsForm }
+{}
+
+/// A law: an exponent is shown as the function of `ShownNumbers.antt` says, and only so: 6 with the sign `Always` and at
+/// least two digits as `+06`.
+pub fn shown_exponent_is_a_function()
+    ensures { ShownExponentIsFunction }
 {}
 
 /// A law: where a significand is changed and reaches a higher exponent, it is divided again, keeps its value and is normal:

@@ -5,19 +5,20 @@
 //! `1.234567891E6`. The rules are in docs/scientific-text.md.
 //!
 //! ```rust
-//! use icu_decimal_scientific::{ExponentOptions, Notation, ScientificNumber, ScientificTables};
+//! use icu_decimal_scientific::{ExponentOptions, ScientificNotation, ScientificNumber, ScientificTables};
 //!
-//! let number = ScientificNumber::of_decimal(decimal, Notation::Scientific)?;
+//! let number = ScientificNumber::of_decimal(decimal, ScientificNotation::Scientific)?;
 //! let shown = number.shown(alloc, ExponentOptions::default())?;
 //! let tables = ScientificTables::new(&decimals, "E");
 //! tables.format(&shown).write_to(&mut sink)?;                             // 1.234567891E6
 //! let same = tables.read(alloc, "1.234567891E6")?;
-//! let decimal = tables.read_decimal(alloc, Notation::Scientific, ExponentOptions::default(), "1.234567891E6")?;
+//! let decimal = tables.read_decimal(alloc, ScientificNotation::Scientific, ExponentOptions::default(), "1.234567891E6")?;
 //! ```
 #![tactic(auto)]
 
 mod carry;
 mod error;
+mod exponent_reader;
 pub mod laws;
 mod notation;
 mod notation_reader;
@@ -28,13 +29,13 @@ mod product;
 mod readable;
 mod reader;
 mod shown;
-mod shown_exponent;
 mod tables;
 mod written;
 
+pub use carry::carry_significand;
 pub use error::RangeError;
-pub use notation::Notation;
-pub use number::ScientificNumber;
-pub use shown::{ExponentOptions, ExponentSign, ShownScientific};
+pub use notation::ScientificNotation;
+pub use number::{ScientificNumber, has_form, make_significand};
+pub use shown::{ExponentOptions, ExponentSign, ShownScientific, shown_exponent};
 pub use tables::{FormattedScientific, ScientificTables};
 pub use written::NumberWithExponent;

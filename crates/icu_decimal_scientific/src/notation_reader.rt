@@ -9,30 +9,30 @@ ghost use Rattle.icu_decimal_scientific.specs.ScientificLaws.{IsNormal};
 ghost use Rattle.icu_decimal_scientific.specs.ScientificReading.{HasManyBeside, is_scientific_readable_by};
 ghost use Rattle.icu_decimal_scientific.specs.Steps.{IsFormExponent};
 
-use crate::notation::Notation;
+use crate::exponent_reader::{exponent_value, is_shown_so};
+use crate::notation::ScientificNotation;
 use crate::number::ScientificNumber;
 use crate::places::{fall_of, first_place, rise_of};
 use crate::product::is_decimal;
 use crate::shown::{ExponentOptions, ShownScientific};
-use crate::shown_exponent::{exponent_value, is_shown_so};
 use crate::tables::ScientificTables;
 use fixed_decimal::{Decimal, UnsignedDecimal};
 use icu_decimal_reading::ReadError;
 use std::alloc::Global;
 
 // How far apart the exponents of a notation are.
-fn step_of(notation: Notation) -> u32
+fn step_of(notation: ScientificNotation) -> u32
     ensures { result ≡ step notation }
 {
     match notation {
-        Notation::Scientific => 1,
-        Notation::Engineering => 3,
+        ScientificNotation::Scientific => 1,
+        ScientificNotation::Engineering => 3,
     }
 }
 
 // Whether a significand and an exponent are normal in a notation.
 #[tactic(auto, using(crate::proofs::NotationLemmas::normal_zero, crate::proofs::NotationLemmas::zero_alone, crate::proofs::NotationLemmas::no_multiple))]
-fn is_normal(significand: &UnsignedDecimal, exponent: i32, notation: Notation) -> bool
+fn is_normal(significand: &UnsignedDecimal, exponent: i32, notation: ScientificNotation) -> bool
     ensures normal { IsTrue result → IsNormal notation significand.now.count exponent }
     ensures other { IsFalse result → ¬ (IsNormal notation significand.now.count exponent) }
 {
@@ -54,7 +54,7 @@ fn is_normal(significand: &UnsignedDecimal, exponent: i32, notation: Notation) -
 fn form_exponent(
     significand: &UnsignedDecimal,
     shown: &Decimal,
-    notation: Notation,
+    notation: ScientificNotation,
     options: ExponentOptions,
 ) -> Option<i32>
     requires { ShowsNoFraction shown.now }
@@ -83,7 +83,11 @@ impl ShownScientific {
     /// `None` where the significand and the exponent are not normal in the notation, as 12 and 5 in the scientific one;
     /// where the exponent is shown otherwise, as 06 by the default options; or where they are no decimal, as 1 and
     /// 32768. It does not allocate.
-    pub fn into_form(self, notation: Notation, options: ExponentOptions) -> Option<ScientificNumber>
+    pub fn into_form(
+        self,
+        notation: ScientificNotation,
+        options: ExponentOptions,
+    ) -> Option<ScientificNumber>
         ensures some { IfSome result (λ form. IsShownForm notation options form self) }
         ensures none { IfNone result (ShowsNoForm notation options self) }
     {
@@ -113,7 +117,7 @@ impl<'b> ScientificTables<'b> {
     pub fn read_form(
         &self,
         alloc: Global,
-        notation: Notation,
+        notation: ScientificNotation,
         options: ExponentOptions,
         text: &str,
     ) -> Result<ScientificNumber, ReadError>
@@ -141,7 +145,7 @@ impl<'b> ScientificTables<'b> {
     pub fn read_decimal(
         &self,
         alloc: Global,
-        notation: Notation,
+        notation: ScientificNotation,
         options: ExponentOptions,
         text: &str,
     ) -> Result<Decimal, ReadError>

@@ -1,14 +1,15 @@
 //! The scientific form of a decimal.
 
-ghost use Rattle.std.specs.Prelude.{◌≡◌, ◌+◌, ◌≤◌, ◌<◌, ◌*◌, ◌^◌, ◌%◌, ◌-◌, IfNone, IfOk, IfSome, IsErr, IsFalse, IsTrue, OnErr};
+ghost use Rattle.std.specs.Prelude.{◌≡◌, ◌+◌, ◌≤◌, ◌<◌, ◌*◌, ◌^◌, ◌%◌, ◌-◌, ◌↔◌, IfNone, IfOk, IfSome, IsErr, IsSome, IsTrue, OnErr};
 ghost use Rattle.fixed_decimal.specs.Range.{IsLong, IsLowest};
 ghost use Rattle.fixed_decimal.specs.Shifts.{fall, rise};
 ghost use Rattle.fixed_decimal.specs.WholeNumbers.{IsSignedWhole, size_of};
+ghost use Rattle.icu_decimal_scientific.specs.FormOf.{below_form, form_of};
 ghost use Rattle.icu_decimal_scientific.specs.Scientific.{IsBeyondPlaces, IsExponent, IsForm, IsFormOf, IsGreatestMultiple, IsSignificand, step};
 ghost use Rattle.icu_decimal_scientific.specs.Steps.{CanRaise};
 
 use crate::error::RangeError;
-use crate::notation::Notation;
+use crate::notation::ScientificNotation;
 use crate::places::{fall_of, is_whole_at, lower, place_of, raise, rise_of};
 use fixed_decimal::{Decimal, FixedInteger, ScientificDecimal, UnsignedDecimal};
 use std::alloc::{AllocError, Global};
@@ -41,19 +42,19 @@ fn exponent_from(raised: u32) -> i32
 }
 
 // The greatest exponent of a notation that is not above the magnitude of a place.
-fn greatest_exponent(place: u32, notation: Notation) -> i32
+fn greatest_exponent(place: u32, notation: ScientificNotation) -> i32
     requires { place < 65536 }
     ensures { IsGreatestMultiple (step notation) place result }
 {
     match notation {
-        Notation::Scientific => exponent_from(place + 1),
-        Notation::Engineering => exponent_from((place + 1) / 3 * 3),
+        ScientificNotation::Scientific => exponent_from(place + 1),
+        ScientificNotation::Engineering => exponent_from((place + 1) / 3 * 3),
     }
 }
 
 // The exponent of a number.
 #[tactic(auto, using(crate::proofs::FormLemmas::exponent_is))]
-pub(crate) fn exponent_of(number: &UnsignedDecimal, notation: Notation) -> i32
+pub(crate) fn exponent_of(number: &UnsignedDecimal, notation: ScientificNotation) -> i32
     ensures exponent { IsExponent notation number.now.count result }
     ensures room { fall result ≤ 32769 }
     ensures top { rise result < 32768 }
@@ -75,58 +76,84 @@ fn raise_far(number: &mut UnsignedDecimal, by: u32)
 }
 
 // Divides a number whose fraction ends with no zero by ten to an exponent, where no digit is lost.
-fn divide(number: &mut UnsignedDecimal, exponent: i32) -> bool
+fn divide(number: &mut UnsignedDecimal, exponent: i32)
     requires trimmed { IsLowest 32768 number.old.count number.old.low }
     requires rise { rise exponent < 32768 }
     requires fall { fall exponent < 32770 }
     requires few { 0 < fall exponent → CanRaise number.old.count (fall exponent) }
-    ensures value { IsTrue result → number.new.count * 10 ^ rise exponent ≡ number.old.count * 10 ^ fall exponent }
-    ensures part { IsFalse result → ¬ (number.old.count % 10 ^ rise exponent ≡ 0) }
+    requires whole { number.old.count % 10 ^ rise exponent ≡ 0 }
+    ensures { number.new.count * 10 ^ rise exponent ≡ number.old.count * 10 ^ fall exponent }
 {
     let by = fall_of(exponent);
     if by > 0 {
         raise_far(number, by);
-        return true;
+        return;
     }
-    let by = rise_of(exponent);
-    if !is_whole_at(number, by) {
-        return false;
-    }
-    lower(number, by as u16);
-    true
+    lower(number, rise_of(exponent) as u16);
 }
 
 // Makes a number its significand with an exponent, where no digit is lost.
-fn take_significand(number: &mut UnsignedDecimal, exponent: i32) -> bool
+fn take_significand(number: &mut UnsignedDecimal, exponent: i32)
     requires rise { rise exponent < 32768 }
     requires fall { fall exponent < 32770 }
     requires few { 0 < fall exponent → CanRaise number.old.count (fall exponent) }
-    ensures value { IsTrue result → IsSignificand exponent number.old number.new }
-    ensures part { IsFalse result → ¬ (number.old.count % 10 ^ rise exponent ≡ 0) }
+    requires whole { number.old.count % 10 ^ rise exponent ≡ 0 }
+    ensures { IsSignificand exponent number.old number.new }
 {
     number.trim_end();
-    if !divide(number, exponent) {
-        return false;
-    }
+    divide(number, exponent);
     number.trim_end();
     number.trim_start();
-    true
 }
 
-// Makes a number the significand of its form, and says the exponent.
+// Makes a number the significand of its form, where it has one, and says the exponent.
 #[tactic(auto, using(crate::proofs::FormLemmas::form_made, crate::proofs::FormLemmas::beyond_made))]
-fn take_form(number: &mut UnsignedDecimal, notation: Notation) -> Option<i32>
+fn take_form(number: &mut UnsignedDecimal, notation: ScientificNotation) -> Option<i32>
     ensures some { IfSome result (λ e. IsForm notation number.old number.new e) }
     ensures none { IfNone result (IsBeyondPlaces notation number.old.count) }
+    ensures same { IfNone result (number.new ≡ number.old) }
     ensures room { IfSome result (λ e. rise e < 32768) }
 {
     let _number = number.magnitude_range(); // for the proof
     let exponent = exponent_of(number, notation);
-    if take_significand(number, exponent) {
-        Some(exponent)
-    } else {
-        None
+    if !is_whole_at(number, rise_of(exponent)) {
+        return None;
     }
+    take_significand(number, exponent);
+    Some(exponent)
+}
+
+// Whether a number without a sign has a form.
+fn is_formed(number: &UnsignedDecimal, notation: ScientificNotation) -> bool
+    ensures { IsTrue result ↔ (below_form notation number.now.count ≡ 0) }
+{
+    let _number = number.magnitude_range(); // for the proof
+    let exponent = exponent_of(number, notation);
+    is_whole_at(number, rise_of(exponent))
+}
+
+/// Whether a number has a form in a notation: each has but those with a digit of the significand below the magnitude
+/// -32768, as 1000 with 32768 digits after the point, of which the last is not zero. It does not allocate.
+pub fn has_form(value: &Decimal, notation: ScientificNotation) -> bool
+    ensures { IsTrue result ↔ (below_form notation value.now.absolute.count ≡ 0) }
+{
+    is_formed(&value.absolute, notation)
+}
+
+/// Makes a number the significand of its form, with its sign, and answers the exponent: 1200000.0 becomes 1.2, and the
+/// exponent is 6. The exponent is at most 32767.
+///
+/// `None` where the number has no form, as of `RangeError`; it is then as it was. It does not allocate.
+pub fn make_significand(value: &mut Decimal, notation: ScientificNotation) -> Option<i32>
+    ensures succeeds { IsSome result ↔ (below_form notation value.old.absolute.count ≡ 0) }
+    ensures value { IfSome result
+        (λ e. record { significand = value.new; exponent = e } ≡ form_of notation value.old) }
+    ensures exponent { IfSome result (λ e. rise e < 32768) }
+    ensures none { IfNone result (¬ (below_form notation value.old.absolute.count ≡ 0)) }
+    ensures same { IfNone result (value.new ≡ value.old) }
+{
+    let _number = value.absolute.magnitude_range(); // for the proof
+    take_form(&mut value.absolute, notation)
 }
 
 impl ScientificNumber {
@@ -138,7 +165,10 @@ impl ScientificNumber {
     /// after the point. It does not allocate.
     ///
     /// Source: UTS 35, part 3 (numbers), scientific notation.
-    pub fn of_decimal(decimal: Decimal, notation: Notation) -> Result<ScientificNumber, RangeError>
+    pub fn of_decimal(
+        decimal: Decimal,
+        notation: ScientificNotation,
+    ) -> Result<ScientificNumber, RangeError>
         ensures value { IfOk result (λ form. IsFormOf notation decimal form) }
         ensures range { IsErr result → IsBeyondPlaces notation decimal.absolute.count }
         ensures exponent { IfOk result (λ form. rise form.exponent < 32768) }

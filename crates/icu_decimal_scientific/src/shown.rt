@@ -1,11 +1,9 @@
 //! Scientific numbers as they are shown.
 
-ghost use Rattle.std.specs.Prelude.{◌≡◌, ◌+◌, ◌<◌, IfOk, OnErr};
+ghost use Rattle.std.specs.Prelude.{◌≡◌, ◌+◌, ◌<◌, IfOk, IsOk};
 ghost use Rattle.fixed_decimal.specs.IntegerText.{ShowsNoFraction};
-ghost use Rattle.fixed_decimal.specs.Range.{IsLong};
 ghost use Rattle.fixed_decimal.specs.Shifts.{PadsStart};
-ghost use Rattle.fixed_decimal.specs.WholeNumbers.{size_of};
-ghost use Rattle.icu_decimal_scientific.specs.ShownNumbers.{IsShownAs, IsShownExponent, exponent_sign};
+ghost use Rattle.icu_decimal_scientific.specs.ShownNumbers.{IsShownAs, exponent_sign, shown_exponent};
 
 use crate::number::ScientificNumber;
 use fixed_decimal::{Decimal, FixedInteger, ScientificDecimal, Sign, UnsignedDecimal};
@@ -13,7 +11,7 @@ use std::alloc::{AllocError, Global};
 use std::marker::Model;
 
 /// When an exponent has a sign: with `Always` 1200000 is `1.2E+6`.
-#[derive(Clone, Copy, Debug, Default, PartialEq, Eq)]
+#[derive(Clone, Copy, Debug, Default, PartialEq, Eq, Hash)]
 pub enum ExponentSign {
     /// A minus sign below 0, and else none: `1.2E6`.
     #[default]
@@ -24,7 +22,7 @@ pub enum ExponentSign {
 
 /// How an exponent is shown: with the sign `Always` and at least two digits 1200000 is `1.2E+06`. By default it is
 /// `1.2E6`.
-#[derive(Clone, Copy, Debug, Default, PartialEq, Eq)]
+#[derive(Clone, Copy, Debug, Default, PartialEq, Eq, Hash)]
 pub struct ExponentOptions {
     /// When it has a sign.
     pub sign: ExponentSign,
@@ -71,14 +69,15 @@ fn pad(number: &mut UnsignedDecimal, digits: u8)
     number.pad_start(digits as i16);
 }
 
-// The exponent as a decimal.
-fn exponent_shown(
+/// An exponent as the decimal that is shown: 6 with the sign `Always` and at least two digits is `+06`, and -4 by the
+/// default options `-4`. It does not allocate, and always succeeds.
+pub fn shown_exponent(
     alloc: Global,
     exponent: i32,
     options: ExponentOptions,
 ) -> Result<Decimal, AllocError>
-    ensures value { IfOk result (λ v. IsShownExponent options exponent v) }
-    ensures room { OnErr result (IsLong (size_of exponent)) }
+    ensures succeeds { IsOk result }
+    ensures value { IfOk result (λ v. v ≡ shown_exponent options exponent) }
 {
     let mut shown = Decimal::from_i32(alloc, exponent)?;
     pad(&mut shown.absolute, options.least_digits);
@@ -86,18 +85,17 @@ fn exponent_shown(
 }
 
 impl ScientificNumber {
-    /// The number as it is shown: 1.2 and 6 with the sign `Always` and at least two digits are `1.2E+06`.
-    ///
-    /// `AllocError`: out of memory, only where the exponent has more than sixteen digits, which none has.
+    /// The number as it is shown: 1.2 and 6 with the sign `Always` and at least two digits are `1.2E+06`. It does not
+    /// allocate, and always succeeds.
     pub fn shown(
         self,
         alloc: Global,
         options: ExponentOptions,
     ) -> Result<ShownScientific, AllocError>
+        ensures succeeds { IsOk result }
         ensures value { IfOk result (λ v. IsShownAs options self v) }
-        ensures room { OnErr result (IsLong (size_of self.exponent)) }
     {
-        let exponent = exponent_shown(alloc, self.exponent, options)?;
+        let exponent = shown_exponent(alloc, self.exponent, options)?;
         let ScientificNumber {
             significand,
             exponent: _,

@@ -8,6 +8,7 @@ ghost use Rattle.icu_decimal_scientific.specs.ExponentialText.{scientific_format
 
 use crate::shown::ShownScientific;
 use crate::written::{NumberWithExponent, WrittenExponent};
+use fixed_decimal::Decimal;
 use icu_decimal_plain::{DecimalTables, FormattedSign};
 use icu_decimal_symbols::options::GroupingStrategy;
 use std::alloc::{AllocError, Global};
@@ -65,6 +66,28 @@ impl<'b> ScientificTables<'b> {
         }
     }
 
+    /// The tables that significands are written with. It does not allocate.
+    pub fn decimals(&self) -> &DecimalTables<'b>
+        ensures { borrowed_tables result.now ≡ (settings_of self.now).tables }
+    {
+        &self.decimals
+    }
+
+    /// The text before exponents: `E` in English. It does not allocate.
+    pub fn separator(&self) -> &'b str
+        ensures { result.now ≡ (settings_of self.now).separator }
+    {
+        self.separator
+    }
+
+    /// The tables that exponents are written with: in English those of significands, without groups. It does not
+    /// allocate.
+    pub fn exponents(&self) -> &DecimalTables<'b>
+        ensures { borrowed_tables result.now ≡ (settings_of self.now).exponents }
+    {
+        &self.exponents
+    }
+
     /// The number as it is written: 1.2 and 6 as `1.2E6` in English. It does not allocate.
     ///
     /// The number is written as it is given, with its digits. Its parts are those of the significand, and those of
@@ -74,10 +97,25 @@ impl<'b> ScientificTables<'b> {
     pub fn format<'l>(&'l self, value: &'l ShownScientific) -> FormattedScientific<'l>
         ensures { result ≡ scientific_formatted (settings_of self.now) value.now }
     {
-        let number = self.decimals.format_unsigned(&value.significand.absolute);
-        let exponent = WrittenExponent::new(&self.exponents, &value.exponent);
+        self.format_parts(&value.significand, &value.exponent)
+    }
+
+    /// A significand with its exponent as they are written: 1.2 and 06 as `1.2E06` in English. It does not allocate.
+    ///
+    /// Both are written as they are given, with their signs and digits; `shown_exponent` makes an exponent as options
+    /// show it. The parts are those of `format`.
+    pub fn format_parts<'l>(
+        &'l self,
+        significand: &'l Decimal,
+        exponent: &'l Decimal,
+    ) -> FormattedScientific<'l>
+        ensures { result ≡ scientific_formatted (settings_of self.now)
+            (record { significand = significand.now; exponent = exponent.now }) }
+    {
+        let number = self.decimals.format_unsigned(&significand.absolute);
+        let exponent = WrittenExponent::new(&self.exponents, exponent);
         let inner = NumberWithExponent::new(number, self.separator, exponent);
-        FormattedSign::new(value.significand.sign, self.decimals.symbols(), inner)
+        FormattedSign::new(significand.sign, self.decimals.symbols(), inner)
     }
 
     /// The text of the number: 1.2 and 6 give `1.2E6` in English.

@@ -7,3 +7,11 @@ pub mod ReaderLemmas
 pub mod SideLemmas
 pub mod TakenLemmas
 pub mod WordsTextLemmas
+-- What people type.
+pub mod KnownTyped
+pub mod LenientWordLemmas
+pub mod NativeWordLemmas
+pub mod TypedReaderLemmas
+pub mod SpellingLemmas
+pub mod WordReadingLemmas
+pub mod WordSteps

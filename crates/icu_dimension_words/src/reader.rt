@@ -37,7 +37,7 @@ fn strip_after<'t>(text: &'t str, after: &str) -> Option<&'t str>
 }
 
 /// What is between two texts: between nothing and ` km`, of `5 km` `5`, and of `5 m` nothing. It does not allocate.
-pub fn strip_both<'t>(text: &'t str, before: &str, after: &str) -> Option<&'t str>
+pub(crate) fn strip_both<'t>(text: &'t str, before: &str, after: &str) -> Option<&'t str>
     ensures some { IfSome result (λ inner. text.now ≡ before.now ++ (inner.now ++ after.now)) }
     ensures none { IfNone result ((inner : List ℕ) → text.now ≢ before.now ++ (inner ++ after.now)) }
 {
@@ -99,7 +99,7 @@ fn read_pair(
 }
 
 /// A number of one digit, without a sign: 1 is shown as `1`. It does not allocate.
-pub fn digit_alone(alloc: Global, digit: u8) -> Decimal
+pub(crate) fn digit_alone(alloc: Global, digit: u8) -> Decimal
     requires { digit < 10 }
     ensures value { result ≡ digit_alone digit }
     ensures decimal { IsDecimal result }

@@ -1,7 +1,7 @@
 -- What the words say: where an option is not given, another word or another way.
 -- Defined in docs/command.md, "Options" and "Refused numbers".
 -- Cited by the private calls that read the words.
-use Rattle.std.specs.Prelude.{◌≡◌, ℕ, Bool, true, false, if◌then◌else◌, List, Option, Some, None, option_map, unwrap_or, codes}
+use Rattle.std.specs.Prelude.{◌≡◌, ℕ, Bool, true, false, ◌||◌, if◌then◌else◌, List, Option, Some, None, option_map, unwrap_or, codes}
 use Rattle.std.specs.Str.{bytes_eq}
 use Rattle.clap.specs.Matches.{first_value}
 use Rattle.clap.specs.declared.parser.matches.Found.{Found}
@@ -10,6 +10,9 @@ use Rattle.legumeyet_options.specs.Invalids.{invalid_named}
 use Rattle.legumeyet_options.specs.declared.DigitWords.{DigitWords}
 use Rattle.legumeyet_options.specs.declared.Invalid.{Invalid}
 use Rattle.legumeyet_options.specs.declared.NumberWords.{NumberWords}
+use Rattle.legumeyet_options.specs.declared.NumbersAsked.{NumbersAsked}
+use Rattle.locale_numbers_formats.specs.declared.Notation.{Notation}
+use Rattle.locale_numbers_formats.specs.declared.Notation.TheVariants.{Standard, Compact, CompactDigits, Scientific}
 use Rattle.locale_numbers_formats.specs.declared.NumberUnit.{NumberUnit}
 use Rattle.locale_numbers_formats.specs.declared.NumberUnit.TheVariants as unit
 use Rattle.locale_numbers_requests.specs.declared.Task.{Task}
@@ -50,11 +53,22 @@ has_unit (unit.Percent sign) = true
 has_unit (unit.Currency currency) = true
 
 -- ordinal rules, or the categories of ranges
-abbrev pub asks_more : Task → Bool
-asks_more (Category Ordinal) = true
-asks_more (Category Cardinal) = false
-asks_more RangeCategory = true
-asks_more Write = false
-asks_more WriteExact = false
-asks_more Read = false
-asks_more ReadLenient = false
+abbrev pub asks_plurals : Task → Bool
+asks_plurals (Category Ordinal) = true
+asks_plurals (Category Cardinal) = false
+asks_plurals RangeCategory = true
+asks_plurals Write = false
+asks_plurals WriteExact = false
+asks_plurals Read = false
+asks_plurals ReadLenient = false
+
+-- the text before exponents
+abbrev pub asks_signs : Notation → Bool
+asks_signs Standard = false
+asks_signs (Compact width) = false
+asks_signs (CompactDigits width options) = false
+asks_signs (Scientific style options) = true
+
+-- one of these
+abbrev pub asks_more : NumbersAsked → Bool
+asks_more asked = asks_plurals asked.task || asks_signs asked.format.shape.notation

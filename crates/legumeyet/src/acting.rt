@@ -13,7 +13,7 @@ use crate::sayers::sayer_of;
 use crate::tables::put_table;
 use crate::words::put_words;
 use clap::ArgMatches;
-use legumeyet_options::{Invalid, NumberWords, NumbersAsked, Sayer};
+use legumeyet_options::{Invalid, NumberWords, NumbersAsked, OptionFault, Sayer};
 use locale_numbers::{Book, world_text};
 use locale_numbers_requests::Task;
 use std::alloc::AllocError;
@@ -129,6 +129,7 @@ fn put_read<W: Write>(
     book: &Book,
     tag: &str,
     numbers: &NumbersAsked,
+    task: Task,
     texts: Option<&[&str]>,
     invalid: Invalid,
     out: &mut W,
@@ -136,7 +137,10 @@ fn put_read<W: Write>(
     let Some(texts) = texts else {
         return Ok(0);
     };
-    let sayer = sayer_of(rt.alloc(), book, tag, numbers)?;
+    let Ok(numbers) = numbers.reading(task) else {
+        return Ok(2);
+    };
+    let sayer = sayer_of(rt.alloc(), book, tag, &numbers)?;
     put_read_by(rt, &sayer, tag, texts, invalid, out)
 }
 
@@ -150,15 +154,14 @@ fn put_all<W: Write>(
     out: &mut W,
 ) -> Result<u8, CallFault> {
     let invalid = invalid_of(matches, Invalid::Skip);
-    let lenient = numbers.reading(Task::ReadLenient);
-    let exact = numbers.reading(Task::Read);
-    let typed = matches.get_strs("read");
-    let mut status = put_read(rt, book, tag, &lenient, typed, invalid, out)?;
+    let texts = matches.get_strs("read");
+    let lenient = Task::ReadLenient;
+    let mut status = put_read(rt, book, tag, numbers, lenient, texts, invalid, out)?;
     if is_last(invalid, status) {
         return Ok(status);
     }
     let texts = matches.get_strs("read-exact");
-    status |= put_read(rt, book, tag, &exact, texts, invalid, out)?;
+    status |= put_read(rt, book, tag, numbers, Task::Read, texts, invalid, out)?;
     if is_last(invalid, status) {
         return Ok(status);
     }
@@ -240,6 +243,17 @@ fn act_asked<W: Write>(
     }
 }
 
+// Why texts are not read beside such numbers, where some are to be read.
+fn reading_fault(matches: &ArgMatches<'_>, numbers: &NumbersAsked) -> Option<OptionFault> {
+    if matches.get_strs("read").is_none() && matches.get_strs("read-exact").is_none() {
+        return None;
+    }
+    match numbers.reading(Task::Read) {
+        Ok(_) => None,
+        Err(fault) => Some(fault),
+    }
+}
+
 // Tells which of the words is wrong beside those of numbers, where one is, and returns the status.
 fn tell_wrong(
     rt: &HostRuntime,
@@ -253,6 +267,9 @@ fn tell_wrong(
     }
     if matches.get_flag("parts") && numbers.task != Task::Write {
         return Some(tell_parts(rt, words.form.unwrap_or("plain")));
+    }
+    if let Some(fault) = reading_fault(matches, numbers) {
+        return Some(tell_option(rt, words, fault));
     }
     tell_wrong_table(rt, matches, numbers)
 }

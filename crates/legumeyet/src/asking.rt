@@ -2,13 +2,14 @@
 
 ghost use Rattle.std.specs.Prelude.{◌≡◌, codes, option_map};
 ghost use Rattle.clap.specs.Matches.{first_value, found_of};
-ghost use Rattle.legumeyet.specs.Asking.{DigitsIn, NumbersIn, asks_more, has_unit, invalid_by, word_by, without_dash};
+ghost use Rattle.legumeyet.specs.Asking.{DigitsIn, NumbersIn, asks_more, asks_plurals, asks_signs, has_unit, invalid_by, word_by, without_dash};
 
 use clap::ArgMatches;
+use icu_decimal_scientific::ScientificNotation;
 use icu_dimension_fractions::PercentSign;
 use icu_plurals::PluralRuleType;
 use legumeyet_options::{DigitWords, Invalid, NumberWords, NumbersAsked};
-use locale_numbers_formats::NumberUnit;
+use locale_numbers_formats::{Notation, NumberUnit};
 use locale_numbers_requests::Task;
 
 /// A word of an option, or another where it has none.
@@ -39,6 +40,17 @@ fn round_of<'a>(matches: &ArgMatches<'a>) -> Option<&'a str>
     match matches.get_str("round") {
         Some("-") => None,
         other => other,
+    }
+}
+
+// Which exponents scientific numbers have, where they are asked for.
+fn scientific_of(matches: &ArgMatches<'_>) -> Option<ScientificNotation> {
+    if matches.get_flag("scientific") {
+        Some(ScientificNotation::Scientific)
+    } else if matches.get_flag("engineering") {
+        Some(ScientificNotation::Engineering)
+    } else {
+        None
     }
 }
 
@@ -87,6 +99,7 @@ pub fn words_of<'a>(matches: &ArgMatches<'a>) -> NumberWords<'a>
     NumberWords {
         form: matches.get_str("form"),
         format: matches.get_str("format"),
+        scientific: scientific_of(matches),
         currency: matches.get_str("currency"),
         is_accounting: matches.get_flag("accounting"),
         is_by_code: matches.get_flag("code"),
@@ -109,8 +122,8 @@ fn has_unit(asked: &NumbersAsked) -> bool
 }
 
 // Whether ordinal rules are asked for, or the categories of ranges.
-fn asks_more(task: Task) -> bool
-    ensures value { result ≡ asks_more task }
+fn asks_plurals(task: Task) -> bool
+    ensures value { result ≡ asks_plurals task }
 {
     match task {
         Task::Category(PluralRuleType::Ordinal) | Task::RangeCategory => true,
@@ -122,13 +135,30 @@ fn asks_more(task: Task) -> bool
     }
 }
 
+// Whether the text before exponents is asked for.
+fn asks_signs(notation: Notation) -> bool
+    ensures value { result ≡ asks_signs notation }
+{
+    match notation {
+        Notation::Scientific(_, _) => true,
+        Notation::Standard | Notation::Compact(_) | Notation::CompactDigits(_, _) => false,
+    }
+}
+
+// Whether one of these is.
+fn asks_more(asked: &NumbersAsked) -> bool
+    ensures value { result ≡ asks_more asked.now }
+{
+    asks_plurals(asked.task) || asks_signs(asked.format.shape.notation)
+}
+
 /// Which parts of a book are asked for, beside the tables of numbers.
 #[derive(Clone, Copy)]
 pub struct PartsNeeded {
     /// Those of units.
     pub units: bool,
-    /// Ordinal rules and the categories of ranges.
-    pub plurals: bool,
+    /// Those of more: ordinal rules, the categories of ranges, and signs.
+    pub more: bool,
 }
 
 impl PartsNeeded {
@@ -136,7 +166,7 @@ impl PartsNeeded {
     pub fn with(self, others: PartsNeeded) -> PartsNeeded {
         PartsNeeded {
             units: self.units || others.units,
-            plurals: self.plurals || others.plurals,
+            more: self.more || others.more,
         }
     }
 }
@@ -144,10 +174,10 @@ impl PartsNeeded {
 /// Those that are asked for where this is asked of numbers.
 pub fn parts_of(asked: &NumbersAsked) -> PartsNeeded
     ensures units { result.units ≡ has_unit asked.now.format.shape.unit }
-    ensures plurals { result.plurals ≡ asks_more asked.now.task }
+    ensures more { result.more ≡ asks_more asked.now }
 {
     PartsNeeded {
         units: has_unit(asked),
-        plurals: asks_more(asked.task),
+        more: asks_more(asked),
     }
 }

@@ -34,20 +34,20 @@ pub fn book_of(alloc: Global, text: &[u8]) -> Result<Book, ProgramFault>
     }
 }
 
-// The texts of the world's book, without those parts that are not asked for. Plural rules stand beside units.
+// The texts of the world's book, without those parts that are not asked for. Those of more are only in a book with units.
 fn texts_for(needed: PartsNeeded) -> BookTexts<'static> {
     let texts = world_texts();
-    if needed.plurals {
+    if needed.more {
         texts
     } else if needed.units {
         BookTexts {
-            plurals: None,
+            more: None,
             ..texts
         }
     } else {
         BookTexts {
             units: None,
-            plurals: None,
+            more: None,
             ..texts
         }
     }

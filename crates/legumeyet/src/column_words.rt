@@ -1,7 +1,7 @@
 //! What the words ask of the fields of a table.
 
 use crate::asking::{PartsNeeded, invalid_of, parts_of, word};
-use crate::report::{tell_delimiter, tell_field_word, tell_padding, tell_skeleton};
+use crate::report::{UNREAD, tell_delimiter, tell_field_word, tell_padding, tell_skeleton};
 use clap::ArgMatches;
 use icu_plurals::PluralRuleType;
 use legumeyet_columns::{Dialect, OnRefusal, Padding, TableAsked};
@@ -94,6 +94,7 @@ fn numbers_by(skeleton: &str) -> Result<NumbersAsked, OptionFault> {
     let words = NumberWords {
         form: None,
         format: Some(skeleton),
+        scientific: None,
         currency: None,
         is_accounting: false,
         is_by_code: false,
@@ -185,7 +186,7 @@ pub fn numbers_of(
 fn reading_of(asked: &NumbersAsked, task: Task) -> Result<NumbersAsked, OptionFault> {
     match asked.task {
         Task::Category(_) | Task::RangeCategory => Err(OptionFault::Categories),
-        Task::Write | Task::WriteExact | Task::Read | Task::ReadLenient => Ok(asked.reading(task)),
+        Task::Write | Task::WriteExact | Task::Read | Task::ReadLenient => asked.reading(task),
     }
 }
 
@@ -278,6 +279,7 @@ fn tell_wrong_field(
         Ok(_) => None,
         Err(OptionFault::Format(error)) => Some(tell_skeleton(rt, word, error)),
         Err(OptionFault::Categories) => Some(tell_field_word(rt, word, CATEGORIES)),
+        Err(OptionFault::Scientific) => Some(tell_field_word(rt, word, UNREAD)),
         Err(_) => Some(tell_field_word(rt, word, "this is no skeleton")),
     }
 }

@@ -6,6 +6,7 @@ ghost use Rattle.legumeyet.specs.CallFaults.{call_status};
 use crate::fault::CallFault;
 use crate::messages::{Shown, ShownBytes};
 use clap::error::ErrorKind;
+use icu_decimal_scientific::ScientificNotation;
 use icu_plurals::PluralRuleType;
 use legumeyet_columns::{FieldFault, LONGEST};
 use legumeyet_options::{DigitWords, NotSaid, NumberWords, OptionFault};
@@ -218,6 +219,15 @@ fn name_of_categories(words: &NumberWords<'_>) -> &'static str {
     }
 }
 
+// The option by which numbers are in scientific notation.
+fn name_of_notation(words: &NumberWords<'_>) -> &'static str {
+    match words.scientific {
+        Some(ScientificNotation::Scientific) => "--scientific",
+        Some(ScientificNotation::Engineering) => "--engineering",
+        None => "--format",
+    }
+}
+
 // Tells that a word of an option is wrong, and why.
 fn tell_word(rt: &HostRuntime, option: &str, said: Option<&str>, why: &str) {
     let said = Shown(said.unwrap_or(""));
@@ -229,6 +239,12 @@ fn tell_form(rt: &HostRuntime, words: &NumberWords<'_>, option: &str, why: &str)
     let form = Shown(words.form.unwrap_or(""));
     let _ = eprintln!(rt; "error: --form {form} takes no {option}: {why}");
 }
+
+/// Why scientific texts are refused.
+pub const UNREAD: &str = "texts in scientific notation are not read yet";
+
+const COARSE: &str =
+    "significands are rounded left of the point only with a mode, as in 2,half-even; --digits 2 shows two digits after it";
 
 const COUNT: &str = "a count of digits is a number from 0 to 32767";
 
@@ -309,6 +325,11 @@ pub fn tell_option(rt: &HostRuntime, words: &NumberWords<'_>, fault: OptionFault
             name_of_digits(&words.chosen),
             "a number that is read has the digits of its text",
         ),
+        OptionFault::Coarse => tell_word(rt, "--round", words.chosen.round, COARSE),
+        OptionFault::Scientific => {
+            let option = name_of_notation(words);
+            let _ = eprintln!(rt; "error: {option} takes no --read and no --read-exact: {UNREAD}");
+        }
         OptionFault::Categories => tell_form(
             rt,
             words,
@@ -324,7 +345,7 @@ pub fn tell_parts(rt: &HostRuntime, form: &str) -> u8
     ensures status { result ≡ 2 }
 {
     let _ = eprintln!(rt;
-        "error: --form {form} --parts: parts are for plain, short and long, --currency, --percent and --permille"
+        "error: --form {form} --parts: parts are for plain, short and long, --scientific, --engineering, --currency, --percent and --permille"
     );
     2
 }

@@ -1,6 +1,6 @@
 -- The options of no words leave a number that is no amount as it is given, so what is written of it directly is what they ask for.
 use Rattle.std.proofs.Common.{◌≡◌, ◌-◌, ℕ, ℤ, Bool, None, Some, Option, Ok, IfOk, Result, List, [], ◌∷◌, max, min, true, refl, ap, sym, subst, arith, inl, ◌∙◌}
-use Rattle.std.specs.Prelude.{is_none}
+use Rattle.std.specs.Prelude.{is_none, option_map}
 use Rattle.std.specs.List.{list_all}
 use Rattle.std.proofs.lemmas.Bool.{and_parts, false≢true}
 use Rattle.fixed_decimal.specs.Number.{IsNumber, Number}
@@ -15,14 +15,14 @@ use Rattle.icu_plurals.specs.declared.PluralRange.{PluralRange}
 use Rattle.locale_numbers_formats.specs.Changed.{changed}
 use Rattle.locale_numbers_formats.specs.declared.NumberOptions.{NumberOptions}
 use Rattle.locale_numbers_formats.proofs.ChangedLemmas.{same_fields}
-use Rattle.locale_numbers_formatter.specs.FormatText.{FormatTables, compact_tables, digits_tables, fractions_in, plain_tables, unit_tables}
+use Rattle.locale_numbers_formatter.specs.FormatText.{FormatTables, compact_tables, digits_tables, fractions_in, plain_tables, scientific_tables, unit_tables}
 use Rattle.locale_numbers_formatter.specs.ShownOperands.{shown_operands}
 use Rattle.locale_numbers_answers.proofs.NumberBounds.{reading_is_decimal}
 use Rattle.locale_numbers_answers.proofs.NumberReadingLemmas.{signed_number}
 use Rattle.legumeyet_c_values.specs.Numbers.{Gives, IsGiven, IsNumberFault, spelled}
 use Rattle.legumeyet_c_values.specs.Putting.{IsPut}
 use Rattle.legumeyet_c_values.specs.UsualOptions.{is_usual}
-use Rattle.legumeyet_c_values.specs.Words.{is_zero, options_of, usual}
+use Rattle.legumeyet_c_values.specs.Words.{is_zero, usual}
 use Rattle.legumeyet_c_values.specs.declared.CallError.{CallError}
 use Rattle.legumeyet_c_values.proofs.PuttingLemmas.{put_by}
 use Rattle.legumeyet_c_values.proofs.UsualLemmas.{usual_is}
@@ -30,8 +30,8 @@ use Rattle.legumeyet_c_values.proofs.WordLemmas.{zeros_ask}
 use Rattle.legumeyet_c.specs.ColumnWriting.{IsAskedFault, WritesAsked}
 use Rattle.legumeyet_c.specs.HeldFormats.{HeldFormat, Plurals, Wording, in_numbers}
 use Rattle.legumeyet_c.specs.Worded.{IsSpelledWord, IsText, IsTextBy, IsTextFault}
-use Rattle.legumeyet_c.specs.Writing.{AreWordsAsked, Asked, GivesNumber, IsNumberRefused, IsWritingFault, Writes, asked_for, asked_of, asked_plainly, is_as_given, shows_as_given}
-use Rattle.legumeyet_c.proofs.AskedLemmas.{asked_known, asked_put, written}
+use Rattle.legumeyet_c.specs.Writing.{AreWordsAsked, Asked, GivesNumber, IsNumberRefused, IsWritingFault, Writes, asked_beside, asked_by, asked_for, asked_given, asked_in, asked_of, asked_plainly, is_as_given, shows_as_given, significand_by}
+use Rattle.legumeyet_c.proofs.AskedLemmas.{asked_open, asked_put, written}
 use Rattle.legumeyet_c.proofs.CategoryLemmas.{word_shown}
 
 -- ---- the number that a text spells
@@ -60,6 +60,7 @@ no_fractions : (f : FormatTables) → shows_as_given f ≡ true → None ≡ fra
 no_fractions (plain_tables t) is = refl
 no_fractions (compact_tables t) is = refl
 no_fractions (digits_tables t options) is = refl
+no_fractions (scientific_tables s) is = refl
 no_fractions (unit_tables u) is = is_nothing u.fractions is
 
 gives_as_given : (asked : Asked) (text : List ℕ) (value : SignedValue Number) → is_usual asked.options ≡ true → shows_as_given asked.wording.tables ≡ true → ReadsSigned text value
@@ -76,14 +77,15 @@ pub plainly_put : (tables : Tables) (asked : Asked) (text : List ℕ) (value : S
     → IsPut (WritesAsked asked (spelled text)) (IsAskedFault asked (spelled text)) before after was told outcome
 plainly_put tables asked text value before after was told outcome is reads put =
     subst (λ (a : Asked). IsPut (WritesAsked a (spelled text)) (IsAskedFault a (spelled text)) before after was told outcome) is
-    (written IsText IsTextFault (GivesNumber (spelled text)) (IsNumberRefused (spelled text)) (asked_plainly tables) (in_numbers (plain_tables tables)) value before after was told outcome
-    refl (gives_spelled text value reads) put)
+    (written IsText IsTextFault (GivesNumber (spelled text)) (IsNumberRefused (spelled text)) (asked_plainly tables) value before after was told outcome
+    (gives_spelled text value reads) put)
 
 -- the word of a category
 shown_given : (f : FormatTables) (value : SignedValue Number) → shows_as_given f ≡ true → Some (operands_of value.absolute 0) ≡ shown_operands f value
 shown_given (plain_tables t) value is = refl
 shown_given (compact_tables t) value is = absurd (false≢true is)
 shown_given (digits_tables t options) value is = absurd (false≢true is)
+shown_given (scientific_tables s) value is = absurd (false≢true is)
 shown_given (unit_tables u) value is = refl
 
 word_given : (rules : Rules) (ranges : List PluralRange) (wording : Wording) (value : SignedValue Number) (text : List ℕ) → Some (rules, ranges) ≡ wording.plurals
@@ -109,20 +111,36 @@ words_put rules asking text before after was told outcome words put =
 
 -- ---- what is asked
 
--- words that ask for nothing, of a formatter whose options are those of no words
-nothing_asked : (own : NumberOptions) (words : List ℤ) → own ≡ usual → list_all is_zero words ≡ true → options_of words own ≡ Some usual
-nothing_asked own [] is zeros = ap (λ (o : NumberOptions). Some o) is
-nothing_asked own (word ∷ words) is zeros = zeros_ask (word ∷ words) zeros
+-- numbers that are shown as they are given have no significand that options change
+no_significand : (options : NumberOptions) (f : FormatTables) → shows_as_given f ≡ true → None ≡ significand_by options f
+no_significand options (plain_tables t) is = refl
+no_significand options (compact_tables t) is = refl
+no_significand options (digits_tables t own) is = refl
+no_significand options (scientific_tables s) is = absurd (false≢true is)
+no_significand options (unit_tables u) is = refl
 
-asked_own : (open_format : Option HeldFormat) (held : HeldFormat) (words : List ℤ) → Some held ≡ open_format → held.options ≡ usual → list_all is_zero words ≡ true
-    → Ok (asked_for held.wording held.options) ≡ asked_of open_format words
-asked_own open_format held words is plain zeros =
-    asked_known open_format held words held.options is (ap (λ (o : NumberOptions). Some o) plain ∙ sym (nothing_asked held.options words plain zeros))
+given_before : (wording : Wording) (options : NumberOptions) → shows_as_given wording.tables ≡ true → asked_for wording options ≡ asked_given wording options
+given_before wording options shows =
+    ap (λ (f : Option FormatTables). asked_beside (option_map (λ tables. record wording { tables = tables }) f) wording options) (no_significand options wording.tables shows)
+
+-- words that ask for nothing, of a formatter whose options are those of no words
+nothing_asked : (held : HeldFormat) (words : List ℤ) → held.options ≡ usual → shows_as_given held.wording.tables ≡ true → list_all is_zero words ≡ true
+    → Ok (asked_for held.wording held.options) ≡ asked_in held words
+nothing_asked held [] is shows zeros = refl
+nothing_asked held (word ∷ words) is shows zeros =
+    ap (λ (o : NumberOptions). Ok (asked_for held.wording o)) is ∙ ap (λ (a : Asked). Ok a) (given_before held.wording usual shows)
+    ∙ ap (λ (o : Option NumberOptions). asked_by held.wording o) (sym (zeros_ask (word ∷ words) zeros))
+
+asked_own : (open_format : Option HeldFormat) (held : HeldFormat) (words : List ℤ) → Some held ≡ open_format → held.options ≡ usual → shows_as_given held.wording.tables ≡ true
+    → list_all is_zero words ≡ true → Ok (asked_for held.wording held.options) ≡ asked_of open_format words
+asked_own open_format held words is plain shows zeros =
+    asked_open open_format held words (Ok (asked_for held.wording held.options)) is (nothing_asked held words plain shows zeros)
 
 pub plainly_asked : (open_format : Option HeldFormat) (held : HeldFormat) (words : List ℤ) (tables : Tables) → Some held ≡ open_format
     → asked_plainly tables ≡ asked_for held.wording held.options → list_all is_zero words ≡ true → Ok (asked_plainly tables) ≡ asked_of open_format words
 plainly_asked open_format held words tables is plain zeros =
-    ap (λ (a : Asked). Ok a) plain ∙ asked_own open_format held words is (sym (ap (λ (a : Asked). a.options) plain)) zeros
+    ap (λ (a : Asked). Ok a) plain
+    ∙ asked_own open_format held words is (sym (ap (λ (a : Asked). a.options) plain)) (sym (ap (λ (a : Asked). shows_as_given a.wording.tables) plain)) zeros
 
 pub words_asked : (open_format : Option HeldFormat) (held : HeldFormat) (words : List ℤ) (rules : Rules) → Some held ≡ open_format
     → AreWordsAsked rules (Ok (asked_for held.wording held.options)) → list_all is_zero words ≡ true → AreWordsAsked rules (asked_of open_format words)
@@ -130,4 +148,4 @@ words_asked open_format held words rules is asked zeros =
     let as_given : is_as_given (asked_for held.wording held.options) ≡ true =
     subst (λ (r : Result Asked CallError). IfOk r (λ a. is_as_given a ≡ true)) asked.is asked.as_given in
     let both = and_parts (is_usual held.options) (shows_as_given held.wording.tables) as_given in
-    subst (λ (r : Result Asked CallError). AreWordsAsked rules r) (asked_own open_format held words is (usual_is held.options both.0) zeros) asked
+    subst (λ (r : Result Asked CallError). AreWordsAsked rules r) (asked_own open_format held words is (usual_is held.options both.0) both.1 zeros) asked

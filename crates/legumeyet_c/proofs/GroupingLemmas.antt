@@ -19,6 +19,7 @@ use Rattle.icu_decimal.specs.SameSymbols.{same_symbols}
 use Rattle.icu_decimal.specs.Symbols.{Symbols}
 use Rattle.icu_decimal.specs.declared.error.DataError.{DataError}
 use Rattle.icu_decimal.specs.declared.options.GroupingStrategy.{GroupingStrategy}
+use Rattle.icu_decimal_scientific.specs.ExponentialText.{ScientificSettings}
 use Rattle.icu_dimension.specs.FoundUnits.{CurrencySettings, amount_settings, decimals_found, found_currency, found_percent, percent_settings, sign_found, then_found, unit_locales, with_own}
 use Rattle.icu_dimension.specs.ProvidedUnits.{AmountTexts, PercentTexts, SymbolText}
 use Rattle.icu_dimension.specs.UnitChoice.{amounts_found, fractions_found, name_found, percent_found}
@@ -29,21 +30,21 @@ use Rattle.icu_dimension.specs.declared.FractionInfo.{FractionInfo}
 use Rattle.icu_dimension.specs.declared.PercentSign.{PercentSign}
 use Rattle.icu_locale_core.specs.TagPreferences.{DataLocaleMeaning, Preferences}
 use Rattle.locale_numbers.specs.Book.{BookTables}
-use Rattle.locale_numbers.specs.FoundFormats.{amount_options, amounts_by, beside_second, both_found, compact_found, formats_for, found_for, in_ascii, in_latin, mapped, notation_found, percent_options, plainly_written, second_for, standard_found, with_symbols_of}
+use Rattle.locale_numbers.specs.FoundFormats.{amount_options, amounts_by, beside_second, both_found, compact_found, formats_for, found_for, in_ascii, in_latin, mapped, notation_found, percent_options, plainly_written, scientific_found, scientific_of, second_for, standard_found, with_exponents, with_symbols_of}
 use Rattle.locale_numbers.specs.Tables.{chain_in, digits_under, rules_under, symbols_under}
-use Rattle.locale_numbers.specs.TagFormatters.{currencies_in, currency_found_in, found_by, found_plain, or_no_table, patterns_under, percent_found_in, percents_in}
+use Rattle.locale_numbers.specs.TagFormatters.{currencies_in, currency_found_in, found_by, found_plain, or_no_table, patterns_under, percent_found_in, percents_in, signs_found_in}
 use Rattle.locale_numbers.specs.Wanted.{wanted_of}
 use Rattle.locale_numbers.specs.declared.FormatterError.{FormatterError}
 use Rattle.locale_numbers.specs.declared.FormatterError.TheVariants as fault
 use Rattle.locale_numbers_formats.specs.declared.CompactWidth.{CompactWidth}
 use Rattle.locale_numbers_formats.specs.declared.CurrencyUnit.{CurrencyUnit}
 use Rattle.locale_numbers_formats.specs.declared.Notation.{Notation}
-use Rattle.locale_numbers_formats.specs.declared.Notation.TheVariants.{Standard, Compact, CompactDigits}
+use Rattle.locale_numbers_formats.specs.declared.Notation.TheVariants.{Standard, Compact, CompactDigits, Scientific}
 use Rattle.locale_numbers_formats.specs.declared.NumberOptions.{NumberOptions}
 use Rattle.locale_numbers_formats.specs.declared.NumberShape.{NumberShape}
 use Rattle.locale_numbers_formats.specs.declared.NumberUnit.{NumberUnit}
 use Rattle.locale_numbers_formats.specs.declared.NumberUnit.TheVariants as unit
-use Rattle.locale_numbers_formatter.specs.FormatText.{FormatTables, UnitFormat, compact_tables, digit_tables, digits_tables, plain_tables, unit_tables}
+use Rattle.locale_numbers_formatter.specs.FormatText.{FormatTables, UnitFormat, compact_tables, digit_tables, digits_tables, plain_tables, scientific_tables, unit_tables}
 use Rattle.locale_numbers_formatter.specs.HeldFormats.{currency_format, percent_format}
 use Rattle.locale_numbers_formatter.specs.Regrouped.{regrouped}
 use Rattle.legumeyet_c.specs.HeldFormats.{HeldFormat, Plurals, held_format}
@@ -155,12 +156,29 @@ compact_has width unit.None book p strategy =
 compact_has width (unit.Percent sign) book p strategy = tt
 compact_has width (unit.Currency currency) book p strategy = tt
 
+abbrev ScientificHas : GroupingStrategy → ScientificSettings → Type 0
+ScientificHas strategy s = s.tables.strategy ≡ strategy
+
+each_has : {A B : Type 0} (f : A → B) (found : Result A DataError) (P : B → Type 0) → ((a : A) → P (f a)) → IfOk (mapped f found) P
+each_has f (Ok a) P each = each a
+each_has f (Err error) P each = tt
+
+scientific_has : (beside : NumberUnit) (book : BookTables) (p : Preferences) (strategy : GroupingStrategy) → IfOk (scientific_found beside book p strategy) (ScientificHas strategy)
+scientific_has unit.None book p strategy =
+    decimals_have strategy (found_plain book p (Some strategy)) (λ t. mapped (with_exponents t) (signs_found_in book p)) (ScientificHas strategy)
+    (tables_have (chain_in book) (symbols_under book) (digits_under book) p (Some strategy))
+    (λ t has. each_has (with_exponents t) (signs_found_in book p) (ScientificHas strategy) (λ signs. has))
+scientific_has (unit.Percent sign) book p strategy = tt
+scientific_has (unit.Currency currency) book p strategy = tt
+
 notation_has : (notation : Notation) (beside : NumberUnit) (book : BookTables) (p : Preferences) (strategy : GroupingStrategy) → IfOk (notation_found notation beside book p strategy) (HasStrategy strategy)
 notation_has Standard beside book p strategy = standard_has beside book p strategy
 notation_has (Compact width) beside book p strategy =
     mapped_have compact_tables (compact_found width beside book p strategy) (CompactHas strategy) (HasStrategy strategy) (λ t has. has) (compact_has width beside book p strategy)
 notation_has (CompactDigits width options) beside book p strategy =
     mapped_have (λ t. digits_tables t options) (compact_found width beside book p strategy) (CompactHas strategy) (HasStrategy strategy) (λ t has. has) (compact_has width beside book p strategy)
+notation_has (Scientific style options) beside book p strategy =
+    mapped_have (scientific_of style options) (scientific_found beside book p strategy) (ScientificHas strategy) (HasStrategy strategy) (λ s has. has) (scientific_has beside book p strategy)
 
 found_has : (shape : NumberShape) (book : BookTables) (p : Preferences) → IfOk (found_for shape book p) (HasStrategy shape.grouping)
 found_has shape book p = notation_has shape.notation shape.unit book p shape.grouping
@@ -189,6 +207,7 @@ amounts_by_have : (strategy : GroupingStrategy) (plain : Tables) (f : FormatTabl
 amounts_by_have strategy plain (plain_tables t) has = tt
 amounts_by_have strategy plain (compact_tables t) has = tt
 amounts_by_have strategy plain (digits_tables t options) has = tt
+amounts_by_have strategy plain (scientific_tables s) has = tt
 amounts_by_have strategy plain (unit_tables u) has = symbols_of_have strategy plain u u.fractions has
 
 plainly_have : (strategy : GroupingStrategy) (found : Result Tables DataError) (f : FormatTables) → IfOk found (λ (t : Tables). t.strategy ≡ strategy)
@@ -223,6 +242,7 @@ regrouped_same : (strategy : GroupingStrategy) (f : FormatTables) → HasStrateg
 regrouped_same strategy (plain_tables t) has = subst (λ (g : GroupingStrategy). regrouped g (plain_tables t) ≡ plain_tables t) has refl
 regrouped_same strategy (compact_tables t) has = subst (λ (g : GroupingStrategy). regrouped g (compact_tables t) ≡ compact_tables t) has refl
 regrouped_same strategy (digits_tables t options) has = subst (λ (g : GroupingStrategy). regrouped g (digits_tables t options) ≡ digits_tables t options) has refl
+regrouped_same strategy (scientific_tables s) has = subst (λ (g : GroupingStrategy). regrouped g (scientific_tables s) ≡ scientific_tables s) has refl
 regrouped_same strategy (unit_tables u) has = subst (λ (g : GroupingStrategy). regrouped g (unit_tables u) ≡ unit_tables u) has refl
 
 second_same : (strategy : GroupingStrategy) (second : Option FormatTables) → IfSome second (HasStrategy strategy) → option_map (regrouped strategy) second ≡ second

@@ -25,7 +25,7 @@ module _ (first second : Given) (asked : Asked) (plurals : Plurals) (known : Som
       before after was told outcome
   range_put f ends before after was told outcome is given put =
       range_worded IsRange IsRangeFault (GivesEnds first second) (AreEndsRefused first second) asked plurals before after was told outcome known
-      (written IsRange IsRangeFault (GivesEnds first second) (AreEndsRefused first second) asked asked.wording ends before after was told outcome refl given
+      (written IsRange IsRangeFault (GivesEnds first second) (AreEndsRefused first second) asked ends before after was told outcome given
       (put_wording (λ p f text. IsRangeBy p f ends text) (λ p f error. IsRangeFaultBy p f ends error) asked.wording f (Some plurals) before after was told outcome is known put))
 
   -- an end is refused

@@ -1,13 +1,9 @@
 -- What is written with the tables and the rules of a wording, and words: of a number, of a form and of a range.
 use Rattle.std.proofs.Common.{◌≡◌, ◌≢◌, ℕ, List, Option, Some, None, Result, Ok, Err, IfOk, IfErr, refl, subst, ap, sym, ◌∙◌}
-use Rattle.legumeyet_c_values.specs.Numbers.{Given}
 use Rattle.legumeyet_c_values.specs.Putting.{IsPut}
 use Rattle.legumeyet_c_values.specs.declared.CallError.{CallError}
-use Rattle.locale_numbers_formats.specs.declared.NumberOptions.{NumberOptions}
 use Rattle.locale_numbers_formatter.specs.FormatText.{FormatTables}
-use Rattle.legumeyet_c.specs.ColumnWriting.{IsAskedFault, WritesAsked}
 use Rattle.legumeyet_c.specs.HeldFormats.{Plurals, Wording}
-use Rattle.legumeyet_c.specs.Writing.{Asked, asked_for}
 
 -- ---- with what is lent
 
@@ -36,13 +32,3 @@ pub put_tables : (says : FormatTables → List ℕ → Type 0) (fails : FormatTa
     → IsPut (says other) (fails other) before after was told outcome
 put_tables says fails f other before after was told outcome is put =
     subst (λ (t : FormatTables). IsPut (says t) (fails t) before after was told outcome) is put
-
--- ---- what is asked
-
-pub asked_same : (number : Given) (lent held : Wording) (options : NumberOptions) (asked : Asked) (before after : List ℕ) (was told : ℕ) (outcome : Result (Unit {0}) CallError)
-    → lent ≡ held → asked_for held options ≡ asked
-    → IsPut (WritesAsked (asked_for lent options) number) (IsAskedFault (asked_for lent options) number) before after was told outcome
-    → IsPut (WritesAsked asked number) (IsAskedFault asked number) before after was told outcome
-asked_same number lent held options asked before after was told outcome is viewed put =
-    subst (λ (a : Asked). IsPut (WritesAsked a number) (IsAskedFault a number) before after was told outcome) viewed
-    (subst (λ (w : Wording). IsPut (WritesAsked (asked_for w options) number) (IsAskedFault (asked_for w options) number) before after was told outcome) is put)

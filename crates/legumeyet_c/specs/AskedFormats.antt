@@ -4,10 +4,14 @@
 use Rattle.std.specs.Prelude.{◌≡◌, ℕ, ℤ, List, Option, Some, None, Result, Ok, Err}
 use Rattle.std.specs.Result.{result_map_both}
 use Rattle.locale_numbers.specs.Book.{BookTables}
+use Rattle.locale_numbers_formats.specs.Changed.{unchanged}
 use Rattle.locale_numbers_formats.specs.NormalText.{skeleton_text}
 use Rattle.locale_numbers_formats.specs.SkeletonErrors.{place_of}
 use Rattle.locale_numbers_formats.specs.SkeletonFormats.{format_of}
 use Rattle.locale_numbers_formats.specs.Skeletons.{skeleton_of}
+use Rattle.locale_numbers_formats.specs.declared.Notation.{Notation}
+use Rattle.locale_numbers_formats.specs.declared.Notation.TheVariants.{Standard, Compact, CompactDigits, Scientific}
+use Rattle.locale_numbers_formats.specs.declared.NumberOptions.{NumberOptions}
 use Rattle.locale_numbers_formats.specs.declared.Skeleton.{Skeleton as NumberSkeleton}
 use Rattle.locale_numbers_formats.specs.declared.SkeletonError.{SkeletonError}
 use Rattle.legumeyet_c_values.specs.Words.{shape_of, usual}
@@ -17,10 +21,17 @@ use Rattle.legumeyet_c.specs.declared.asked_format.AskedFormat.{AskedFormat}
 
 -- ---- formats
 
--- by words: a shape, with the options that no word changes
+-- the options that no word changes; those of scientific numbers are in their notation
+abbrev pub usual_beside : Notation → NumberOptions
+usual_beside Standard = usual
+usual_beside (Compact width) = usual
+usual_beside (CompactDigits width options) = usual
+usual_beside (Scientific style options) = unchanged
+
+-- by words: a shape, with these options
 abbrev pub format_by_words : List ℤ → List ℕ → Result AskedFormat CallError
 format_by_words words unit =
-    result_map_both (λ asked. record { format = record { shape = asked.shape; options = usual }; plurals = asked.plurals }) (λ error. error) (shape_of words unit)
+    result_map_both (λ asked. record { format = record { shape = asked.shape; options = usual_beside asked.shape.notation }; plurals = asked.plurals }) (λ error. error) (shape_of words unit)
 
 -- by a skeleton, of numbers
 abbrev pub numbers_by : NumberSkeleton → AskedFormat

@@ -2,12 +2,12 @@
 -- Defined in include/legumeyet.h, docs/formatters.md, "One formatter" and "Parts", and docs/compact-text.md, "Exact forms".
 -- Cited by the exports that write numbers, through Worded.antt and Writing.antt.
 use Rattle.std.specs.Prelude.{◌≡◌, ℕ, List, Some, None}
-use Rattle.fixed_decimal.specs.CompactText.{CompactValue, compact_text_of}
+use Rattle.fixed_decimal.specs.CompactText.{CompactValue}
 use Rattle.fixed_decimal.specs.Number.{Number}
 use Rattle.fixed_decimal.specs.SignedValue.{SignedValue}
 use Rattle.locale_numbers_formatter.specs.ExactForms.{IsFormInRange, exact_format_text, exact_shown}
 use Rattle.locale_numbers_formatter.specs.FormatParts.{format_events}
-use Rattle.locale_numbers_formatter.specs.FormatText.{CanFormat, FormatAllocates, FormatTables, ShowAllocates, format_text, format_value}
+use Rattle.locale_numbers_formatter.specs.FormatText.{CanFormat, FormatAllocates, FormatTables, ShowAllocates, format_text, format_value, shown_text}
 use Rattle.writeable.specs.AnnotatedText.{AnnotatedText, annotated}
 use Rattle.legumeyet_c_values.specs.declared.CallError.{CallError}
 use Rattle.legumeyet_c_values.specs.declared.CallError.TheVariants.{Memory, Range, Exponent}
@@ -18,7 +18,7 @@ pub record IsFormatText (f : FormatTables) (value : SignedValue Number) (text : 
   pub can : CanFormat f value
   pub is : text ≡ format_text f value
 
--- what compact text shows may be no decimal; memory is wanted only for compact text of more than sixteen digits
+-- what compact and scientific text shows may be no decimal; memory is wanted only for such text of more than sixteen digits
 abbrev pub IsFormatFault : FormatTables → SignedValue Number → CallError → Type 0
 IsFormatFault f value Range = ¬ (CanFormat f value)
 IsFormatFault f value Memory = FormatAllocates f value
@@ -40,7 +40,7 @@ IsPartsFault f value _ = ⊥
 
 pub record IsShownText (f : FormatTables) (value : SignedValue Number) (text : List ℕ) : Type 0 where
   pub can : CanFormat f value
-  pub is : text ≡ compact_text_of (format_value f value)
+  pub is : text ≡ shown_text (format_value f value)
 
 -- memory is wanted only for more than sixteen digits, of the number or of what is shown for it
 abbrev pub IsShownFault : FormatTables → SignedValue Number → CallError → Type 0

@@ -1,18 +1,19 @@
 -- What the formatter of a handle writes for a number, for an exact form, or for a range, changed as options say, or why it writes nothing.
 -- Defined in include/legumeyet.h.
 -- Cited by the exports that write numbers, and by the model of `HeldFormatter`; Worded.antt has what is written of a changed number.
-use Rattle.std.specs.Prelude.{◌≡◌, ◌⊎◌, ◌&&◌, Bool, true, false, is_none, ℕ, ℤ, List, Option, Some, None, Result, Ok, Err}
+use Rattle.std.specs.Prelude.{◌≡◌, ◌⊎◌, ◌&&◌, Bool, true, false, is_none, ℕ, ℤ, List, [], ◌∷◌, Option, Some, None, option_map, Result, Ok, Err}
 use Rattle.fixed_decimal.specs.CompactText.{CompactValue}
 use Rattle.fixed_decimal.specs.Number.{Number}
 use Rattle.fixed_decimal.specs.SignedValue.{SignedValue}
 use Rattle.icu_decimal.specs.PlainText.{Tables}
 use Rattle.icu_plurals.specs.Rules.{Rules}
 use Rattle.icu_plurals.specs.declared.PluralRange.{PluralRange}
+use Rattle.locale_numbers_formats.specs.Changed.{unchanged}
 use Rattle.locale_numbers_formats.specs.declared.NumberOptions.{NumberOptions}
-use Rattle.locale_numbers_formatter.specs.FormatText.{FormatTables, compact_tables, digits_tables, fractions_in, plain_tables, unit_tables}
+use Rattle.locale_numbers_formatter.specs.FormatText.{FormatTables, compact_tables, digits_tables, fractions_in, plain_tables, scientific_tables, unit_tables}
 use Rattle.legumeyet_c_values.specs.Numbers.{Given, Gives, GivesCompact, IsChangeFault, IsCompactChangeFault, IsGiven, IsGivenFault}
 use Rattle.legumeyet_c_values.specs.UsualOptions.{is_usual}
-use Rattle.legumeyet_c_values.specs.Words.{options_of, usual}
+use Rattle.legumeyet_c_values.specs.Words.{number_options_of, usual}
 use Rattle.legumeyet_c_values.specs.declared.CallError.{CallError}
 use Rattle.legumeyet_c_values.specs.declared.CallError.TheVariants.{Closed, UnknownOption}
 use Rattle.legumeyet_c.specs.HeldFormats.{HeldFormat, Plurals, Wording, in_numbers}
@@ -28,14 +29,38 @@ pub record Asked : Type 0 where
 abbrev pub asked_for : Wording → NumberOptions → Asked
 asked_for wording options = record { wording = wording; options = options }
 
+-- scientific numbers with what these options make of their significand
+abbrev pub significand_by : NumberOptions → FormatTables → Option FormatTables
+significand_by options (plain_tables t) = None
+significand_by options (compact_tables t) = None
+significand_by options (digits_tables t own) = None
+significand_by options (scientific_tables s) = Some (scientific_tables (record s { options = options }))
+significand_by options (unit_tables u) = None
+
+abbrev pub wording_by : NumberOptions → Wording → Option Wording
+wording_by options wording = option_map (λ tables. record wording { tables = tables }) (significand_by options wording.tables)
+
+abbrev pub asked_beside : Option Wording → Wording → NumberOptions → Asked
+asked_beside None wording options = asked_for wording options
+asked_beside (Some changed) wording options = asked_for changed unchanged
+
+-- options that a call gives change the number before, and of scientific numbers the significand in its place
+abbrev pub asked_given : Wording → NumberOptions → Asked
+asked_given wording options = asked_beside (wording_by options wording) wording options
+
 abbrev pub asked_by : Wording → Option NumberOptions → Result Asked CallError
 asked_by wording None = Err UnknownOption
-asked_by wording (Some options) = Ok (asked_for wording options)
+asked_by wording (Some options) = Ok (asked_given wording options)
 
--- a closed handle comes first, then unknown options; without words they are the formatter's own
+-- without words the options are the formatter's own
+abbrev pub asked_in : HeldFormat → List ℤ → Result Asked CallError
+asked_in held [] = Ok (asked_for held.wording held.options)
+asked_in held (word ∷ words) = asked_by held.wording (number_options_of (word ∷ words))
+
+-- a closed handle comes first, then unknown options
 abbrev pub asked_of : Option HeldFormat → List ℤ → Result Asked CallError
 asked_of None words = Err Closed
-asked_of (Some held) words = asked_by held.wording (options_of words held.options)
+asked_of (Some held) words = asked_in held words
 
 -- ---- numbers that are written as they are given
 
@@ -43,11 +68,12 @@ asked_of (Some held) words = asked_by held.wording (options_of words held.option
 abbrev pub asked_plainly : Tables → Asked
 asked_plainly tables = asked_for (in_numbers (plain_tables tables)) usual
 
--- with these options numbers are shown as they are given: all but compact ones and amounts
+-- with these options numbers are shown as they are given: all but compact and scientific ones and amounts
 abbrev pub shows_as_given : FormatTables → Bool
 shows_as_given (plain_tables t) = true
 shows_as_given (compact_tables t) = false
 shows_as_given (digits_tables t options) = false
+shows_as_given (scientific_tables s) = false
 shows_as_given (unit_tables u) = is_none u.fractions
 
 abbrev pub is_as_given : Asked → Bool

@@ -7,7 +7,7 @@ ghost use Rattle.legumeyet_c.specs.Kinds.{book_in};
 ghost use Rattle.legumeyet_c.specs.Opened.{opened};
 ghost use Rattle.legumeyet_c.specs.Views.{book_content, book_open};
 
-use crate::content::{Content, ContentKind};
+use crate::content::{Content, opened_book};
 use crate::handles::BookHandle;
 use legumeyet_c_values::{CallError, put_bytes, status_of};
 use locale_numbers::Book;
@@ -33,10 +33,7 @@ fn answer_opened(
     ensures value { IfOk result (λ text. SaysAnswer (book_in (opened content.entry)) line.now text.items) }
     ensures fault { IfErr result (λ error. IsAnswerFault (book_in (opened content.entry)) error) }
 {
-    let Some(content) = content else {
-        return Err(CallError::Closed);
-    };
-    match Book::of_content(content) {
+    match opened_book(content) {
         Some(book) => answer_of(alloc, book, line),
         None => Err(CallError::Closed),
     }

@@ -1,17 +1,28 @@
 //! The format that a call that opens a formatter asks for.
 
 ghost use Rattle.std.specs.Prelude.{◌≡◌};
-ghost use Rattle.legumeyet_c.specs.AskedFormats.{format_by_skeleton, format_by_words};
+ghost use Rattle.legumeyet_c.specs.AskedFormats.{format_by_skeleton, format_by_words, usual_beside};
 
 use icu_plurals::PluralRuleType;
 use legumeyet_c_values::{CallError, shape_by, usual_options};
-use locale_numbers_formats::{NumberFormat, Skeleton};
+use locale_numbers_formats::{Notation, NumberFormat, NumberOptions, Skeleton};
 
 // A format, and the rules by whose categories words are written in place of numbers, where there are any.
 #[derive(Clone, Copy, Drop)]
 pub(crate) struct AskedFormat {
     pub(crate) format: NumberFormat,
     pub(crate) plurals: Option<PluralRuleType>,
+}
+
+// The options that no word changes; those of scientific numbers are in their notation.
+fn usual_beside(notation: Notation) -> NumberOptions
+    ensures { result ≡ usual_beside notation }
+{
+    match notation {
+        Notation::Standard | Notation::Compact(_) | Notation::CompactDigits(_, _) =>
+            usual_options(),
+        Notation::Scientific(_, _) => NumberOptions::unchanged(),
+    }
 }
 
 // The format that words ask for, with the options that no word changes.
@@ -22,7 +33,7 @@ pub(crate) fn format_by_words(words: &[i32], unit: &[u8]) -> Result<AskedFormat,
         Ok(asked) => Ok(AskedFormat {
             format: NumberFormat {
                 shape: asked.shape,
-                options: usual_options(),
+                options: usual_beside(asked.shape.notation),
             },
             plurals: asked.plurals,
         }),

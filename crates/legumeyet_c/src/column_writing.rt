@@ -1,34 +1,16 @@
 //! Columns written with what is open.
 
-ghost use Rattle.std.specs.Prelude.{◌≡◌, Ok};
 ghost use Rattle.legumeyet_c_values.specs.Columns.{given_in, room};
 ghost use Rattle.legumeyet_c_values.specs.Putting.{Answers};
-ghost use Rattle.legumeyet_c.specs.ColumnWriting.{IsAskedColumn, IsColumnOf};
+ghost use Rattle.legumeyet_c.specs.ColumnWriting.{IsColumnOf};
 ghost use Rattle.legumeyet_c.specs.Kinds.{format_in};
 ghost use Rattle.legumeyet_c.specs.Opened.{opened};
 
-use crate::asking::{AskedFormatter, asked};
+use crate::asking::asked;
 use crate::content::Content;
 use crate::format_writer::FormatWriter;
-use legumeyet_c_values::{CallError, Column, status_of, write_column};
+use legumeyet_c_values::{Column, status_of, write_column};
 use std::alloc::Global;
-
-// Writes a column as is asked.
-fn write_asked(
-    alloc: Global,
-    asked: &AskedFormatter<'_>,
-    column: Column<'_>,
-    out: &mut [u8],
-    ends: &mut [usize],
-    count: &mut usize,
-) -> Result<(), CallError>
-    ensures { IsAskedColumn (Ok asked.now) (given_in column.entry) (room out.old ends.old count.old)
-        (room out.new ends.new count.new) result }
-{
-    let lent = asked.held.lent();
-    let writer = FormatWriter::new(&lent, &asked.options);
-    write_column(alloc, &writer, column, out, ends, count)
-}
 
 // Answers a call that writes a column with what is open.
 pub(crate) fn answer_column(
@@ -44,8 +26,11 @@ pub(crate) fn answer_column(
         (IsColumnOf (format_in (opened content.entry)) words.now (given_in column.entry)
         (room out.old ends.old count.old) (room out.new ends.new count.new)) result }
 {
-    match asked(content, words) {
-        Ok(asked) => status_of(write_asked(alloc, &asked, column, out, ends, count)),
+    match asked(alloc, content, words) {
+        Ok(asked) => {
+            let writer = FormatWriter::new(&asked.lent, &asked.options);
+            status_of(write_column(alloc, &writer, column, out, ends, count))
+        }
         Err(error) => {
             *count = 0;
             error.number()

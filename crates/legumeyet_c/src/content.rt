@@ -107,6 +107,13 @@ impl ContentKind for HeldAnswers {
     ghost closed = { refl };
 }
 
+// The book that a handle has open, where it has one.
+pub(crate) fn opened_book(content: Option<&Content>) -> Option<&Book>
+    ensures { option_map (λ book. book.now) result ≡ book_in (opened content.entry) }
+{
+    Book::of_content(content?)
+}
+
 // What numbers are written with, where a handle has it open.
 pub(crate) fn formatter_in(content: Option<&Content>) -> Option<&HeldFormatter>
     ensures { option_map (λ held. held.now) result ≡ format_in (opened content.entry) }

@@ -32,6 +32,7 @@ fn texts_of<'a>(formatter: &NumberFormatter<'a>) -> Option<TextTables<'a>>
         }
         FormatterKind::Compact(_)
         | FormatterKind::CompactDigits(_)
+        | FormatterKind::Scientific(_)
         | FormatterKind::Percent(_)
         | FormatterKind::Currency(_) => None,
     }
@@ -76,8 +77,10 @@ fn shows_as_given(formatter: &NumberFormatter<'_>) -> bool
 {
     match formatter.kind() {
         FormatterKind::Plain(_) | FormatterKind::Percent(_) => true,
-        FormatterKind::Compact(_) | FormatterKind::CompactDigits(_) | FormatterKind::Currency(_) =>
-            { false }
+        FormatterKind::Compact(_)
+        | FormatterKind::CompactDigits(_)
+        | FormatterKind::Scientific(_)
+        | FormatterKind::Currency(_) => false,
     }
 }
 

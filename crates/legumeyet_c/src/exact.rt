@@ -1,60 +1,23 @@
 //! Exact forms, and the values that texts show: `legumeyet_formatter_format_exact` and `_shown`.
 
 ghost use Rattle.std.specs.Prelude.{◌≡◌, Ok};
-ghost use Rattle.legumeyet_c_values.specs.Numbers.{given_of, spelled};
+ghost use Rattle.legumeyet_c_values.specs.Numbers.{spelled};
 ghost use Rattle.legumeyet_c_values.specs.Putting.{Answers, IsPut};
 ghost use Rattle.legumeyet_c.specs.Kinds.{format_in};
 ghost use Rattle.legumeyet_c.specs.Opened.{opened};
 ghost use Rattle.legumeyet_c.specs.Views.{format_content, format_open};
-ghost use Rattle.legumeyet_c.specs.Worded.{IsForm, IsFormFault, IsNotShown, IsShown};
-ghost use Rattle.legumeyet_c.specs.Writing.{GivesForm, GivesNumber, IsFormRefused, IsFormWritingFault, IsNumberRefused, IsNumberWritingFault, IsWritingFault, Writes, WritesForm, WritesNumber};
+ghost use Rattle.legumeyet_c.specs.Worded.{IsNotShown, IsShown};
+ghost use Rattle.legumeyet_c.specs.Writing.{GivesNumber, IsFormWritingFault, IsNumberRefused, IsNumberWritingFault, IsWritingFault, Writes, WritesForm, WritesNumber, asked_for};
 
-use crate::asking::{AskedFormatter, asked};
+use crate::asking::asked;
 use crate::content::Content;
 use crate::formatting::{put_form, put_shown};
 use crate::handles::FormatterHandle;
+use crate::lent_formatter::LentFormatter;
 use fixed_decimal::Decimal;
 use legumeyet_c_values::{CallError, GivenNumber, compact_of_text, status_of};
+use locale_numbers_formats::NumberOptions;
 use std::alloc::Global;
-
-// Writes an exact form as is asked.
-fn write_form(
-    alloc: Global,
-    asked: &AskedFormatter<'_>,
-    number: &[u8],
-    out: &mut [u8],
-    length: &mut usize,
-) -> Result<(), CallError>
-    ensures { IsPut (Writes IsForm (GivesForm number.now) (Ok asked.now))
-        (IsWritingFault IsFormFault (GivesForm number.now) (IsFormRefused number.now) (Ok asked.now)) out.old out.new
-        length.old length.new result }
-{
-    let lent = asked.held.lent();
-    match compact_of_text(alloc, number, &asked.options, lent.fractions()) {
-        Ok(form) => put_form(&lent, &form, out, length),
-        Err(error) => Err(error),
-    }
-}
-
-// Writes the value that the text of a number shows, as is asked.
-fn write_shown(
-    alloc: Global,
-    asked: &AskedFormatter<'_>,
-    number: GivenNumber<'_>,
-    out: &mut [u8],
-    length: &mut usize,
-) -> Result<(), CallError>
-    ensures { IsPut (Writes IsShown (GivesNumber (given_of number.entry)) (Ok asked.now))
-        (IsWritingFault IsNotShown (GivesNumber (given_of number.entry)) (IsNumberRefused (given_of number.entry))
-        (Ok asked.now)) out.old out.new length.old length.new result }
-{
-    let lent = asked.held.lent();
-    let mut value = Decimal::zero(alloc);
-    match number.assign_changed(alloc, &asked.options, lent.fractions(), &mut value) {
-        Ok(()) => put_shown(&lent, &value, out, length),
-        Err(error) => Err(error),
-    }
-}
 
 // Answers a call that writes an exact form with what is open.
 pub(crate) fn answer_form(
@@ -70,9 +33,35 @@ pub(crate) fn answer_form(
         (IsFormWritingFault (format_in (opened content.entry)) words.now number.now) out.old out.new length.old
         length.new) result }
 {
-    match asked(content, words) {
-        Ok(asked) => status_of(write_form(alloc, &asked, number, out, length)),
+    match asked(alloc, content, words) {
+        Ok(asked) => {
+            let fractions = asked.lent.fractions();
+            match compact_of_text(alloc, number, &asked.options, fractions) {
+                Ok(form) => status_of(put_form(&asked.lent, &form, out, length)),
+                Err(error) => error.number(),
+            }
+        }
         Err(error) => error.number(),
+    }
+}
+
+// Writes the value shown of a number, which is read into `value` and changed by these options.
+fn write_shown(
+    alloc: Global,
+    lent: &LentFormatter<'_>,
+    options: &NumberOptions,
+    number: &[u8],
+    value: &mut Decimal,
+    out: &mut [u8],
+    length: &mut usize,
+) -> Result<(), CallError>
+    ensures { IsPut (Writes IsShown (GivesNumber (spelled number.now)) (Ok (asked_for lent.now options.now)))
+        (IsWritingFault IsNotShown (GivesNumber (spelled number.now)) (IsNumberRefused (spelled number.now))
+        (Ok (asked_for lent.now options.now))) out.old out.new length.old length.new result }
+{
+    match GivenNumber::Text(number).assign_changed(alloc, options, lent.fractions(), value) {
+        Ok(()) => put_shown(lent, value, out, length),
+        Err(error) => Err(error),
     }
 }
 
@@ -90,8 +79,12 @@ pub(crate) fn answer_shown(
         (IsNumberWritingFault IsNotShown (format_in (opened content.entry)) words.now (spelled number.now)) out.old
         out.new length.old length.new) result }
 {
-    match asked(content, words) {
-        Ok(asked) => status_of(write_shown(alloc, &asked, GivenNumber::Text(number), out, length)),
+    match asked(alloc, content, words) {
+        Ok(asked) => {
+            let (lent, options) = (&asked.lent, &asked.options);
+            let mut value = Decimal::zero(alloc);
+            status_of(write_shown(alloc, lent, options, number, &mut value, out, length))
+        }
         Err(error) => error.number(),
     }
 }
@@ -104,7 +97,7 @@ pub(crate) fn answer_shown(
 /// significand has a digit beyond the magnitudes -32768 to 32767, or its exponent is above 255; 1, out of memory, which
 /// a significand of sixteen digits at most takes only where it is rounded to multiples of 25; 9, the magnitude of both
 /// together is above 32767 in a compact format; 13, the formatter has another exponent for this magnitude, as for
-/// `1.2c5`; 3, the text needs more room.
+/// `1.2c5`, or writes scientific numbers; 3, the text needs more room.
 #[unsafe(no_mangle)]
 pub extern "C" fn legumeyet_formatter_format_exact(
     alloc: Global,
@@ -125,7 +118,7 @@ pub extern "C" fn legumeyet_formatter_format_exact(
 }
 
 /// Writes the value that the text of a number shows: of `-1172700` in short English `-1.2c6`, which is -1.2 times ten to
-/// the power 6, and without compact patterns the number after its options.
+/// the power 6, of a scientific text `-1.1727e6`, and of any other the number after its options.
 ///
 /// Returns as `legumeyet_formatter_format`; 1 also where the number, or what is shown for it, has more than sixteen
 /// digits.

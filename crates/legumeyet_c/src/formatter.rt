@@ -24,7 +24,8 @@ use std::alloc::Global;
 ///
 /// Returns 0; 2, the book is closed; 4, a word has a number that is not in its list; 14, the unit is no code of a currency
 /// where the words ask for amounts, or a text where they don't; 5, the text is no locale tag; 6, the book lacks a table
-/// for it, or the plural rules, or a compact number would have a unit; 1, out of memory, also in place of the last two.
+/// for it, or the plural rules, or a compact or scientific number would have a unit; 1, out of memory, also in place of
+/// the last two.
 #[unsafe(no_mangle)]
 pub extern "C" fn legumeyet_formatter_open(
     alloc: Global,

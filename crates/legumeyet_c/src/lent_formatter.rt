@@ -4,14 +4,15 @@ ghost use Rattle.std.specs.Prelude.{◌≡◌, None, IfSome, option_map};
 ghost use Rattle.icu_decimal_direct.specs.TextTables.{text_tables};
 ghost use Rattle.locale_numbers.specs.FoundRules.{rules_held};
 ghost use Rattle.locale_numbers_formatter.specs.FormatText.{fractions_in};
-ghost use Rattle.legumeyet_c.specs.Writing.{asked_for, asked_plainly};
+ghost use Rattle.legumeyet_c.specs.Writing.{asked_for, asked_plainly, significand_by, wording_by};
 
 use crate::direct::texts_with;
 use icu_decimal_direct::TextTables;
 use icu_dimension_fractions::FractionInfo;
 use icu_plurals::{PluralRules, PluralRulesWithRanges};
 use locale_numbers_formats::NumberOptions;
-use locale_numbers_formatter::{FormatterKind, NumberFormatter};
+use locale_numbers_formatter::{FormatterKind, NumberFormatter, ScientificFormatter};
+use std::alloc::Global;
 use std::marker::Model;
 
 // The same formatter. It does not allocate.
@@ -22,8 +23,31 @@ pub(crate) fn copied<'a>(formatter: &'a NumberFormatter<'static>) -> NumberForma
         FormatterKind::Plain(formatter) => NumberFormatter::from(*formatter),
         FormatterKind::Compact(formatter) => NumberFormatter::from(*formatter),
         FormatterKind::CompactDigits(formatter) => NumberFormatter::from(*formatter),
+        FormatterKind::Scientific(formatter) => NumberFormatter::from(*formatter),
         FormatterKind::Percent(formatter) => NumberFormatter::from(*formatter),
         FormatterKind::Currency(formatter) => NumberFormatter::of_amounts(formatter),
+    }
+}
+
+// Scientific numbers with what options make of their significand; none where numbers are written otherwise. It does not
+// allocate.
+fn significand_by<'a>(
+    alloc: Global,
+    formatter: &NumberFormatter<'a>,
+    options: &NumberOptions,
+) -> Option<NumberFormatter<'a>>
+    ensures { result ≡ significand_by options.now formatter.now }
+{
+    match formatter.kind() {
+        FormatterKind::Scientific(own) => {
+            let changed = ScientificFormatter::new(alloc, *own.tables(), own.style(), *options);
+            Some(NumberFormatter::from(changed))
+        }
+        FormatterKind::Plain(_)
+        | FormatterKind::Compact(_)
+        | FormatterKind::CompactDigits(_)
+        | FormatterKind::Percent(_)
+        | FormatterKind::Currency(_) => None,
     }
 }
 
@@ -65,6 +89,24 @@ impl<'a> LentFormatter<'a> {
     {
         match self.plurals {
             Some(plurals) => Some(plurals.rules),
+            None => None,
+        }
+    }
+
+    // The same over scientific numbers, with what options make of their significand; none where numbers are written
+    // otherwise. It does not allocate.
+    pub(crate) fn wording_by(
+        &self,
+        alloc: Global,
+        options: &NumberOptions,
+    ) -> Option<LentFormatter<'a>>
+        ensures { result ≡ wording_by options.now self.now }
+    {
+        match significand_by(alloc, &self.formatter, options) {
+            Some(formatter) => Some(LentFormatter {
+                formatter,
+                plurals: self.plurals,
+            }),
             None => None,
         }
     }

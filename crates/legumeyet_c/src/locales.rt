@@ -9,7 +9,7 @@ ghost use Rattle.legumeyet_c.specs.Opened.{opened};
 ghost use Rattle.legumeyet_c.specs.Opening.{IsTagFault};
 ghost use Rattle.legumeyet_c.specs.Views.{book_content, book_open};
 
-use crate::content::{Content, ContentKind};
+use crate::content::{Content, opened_book};
 use crate::handles::BookHandle;
 use icu_locale_core::DataLocale;
 use legumeyet_c_values::{CallError, put, status_of};
@@ -20,16 +20,11 @@ use std::alloc::Global;
 fn count_opened(content: Option<&Content>, count: &mut usize) -> Result<(), CallError>
     ensures { IsCounting (book_in (opened content.entry)) count.old count.new result }
 {
-    let Some(content) = content else {
+    let Some(book) = opened_book(content) else {
         return Err(CallError::Closed);
     };
-    match Book::of_content(content) {
-        Some(book) => {
-            *count = book.locale_count();
-            Ok(())
-        }
-        None => Err(CallError::Closed),
-    }
+    *count = book.locale_count();
+    Ok(())
 }
 
 // Writes the tag of a locale of the book that is open.
@@ -42,15 +37,12 @@ fn write_locale(
     ensures { IsPut (SaysLocale (book_in (opened content.entry)) index)
         (IsLocaleFault (book_in (opened content.entry)) index) out.old out.new length.old length.new result }
 {
-    let Some(content) = content else {
+    let Some(book) = opened_book(content) else {
         return Err(CallError::Closed);
     };
-    match Book::of_content(content) {
-        Some(book) => match book.locale(index) {
-            Some(locale) => put(locale, out, length),
-            None => Err(CallError::UnknownOption),
-        },
-        None => Err(CallError::Closed),
+    match book.locale(index) {
+        Some(locale) => put(locale, out, length),
+        None => Err(CallError::UnknownOption),
     }
 }
 
@@ -83,15 +75,12 @@ fn write_found(
     ensures { IsPut (SaysFoundLocale (book_in (opened content.entry)) tag.now)
         (IsFoundLocaleFault (book_in (opened content.entry)) tag.now) out.old out.new length.old length.new result }
 {
-    let Some(content) = content else {
+    let Some(book) = opened_book(content) else {
         return Err(CallError::Closed);
     };
-    match Book::of_content(content) {
-        Some(book) => match find_locale(alloc, book, tag) {
-            Ok(locale) => put(locale, out, length),
-            Err(error) => Err(error),
-        },
-        None => Err(CallError::Closed),
+    match find_locale(alloc, book, tag) {
+        Ok(locale) => put(locale, out, length),
+        Err(error) => Err(error),
     }
 }
 

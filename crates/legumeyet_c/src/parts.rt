@@ -1,16 +1,16 @@
 //! Numbers written with their parts: `legumeyet_formatter_format_parts`.
 
-ghost use Rattle.std.specs.Prelude.{◌≡◌, Ok, IfOk, IfErr};
-ghost use Rattle.legumeyet_c_values.specs.Numbers.{given_of, spelled};
+ghost use Rattle.std.specs.Prelude.{◌≡◌, IfOk, IfErr};
+ghost use Rattle.legumeyet_c_values.specs.Numbers.{spelled};
 ghost use Rattle.legumeyet_c_values.specs.Parts.{IsPutInParts, given, held_text};
 ghost use Rattle.legumeyet_c_values.specs.Putting.{Answers};
 ghost use Rattle.legumeyet_c.specs.Kinds.{format_in};
 ghost use Rattle.legumeyet_c.specs.Opened.{opened};
 ghost use Rattle.legumeyet_c.specs.Views.{format_content, format_open};
 ghost use Rattle.legumeyet_c.specs.Worded.{IsInPartsFault, IsTextInParts};
-ghost use Rattle.legumeyet_c.specs.Writing.{GivesNumber, IsNumberRefused, IsNumberWritingFault, IsWritingFault, Writes, WritesNumber};
+ghost use Rattle.legumeyet_c.specs.Writing.{IsNumberWritingFault, WritesNumber};
 
-use crate::asking::{AskedFormatter, asked};
+use crate::asking::asked;
 use crate::content::Content;
 use crate::formatting::text_in_parts;
 use crate::handles::FormatterHandle;
@@ -19,27 +19,7 @@ use legumeyet_c_values::{CallError, GivenNumber, Interval, put_parts, status_of}
 use std::alloc::Global;
 use writeable::PartsSink;
 
-// The text of a number with its parts, as is asked.
-fn asked_in_parts(
-    alloc: Global,
-    asked: &AskedFormatter<'_>,
-    number: GivenNumber<'_>,
-) -> Result<PartsSink, CallError>
-    ensures value { IfOk result
-        (λ sink. Writes IsTextInParts (GivesNumber (given_of number.entry)) (Ok asked.now) (held_text sink)) }
-    ensures fault { IfErr result
-        (λ error. IsWritingFault IsInPartsFault (GivesNumber (given_of number.entry))
-        (IsNumberRefused (given_of number.entry)) (Ok asked.now) error) }
-{
-    let lent = asked.held.lent();
-    let mut value = Decimal::zero(alloc);
-    match number.assign_changed(alloc, &asked.options, lent.fractions(), &mut value) {
-        Ok(()) => text_in_parts(alloc, &lent, &mut value),
-        Err(error) => Err(error),
-    }
-}
-
-// The same with what is open.
+// The text of a number with its parts, by what is open.
 fn opened_in_parts(
     alloc: Global,
     content: Option<&Content>,
@@ -53,8 +33,12 @@ fn opened_in_parts(
         (λ error. IsNumberWritingFault IsInPartsFault (format_in (opened content.entry)) words.now (spelled number.now)
         error) }
 {
-    match asked(content, words) {
-        Ok(asked) => asked_in_parts(alloc, &asked, GivenNumber::Text(number)),
+    let asked = asked(alloc, content, words)?;
+    let fractions = asked.lent.fractions();
+    let mut value = Decimal::zero(alloc);
+    let given = GivenNumber::Text(number);
+    match given.assign_changed(alloc, &asked.options, fractions, &mut value) {
+        Ok(()) => text_in_parts(alloc, &asked.lent, &mut value),
         Err(error) => Err(error),
     }
 }
@@ -85,8 +69,8 @@ pub(crate) fn answer_parts(
 
 /// Writes a decimal number that is given as text, and lists the parts of its text in order of their beginning: of
 /// `-€1,234.50` the minus sign at 0 to 1, the currency at 1 to 4, the integer at 4 to 9, the group at 5 to 6, the decimal
-/// at 9 to 10 and the fraction at 10 to 12; of compact text those of its sign alone, unless it has digits of its own, and of
-/// the word of a plural category none. `count` is how many.
+/// at 9 to 10 and the fraction at 10 to 12; of scientific text those of its exponent too, of compact text those of its sign
+/// alone, unless it has digits of its own, and of the word of a plural category none. `count` is how many.
 ///
 /// Returns as `legumeyet_formatter_format`; 1 of any number; 3 also where the list needs more room.
 #[unsafe(no_mangle)]

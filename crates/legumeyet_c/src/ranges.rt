@@ -58,14 +58,13 @@ fn write_range(
         (AreEndsRefused (spelled first.now) (spelled second.now)) (range_asked_by (Ok asked.now))) out.old out.new
         length.old length.new result }
 {
-    let lent = asked.held.lent();
+    let (lent, options) = (&asked.lent, &asked.options);
     let Some(plurals) = lent.plurals() else {
         return Err(CallError::UnknownOption);
     };
     let mut start = Decimal::zero(alloc);
     let mut end = Decimal::zero(alloc);
-    let options = &asked.options;
-    match give_ends(alloc, &lent, options, first, second, &mut start, &mut end) {
+    match give_ends(alloc, lent, options, first, second, &mut start, &mut end) {
         Ok(()) => put_range(lent.get(), &plurals, &mut start, &mut end, out, length),
         Err(error) => Err(error),
     }
@@ -86,7 +85,7 @@ pub(crate) fn answer_range(
         (IsRangeWritingFault (format_in (opened content.entry)) words.now (spelled first.now) (spelled second.now))
         out.old out.new length.old length.new) result }
 {
-    match asked(content, words) {
+    match asked(alloc, content, words) {
         Ok(asked) => status_of(write_range(alloc, &asked, first, second, out, length)),
         Err(error) => error.number(),
     }
@@ -98,7 +97,7 @@ pub(crate) fn answer_range(
 /// Returns 0; 2, the handle is closed; 4, an option is unknown, or the formatter has no plurals; of the first number and
 /// then of the second 7, the text is no decimal number, 8, one with a digit beyond the magnitudes -32768 to 32767, and 1,
 /// out of memory, which a number of sixteen digits at most takes only where it is rounded to multiples of 25; 9, what
-/// compact text shows of one has such a digit; 3, the text needs more room.
+/// compact or scientific text shows of one has such a digit; 3, the text needs more room.
 #[unsafe(no_mangle)]
 pub extern "C" fn legumeyet_formatter_format_range(
     alloc: Global,

@@ -138,8 +138,9 @@ fn ready_after<R: FormatReading>(alloc: Global, formatter: &mut Handle)
 /// `-1234.50`, and with euros `-€1,234.50` too. How many digits the currency has is not looked at: `€1.5` is 1.5.
 ///
 /// Returns 0; 2, the handle is closed; 10, the text is not UTF-8; 11, two numbers may have one text under the tables, and
-/// of every text where the formatter writes compact numbers; 12, no number is written so, as `98,7654`; 1, out of memory,
-/// which a text with sixteen digits at most never takes where the formatter has no unit; 3, the digits need more room.
+/// of every text where the formatter writes compact or scientific numbers; 12, no number is written so, as `98,7654`; 1,
+/// out of memory, which a text with sixteen digits at most never takes where the formatter has no unit; 3, the digits need
+/// more room.
 #[unsafe(no_mangle)]
 pub extern "C" fn legumeyet_formatter_read(
     alloc: Global,

@@ -3,14 +3,13 @@
 ghost use Rattle.std.specs.Prelude.{◌≡◌, pos};
 ghost use Rattle.legumeyet_c_values.specs.Numbers.{double, given_of, scaled, spelled};
 ghost use Rattle.legumeyet_c_values.specs.Putting.{Answers, IsPut};
-ghost use Rattle.legumeyet_c.specs.ColumnWriting.{IsAskedFault, WritesAsked};
 ghost use Rattle.legumeyet_c.specs.Kinds.{format_in};
 ghost use Rattle.legumeyet_c.specs.Opened.{opened};
 ghost use Rattle.legumeyet_c.specs.Views.{format_content, format_open};
 ghost use Rattle.legumeyet_c.specs.Worded.{IsText, IsTextFault};
 ghost use Rattle.legumeyet_c.specs.Writing.{IsNumberWritingFault, WritesNumber};
 
-use crate::asking::{AskedFormatter, asked, rules_asked, texts_asked};
+use crate::asking::{asked, rules_asked, texts_asked};
 use crate::categories::put_spelled_category;
 use crate::content::Content;
 use crate::direct::put_digits;
@@ -18,25 +17,8 @@ use crate::format_writer::{FormatWriter, write_given};
 use crate::handles::FormatterHandle;
 use fixed_decimal::Decimal;
 use icu_decimal_direct::TextDigits;
-use legumeyet_c_values::{CallError, GivenNumber, NumberWriter, status_of};
+use legumeyet_c_values::{GivenNumber, NumberWriter, status_of};
 use std::alloc::Global;
-
-// Writes a number as is asked.
-fn write_asked(
-    alloc: Global,
-    asked: &AskedFormatter<'_>,
-    number: GivenNumber<'_>,
-    out: &mut [u8],
-    length: &mut usize,
-) -> Result<(), CallError>
-    ensures { IsPut (WritesAsked asked.now (given_of number.entry)) (IsAskedFault asked.now (given_of number.entry))
-        out.old out.new length.old length.new result }
-{
-    let lent = asked.held.lent();
-    let options = &asked.options;
-    let mut value = Decimal::zero(alloc);
-    write_given(alloc, &lent, options, number, &mut value, out, length)
-}
 
 // Answers a call that writes a number with what is open.
 pub(crate) fn answer_number(
@@ -52,27 +34,14 @@ pub(crate) fn answer_number(
         (IsNumberWritingFault IsTextFault (format_in (opened content.entry)) words.now (given_of number.entry))
         out.old out.new length.old length.new) result }
 {
-    match asked(content, words) {
-        Ok(asked) => status_of(write_asked(alloc, &asked, number, out, length)),
+    match asked(alloc, content, words) {
+        Ok(asked) => {
+            let (lent, options) = (&asked.lent, &asked.options);
+            let mut value = Decimal::zero(alloc);
+            status_of(write_given(alloc, lent, options, number, &mut value, out, length))
+        }
         Err(error) => error.number(),
     }
-}
-
-// Writes the number that a text spells as is asked, directly where it can be.
-fn write_text_asked(
-    alloc: Global,
-    asked: &AskedFormatter<'_>,
-    text: &[u8],
-    out: &mut [u8],
-    length: &mut usize,
-) -> Result<(), CallError>
-    ensures { IsPut (WritesAsked asked.now (spelled text.now)) (IsAskedFault asked.now (spelled text.now)) out.old out.new
-        length.old length.new result }
-{
-    let lent = asked.held.lent();
-    let options = &asked.options;
-    let mut value = Decimal::zero(alloc);
-    FormatWriter::new(&lent, options).write_text(alloc, text, &mut value, out, length)
 }
 
 // Answers a call that writes the number that a text spells with what is open, by tables that are borrowed for the call.
@@ -89,8 +58,12 @@ fn answer_text_once(
         (IsNumberWritingFault IsTextFault (format_in (opened content.entry)) words.now (spelled text.now)) out.old
         out.new length.old length.new) result }
 {
-    match asked(content, words) {
-        Ok(asked) => status_of(write_text_asked(alloc, &asked, text, out, length)),
+    match asked(alloc, content, words) {
+        Ok(asked) => {
+            let writer = FormatWriter::new(&asked.lent, &asked.options);
+            let mut value = Decimal::zero(alloc);
+            status_of(writer.write_text(alloc, text, &mut value, out, length))
+        }
         Err(error) => error.number(),
     }
 }
@@ -140,11 +113,13 @@ pub(crate) fn answer_text(
 }
 
 /// Writes a decimal number that is given as text: `-987654.321` in English as `-987,654.321`, as `-988K`, as
-/// `-987,654.321%`, with euros as `-€987,654.32`, or as the word of its plural category, `other`.
+/// `-9.87654321E5`, as `-987,654.321%`, with euros as `-€987,654.32`, or as the word of its plural category, `other`. Of
+/// a scientific number the options change the significand: `-9.88E5` by two digits of a fraction.
 ///
 /// Returns 0; 2, the handle is closed; 4, an option is unknown; 7, the text is no decimal number; 8, one with a digit
-/// beyond the magnitudes -32768 to 32767; 9, what compact text shows has such a digit; 1, out of memory, which a number of
-/// sixteen digits at most takes only where it is rounded to multiples of 25; 3, the text needs more room.
+/// beyond the magnitudes -32768 to 32767; 9, what compact or scientific text shows has such a digit; 1, out of memory,
+/// which a number of sixteen digits at most takes only where it is rounded to multiples of 25; 3, the text needs more
+/// room.
 #[unsafe(no_mangle)]
 pub extern "C" fn legumeyet_formatter_format(
     alloc: Global,

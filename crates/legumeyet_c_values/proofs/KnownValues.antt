@@ -7,6 +7,9 @@ use Rattle.fixed_decimal.specs.declared.RoundingIncrement.TheVariants.{Multiples
 use Rattle.fixed_decimal.specs.declared.SignDisplay.TheVariants as display
 use Rattle.fixed_decimal.specs.declared.SignedRoundingMode.TheVariants.{Unsigned, Ceil, Floor, HalfCeil, HalfFloor}
 use Rattle.fixed_decimal.specs.declared.UnsignedRoundingMode.TheVariants.{Expand, Trunc, HalfExpand, HalfTrunc, HalfEven}
+use Rattle.icu_decimal_scientific.specs.declared.ExponentSign.TheVariants.{Auto}
+use Rattle.icu_decimal_scientific.specs.declared.ScientificNotation.{ScientificNotation}
+use Rattle.icu_decimal_scientific.specs.declared.ScientificNotation.TheVariants as powers
 use Rattle.icu_decimal_symbols.specs.declared.options.GroupingStrategy.TheVariants as grouping
 use Rattle.icu_dimension_fractions.specs.declared.CurrencyStyle.{CurrencyStyle}
 use Rattle.icu_dimension_fractions.specs.declared.CurrencyStyle.TheVariants as style
@@ -17,7 +20,7 @@ use Rattle.icu_plurals.specs.declared.PluralRuleType.TheVariants.{Cardinal, Ordi
 use Rattle.locale_numbers_faults.specs.declared.BookError.TheVariants as book
 use Rattle.locale_numbers_formats.specs.declared.CompactWidth.TheVariants.{Short, Long}
 use Rattle.locale_numbers_formats.specs.declared.LeadingZeros.TheVariants.{TrimRoundedZero}
-use Rattle.locale_numbers_formats.specs.declared.Notation.TheVariants.{Standard, Compact}
+use Rattle.locale_numbers_formats.specs.declared.Notation.TheVariants.{Standard, Compact, Scientific}
 use Rattle.locale_numbers_formats.specs.declared.NumberOptions.{NumberOptions}
 use Rattle.locale_numbers_formats.specs.declared.NumberShape.{NumberShape}
 use Rattle.locale_numbers_formats.specs.declared.NumberUnit.TheVariants as beside
@@ -32,7 +35,7 @@ use Rattle.legumeyet_c_values.specs.CallErrors.{status_of}
 use Rattle.legumeyet_c_values.specs.Columns.{ends_from, spelled_lines}
 use Rattle.legumeyet_c_values.specs.Numbers.{spelled}
 use Rattle.legumeyet_c_values.specs.Parts.{kind_of}
-use Rattle.legumeyet_c_values.specs.Words.{number_options_of, options_of, shape_of, usual}
+use Rattle.legumeyet_c_values.specs.Words.{number_options_of, shape_of, usual}
 use Rattle.legumeyet_c_values.specs.declared.call_error.CallError.TheVariants as call
 use Rattle.legumeyet_c_values.specs.declared.shape_words.AskedShape.{AskedShape}
 
@@ -79,6 +82,18 @@ part_of_currency = refl
 
 part_of_percent : kind_of (codes "percentSign") ≡ 8
 part_of_percent = refl
+
+part_of_exponent_separator : kind_of (codes "exponentSeparator") ≡ 9
+part_of_exponent_separator = refl
+
+part_of_exponent_minus : kind_of (codes "exponentMinusSign") ≡ 10
+part_of_exponent_minus = refl
+
+part_of_exponent_plus : kind_of (codes "exponentPlusSign") ≡ 11
+part_of_exponent_plus = refl
+
+part_of_exponent : kind_of (codes "exponentInteger") ≡ 12
+part_of_exponent = refl
 
 -- ---- what is made of a number
 
@@ -382,16 +397,6 @@ ten_words : number_options_of (pos 3 ∷ pos 5 ∷ negsuc 1 ∷ pos 0 ∷ pos 3 
     })
 ten_words = refl
 
--- a formatter's own options stay where there is no word, and none of them where there is one
-own_stay : options_of [] (asks Cash) ≡ Some (asks Cash)
-own_stay = refl
-
-own_replaced : options_of (pos 0 ∷ []) (asks Cash) ≡ Some usual
-own_replaced = refl
-
-own_unknown : options_of (pos 6 ∷ []) (asks Cash) ≡ None
-own_unknown = refl
-
 -- ---- how numbers are written
 
 abbrev plain : NumberShape
@@ -429,7 +434,20 @@ long_counts_for_nothing = refl
 width_unknown : shape_of (pos 0 ∷ pos 7 ∷ []) [] ≡ Err call.UnknownOption
 width_unknown = refl
 
-notation_unknown : shape_of (pos 2 ∷ []) [] ≡ Err call.UnknownOption
+-- the significand stays, and the exponent has a minus sign alone and no zeros in front
+abbrev in_powers : ScientificNotation → NumberShape
+in_powers exponents = record plain { notation = Scientific (record { notation = exponents; exponents = record { sign = Auto; least_digits = 0 } }) usual }
+
+scientific : shape_of (pos 2 ∷ []) [] ≡ Ok (numbers (in_powers powers.Scientific))
+scientific = refl
+
+engineering_ungrouped : shape_of (pos 3 ∷ pos 1 ∷ pos 0 ∷ pos 0 ∷ pos 0 ∷ pos 1 ∷ []) [] ≡ Ok (numbers (record (in_powers powers.Engineering) { grouping = grouping.Never }))
+engineering_ungrouped = refl
+
+scientific_percents : shape_of (pos 2 ∷ pos 0 ∷ pos 1 ∷ []) [] ≡ Ok (numbers (record (in_powers powers.Scientific) { unit = beside.Percent percent_sign.Percent }))
+scientific_percents = refl
+
+notation_unknown : shape_of (pos 4 ∷ []) [] ≡ Err call.UnknownOption
 notation_unknown = refl
 
 notation_below : shape_of (negsuc 0 ∷ []) [] ≡ Err call.UnknownOption

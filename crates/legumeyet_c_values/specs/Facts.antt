@@ -1,7 +1,7 @@
 -- The facts of a formatter, by the numbers that the header has for them, and the text of each.
 -- Defined in include/legumeyet.h, `legumeyet_formatter_tell`.
 -- Cited by `fact_by` and `put_fact`, and by the exports that tell facts.
-use Rattle.std.specs.Prelude.{◌≡◌, ℕ, List, [], ◌∷◌, ◌++◌, flat_map, map, Option, Some, None, option_map, unwrap_or, slice_get, encode_utf8_all, decimal}
+use Rattle.std.specs.Prelude.{◌≡◌, ℕ, List, [], ◌∷◌, ◌++◌, flat_map, Option, Some, None, option_map, unwrap_or, slice_get, encode_utf8_all, decimal}
 use Rattle.icu_decimal_symbols.specs.Symbols.{SymbolStrings}
 use Rattle.icu_dimension_fractions.specs.declared.FractionInfo.{FractionInfo}
 use Rattle.icu_dimension_fractions.specs.declared.FractionIncrement.{FractionIncrement}

@@ -24,6 +24,10 @@ kind_of name =
     else if bytes_eq name (codes "fraction") then 6
     else if bytes_eq name (codes "currency") then 7
     else if bytes_eq name (codes "percentSign") then 8
+    else if bytes_eq name (codes "exponentSeparator") then 9
+    else if bytes_eq name (codes "exponentMinusSign") then 10
+    else if bytes_eq name (codes "exponentPlusSign") then 11
+    else if bytes_eq name (codes "exponentInteger") then 12
     else 0
 
 -- a part as C has it, by bytes

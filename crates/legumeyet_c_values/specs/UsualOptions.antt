@@ -1,7 +1,7 @@
 -- Whether options are those of no words, which leave a number that is no amount as it is given.
 -- Defined in include/legumeyet.h, `legumeyet_options`.
 -- Cited by `is_usual`.
-use Rattle.std.specs.Prelude.{ℤ, pos, negsuc, ◌==◌, ◌&&◌, Bool, true, false}
+use Rattle.std.specs.Prelude.{◌&&◌, Bool, true, false}
 use Rattle.locale_numbers_formats.specs.declared.LeadingZeros.{LeadingZeros}
 use Rattle.locale_numbers_formats.specs.declared.LeadingZeros.TheVariants.{TrimRoundedZero}
 use Rattle.locale_numbers_formats.specs.declared.NumberOptions.{NumberOptions}

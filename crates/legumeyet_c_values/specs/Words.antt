@@ -10,6 +10,9 @@ use Rattle.fixed_decimal.specs.declared.SignDisplay.TheVariants as display
 use Rattle.fixed_decimal.specs.declared.SignedRoundingMode.{SignedRoundingMode}
 use Rattle.fixed_decimal.specs.declared.SignedRoundingMode.TheVariants.{Unsigned, Ceil, Floor, HalfCeil, HalfFloor}
 use Rattle.fixed_decimal.specs.declared.UnsignedRoundingMode.TheVariants.{Expand, Trunc, HalfExpand, HalfTrunc, HalfEven}
+use Rattle.icu_decimal_scientific.specs.declared.ExponentSign.TheVariants.{Auto}
+use Rattle.icu_decimal_scientific.specs.declared.ScientificNotation.{ScientificNotation}
+use Rattle.icu_decimal_scientific.specs.declared.ScientificNotation.TheVariants as powers
 use Rattle.icu_decimal_symbols.specs.declared.options.GroupingStrategy.{GroupingStrategy}
 use Rattle.icu_decimal_symbols.specs.declared.options.GroupingStrategy.TheVariants as grouping
 use Rattle.icu_dimension_fractions.specs.CurrencyCodes.{is_currency_code}
@@ -28,7 +31,7 @@ use Rattle.locale_numbers_formats.specs.declared.CompactWidth.{CompactWidth}
 use Rattle.locale_numbers_formats.specs.declared.CompactWidth.TheVariants.{Short, Long}
 use Rattle.locale_numbers_formats.specs.declared.LeadingZeros.TheVariants.{TrimRoundedZero}
 use Rattle.locale_numbers_formats.specs.declared.Notation.{Notation}
-use Rattle.locale_numbers_formats.specs.declared.Notation.TheVariants.{Standard, Compact}
+use Rattle.locale_numbers_formats.specs.declared.Notation.TheVariants.{Standard, Compact, Scientific}
 use Rattle.locale_numbers_formats.specs.declared.NumberOptions.{NumberOptions}
 use Rattle.locale_numbers_formats.specs.declared.NumberShape.{NumberShape}
 use Rattle.locale_numbers_formats.specs.declared.NumberUnit.{NumberUnit}
@@ -199,19 +202,18 @@ number_options_of words =
 abbrev pub usual : NumberOptions
 usual = record { rounding = Usual; leading_zeros = TrimRoundedZero; zeros = Keep; integer_digits = pos 0; fraction_digits = pos 0; sign = KeepSign }
 
--- a formatter's own, where no words are given
-abbrev pub options_of : List ℤ → NumberOptions → Option NumberOptions
-options_of [] own = Some own
-options_of (word ∷ words) own = number_options_of (word ∷ words)
-
 -- ---- how numbers are written
 
 abbrev pub widths : List CompactWidth
 widths = Short ∷ Long ∷ []
 
+-- no word says what is made of the significand, nor how the exponent is shown: with a minus sign alone, and no zeros in front
+abbrev pub scientific_in : ScientificNotation → Notation
+scientific_in exponents = Scientific (record { notation = exponents; exponents = record { sign = Auto; least_digits = 0 } }) usual
+
 -- a compact one has a width
 abbrev pub notations : CompactWidth → List Notation
-notations width = Standard ∷ Compact width ∷ []
+notations width = Standard ∷ Compact width ∷ scientific_in powers.Scientific ∷ scientific_in powers.Engineering ∷ []
 
 abbrev pub groupings : List GroupingStrategy
 groupings = grouping.Auto ∷ grouping.Never ∷ grouping.Always ∷ grouping.Min2 ∷ grouping.OnAligned ∷ []

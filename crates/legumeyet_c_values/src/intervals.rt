@@ -38,6 +38,14 @@ fn kind_by(name: &str) -> u32
         7
     } else if name == b"percentSign".as_slice() {
         8
+    } else if name == b"exponentSeparator".as_slice() {
+        9
+    } else if name == b"exponentMinusSign".as_slice() {
+        10
+    } else if name == b"exponentPlusSign".as_slice() {
+        11
+    } else if name == b"exponentInteger".as_slice() {
+        12
     } else {
         0
     }

@@ -36,7 +36,7 @@ pub use facts::{Facts, put_fact};
 pub use intervals::Interval;
 pub use line_buffers::{AnswerLine, answer_lines};
 pub use numbers::{GivenNumber, assign_text, change, compact_of_text};
-pub use option_words::{number_options_by, options_asked, usual_options};
+pub use option_words::{number_options_by, usual_options};
 pub use parts::put_parts;
 pub use putting::{put, put_bytes};
 pub use shape_words::{AskedShape, shape_by};

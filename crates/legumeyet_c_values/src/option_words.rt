@@ -1,7 +1,7 @@
 //! What is made of a number before it is written, by words: `legumeyet_options`.
 
 ghost use Rattle.std.specs.Prelude.{◌≡◌, [], Some};
-ghost use Rattle.legumeyet_c_values.specs.Words.{count_of, digits_least, fraction_of, increment_of, is_at, multiples_of, named, number_options_of, options_of, position_of, position_rounding_of, priorities, rounding_of, roundings, shows_end, significant_of, signs, trimmings, usual};
+ghost use Rattle.legumeyet_c_values.specs.Words.{count_of, digits_least, fraction_of, increment_of, is_at, multiples_of, named, number_options_of, position_of, position_rounding_of, priorities, rounding_of, roundings, shows_end, significant_of, signs, trimmings, usual};
 
 use crate::digit_words::rounding_by;
 use crate::words::{are_zeros, is_known, word_at};
@@ -224,15 +224,4 @@ pub fn number_options_by(words: &[i32]) -> Option<NumberOptions>
         fraction_digits,
         sign,
     })
-}
-
-/// What the words ask for, as `number_options_by` has it, and a formatter's own options where there is no word.
-pub fn options_asked(words: &[i32], own: &NumberOptions) -> Option<NumberOptions>
-    ensures { result ≡ options_of words.now own.now }
-{
-    if words.is_empty() {
-        Some(*own)
-    } else {
-        number_options_by(words)
-    }
 }

@@ -1,14 +1,18 @@
 //! How numbers are written, by words: `legumeyet_format`.
 
 ghost use Rattle.std.specs.Prelude.{◌≡◌};
-ghost use Rattle.legumeyet_c_values.specs.Words.{currency_by, currency_widths, groupings, named, notation_of, numbers_of, plurals, shape_of, styles, unit_alone, unit_of, widths};
+ghost use Rattle.legumeyet_c_values.specs.Words.{currency_by, currency_widths, groupings, named, notation_of, numbers_of, plurals, scientific_in, shape_of, styles, unit_alone, unit_of, widths};
 
 use crate::call_error::CallError;
+use crate::option_words::usual_options;
 use crate::words::{is_known, word_at};
+use icu_decimal_scientific::{ExponentOptions, ExponentSign, ScientificNotation};
 use icu_decimal_symbols::options::GroupingStrategy;
 use icu_dimension_fractions::{CurrencyCode, CurrencyStyle, CurrencyWidth, PercentSign};
 use icu_plurals::PluralRuleType;
-use locale_numbers_formats::{CompactWidth, CurrencyUnit, Notation, NumberShape, NumberUnit};
+use locale_numbers_formats::{
+    CompactWidth, CurrencyUnit, Notation, NumberShape, NumberUnit, ScientificStyle,
+};
 
 // The patterns of a word.
 fn width_by(word: i32) -> Option<CompactWidth>
@@ -69,6 +73,21 @@ fn plurals_by(word: i32) -> Option<Option<PluralRuleType>>
     }
 }
 
+// Scientific numbers with the significand as it is: 1200000 is `1.2E6`.
+fn scientific_in(notation: ScientificNotation) -> Notation
+    ensures { result ≡ scientific_in notation }
+{
+    let exponents = ExponentOptions {
+        sign: ExponentSign::Auto,
+        least_digits: 0,
+    };
+    let style = ScientificStyle {
+        notation,
+        exponents,
+    };
+    Notation::Scientific(style, usual_options())
+}
+
 // How the digits are written.
 fn notation_by(words: &[i32]) -> Option<Notation>
     ensures { result ≡ notation_of words.now }
@@ -77,6 +96,8 @@ fn notation_by(words: &[i32]) -> Option<Notation>
     match word_at(words, 0) {
         0 => Some(Notation::Standard),
         1 => Some(Notation::Compact(width)),
+        2 => Some(scientific_in(ScientificNotation::Scientific)),
+        3 => Some(scientific_in(ScientificNotation::Engineering)),
         _ => None,
     }
 }

@@ -2,8 +2,12 @@
 use Rattle.std.proofs.Common.{◌≡◌, ℕ, List, Option, None, Some, Bool, true, false, Result, Ok, Err, pos, negsuc, refl}
 use Rattle.std.specs.Prelude.{codes}
 use Rattle.fixed_decimal.specs.declared.RoundingIncrement.TheVariants.{MultiplesOf1, MultiplesOf5}
+use Rattle.fixed_decimal.specs.declared.SignDisplay.TheVariants as display
 use Rattle.fixed_decimal.specs.declared.SignedRoundingMode.TheVariants.{Unsigned, Floor}
 use Rattle.fixed_decimal.specs.declared.UnsignedRoundingMode.TheVariants.{HalfEven}
+use Rattle.icu_decimal_scientific.specs.declared.ExponentSign.TheVariants.{Auto}
+use Rattle.icu_decimal_scientific.specs.declared.ScientificNotation.{ScientificNotation}
+use Rattle.icu_decimal_scientific.specs.declared.ScientificNotation.TheVariants as notation
 use Rattle.icu_decimal_symbols.specs.declared.options.GroupingStrategy.TheVariants as strategy
 use Rattle.icu_dimension_fractions.specs.declared.CurrencyStyle.TheVariants as style
 use Rattle.icu_dimension_fractions.specs.declared.CurrencyWidth.TheVariants as width
@@ -12,20 +16,21 @@ use Rattle.icu_plurals.specs.declared.PluralRuleType.TheVariants.{Cardinal, Ordi
 use Rattle.locale_numbers_formats.specs.Changed.{unchanged}
 use Rattle.locale_numbers_formats.specs.declared.CompactWidth.TheVariants.{Short}
 use Rattle.locale_numbers_formats.specs.declared.Notation.{Notation}
-use Rattle.locale_numbers_formats.specs.declared.Notation.TheVariants.{Standard, Compact, CompactDigits}
+use Rattle.locale_numbers_formats.specs.declared.Notation.TheVariants.{Standard, Compact, CompactDigits, Scientific}
 use Rattle.locale_numbers_formats.specs.declared.NumberOptions.{NumberOptions}
 use Rattle.locale_numbers_formats.specs.declared.NumberUnit.{NumberUnit}
 use Rattle.locale_numbers_formats.specs.declared.NumberUnit.TheVariants as unit
 use Rattle.locale_numbers_formats.specs.declared.Rounding.{Rounding}
 use Rattle.locale_numbers_formats.specs.declared.Rounding.TheVariants.{Usual, Cash, AsGiven, At, Significant, Either}
 use Rattle.locale_numbers_formats.specs.declared.RoundingPriority.TheVariants.{MorePrecision}
+use Rattle.locale_numbers_formats.specs.declared.SignAsked.TheVariants.{Show}
 use Rattle.locale_numbers_formats.specs.declared.SkeletonError.TheVariants as skeleton
 use Rattle.locale_numbers_formats.specs.declared.TrailingZeros.{TrailingZeros}
 use Rattle.locale_numbers_formats.specs.declared.TrailingZeros.TheVariants.{Keep, Trim}
 use Rattle.locale_numbers_requests.specs.declared.Task.{Task}
-use Rattle.locale_numbers_requests.specs.declared.Task.TheVariants.{Write, Category}
+use Rattle.locale_numbers_requests.specs.declared.Task.TheVariants.{Write, Read, Category}
 use Rattle.legumeyet_options.specs.Digits.{DigitsSaid, is_coarse, options_by, round_said}
-use Rattle.legumeyet_options.specs.NumberWords.{NumbersSaid, numbers_asked}
+use Rattle.legumeyet_options.specs.NumberWords.{NumbersSaid, numbers_asked, reading_asked}
 use Rattle.legumeyet_options.specs.declared.fault.OptionFault.TheVariants as fault
 use Rattle.legumeyet_options.specs.declared.number_words.NumbersAsked.{NumbersAsked}
 
@@ -72,6 +77,7 @@ abbrev nothing : NumbersSaid
 nothing = record {
   form = None;
   format = None;
+  scientific = None;
   currency = None;
   is_accounting = false;
   is_by_code = false;
@@ -173,6 +179,45 @@ short_digits = refl
 short_round : numbers_asked (short_with (record no_digits { round = Some (codes "-2") }))
     ≡ Ok (short (Compact Short) (options_by (At (negsuc 1) (Unsigned HalfEven) MultiplesOf1) Keep (pos 0)))
 short_round = refl
+
+-- ---- scientific numbers
+
+-- with what is made of the significand
+abbrev scientific : ScientificNotation → NumberOptions → NumbersAsked
+scientific n options = as_form (Scientific (record { notation = n; exponents = record { sign = Auto; least_digits = 0 } }) options) unit.None unchanged false
+
+abbrev scientific_with : DigitsSaid → NumbersSaid
+scientific_with digits = record (with digits) { scientific = Some notation.Scientific }
+
+scientific_alone : numbers_asked (scientific_with no_digits) ≡ Ok (scientific notation.Scientific (options_by Usual Keep (pos 0)))
+scientific_alone = refl
+
+scientific_digits : numbers_asked (scientific_with (record no_digits { max_digits = Some (codes "2") }))
+    ≡ Ok (scientific notation.Scientific (options_by (At (negsuc 1) (Unsigned HalfEven) MultiplesOf1) Trim (pos 0)))
+scientific_digits = refl
+
+-- a position is one of the significand, and the sign is its sign
+engineering_round : numbers_asked (record (with (record no_digits { round = Some (codes "-2,floor") })) { scientific = Some notation.Engineering; sign = Some (codes "always") })
+    ≡ Ok (scientific notation.Engineering (record (options_by (At (negsuc 1) Floor MultiplesOf1) Keep (pos 0)) { sign = Show display.Always }))
+engineering_round = refl
+
+scientific_by_tens : numbers_asked (scientific_with (record no_digits { round = Some (codes "1,half-even") }))
+    ≡ Ok (scientific notation.Scientific (options_by (At (pos 1) (Unsigned HalfEven) MultiplesOf1) Keep (pos 0)))
+scientific_by_tens = refl
+
+scientific_coarse : numbers_asked (scientific_with (record no_digits { round = Some (codes "2") })) ≡ Err fault.Coarse
+scientific_coarse = refl
+
+plural_of_scientific : numbers_asked (record (scientific_with no_digits) { rule_type = Some Cardinal })
+    ≡ Ok (record (scientific notation.Scientific (options_by Usual Keep (pos 0))) { task = Category Cardinal })
+plural_of_scientific = refl
+
+-- no text of theirs is read yet; beside compact numbers plain ones are
+scientific_reading : reading_asked Read (scientific notation.Scientific (options_by Usual Keep (pos 0))) ≡ Err fault.Scientific
+scientific_reading = refl
+
+compact_reading : reading_asked Read (short (Compact Short) (options_by Usual Keep (pos 0))) ≡ Ok (record (written unit.None Usual Keep 0 false) { task = Read })
+compact_reading = refl
 
 -- ---- faults
 

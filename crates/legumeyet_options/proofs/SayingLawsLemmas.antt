@@ -5,7 +5,7 @@ use Rattle.std.specs.Str.{is_utf8}
 use Rattle.writeable.specs.AnnotatedText.{Event, bytes, text_of}
 use Rattle.writeable.specs.HeldParts.{held_after}
 use Rattle.writeable.proofs.AnnotatedTextLemmas.{text_of_bytes}
-use Rattle.fixed_decimal.specs.CompactText.{CompactValue, compact_text_of}
+use Rattle.fixed_decimal.specs.CompactText.{CompactValue}
 use Rattle.fixed_decimal.specs.Number.{Number}
 use Rattle.fixed_decimal.specs.SignedText.{signed_text_of}
 use Rattle.fixed_decimal.specs.SignedValue.{SignedValue}
@@ -23,7 +23,7 @@ use Rattle.locale_numbers_formats.specs.declared.SignAsked.{SignAsked}
 use Rattle.locale_numbers_formatter.specs.ExactForms.{exact_format_text}
 use Rattle.locale_numbers_formatter.specs.FormatParts.{exact_format_events, format_events}
 use Rattle.locale_numbers_formatter.specs.FormatReading.{format_reading}
-use Rattle.locale_numbers_formatter.specs.FormatText.{FormatTables, compact_tables, digits_tables, format_text, format_value, fractions_in, plain_tables, unit_tables}
+use Rattle.locale_numbers_formatter.specs.FormatText.{FormatTables, compact_tables, digits_tables, format_text, format_value, fractions_in, plain_tables, scientific_tables, shown_text, unit_tables}
 use Rattle.locale_numbers_formatter.specs.FormatTyped.{format_typed_reading}
 use Rattle.locale_numbers_formatter.specs.Laws.{ExactFormatIsText, FormatIsText}
 use Rattle.locale_numbers_formatter.specs.ShownOperands.{is_shown}
@@ -113,16 +113,17 @@ ranges_agree found rules options (Some ends) = ends_agree found rules options (r
 module _ (texts : FormatIsText) (exacts : ExactFormatIsText) where
   -- ---- written
 
-  -- a compact number, where it can be shown
+  -- a compact number or a scientific one, where it can be shown
   compact_agrees : (f : FormatTables) (d : SignedValue Number) (b : Bool)
       → Agrees (if b then says (format_events f d) else Err (Refused refusal.Range)) (if b then written (text_and_value f d) else refused refusal.Range)
-  compact_agrees f d true = of_both (format_events f d) (format_text f d) (compact_text_of (format_value f d)) (texts f d)
+  compact_agrees f d true = of_both (format_events f d) (format_text f d) (shown_text (format_value f d)) (texts f d)
   compact_agrees f d false = no_text refusal.Range
 
   number_agrees : (f : FormatTables) (d : SignedValue Number) → Agrees (number_saying f d) (number_answer f d)
   number_agrees (plain_tables t) d = of_text (format_events (plain_tables t) d) (format_text (plain_tables t) d) (texts (plain_tables t) d)
   number_agrees (compact_tables t) d = compact_agrees (compact_tables t) d (is_shown (compact_tables t) d)
   number_agrees (digits_tables t o) d = compact_agrees (digits_tables t o) d (is_shown (digits_tables t o) d)
+  number_agrees (scientific_tables s) d = compact_agrees (scientific_tables s) d (is_shown (scientific_tables s) d)
   number_agrees (unit_tables u) d = of_text (format_events (unit_tables u) d) (format_text (unit_tables u) d) (texts (unit_tables u) d)
 
   written_agrees : (found : Result FormatTables DataError) (options : NumberOptions) (d : SignedValue Number)

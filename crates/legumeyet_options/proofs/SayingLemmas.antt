@@ -7,7 +7,7 @@ use Rattle.icu_decimal.specs.ExactForms.{exact_place}
 use Rattle.locale_numbers_answers.specs.NumberAnswer.{is_form_in_range}
 use Rattle.locale_numbers_formatter.specs.ExactForms.{IsFormInRange}
 use Rattle.locale_numbers_formatter.specs.FormatParts.{exact_format_events}
-use Rattle.locale_numbers_formatter.specs.FormatText.{FormatTables, compact_tables, digits_tables, plain_tables, unit_tables}
+use Rattle.locale_numbers_formatter.specs.FormatText.{FormatTables, compact_tables, digits_tables, plain_tables, scientific_tables, unit_tables}
 use Rattle.legumeyet_options.specs.Sayings.{form_saying, says}
 
 form_test : (f : FormatTables) (form : CompactValue) → IsFormInRange f form → is_form_in_range f form ≡ true
@@ -15,6 +15,7 @@ form_test (plain_tables t) form within = refl
 form_test (compact_tables t) form within = lt-ltb (exact_place form.significand.absolute.count form.exponent) 65536 within
 form_test (digits_tables t o) form within = lt-ltb (exact_place form.significand.absolute.count form.exponent) 65536 within
 form_test (unit_tables u) form within = refl
+form_test (scientific_tables s) form within = refl
 
 -- a form that is not beyond the limits
 never_beyond : (f : FormatTables) (form : CompactValue) → ((IsFormInRange f form → ⊥) → ⊥) → is_form_in_range f form ≡ true

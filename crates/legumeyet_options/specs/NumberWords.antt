@@ -3,6 +3,7 @@
 -- Cited by `NumberWords::asked`.
 -- The words name types with cases, and the cases of each are imported beside it.
 use Rattle.std.specs.Prelude.{ℕ, Bool, true, false, not, if◌then◌else◌, List, Option, Some, None, option_map, Result, Ok, Err}
+use Rattle.icu_decimal_scientific.specs.declared.ScientificNotation.{ScientificNotation}
 use Rattle.icu_decimal_symbols.specs.declared.options.GroupingStrategy.{GroupingStrategy}
 use Rattle.icu_decimal_symbols.specs.declared.options.GroupingStrategy.TheVariants as strategy
 use Rattle.icu_dimension_fractions.specs.CurrencyCodes.{is_currency_code}
@@ -10,11 +11,10 @@ use Rattle.icu_dimension_fractions.specs.declared.CurrencyStyle.TheVariants as s
 use Rattle.icu_dimension_fractions.specs.declared.CurrencyWidth.TheVariants as width
 use Rattle.icu_dimension_fractions.specs.declared.PercentSign.{PercentSign}
 use Rattle.icu_plurals.specs.declared.PluralRuleType.{PluralRuleType}
-use Rattle.locale_numbers_formats.specs.Changed.{unchanged}
 use Rattle.locale_numbers_formats.specs.SkeletonFormats.{format_of}
 use Rattle.locale_numbers_formats.specs.Skeletons.{skeleton_of}
 use Rattle.locale_numbers_formats.specs.declared.Notation.{Notation}
-use Rattle.locale_numbers_formats.specs.declared.Notation.TheVariants.{Standard, Compact, CompactDigits}
+use Rattle.locale_numbers_formats.specs.declared.Notation.TheVariants.{Standard, Compact, CompactDigits, Scientific}
 use Rattle.locale_numbers_formats.specs.declared.NumberFormat.{NumberFormat}
 use Rattle.locale_numbers_formats.specs.declared.NumberOptions.{NumberOptions}
 use Rattle.locale_numbers_formats.specs.declared.NumberShape.{NumberShape}
@@ -29,7 +29,7 @@ use Rattle.locale_numbers_requests.specs.Request.{grouping_named, keeps_sign, si
 use Rattle.locale_numbers_requests.specs.declared.Task.{Task}
 use Rattle.locale_numbers_requests.specs.declared.Task.TheVariants.{Write, WriteExact, Read, ReadLenient, Category, RangeCategory}
 use Rattle.legumeyet_options.specs.Digits.{DigitsSaid, chooses_digits, digits_said, is_coarse, shows_digits, words_of}
-use Rattle.legumeyet_options.specs.NumberForms.{form_said}
+use Rattle.legumeyet_options.specs.NumberForms.{form_said, format_by, scientific_form}
 use Rattle.legumeyet_options.specs.declared.number_words.NumberWords.{NumberWords}
 use Rattle.legumeyet_options.specs.declared.number_words.NumbersAsked.{NumbersAsked}
 use Rattle.legumeyet_options.specs.declared.fault.OptionFault.{OptionFault}
@@ -39,6 +39,7 @@ use Rattle.legumeyet_options.specs.declared.fault.OptionFault.TheVariants as fau
 pub record NumbersSaid : Type 0 where
   pub form : Option (List ℕ)
   pub format : Option (List ℕ)
+  pub scientific : Option ScientificNotation
   pub currency : Option (List ℕ)
   pub is_accounting : Bool
   pub is_by_code : Bool
@@ -52,6 +53,7 @@ abbrev pub numbers_said : NumberWords → NumbersSaid
 numbers_said w = record {
   form = option_map (λ word. word.now) w.form;
   format = option_map (λ word. word.now) w.format;
+  scientific = w.scientific;
   currency = option_map (λ word. word.now) w.currency;
   is_accounting = w.is_accounting;
   is_by_code = w.is_by_code;
@@ -72,6 +74,11 @@ named_or fault (Some x) = Ok x
 abbrev pub form_asked : Option (List ℕ) → Result (Task × Notation) OptionFault
 form_asked None = Ok (Write, Standard)
 form_asked (Some word) = named_or fault.Form (form_said word)
+
+-- scientific numbers, or a form
+abbrev pub notation_asked : Option ScientificNotation → Option (List ℕ) → Result (Task × Notation) OptionFault
+notation_asked (Some notation) form = Ok (scientific_form notation)
+notation_asked None form = form_asked form
 
 abbrev pub grouping_asked : Option (List ℕ) → Result GroupingStrategy OptionFault
 grouping_asked None = Ok strategy.Auto
@@ -108,17 +115,20 @@ task_fault WriteExact sign digits = if digits then Some fault.DigitsOfExact else
 task_fault Read sign digits = if not (keeps_sign sign) then Some fault.SignOfRead else if digits then Some fault.DigitsOfRead else None
 task_fault ReadLenient sign digits = if not (keeps_sign sign) then Some fault.SignOfRead else if digits then Some fault.DigitsOfRead else None
 
+-- a significand is not rounded above the ones without a mode
+abbrev pub significand_fault : Notation → Bool → Option OptionFault
+significand_fault Standard coarse = None
+significand_fault (Compact width) coarse = None
+significand_fault (CompactDigits width options) coarse = None
+significand_fault (Scientific style options) coarse = if coarse then Some fault.Coarse else None
+
+abbrev pub first_fault : Option OptionFault → Option OptionFault → Option OptionFault
+first_fault (Some fault) other = Some fault
+first_fault None other = other
+
 abbrev pub is_coarse_round : Option (List ℕ) → Bool
 is_coarse_round None = false
 is_coarse_round (Some word) = is_coarse word
-
--- digits that are shown are those before a compact pattern, of the number as it is given
-abbrev pub format_as : Notation → NumberShape → NumberOptions → Bool → NumberFormat
-format_as (Compact width) shape options true = record { shape = record shape { notation = CompactDigits width options }; options = unchanged }
-format_as _ shape options _ = record { shape = shape; options = options }
-
-abbrev pub format_by : NumberShape → NumberOptions → Bool → NumberFormat
-format_by shape options shown = format_as shape.notation shape options shown
 
 abbrev pub asked_by : Option OptionFault → Task → NumberFormat → Bool → Result NumbersAsked OptionFault
 asked_by (Some fault) task format coarse = Err fault
@@ -132,12 +142,12 @@ after (Err fault) next = Err fault
 -- what the words ask
 abbrev pub words_asked : NumbersSaid → Result NumbersAsked OptionFault
 words_asked s =
-    after (form_asked s.form) (λ form.
+    after (notation_asked s.scientific s.form) (λ form.
     after (unit_asked s.currency s.is_accounting s.is_by_code s.percent) (λ unit.
     after (grouping_asked s.grouping) (λ grouping.
     after (sign_asked s.sign) (λ sign.
     after (digits_said s.chosen) (λ options.
-    asked_by (task_fault form.0 sign (chooses_digits s.chosen)) form.0
+    asked_by (first_fault (task_fault form.0 sign (chooses_digits s.chosen)) (significand_fault form.1 (is_coarse_round s.chosen.round))) form.0
     (format_by (record { notation = form.1; unit = unit; grouping = grouping }) (record options { sign = sign }) (shows_digits s.chosen))
     (is_coarse_round s.chosen.round))))))
 
@@ -170,9 +180,19 @@ abbrev pub numbers_asked : NumbersSaid → Result NumbersAsked OptionFault
 numbers_asked s = after (asked_as s.format s) (asked_for s.rule_type)
 
 -- what is asked of texts that are read beside them
-abbrev pub reading_asked : Task → NumbersAsked → NumbersAsked
-reading_asked task asked = record {
+abbrev pub plain_reading : Task → NumberFormat → NumbersAsked
+plain_reading task format = record {
   task = task;
-  format = record { shape = record asked.format.shape { notation = Standard }; options = (format_read asked.format).options };
+  format = record { shape = record format.shape { notation = Standard }; options = (format_read format).options };
   is_coarse = false;
 }
+
+-- of scientific ones none is read yet
+abbrev pub reading_in : Notation → Task → NumberFormat → Result NumbersAsked OptionFault
+reading_in Standard task format = Ok (plain_reading task format)
+reading_in (Compact width) task format = Ok (plain_reading task format)
+reading_in (CompactDigits width options) task format = Ok (plain_reading task format)
+reading_in (Scientific style options) task format = Err fault.Scientific
+
+abbrev pub reading_asked : Task → NumbersAsked → Result NumbersAsked OptionFault
+reading_asked task asked = reading_in asked.format.shape.notation task asked.format

@@ -20,7 +20,7 @@ use Rattle.locale_numbers_requests.specs.declared.Task.TheVariants as task
 use Rattle.legumeyet_options.specs.Sayings.{Saying, sayer_for, saying}
 use Rattle.legumeyet_options.specs.declared.saying.NotSaid.TheVariants.{Refused}
 
--- the text, and of a compact number the value shown behind it; or the word of the refusal
+-- the text, and of a compact number or a scientific one the value shown behind it; or the word of the refusal
 pub data Agrees : Saying → List ℕ → Type 0 where
   alone : (held : Held) → Agrees (Ok held) (written held.text)
   with_value : (held : Held) (value : List ℕ) → Agrees (Ok held) (written (held.text ++ tab ∷ value))

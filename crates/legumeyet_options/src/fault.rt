@@ -39,6 +39,10 @@ pub enum OptionFault {
     SignOfRead,
     /// It has the digits of its text.
     DigitsOfRead,
+    /// `--round` rounds significands left of the point, without a mode.
+    Coarse,
+    /// No text in scientific notation is read yet.
+    Scientific,
     /// `--plural` or `--ordinal` beside an exact form or a number that is read.
     Categories,
 }

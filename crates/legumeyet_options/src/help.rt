@@ -41,7 +41,8 @@ Reading:
   --read takes what people type: with all separators between groups or with none, with spaces around
   it, with the digits of the locale or, where the locale has others, 0 to 9. Nothing is guessed: 1.23
   is no number under de. --read-exact takes a text only as it is written under the tag and the
-  grouping, so that each number has one text: for texts that a program wrote.
+  grouping, so that each number has one text: for texts that a program wrote. Texts in scientific
+  notation are not read yet.
 
 Money and percents:
   --currency EUR writes an amount: 1.234,50 € under de. The code is three capitals; one that the book
@@ -57,7 +58,8 @@ Digits:
   digits from the first one that is not zero on, and --significant 1-3 three at most; beside --digits or
   --max-digits --priority more takes what shows more digits, and less what shows fewer. They round half
   to even. With --form short and long they are the digits of what is shown, 1.23M by --max-digits 2,
-  and --round rounds the number before.
+  and --round rounds the number before. With --scientific and --engineering they and --round are for
+  what is before the exponent, 1.23E6, which without them has all digits of the number.
   --round -2 rounds to hundredths and shows both digits, 0 rounds to whole numbers, 3 to thousands. A
   mode may follow, and then an increment: -2,floor and -2,half-even,5. The modes are expand, trunc,
   ceil, floor, half-expand, half-trunc, half-ceil, half-floor and half-even, the increments 1, 2, 5, 10,
@@ -67,9 +69,9 @@ Digits:
 
 Plural categories:
   --plural prints, in place of each number, its plural category in the language of the tag: zero, one,
-  two, few, many or other. It is that of the number as it would be written: after --digits and the
-  like, and of a compact number by what is shown. --ordinal prints that of an ordinal number, as of 2nd.
-  Neither goes with exact forms and with texts that are read.
+  two, few, many or other. It is that of the number as it would be written: after --digits and the like,
+  and of a compact or scientific number by what is shown. --ordinal prints that of an ordinal number, as
+  of 2nd. Neither goes with exact forms and with texts that are read.
 
 Skeletons:
   --format takes a number skeleton, as ICU's message formatters have it behind ::, 'currency/EUR .00'
@@ -78,14 +80,15 @@ Skeletons:
 
 Lines:
   A line of --lines has six fields with tabs between: tag, form, grouping, sign, rounding and number.
-  The first five have the words of the options. Further forms are percent, permille and, of amounts in
-  euros, currency-EUR, accounting-EUR and code-EUR, each with read- or read-lenient- before it where a
-  text is read, and ::SKELETON. plural and ordinal tell plural categories, range-plural that of a range
-  as 1..5, each with ::SKELETON behind it or without. The rounding is -, cash, or all three words of
-  --round, in which f0-2 is two digits at most, or s1-3,half-even for three significant ones at most;
-  with - only amounts are rounded, to the digits of their currency. The answer to a line is ok, a tab
-  and the text, for short and long also a tab and the value that is shown; or err, a tab and the
-  first of these words that applies:
+  The first five have the words of the options. Further forms are scientific and engineering; percent,
+  permille and, of amounts in euros, currency-EUR, accounting-EUR and code-EUR, each with read- or
+  read-lenient- before it where a text is read; and ::SKELETON. plural and ordinal tell plural
+  categories, range-plural that of a range as 1..5, each with ::SKELETON behind it or without. The
+  rounding is -, cash, or all three words of --round, in which f0-2 is two digits at most, or
+  s1-3,half-even for three significant ones at most; with - only amounts are rounded, to the digits of
+  their currency. The answer to a line is ok, a tab and the text, for short, long, scientific and
+  engineering also a tab and the value that is shown; or err, a tab and the first of these words that
+  applies:
 
     shape        the line does not have six fields of known words
     tag          the tag is no locale tag
@@ -115,6 +118,10 @@ Examples:
 
   $ legumeyet --tag de --form long --max-digits 2 1234567
   1,23 Millionen
+
+  $ legumeyet --tag en --scientific 1234567.891 0.00012
+  1.234567891E6
+  1.2E-4
 
   $ legumeyet --tag de --currency EUR 1234.5
   1.234,50 €

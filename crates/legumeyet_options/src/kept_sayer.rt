@@ -64,6 +64,7 @@ fn texts_of<'a>(formatter: &NumberFormatter<'a>) -> Option<TextTables<'a>>
         }
         FormatterKind::Compact(_)
         | FormatterKind::CompactDigits(_)
+        | FormatterKind::Scientific(_)
         | FormatterKind::Percent(_)
         | FormatterKind::Currency(_) => None,
     }

@@ -11,6 +11,7 @@ mod invalid;
 mod kept_sayer;
 pub mod laws;
 mod locale_name;
+mod number_forms;
 mod number_words;
 mod options;
 mod saying;

@@ -2,17 +2,18 @@
 
 ghost use Rattle.std.specs.Prelude.{◌≡◌, option_map};
 ghost use Rattle.locale_numbers_formats.specs.Skeletons.{skeleton_of};
-ghost use Rattle.legumeyet_options.specs.NumberForms.{form_said};
-ghost use Rattle.legumeyet_options.specs.NumberWords.{after, asked_by, asked_for, categories_asked, form_asked, format_by, grouping_asked, is_coarse_round, numbers_asked, numbers_said, percent_unit, reading_asked, sign_asked, skeleton_asked, task_fault, unit_asked, words_asked};
+ghost use Rattle.legumeyet_options.specs.NumberWords.{after, asked_by, asked_for, categories_asked, first_fault, form_asked, grouping_asked, is_coarse_round, notation_asked, numbers_asked, numbers_said, percent_unit, plain_reading, reading_asked, sign_asked, significand_fault, skeleton_asked, task_fault, unit_asked, words_asked};
 
 use crate::digits::{DigitWords, is_coarse};
 use crate::fault::OptionFault;
+use crate::number_forms::{form_said, format_by, scientific_form};
+use icu_decimal_scientific::ScientificNotation;
 use icu_decimal_symbols::options::GroupingStrategy;
 use icu_dimension_fractions::{CurrencyCode, CurrencyStyle, CurrencyWidth, PercentSign};
 use icu_plurals::PluralRuleType;
 use locale_numbers_formats::{
-    CompactWidth, CurrencyUnit, Notation, NumberFormat, NumberOptions, NumberShape, NumberUnit,
-    SignAsked, Skeleton, value_beside,
+    CurrencyUnit, Notation, NumberFormat, NumberOptions, NumberShape, NumberUnit, SignAsked,
+    Skeleton,
 };
 use locale_numbers_requests::{Task, format_read, grouping_named, sign_named};
 
@@ -23,6 +24,9 @@ pub struct NumberWords<'a> {
     pub form: Option<&'a str>,
     /// That of `--format`, a skeleton: `currency/EUR .00`.
     pub format: Option<&'a str>,
+    /// Which exponents scientific numbers have: each with `--scientific`, and the multiples of three with `--engineering`.
+    /// Where it is given, the form counts for nothing.
+    pub scientific: Option<ScientificNotation>,
     /// That of `--currency`: `EUR`.
     pub currency: Option<&'a str>,
     /// Whether `--accounting` is given.
@@ -57,20 +61,16 @@ impl NumbersAsked {
     /// What is asked of texts that are read beside numbers that are written: another task, and the format without compact
     /// patterns and without a rounding, but that an amount has the digits of its currency where it is written so. It does
     /// not allocate.
-    pub fn reading(&self, task: Task) -> NumbersAsked
+    ///
+    /// `Scientific`: the numbers are written in scientific notation, and no text in it is read yet.
+    pub fn reading(&self, task: Task) -> Result<NumbersAsked, OptionFault>
         ensures value { result ≡ reading_asked task self.now }
     {
-        let format = format_read(self.format);
-        NumbersAsked {
-            task,
-            format: NumberFormat {
-                shape: NumberShape {
-                    notation: Notation::Standard,
-                    ..format.shape
-                },
-                options: format.options,
-            },
-            is_coarse: false,
+        match self.format.shape.notation {
+            Notation::Standard | Notation::Compact(_) | Notation::CompactDigits(_, _) => {
+                Ok(plain_reading(task, self.format))
+            }
+            Notation::Scientific(_, _) => Err(OptionFault::Scientific),
         }
     }
 
@@ -94,34 +94,22 @@ impl NumbersAsked {
     }
 }
 
-// The forms of numbers.
-const FORMS: [(&[u8], (Task, Notation)); 7] = [
-    (b"plain", (Task::Write, Notation::Standard)),
-    (
-        b"short",
-        (Task::Write, Notation::Compact(CompactWidth::Short)),
-    ),
-    (
-        b"long",
-        (Task::Write, Notation::Compact(CompactWidth::Long)),
-    ),
-    (
-        b"exact-short",
-        (Task::WriteExact, Notation::Compact(CompactWidth::Short)),
-    ),
-    (
-        b"exact-long",
-        (Task::WriteExact, Notation::Compact(CompactWidth::Long)),
-    ),
-    (b"read", (Task::Read, Notation::Standard)),
-    (b"read-lenient", (Task::ReadLenient, Notation::Standard)),
-];
-
-// What a form is.
-fn form_said(word: &[u8]) -> Option<(Task, Notation)>
-    ensures { result ≡ form_said word.now }
+// What is asked of texts that are read beside numbers of a format.
+fn plain_reading(task: Task, format: NumberFormat) -> NumbersAsked
+    ensures { result ≡ plain_reading task format }
 {
-    value_beside(&FORMS, word)
+    let format = format_read(format);
+    NumbersAsked {
+        task,
+        format: NumberFormat {
+            shape: NumberShape {
+                notation: Notation::Standard,
+                ..format.shape
+            },
+            options: format.options,
+        },
+        is_coarse: false,
+    }
 }
 
 // What `--form` asks.
@@ -134,6 +122,19 @@ fn form_asked(word: Option<&str>) -> Result<(Task, Notation), OptionFault>
     match form_said(word.as_bytes()) {
         Some(form) => Ok(form),
         None => Err(OptionFault::Form),
+    }
+}
+
+// What `--scientific` and `--engineering` ask, or else `--form`.
+fn notation_asked(
+    scientific: Option<ScientificNotation>,
+    form: Option<&str>,
+) -> Result<(Task, Notation), OptionFault>
+    ensures { result ≡ notation_asked scientific (option_map (λ word. word.now) form.entry) }
+{
+    match scientific {
+        Some(notation) => Ok(scientific_form(notation)),
+        None => form_asked(form),
     }
 }
 
@@ -223,6 +224,29 @@ fn task_fault(task: Task, sign: SignAsked, digits: bool) -> Option<OptionFault>
     }
 }
 
+// What significands do not take: a rounding above the ones without a mode.
+fn significand_fault(notation: Notation, is_coarse: bool) -> Option<OptionFault>
+    ensures { result ≡ significand_fault notation is_coarse }
+{
+    match notation {
+        Notation::Scientific(_, _) if is_coarse => Some(OptionFault::Coarse),
+        Notation::Scientific(_, _)
+        | Notation::Standard
+        | Notation::Compact(_)
+        | Notation::CompactDigits(_, _) => None,
+    }
+}
+
+// The first of two faults that is there.
+fn first_fault(fault: Option<OptionFault>, other: Option<OptionFault>) -> Option<OptionFault>
+    ensures { result ≡ first_fault fault other }
+{
+    match fault {
+        Some(fault) => Some(fault),
+        None => other,
+    }
+}
+
 // Whether `--round` is a position above the ones alone.
 fn is_coarse_round(word: Option<&str>) -> bool
     ensures { result ≡ is_coarse_round (option_map (λ word. word.now) word.entry) }
@@ -230,24 +254,6 @@ fn is_coarse_round(word: Option<&str>) -> bool
     match word {
         None => false,
         Some(word) => is_coarse(word.as_bytes()),
-    }
-}
-
-// The format of a shape and options: digits that are shown are those before a compact pattern.
-fn format_by(shape: NumberShape, options: NumberOptions, are_shown: bool) -> NumberFormat
-    ensures { result ≡ format_by shape options are_shown }
-{
-    match shape.notation {
-        Notation::Compact(width) if are_shown => NumberFormat {
-            shape: NumberShape {
-                notation: Notation::CompactDigits(width, options),
-                ..shape
-            },
-            options: NumberOptions::unchanged(),
-        },
-        Notation::Standard | Notation::Compact(_) | Notation::CompactDigits(_, _) => {
-            NumberFormat { shape, options }
-        }
     }
 }
 
@@ -315,7 +321,7 @@ impl NumberWords<'_> {
     fn words_asked(&self) -> Result<NumbersAsked, OptionFault>
         ensures { result ≡ words_asked (numbers_said self.now) }
     {
-        let (task, notation) = form_asked(self.form)?;
+        let (task, notation) = notation_asked(self.scientific, self.form)?;
         let unit = unit_asked(
             self.currency,
             self.is_accounting,
@@ -331,17 +337,21 @@ impl NumberWords<'_> {
             grouping,
         };
         let options = NumberOptions { sign, ..options };
-        let fault = task_fault(task, sign, self.chosen.are_chosen());
+        let is_coarse = is_coarse_round(self.chosen.round);
+        let fault = first_fault(
+            task_fault(task, sign, self.chosen.are_chosen()),
+            significand_fault(notation, is_coarse),
+        );
         let format = format_by(shape, options, self.chosen.are_shown());
-        asked_by(fault, task, format, is_coarse_round(self.chosen.round))
+        asked_by(fault, task, format, is_coarse)
     }
 
     /// What the words ask of numbers: of `--currency EUR --digits 3` that they are written as amounts in euros, to
     /// thousandths. It does not allocate.
     ///
-    /// `OptionFault`: an option is wrong, or does not go with the form. Where several are, it is the first of the form, the
-    /// currency, the grouping, the sign and the digits, and else that which does not go with the form, of which that of
-    /// categories is the last.
+    /// `OptionFault`: an option is wrong, or does not go with the form or with scientific numbers. Where several are, it is
+    /// the first of the form, the currency, the grouping, the sign and the digits, and else that which does not go with the
+    /// form, of which that of categories is the last.
     pub fn asked(&self) -> Result<NumbersAsked, OptionFault>
         ensures value { result ≡ numbers_asked (numbers_said self.now) }
     {

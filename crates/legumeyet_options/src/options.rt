@@ -62,6 +62,22 @@ fn format<'a>(alloc: Global) -> Result<Arg<'a>, AllocError> {
         .conflicts_with("form")
 }
 
+fn scientific<'a>(alloc: Global) -> Result<Arg<'a>, AllocError> {
+    let option = Arg::new(alloc, "scientific")
+        .long("scientific")
+        .action(ArgAction::SetTrue)
+        .help("Writes in scientific notation: 12000 is 1.2E4 in English");
+    without(option, &["form", "format"])
+}
+
+fn engineering<'a>(alloc: Global) -> Result<Arg<'a>, AllocError> {
+    let option = Arg::new(alloc, "engineering")
+        .long("engineering")
+        .action(ArgAction::SetTrue)
+        .help("The same with exponents that are multiples of three: 12000 is 12E3 in English");
+    without(option, &["form", "format", "scientific"])
+}
+
 fn grouping<'a>(alloc: Global) -> Result<Arg<'a>, AllocError> {
     Arg::new(alloc, "grouping")
         .short('g')
@@ -149,14 +165,24 @@ fn currency<'a>(alloc: Global) -> Result<Arg<'a>, AllocError> {
         .long("currency")
         .value_name("CODE")
         .help("Writes amounts of this currency, as EUR, rounded to its digits");
-    without(option, &["form", "format"])
+    without(option, &["form", "format", "scientific", "engineering"])
 }
 
 // An option of amounts of a currency. What it requires may be missing where that goes with nothing that is given, so each form
 // without a currency is named.
 fn of_amounts<'a>(option: Arg<'a>) -> Result<Arg<'a>, AllocError> {
     let option = option.requires_arg("currency")?;
-    without(option, &["form", "format", "percent", "permille"])
+    without(
+        option,
+        &[
+            "form",
+            "format",
+            "scientific",
+            "engineering",
+            "percent",
+            "permille",
+        ],
+    )
 }
 
 fn accounting<'a>(alloc: Global) -> Result<Arg<'a>, AllocError> {
@@ -194,7 +220,10 @@ fn percent<'a>(alloc: Global) -> Result<Arg<'a>, AllocError> {
         .long("percent")
         .action(ArgAction::SetTrue)
         .help("Writes percents: 12.5 is 12.5% in English");
-    without(option, &["form", "format", "currency"])
+    without(
+        option,
+        &["form", "format", "scientific", "engineering", "currency"],
+    )
 }
 
 fn permille<'a>(alloc: Global) -> Result<Arg<'a>, AllocError> {
@@ -202,7 +231,17 @@ fn permille<'a>(alloc: Global) -> Result<Arg<'a>, AllocError> {
         .long("permille")
         .action(ArgAction::SetTrue)
         .help("Writes permilles: 12.5 is 12.5‰ in English");
-    without(option, &["form", "format", "currency", "percent"])
+    without(
+        option,
+        &[
+            "form",
+            "format",
+            "scientific",
+            "engineering",
+            "currency",
+            "percent",
+        ],
+    )
 }
 
 fn plural<'a>(alloc: Global) -> Result<Arg<'a>, AllocError> {
@@ -332,11 +371,13 @@ fn book<'a>(alloc: Global) -> Arg<'a> {
 }
 
 // The options that say which numbers and texts are written or read, and how.
-static OF_NUMBERS: [&str; 29] = [
+static OF_NUMBERS: [&str; 31] = [
     "numbers",
     "tag",
     "form",
     "format",
+    "scientific",
+    "engineering",
     "grouping",
     "sign",
     "round",
@@ -423,7 +464,9 @@ fn put_forms<'a>(alloc: Global, args: &mut Vec<Arg<'a>>) -> Result<(), AllocErro
     put(args, numbers(alloc))?;
     put(args, Ok(tag(alloc)))?;
     put(args, Ok(form(alloc)))?;
-    put(args, format(alloc))
+    put(args, format(alloc))?;
+    put(args, scientific(alloc))?;
+    put(args, engineering(alloc))
 }
 
 // Puts those of amounts, percents and permilles.

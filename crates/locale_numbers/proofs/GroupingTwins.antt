@@ -40,14 +40,15 @@ use Rattle.locale_numbers_answers.specs.NumberAnswer.{exact_written, is_form_in_
 use Rattle.locale_numbers_answers.specs.NumberReading.{Reading, beyond, nothing, number, reading_of}
 use Rattle.locale_numbers_answers.specs.ReadAnswer.{read_answer}
 use Rattle.locale_numbers_book.specs.Book.{BookTables}
-use Rattle.locale_numbers_book.specs.FoundFormats.{amount_options, amounts_by, compact_found, in_ascii, in_latin, mapped, notation_found, percent_options, plainly_written, second_for, with_symbols_of}
+use Rattle.locale_numbers_book.specs.NumberSigns.{SignTexts}
+use Rattle.locale_numbers_book.specs.FoundFormats.{amount_options, amounts_by, compact_found, in_ascii, in_latin, mapped, notation_found, percent_options, plainly_written, scientific_found, scientific_of, second_for, with_exponents, with_symbols_of}
 use Rattle.locale_numbers_book.specs.Tables.{chain_in, digits_under, rules_under, symbols_under}
-use Rattle.locale_numbers_book.specs.TagFormatters.{currencies_in, currency_found_in, found_plain, patterns_under, percent_found_in, percents_in}
+use Rattle.locale_numbers_book.specs.TagFormatters.{currencies_in, currency_found_in, found_plain, patterns_under, percent_found_in, percents_in, signs_found_in}
 use Rattle.locale_numbers_book.specs.Wanted.{wanted_of}
 use Rattle.locale_numbers_formats.specs.declared.CompactWidth.{CompactWidth}
 use Rattle.locale_numbers_formats.specs.declared.CurrencyUnit.{CurrencyUnit}
 use Rattle.locale_numbers_formats.specs.declared.Notation.{Notation}
-use Rattle.locale_numbers_formats.specs.declared.Notation.TheVariants.{Standard, Compact, CompactDigits}
+use Rattle.locale_numbers_formats.specs.declared.Notation.TheVariants.{Standard, Compact, CompactDigits, Scientific}
 use Rattle.locale_numbers_formats.specs.declared.NumberOptions.{NumberOptions}
 use Rattle.locale_numbers_formats.specs.declared.NumberShape.{NumberShape}
 use Rattle.locale_numbers_formats.specs.declared.NumberUnit.{NumberUnit}
@@ -55,10 +56,10 @@ use Rattle.locale_numbers_formats.specs.declared.NumberUnit.TheVariants as unit
 use Rattle.locale_numbers_formats.specs.declared.Rounding.{Rounding}
 use Rattle.locale_numbers_formats.specs.declared.SignAsked.{SignAsked}
 use Rattle.locale_numbers_formatter.specs.ExactForms.{exact_format_text, under_entry}
-use Rattle.locale_numbers_formatter.specs.FormatText.{FormatTables, UnitFormat, compact_tables, digit_tables, digits_tables, plain_tables, shown_as_it_is, shown_in, text_of_shown, unit_tables}
+use Rattle.locale_numbers_formatter.specs.FormatText.{FormatTables, UnitFormat, compact_tables, digit_tables, digits_tables, plain_tables, scientific_tables, shown_as_it_is, shown_in, text_of_shown, unit_tables}
 use Rattle.locale_numbers_formatter.specs.FormatTyped.{format_typed_reading, plain_in, typed_unit, unit_in, units_in_turn}
 use Rattle.locale_numbers_formatter.specs.HeldFormats.{currency_format, percent_format}
-use Rattle.locale_numbers_formatter.specs.Regrouped.{compact_regrouped, plain_regrouped, regrouped, unit_regrouped}
+use Rattle.locale_numbers_formatter.specs.Regrouped.{compact_regrouped, plain_regrouped, regrouped, scientific_regrouped, unit_regrouped}
 use Rattle.locale_numbers_formatter.specs.TypedPlain.{reading_by}
 use Rattle.locale_numbers_formatter.specs.TypedUnits.{lenient_unit_reading, unit_reading_by}
 use Rattle.locale_numbers_formatter.proofs.LenientUnitLemmas.{in_turn_same}
@@ -158,6 +159,16 @@ module _ (by : GroupingStrategy) where
       (λ t. then_found amounts (λ e. then_found name (λ n. then_found fractions (λ f. Ok (record { unit = amount_settings t e n; fractions = f })))))
       (amounts_by_turn amounts name fractions) book p
 
+  -- exponents have the same tables with each grouping
+  exponents_by : (t : Tables) (signs : Result SignTexts DataError) → mapped (with_exponents (plain_regrouped by t)) signs ≡ mapped (scientific_regrouped by) (mapped (with_exponents t) signs)
+  exponents_by t (Ok signs) = refl
+  exponents_by t (Err error) = refl
+
+  scientific_by : (of : NumberUnit) (book : BookTables) (p : Preferences) → scientific_found of book p by ≡ mapped (scientific_regrouped by) (scientific_found of book p Auto)
+  scientific_by unit.None book p =
+      let signs = signs_found_in book p in past_plain (scientific_regrouped by) (λ t. mapped (with_exponents t) signs) (λ t. exponents_by t signs) book p
+  scientific_by _ book p = refl
+
   -- of any format
   format_by : (notation : Notation) (of : NumberUnit) (book : BookTables) (p : Preferences) → notation_found notation of book p by ≡ mapped (regrouped by) (notation_found notation of book p Auto)
   format_by Standard unit.None book p = through plain_tables (plain_regrouped by) (λ t. refl) (found_plain book p (Some by)) (found_plain book p (Some Auto)) (plain_by book p)
@@ -170,6 +181,8 @@ module _ (by : GroupingStrategy) where
   format_by (Compact width) of book p = through compact_tables (compact_regrouped by) (λ t. refl) (compact_found width of book p by) (compact_found width of book p Auto) (compact_by width of book p)
   format_by (CompactDigits width options) of book p =
       through (λ t. digits_tables t options) (compact_regrouped by) (λ t. refl) (compact_found width of book p by) (compact_found width of book p Auto) (compact_by width of book p)
+  format_by (Scientific style options) of book p =
+      through (scientific_of style options) (scientific_regrouped by) (λ settings. refl) (scientific_found of book p by) (scientific_found of book p Auto) (scientific_by of book p)
 
   -- ---- what typed texts are read with beside it
 
@@ -251,6 +264,7 @@ same_exact : (f : FormatTables) (form : CompactValue) → exact_format_text (reg
 same_exact (plain_tables t) form = same_if_shown (plain_tables t) form.significand (form.exponent == 0)
 same_exact (compact_tables t) form = same_under t form (exact_entry 32768 t.patterns.entries form.significand.absolute.count form.exponent)
 same_exact (digits_tables t o) form = same_under t form (exact_entry 32768 t.patterns.entries form.significand.absolute.count form.exponent)
+same_exact (scientific_tables s) form = refl
 same_exact (unit_tables u) form = same_if_shown (unit_tables u) form.significand (form.exponent == 0)
 
 same_range : (f : FormatTables) (form : CompactValue) → is_form_in_range (regrouped Auto f) form ≡ is_form_in_range (regrouped Always f) form
@@ -288,6 +302,7 @@ same_typed : (f : FormatTables) (second : Option FormatTables) (text : List ℕ)
 same_typed (plain_tables t) second text = same_plain t second text
 same_typed (compact_tables t) second text = refl
 same_typed (digits_tables t o) second text = refl
+same_typed (scientific_tables s) second text = refl
 same_typed (unit_tables u) second text =
     in_turn_same (units_in_turn (unit_by Auto u) (unit_in (option_map (regrouped Auto) second))) (units_in_turn (unit_by Always u) (unit_in (option_map (regrouped Always) second)))
     (λ some. same_unit u second some) (λ some. refl) text

@@ -20,7 +20,7 @@ use Rattle.locale_numbers_cache.specs.Cached.{Cached, IsFirst}
 use Rattle.locale_numbers_formats.specs.Changed.{changed}
 use Rattle.locale_numbers_formats.specs.declared.NumberOptions.{NumberOptions}
 use Rattle.locale_numbers_formats.specs.declared.Rounding.{Rounding}
-use Rattle.locale_numbers_formatter.specs.FormatText.{FormatTables, HasNoUnit, compact_tables, digits_tables, fractions_in, plain_tables, unit_tables}
+use Rattle.locale_numbers_formatter.specs.FormatText.{FormatTables, HasNoUnit, compact_tables, digits_tables, fractions_in, plain_tables, scientific_tables, unit_tables}
 use Rattle.locale_numbers_formatter.specs.FormatTyped.{format_typed_reading, reading_by_typed, typed_of}
 use Rattle.locale_numbers_requests.specs.declared.Refusal.TheVariants as refusal
 use Rattle.locale_numbers.specs.Answer.{found_for, plural_rules_for, refused, second_for}
@@ -221,6 +221,7 @@ no_unit_or : (format : FormatTables) (held keeps : Bool) → (held ≡ true → 
 no_unit_or (plain_tables t) held keeps same none = inl tt
 no_unit_or (compact_tables t) held keeps same none = inl tt
 no_unit_or (digits_tables t o) held keeps same none = inl tt
+no_unit_or (scientific_tables s) held keeps same none = inl tt
 no_unit_or (unit_tables u) true keeps same none = inr (same refl)
 no_unit_or (unit_tables u) false keeps same none = absurd (none (refl, tt))
 

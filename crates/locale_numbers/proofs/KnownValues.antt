@@ -15,7 +15,7 @@ use Rattle.locale_numbers.specs.FormatterKeys.{key_with, same_keys}
 use Rattle.locale_numbers.specs.Front.{is_as_it_is}
 use Rattle.locale_numbers.specs.Laws.{joined_fields}
 use Rattle.locale_numbers.specs.Words.{words_said, capacity_named}
-use Rattle.std.specs.Prelude.{pos}
+use Rattle.std.specs.Prelude.{pos, ℕ, List, option_and_then}
 use Rattle.fixed_decimal.specs.declared.RoundingIncrement.TheVariants.{MultiplesOf1}
 use Rattle.fixed_decimal.specs.declared.SignedRoundingMode.TheVariants.{Ceil, Floor}
 use Rattle.icu_decimal.specs.declared.options.GroupingStrategy.TheVariants.{Auto, Always}
@@ -32,6 +32,7 @@ use Rattle.locale_numbers_formats.specs.declared.NumberUnit.TheVariants as unit
 use Rattle.locale_numbers_formats.specs.declared.Rounding.{Rounding}
 use Rattle.locale_numbers_formats.specs.declared.Rounding.TheVariants.{Usual, At}
 use Rattle.locale_numbers_formats.specs.declared.SignAsked.TheVariants.{Keep}
+use Rattle.locale_numbers_requests.specs.Request.{Asked, request_in}
 use Rattle.locale_numbers_requests.specs.declared.Task.{Task}
 use Rattle.locale_numbers_requests.specs.declared.Task.TheVariants.{Write, Read, ReadLenient, Category, RangeCategory}
 
@@ -192,6 +193,32 @@ two_digits = refl
 one_digit : same_shapes (digits_shape (At (pos 0) Ceil MultiplesOf1)) (digits_shape (At (pos 0) Ceil MultiplesOf1)) ≡ true
 one_digit = refl
 
+-- scientific numbers have a key for each notation, for how an exponent is shown, and for what is made of a significand
+abbrev shape_asked : List ℕ → List ℕ → Option NumberShape
+shape_asked form rounding =
+    option_map {T = Asked} {U = NumberShape} (λ asked. asked.format.shape) (request_in (codes "en" ∷ form ∷ codes "auto" ∷ codes "keep" ∷ rounding ∷ codes "1" ∷ []))
+
+abbrev same_forms : Option NumberShape → Option NumberShape → Option Bool
+same_forms one other = option_and_then (λ shape. option_map (same_shapes shape) other) one
+
+two_notations : same_forms (shape_asked (codes "scientific") (codes "-")) (shape_asked (codes "engineering") (codes "-")) ≡ Some false
+two_notations = refl
+
+two_significands : same_forms (shape_asked (codes "scientific") (codes "-")) (shape_asked (codes "scientific") (codes "0,trunc,1")) ≡ Some false
+two_significands = refl
+
+two_exponents : same_forms (shape_asked (codes "::scientific") (codes "-")) (shape_asked (codes "::scientific/*ee") (codes "-")) ≡ Some false
+two_exponents = refl
+
+two_exponent_signs : same_forms (shape_asked (codes "::scientific") (codes "-")) (shape_asked (codes "::scientific/sign-always") (codes "-")) ≡ Some false
+two_exponent_signs = refl
+
+one_notation : same_forms (shape_asked (codes "::engineering .00") (codes "-")) (shape_asked (codes "::EE0 .00") (codes "-")) ≡ Some true
+one_notation = refl
+
+not_plain : same_forms (shape_asked (codes "scientific") (codes "-")) (Some (plain_shape Auto)) ≡ Some false
+not_plain = refl
+
 -- what is read back has the formatter of what is written, and what was typed one of its own; a range has that of cardinal categories
 one_formatter : same_tasks Read Write ≡ true
 one_formatter = refl
@@ -214,3 +241,7 @@ given = refl
 
 rounded : is_as_it_is (record { shape = plain_shape Auto; options = options_of (At (pos 0) Ceil MultiplesOf1) Keep }) ≡ false
 rounded = refl
+
+-- nor with an exponent
+scientific : option_map {T = NumberShape} {U = Bool} (λ shape. is_as_it_is (record { shape = shape; options = options_of Usual Keep })) (shape_asked (codes "scientific") (codes "-")) ≡ Some false
+scientific = refl

@@ -17,7 +17,7 @@ use Rattle.locale_numbers_book.specs.FoundRules.{cardinals_for, ranges_for}
 use Rattle.locale_numbers_book.specs.Wanted.{wanted_of}
 use Rattle.locale_numbers_formats.specs.declared.CompactWidth.TheVariants.{Short, Long}
 use Rattle.locale_numbers_formats.specs.declared.Notation.{Notation}
-use Rattle.locale_numbers_formats.specs.declared.Notation.TheVariants.{Standard, Compact, CompactDigits}
+use Rattle.locale_numbers_formats.specs.declared.Notation.TheVariants.{Standard, Compact, CompactDigits, Scientific}
 use Rattle.locale_numbers_formats.specs.declared.NumberFormat.{NumberFormat}
 use Rattle.locale_numbers_formats.specs.declared.NumberOptions.{NumberOptions}
 use Rattle.locale_numbers_formats.specs.declared.NumberUnit.{NumberUnit}
@@ -52,6 +52,7 @@ module _ (book : BookTables) where
   found_alone (Compact Long) unit.None p grouping h = refl
   found_alone (CompactDigits Short options) unit.None p grouping h = refl
   found_alone (CompactDigits Long options) unit.None p grouping h = refl
+  found_alone (Scientific style options) unit.None p grouping h = refl
   found_alone _ _ p grouping h = absurd (cc)
 
   abbrev rules_of : BookTables → Preferences → PluralRuleType → Ruled

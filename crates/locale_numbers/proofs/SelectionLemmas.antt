@@ -404,6 +404,7 @@ serving whole p system s f =
       fractions = λ code. fractions_agree (selected whole p) whole last systems code whole.units refl refl;
       ordinals = ordinals_agree unknown whole.plurals unknown (all_own unknown);
       ranges = ranges_agree unknown whole.plurals unknown (all_own unknown);
+      signs = agree_ids (is_asked last systems) whole.signs (identifiers_along system last) (along_asked last systems empty system s last (all_own last));
     }
 
 pub selected_alike : (value : Data) (whole : BookTables) → IsBook value whole → (line : List ℕ) (asked : Asked) (p : Preferences)

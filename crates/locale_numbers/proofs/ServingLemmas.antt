@@ -30,16 +30,16 @@ use Rattle.icu_plurals.specs.declared.PluralRuleType.{PluralRuleType}
 use Rattle.icu_plurals.specs.declared.PluralRuleType.TheVariants.{Cardinal, Ordinal}
 use Rattle.locale_numbers_answers.specs.Answers.{answer_by}
 use Rattle.locale_numbers_book.specs.Book.{BookTables}
-use Rattle.locale_numbers_book.specs.FoundFormats.{amount_options, compact_found, found_for, in_latin, mapped, notation_found, percent_options, standard_found}
+use Rattle.locale_numbers_book.specs.FoundFormats.{amount_options, compact_found, found_for, in_latin, mapped, notation_found, percent_options, scientific_found, scientific_of, standard_found, with_signs}
 use Rattle.locale_numbers_book.specs.FoundLocale.{found_locale, locale_under}
 use Rattle.locale_numbers_book.specs.FoundRules.{chain_with_unknown}
-use Rattle.locale_numbers_book.specs.TagFormatters.{currency_found_in, found_beside, found_plain, patterns_under, percent_found_in}
-use Rattle.locale_numbers_book.specs.Tables.{accounts_under, chain_in, currencies_under, currency_symbols_under, digits_under, fractions_under, long_under, ordinals_under, percents_under, ranges_under, rules_under, short_under, symbols_under}
+use Rattle.locale_numbers_book.specs.TagFormatters.{currency_found_in, found_beside, found_plain, patterns_under, percent_found_in, signs_found_in}
+use Rattle.locale_numbers_book.specs.Tables.{accounts_under, chain_in, currencies_under, currency_symbols_under, digits_under, fractions_under, long_under, ordinals_under, percents_under, ranges_under, rules_under, short_under, signs_under, symbols_under}
 use Rattle.locale_numbers_book.specs.Wanted.{wanted_of}
 use Rattle.locale_numbers_formats.specs.declared.CompactWidth.{CompactWidth}
 use Rattle.locale_numbers_formats.specs.declared.CompactWidth.TheVariants as patterns
 use Rattle.locale_numbers_formats.specs.declared.Notation.{Notation}
-use Rattle.locale_numbers_formats.specs.declared.Notation.TheVariants.{Standard, Compact, CompactDigits}
+use Rattle.locale_numbers_formats.specs.declared.Notation.TheVariants.{Standard, Compact, CompactDigits, Scientific}
 use Rattle.locale_numbers_formats.specs.declared.NumberShape.{NumberShape}
 use Rattle.locale_numbers_formats.specs.declared.NumberUnit.{NumberUnit}
 use Rattle.locale_numbers_formats.specs.declared.NumberUnit.TheVariants as unit
@@ -149,6 +149,13 @@ module _ (small whole : BookTables) (p : Preferences) (serves : Serves small who
       ∙ ap₂ (put_together (found_tables (chain_in whole) (symbols_under whole) (digits_under whole) p options.grouping_strategy) (amounts_found options.style (currencies_under whole) (accounts_under whole) (unit_locales_in whole p) p.numbering_system code))
       (names_same options.width code) (ap (λ found. or_usual found usual_fractions) (serves.fractions code))
 
+  -- ---- signs
+
+  signs_same : signs_found_in small p ≡ signs_found_in whole p
+  signs_same =
+      ap (λ locales. first_found (signs_under small) (identifiers_along p.numbering_system locales)) locales_same
+      ∙ agreed (signs_under small) (signs_under whole) (identifiers_along p.numbering_system (unit_locales_in whole p)) serves.signs
+
   -- ---- shapes
 
   standard_same : (of : NumberUnit) (grouping : GroupingStrategy) → standard_found of small p grouping ≡ standard_found of whole p grouping
@@ -161,10 +168,15 @@ module _ (small whole : BookTables) (p : Preferences) (serves : Serves small who
   compact_found_same wide unit.None grouping = compact_same wide grouping
   compact_found_same wide _ grouping = refl
 
+  scientific_same : (of : NumberUnit) (grouping : GroupingStrategy) → scientific_found of small p grouping ≡ scientific_found of whole p grouping
+  scientific_same unit.None grouping = ap₂ with_signs (plain_same grouping) signs_same
+  scientific_same _ grouping = refl
+
   notation_same : (notation : Notation) (of : NumberUnit) (grouping : GroupingStrategy) → notation_found notation of small p grouping ≡ notation_found notation of whole p grouping
   notation_same Standard of grouping = standard_same of grouping
   notation_same (Compact wide) of grouping = ap (mapped compact_tables) (compact_found_same wide of grouping)
   notation_same (CompactDigits wide options) of grouping = ap (mapped (λ tables. digits_tables tables options)) (compact_found_same wide of grouping)
+  notation_same (Scientific style options) of grouping = ap (mapped (scientific_of style options)) (scientific_same of grouping)
 
   shape_same : (shape : NumberShape) → found_for shape small p ≡ found_for shape whole p
   shape_same shape = notation_same shape.notation shape.unit shape.grouping

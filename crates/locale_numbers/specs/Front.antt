@@ -15,7 +15,7 @@ use Rattle.locale_numbers_book.specs.Wanted.{wanted_of}
 use Rattle.locale_numbers_formats.specs.declared.LeadingZeros.{LeadingZeros}
 use Rattle.locale_numbers_formats.specs.declared.LeadingZeros.TheVariants as leading
 use Rattle.locale_numbers_formats.specs.declared.Notation.{Notation}
-use Rattle.locale_numbers_formats.specs.declared.Notation.TheVariants.{Standard, Compact, CompactDigits}
+use Rattle.locale_numbers_formats.specs.declared.Notation.TheVariants.{Standard, Compact, CompactDigits, Scientific}
 use Rattle.locale_numbers_formats.specs.declared.NumberFormat.{NumberFormat}
 use Rattle.locale_numbers_formats.specs.declared.NumberUnit.{NumberUnit}
 use Rattle.locale_numbers_formats.specs.declared.NumberUnit.TheVariants as unit
@@ -23,7 +23,7 @@ use Rattle.locale_numbers_formats.specs.declared.Rounding.{Rounding}
 use Rattle.locale_numbers_formats.specs.declared.Rounding.TheVariants.{Usual, Cash, AsGiven, At, Significant, Either}
 use Rattle.locale_numbers_formats.specs.declared.TrailingZeros.{TrailingZeros}
 use Rattle.locale_numbers_formats.specs.declared.TrailingZeros.TheVariants as trailing
-use Rattle.locale_numbers_formatter.specs.FormatText.{FormatTables, compact_tables, digits_tables, plain_tables, unit_tables}
+use Rattle.locale_numbers_formatter.specs.FormatText.{FormatTables, compact_tables, digits_tables, plain_tables, scientific_tables, unit_tables}
 use Rattle.locale_numbers_requests.specs.Request.{Asked, keeps_sign, request_of, with_text}
 use Rattle.locale_numbers_requests.specs.declared.Refusal.TheVariants as refusal
 use Rattle.locale_numbers_requests.specs.declared.Task.{Task}
@@ -46,6 +46,7 @@ is_plain Standard (unit.Percent sign) = false
 is_plain Standard (unit.Currency currency) = false
 is_plain (Compact width) unit = false
 is_plain (CompactDigits width options) unit = false
+is_plain (Scientific style options) unit = false
 
 -- a number that is no amount is not rounded
 abbrev pub rounds_none : Rounding → Bool
@@ -151,6 +152,7 @@ FindsUnits (Err error) = ⊥
 FindsUnits (Ok (plain_tables t)) = ⊥
 FindsUnits (Ok (compact_tables t)) = ⊥
 FindsUnits (Ok (digits_tables t o)) = ⊥
+FindsUnits (Ok (scientific_tables s)) = ⊥
 FindsUnits (Ok (unit_tables u)) = Unit {0}
 
 -- what reads texts with a unit is put together for each: it is not kept

@@ -36,15 +36,17 @@ use Rattle.locale_numbers_formats.specs.contracts.shape.CurrencyUnitPartialEq.Th
 use Rattle.locale_numbers_formats.specs.contracts.shape.NotationPartialEq.TheImpl as notations
 use Rattle.locale_numbers_formats.specs.contracts.shape.NumberShapePartialEq.TheImpl as shapes
 use Rattle.locale_numbers_formats.specs.contracts.shape.NumberUnitPartialEq.TheImpl as units
+use Rattle.locale_numbers_formats.specs.contracts.shape.ScientificStylePartialEq.TheImpl as scientifics
 use Rattle.locale_numbers_formats.specs.declared.CurrencyUnit.{CurrencyUnit}
 use Rattle.locale_numbers_formats.specs.declared.Notation.{Notation}
-use Rattle.locale_numbers_formats.specs.declared.Notation.TheVariants.{Standard, Compact, CompactDigits}
+use Rattle.locale_numbers_formats.specs.declared.Notation.TheVariants.{Standard, Compact, CompactDigits, Scientific}
 use Rattle.locale_numbers_formats.specs.declared.NumberOptions.{NumberOptions}
 use Rattle.locale_numbers_formats.specs.declared.NumberShape.{NumberShape}
 use Rattle.locale_numbers_formats.specs.declared.NumberUnit.{NumberUnit}
 use Rattle.locale_numbers_formats.specs.declared.NumberUnit.TheVariants as unit
 use Rattle.locale_numbers_formats.specs.declared.Rounding.{Rounding}
 use Rattle.locale_numbers_formats.specs.declared.Rounding.TheVariants.{Usual, Cash, AsGiven, At, Significant, Either}
+use Rattle.locale_numbers_formats.specs.declared.ScientificStyle.{ScientificStyle}
 use Rattle.locale_numbers_formats.specs.declared.SignAsked.{SignAsked}
 use Rattle.locale_numbers_formats.specs.declared.SignificantDigits.{SignificantDigits}
 use Rattle.locale_numbers.specs.contracts.formatter_key.FormatterKeyPartialEq.TheImpl as keys
@@ -137,12 +139,17 @@ options_are a b h =
 
 -- ---- shapes
 
+style_is : (a b : ScientificStyle) → scientifics.ghosts.eq a b ≡ true → a ≡ b
+style_is = search (comparing, rules)
+
 notation_is : (a b : Notation) → notations.ghosts.eq a b ≡ true → a ≡ b
 notation_is Standard Standard h = refl
 notation_is (Compact v) (Compact w) h = ap Compact (same_true compact.the_type tt v w h)
 notation_is (CompactDigits v o) (CompactDigits w p) h =
     let both = and_parts (widths.ghosts.eq v w) (options.ghosts.eq o p) h in
     ap₂ CompactDigits (same_true compact.the_type tt v w both.0) (options_are o p both.1)
+notation_is (Scientific s o) (Scientific t p) h =
+    let both = and_parts (scientifics.ghosts.eq s t) (options.ghosts.eq o p) h in ap₂ Scientific (style_is s t both.0) (options_are o p both.1)
 notation_is _ _ h = cc
 
 currency_is : (a b : CurrencyUnit) → currencies.ghosts.eq a b ≡ true → a ≡ b

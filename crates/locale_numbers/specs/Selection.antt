@@ -1,5 +1,5 @@
--- The small book of preferences: the entries of the locales of a chain and of the systems asked for, and the parents along it; of plurals
--- those of `und` too, and no signs, which no line asks for.
+-- The small book of preferences: the entries of the locales of a chain and of the systems asked for, and the parents along it; of units,
+-- plurals and signs those of `und` too.
 -- Defined in docs/books.md, "The small book of a tag".
 -- Cited by `laws::selected_books_answer_alike`, `laws::selected_books_find_alike`, `laws::selected_parents_are_parents` and `laws::numbers_need_no_units`.
 -- It picks entries of each table of a book, and imports the types of all.
@@ -96,7 +96,7 @@ selected whole p = record {
   parents = option_map (λ entries. steps_along entries (chain_in whole (language_priority p.locale))) whole.parents;
   units = option_map (selected_units (unit_locales_in whole p) (systems_of p.numbering_system)) whole.units;
   plurals = option_map (selected_plurals (chain_with_unknown whole (language_priority p.locale))) whole.plurals;
-  signs = [];
+  signs = kept_named (unit_locales_in whole p) (systems_of p.numbering_system) whole.signs;
 }
 
 abbrev pub SelectedBooksAnswerAlike : Type 0

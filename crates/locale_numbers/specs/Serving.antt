@@ -15,7 +15,7 @@ use Rattle.locale_numbers.specs.Answer.{answer_of}
 use Rattle.locale_numbers_book.specs.Book.{BookTables}
 use Rattle.locale_numbers_book.specs.FoundFormats.{in_latin}
 use Rattle.locale_numbers_book.specs.FoundRules.{chain_with_unknown}
-use Rattle.locale_numbers_book.specs.Tables.{accounts_under, chain_in, currencies_under, currency_symbols_under, digits_under, fractions_under, long_under, ordinals_under, parent_under, percents_under, ranges_under, rules_under, short_under, steps_in, symbols_under}
+use Rattle.locale_numbers_book.specs.Tables.{accounts_under, chain_in, currencies_under, currency_symbols_under, digits_under, fractions_under, long_under, ordinals_under, parent_under, percents_under, ranges_under, rules_under, short_under, signs_under, steps_in, symbols_under}
 use Rattle.locale_numbers_book.specs.Wanted.{wanted_of}
 use Rattle.locale_numbers_requests.specs.Request.{Asked, request_of}
 
@@ -24,7 +24,7 @@ abbrev pub Agree : {T : Type 0} → (Identifier → Result T DataError) → (Ide
 Agree small whole [] = Unit {0}
 Agree small whole (id ∷ ids) = (small id ≡ whole id) × Agree small whole ids
 
--- the locales that units are asked for along
+-- the locales that units and signs are asked for along
 abbrev pub unit_locales_in : BookTables → Preferences → List DataLocaleMeaning
 unit_locales_in book p = unit_chain (parent_under book) (steps_in book.parents) (language_priority p.locale)
 
@@ -46,6 +46,7 @@ pub record Serves (small whole : BookTables) (p : Preferences) : Type 0 where
   pub ordinals : Agree (ordinals_under small) (ordinals_under whole) (identifiers_along None (chain_with_unknown whole (language_priority p.locale)))
   pub ranges : Agree (ranges_under small) (ranges_under whole) (identifiers_along None (chain_with_unknown whole (language_priority p.locale)))
   pub fractions : (code : Text) → fractions_under small (of_system code) ≡ fractions_under whole (of_system code)
+  pub signs : Agree (signs_under small) (signs_under whole) (identifiers_along p.numbering_system (unit_locales_in whole p))
 
 -- for a tag and, as lenient lines ask for it too, with the numbering system `latn`
 abbrev pub ServedBooksAnswerAlike : Type 0

@@ -46,7 +46,8 @@ pub(crate) fn answer_after_front<'a, F: Formatters<'a>>(
 
     // Where there is room for the answer, and handing out the formatter of the front's key takes none, only a text of
     // more than sixteen digits may be out of memory, to write a number only one of more than `value` had, and a
-    // rounding to multiples of 25 that may lengthen one of sixteen, or that is of a compact number's own digits.
+    // rounding to multiples of 25 that may lengthen one of sixteen, or that is of a compact number's own digits or of a
+    // significand.
     ensures room { HasRoom out.old (answer_after (F.book formatters.old) front.now text.now)
         → HasKeyThat (λ key. ¬ (F.may_take_memory formatters.old key)) front.now
         → ¬ (MayTakeAfter (F.book formatters.old) (F.kept_for formatters.old) front.now text.now value.old)
@@ -145,7 +146,8 @@ fn answer_alone(alloc: Global, book: &Book, line: &[u8], out: &mut String) -> Re
 /// `.5` by `ok`, a tab and `0.5`. Under the sample book of units `currency-EUR` and `-1234.5` are answered by `ok`, a tab
 /// and `-€1,234.50`, `read-currency-EUR` with this text by `ok`, a tab and `-1234.50`, and `read-lenient-currency-EUR`
 /// with `-1234.5 €` by `ok`, a tab and `-1234.5`. Under the sample book `en` and `plural` with `1` are answered by `ok`, a
-/// tab and `one`, `range-plural` with `1..2` by `ok`, a tab and `other`. A line that is refused is
+/// tab and `one`, `range-plural` with `1..2` by `ok`, a tab and `other`. Under the world's book `scientific` with
+/// `1234567.891` is answered by `ok`, `1.234567891E6` and `1.234567891e6`, with tabs between. A line that is refused is
 /// answered by `err`, a tab and the first word that applies: `shape`, `tag`, `number`, `limit`,
 /// `table`, `range`, `exponent`, `unreadable`, `not-written`; an empty line by `shape`. A line feed in it
 /// is an ordinary byte. Allocates. `AllocError`: out of memory. Tags are the whole locale tags of

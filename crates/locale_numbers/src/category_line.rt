@@ -106,7 +106,7 @@ pub(crate) fn answer_category<'a, F: Formatters<'a>>(
 
     // Where there is room for the answer, and handing out the formatter of the key takes none, only a number of more
     // than sixteen digits, and of more than `value` had, may be out of memory, and a rounding to multiples of 25 that
-    // may lengthen one of sixteen, or that is of a compact number's own digits.
+    // may lengthen one of sixteen, or that is of a compact number's own digits or of a significand.
     ensures room { HasRoom out.old
         (if_text text.now (category_to (found_by (F.book formatters.old) key.now)
         (rules_by (F.book formatters.old) key.now) options (reading_of text.now)))

@@ -1,4 +1,5 @@
-//! The task that writes an exact form: a significand and an exponent, as they are given.
+//! A line that writes an exact form: its significand and exponent are read, the formatter of its key is
+//! found, and this writes the answer.
 
 ghost use Rattle.std.specs.Prelude.{◌≡◌, ◌∷◌, ◌++◌, List, Option, None, Some, IsOk, OnOk, OnErr, string_bytes};
 ghost use Rattle.fixed_decimal.specs.CompactText.{ReadsLongCompact};

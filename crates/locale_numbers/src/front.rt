@@ -48,7 +48,7 @@ fn is_plain(shape: &NumberShape) -> bool
 {
     match shape.notation {
         Notation::Standard => matches!(shape.unit, NumberUnit::None),
-        Notation::Compact(_) | Notation::CompactDigits(_, _) => false,
+        Notation::Compact(_) | Notation::CompactDigits(_, _) | Notation::Scientific(_, _) => false,
     }
 }
 

@@ -67,6 +67,7 @@ fn kept_texts<'a>(formatter: &NumberFormatter<'a>) -> Option<TextTables<'a>>
         }
         FormatterKind::Compact(_)
         | FormatterKind::CompactDigits(_)
+        | FormatterKind::Scientific(_)
         | FormatterKind::Percent(_)
         | FormatterKind::Currency(_) => None,
     }

@@ -85,8 +85,8 @@ pub fn served_books_answer_alike()
 {}
 
 /// The small book of a tag answers each line of the tag as the whole book does: it has the entries of the locales of the
-/// chain, of `und` too for units and plurals, under no system, `latn` and that of the tag, the digits of these systems and of those that its
-/// symbols name, and the parents along the chain. That of `de-AT` has the symbols of `de-AT` and of `de`.
+/// chain, of `und` too for units, plurals and signs, under no system, `latn` and that of the tag, the digits of these systems
+/// and of those that its symbols name, and the parents along the chain. That of `de-AT` has the symbols of `de-AT` and of `de`.
 pub fn selected_books_answer_alike()
     ensures { SelectedBooksAnswerAlike }
 {}
@@ -141,6 +141,7 @@ pub fn found_tables_are_texts<T: Tables>(
             }
             FormatterKind::Compact(_)
             | FormatterKind::CompactDigits(_)
+            | FormatterKind::Scientific(_)
             | FormatterKind::Percent(_)
             | FormatterKind::Currency(_) => (),
         },
@@ -352,6 +353,7 @@ fn found_tables_are_sound<T: Tables>(
             FormatterKind::Compact(compact) => held_entries_are_sound(compact),
             FormatterKind::Plain(_)
             | FormatterKind::CompactDigits(_)
+            | FormatterKind::Scientific(_)
             | FormatterKind::Percent(_)
             | FormatterKind::Currency(_) => (),
         },

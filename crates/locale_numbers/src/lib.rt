@@ -42,12 +42,12 @@ pub use answering::answer;
 pub use answers::Answers;
 pub use fault::ProgramFault;
 pub use locale_numbers_book::{
-    Book, BookError, BookTexts, FormatterError, NumberTexts, PluralTexts, SAMPLE_BOOK,
+    Book, BookError, BookTexts, FormatterError, MoreTexts, NumberTexts, SAMPLE_BOOK,
     SAMPLE_UNITS_BOOK, Tables, UnitTexts, book_text_for, put_book,
 };
 pub use locale_numbers_formats::{
     CompactWidth, CurrencyUnit, Notation, NumberFormat, NumberOptions, NumberShape, NumberUnit,
-    Rounding, SignAsked,
+    Rounding, ScientificStyle, SignAsked,
 };
 pub use locale_numbers_lines::{
     ByteReadFault, ByteReader, ByteWriteFault, ByteWriter, Report, RunError, Tracked,

@@ -1,4 +1,5 @@
-//! The task that writes a number.
+//! A line that writes a number: its text is read, the formatter of its key is found, and this writes
+//! the answer.
 
 ghost use Rattle.std.specs.Prelude.{◌≡◌, true, ◌∷◌, ◌++◌, List, Option, None, Some, IfSome, IsOk, IsSome, OnOk, OnErr, string_bytes};
 ghost use Rattle.icu_decimal_direct.specs.TextDigits.{number_spelled};
@@ -178,7 +179,7 @@ pub(crate) fn answer_number<'a, F: Formatters<'a>>(
 
     // Where there is room for the answer, and handing out the formatter of the key takes none, only a number of more
     // than sixteen digits, and of more than `value` had, may be out of memory, and a rounding to multiples of 25 that
-    // may lengthen one of sixteen, or that is of a compact number's own digits.
+    // may lengthen one of sixteen, or that is of a compact number's own digits or of a significand.
     ensures room { HasRoom out.old
         (if_text text.now (written_to (found_by (F.book formatters.old) key.now) options (reading_of text.now)))
         → ¬ (F.may_take_memory formatters.old key.now) → ¬ (ReadsMore text.now value.old)

@@ -158,7 +158,7 @@ pub(crate) fn answer_range<'a, F: Formatters<'a>>(
 
     // Where there is room for the answer, and handing out the formatter of the key takes none, only ends of more than
     // sixteen digits may be out of memory, and a rounding of one to multiples of 25 that may lengthen it, or that is of a
-    // compact number's own digits.
+    // compact number's own digits or of a significand.
     ensures room { HasRoom out.old
         (range_category_to (found_by (F.book formatters.old) key.now) (rules_by (F.book formatters.old) key.now) options
         (range_ends text.now)) → ¬ (F.may_take_memory formatters.old key.now)

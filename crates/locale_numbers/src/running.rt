@@ -29,8 +29,8 @@ use std::alloc::Global;
 /// of 1 line.
 ///
 /// `capacity` is how many formatters are kept, 1 at least: those that were used last. A line uses the
-/// formatter of what its tag prefers, of its form's tables, rules and own digits and of its grouping,
-/// once its tag and its number were read and where these are found; `made` counts the uses whose
+/// formatter of what its tag prefers, of its form's tables, rules, exponents and own digits and of its
+/// grouping, once its tag and its number were read and where these are found; `made` counts the uses whose
 /// formatter was not kept. Of neither `reader` nor `writer` a call may have failed before. Allocates; that it takes
 /// no more memory for more lines is measured by bench/, and not proved.
 ///

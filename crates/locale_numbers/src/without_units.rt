@@ -14,9 +14,10 @@ use icu_dimension::provider::{
 use icu_locale_core::DataLocale;
 use locale_numbers_book::{Book, Tables};
 use locale_numbers_plurals::{PluralRanges, PluralsOrdinalV1, PluralsRangesV1};
+use locale_numbers_signs::{NumberSigns, NumberSignsV1};
 
-/// Tables of the five kinds that numbers without a unit are written with, and parents of locales: those of [`Tables`]
-/// without units. [`WithoutUnits`] makes `Tables` of them.
+/// Tables of the six kinds that numbers without a unit are written with, the signs of exponents among them, and parents of
+/// locales: those of [`Tables`] without units. [`WithoutUnits`] makes `Tables` of them.
 ///
 /// Under each identifier a type of your own returns what is there in one book, at each call the same, and where nothing
 /// is it returns `IdentifierNotFound`. Its parents and its chains of them are those of that book.
@@ -25,13 +26,14 @@ pub trait NumberTables: DataProvider<DecimalSymbolsV1>
     + DataProvider<PluralsCardinalV1>
     + DataProvider<DecimalCompactShortV1>
     + DataProvider<DecimalCompactLongV1>
+    + DataProvider<NumberSignsV1>
     + ParentProvider {
     ghost use Rattle.std.specs.Prelude.{◌≡◌};
     ghost use Rattle.icu_decimal.specs.Identifiers.{Identifier};
     ghost use Rattle.icu_decimal_chains.specs.Chains.{chain};
     ghost use Rattle.icu_locale_core.specs.TagPreferences.{DataLocaleMeaning};
     ghost use Rattle.locale_numbers_book.specs.Book.{BookTables};
-    ghost use Rattle.locale_numbers_book.specs.Tables.{symbols_under, digits_under, rules_under, short_under, long_under, parent_under, chain_in, steps_in};
+    ghost use Rattle.locale_numbers_book.specs.Tables.{symbols_under, digits_under, rules_under, short_under, long_under, signs_under, parent_under, chain_in, steps_in};
 
     // the book that the tables are those of
     ghost book: { Self → BookTables };
@@ -46,6 +48,8 @@ pub trait NumberTables: DataProvider<DecimalSymbolsV1>
     ghost short: { (s : Self) (id : Identifier) → Self.DataProvider-4.table s id ≡ short_under (book s) id };
 
     ghost long: { (s : Self) (id : Identifier) → Self.DataProvider-5.table s id ≡ long_under (book s) id };
+
+    ghost signs: { (s : Self) (id : Identifier) → Self.DataProvider-6.table s id ≡ signs_under (book s) id };
 
     // the next locale is that of the book, and so are the chain and its limit
     ghost parents: { (s : Self) (l : DataLocaleMeaning) → Self.next s l ≡ parent_under (book s) l };
@@ -69,6 +73,8 @@ impl NumberTables for Book {
     ghost short = { λ s id. refl };
 
     ghost long = { λ s id. refl };
+
+    ghost signs = { λ s id. refl };
 
     ghost parents = { λ s l. refl };
 
@@ -202,6 +208,14 @@ impl<'t, T: NumberTables> DataProvider<PluralsRangesV1> for WithoutUnits<'t, T> 
     }
 }
 
+impl<'t, T: NumberTables> DataProvider<NumberSignsV1> for WithoutUnits<'t, T> {
+    ghost table = { λ s id. T.DataProvider-6.table s.tables.now id };
+
+    fn load(&self, id: &DataIdentifier) -> Result<&NumberSigns, DataError> {
+        DataProvider::<NumberSignsV1>::load(self.tables, id)
+    }
+}
+
 impl<'t, T: NumberTables> ParentProvider for WithoutUnits<'t, T> {
     ghost next = { λ s locale. T.ParentProvider.next s.tables.now locale };
 
@@ -246,6 +260,8 @@ impl<'t, T: NumberTables> Tables for WithoutUnits<'t, T> {
     ghost ordinals = { λ s id. refl };
 
     ghost ranges = { λ s id. refl };
+
+    ghost signs = { λ s id. T.signs s.tables.now id };
 
     ghost parents = { λ s l. T.parents s.tables.now l };
 

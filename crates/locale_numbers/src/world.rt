@@ -1,6 +1,6 @@
 //! The world's book.
 
-use locale_numbers_book::{BookTexts, NumberTexts, PluralTexts, UnitTexts, put_book};
+use locale_numbers_book::{BookTexts, MoreTexts, NumberTexts, UnitTexts, put_book};
 use locale_numbers_world::world_book;
 use std::alloc::{AllocError, Global};
 
@@ -22,19 +22,21 @@ pub fn world_texts() -> BookTexts<'static> {
             symbols: world_book::currency_symbols(),
             digits: world_book::currency_digits(),
         }),
-        plurals: Some(PluralTexts {
+        more: Some(MoreTexts {
             ordinals: world_book::ordinals(),
             ranges: world_book::ranges(),
+            signs: world_book::signs(),
         }),
     }
 }
 
 /// The text of the world's book, which `Book::from_json` reads: `books/world.json`, to the last line feed.
 ///
-/// It has the symbols, digits, plural rules, short and long patterns and parents of the locales of CLDR 48, its units, the tables of
-/// percents and of amounts of money, and its ordinal rules and plural ranges, under the Unicode License v3 (`books/LICENSE-Unicode`). A locale without an entry finds those
-/// of its parents: `WORLD_LOCALES` has the names of all. The constants of the crate have its entries, so it allocates its 200 KB once,
-/// and the lines of an array at a time, and fails where it can't have them; a book does not keep them.
+/// It has the symbols, digits, plural rules, short and long patterns and parents of the locales of CLDR 48, its units, the
+/// tables of percents and of amounts of money, its ordinal rules and plural ranges, and its signs, under the Unicode License
+/// v3 (`books/LICENSE-Unicode`). A locale without an entry finds those of its parents: `WORLD_LOCALES` has the names of all.
+/// The constants of the crate have its entries, so it allocates its 229 KB once, and the lines of an array at a time, and
+/// fails where it can't have them; a book does not keep them.
 pub fn world_text(alloc: Global) -> Result<String, AllocError> {
     let mut text = String::with_capacity(alloc, world_book::LENGTH)?;
     match put_book(alloc, &mut text, &world_texts()) {

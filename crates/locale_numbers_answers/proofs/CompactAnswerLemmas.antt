@@ -13,7 +13,7 @@ use Rattle.locale_numbers_answers.specs.AnswerLine.{refused, written}
 use Rattle.locale_numbers_answers.specs.NumberAnswer.{exact_answer, exact_written, is_form_in_range}
 use Rattle.locale_numbers_formatter.specs.ExactForms.{IsFormInRange, exact_format_text, exact_shown}
 use Rattle.locale_numbers_formatter.specs.FormatParts.{exact_format_events}
-use Rattle.locale_numbers_formatter.specs.FormatText.{FormatTables, compact_tables, digits_tables, plain_tables, text_of_shown, unit_tables}
+use Rattle.locale_numbers_formatter.specs.FormatText.{FormatTables, compact_tables, digits_tables, plain_tables, scientific_tables, text_of_shown, unit_tables}
 use Rattle.locale_numbers_formatter.specs.Laws.{ExactFormatIsText}
 use Rattle.locale_numbers_formatter.specs.ShownOperands.{is_shown}
 use Rattle.locale_numbers_requests.specs.declared.Refusal.TheVariants as refusal
@@ -32,6 +32,7 @@ form_test (plain_tables t) form within = refl
 form_test (compact_tables t) form within = lt-ltb (exact_place form.significand.absolute.count form.exponent) 65536 within
 form_test (digits_tables t o) form within = lt-ltb (exact_place form.significand.absolute.count form.exponent) 65536 within
 form_test (unit_tables u) form within = refl
+form_test (scientific_tables s) form within = refl
 
 -- a form that is not beyond the limits is within them
 form_within : (f : FormatTables) (form : CompactValue) → ((IsFormInRange f form → ⊥) → ⊥) → is_form_in_range f form ≡ true
@@ -54,6 +55,7 @@ form_fails (plain_tables t) form beyond = absurd (beyond tt)
 form_fails (compact_tables t) form beyond = place_fails form beyond
 form_fails (digits_tables t o) form beyond = place_fails form beyond
 form_fails (unit_tables u) form beyond = absurd (beyond tt)
+form_fails (scientific_tables s) form beyond = absurd (beyond tt)
 
 by_failed : (b : Bool) (text other : List ℕ) → b ≡ false → other ≡ cond b text other
 by_failed true text other is = absurd (cc)

@@ -5,6 +5,7 @@ pub mod CompactReadingLemmas
 pub mod ExponentLemmas
 mod KnownCategories
 pub mod KnownCompactAnswers
+mod KnownScientificAnswers
 mod KnownValues
 pub mod LawsLemmas
 pub mod NumberBounds

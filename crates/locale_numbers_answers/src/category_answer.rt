@@ -15,9 +15,9 @@ use std::alloc::AllocError;
 
 /// The plural category of a number as a formatter shows it: by the rules of `en` `One` of 1 and `Other` of 1.0.
 ///
-/// By a compact formatter the number becomes the one that is shown. `None`: it can't be shown, as `can_format` of the
-/// formatter says. It may allocate only by digits of its own that are rounded to multiples of 25. `AllocError`: out of
-/// memory.
+/// By a compact formatter the number becomes the one that is shown, by a scientific one its significand. `None`: it can't
+/// be shown, as `can_format` of the formatter says. It may allocate only by digits of its own, or of a significand, that
+/// are rounded to multiples of 25. `AllocError`: out of memory.
 pub fn shown_category(
     formatter: &NumberFormatter<'_>,
     rules: &PluralRules,
@@ -47,7 +47,7 @@ fn category_between(
 /// The plural category of a range of two numbers as a formatter shows them: by the rules and the ranges of `en` `Other` of 0
 /// and 1.
 ///
-/// By a compact formatter the numbers become those that are shown. `None`: one of them can't be shown. It allocates as
+/// The numbers become what `shown_category` makes of them. `None`: one of them can't be shown. It allocates as
 /// `shown_category`. `AllocError`: out of memory.
 pub fn shown_range_category(
     formatter: &NumberFormatter<'_>,
@@ -79,9 +79,10 @@ fn write_category(category: Option<PluralCategory>, out: &mut String) -> Result<
 /// Writes the plural category of a number, as a formatter shows it, after what `out` holds: `ok`, a tab and the word of the
 /// category, or the word `range` where the number can't be shown.
 ///
-/// By the formatter and the rules of `en` 1 is answered by `ok`, a tab and `one`, and 1.0 by `other`; by a short formatter of
-/// `fr` and its rules 1000000 by `many`, and the number becomes what is shown. The number is taken as it is given. Where
-/// there is room, it allocates as `shown_category`. `AllocError`: out of memory; a part of the answer may then be there.
+/// By the formatter and the rules of `en` 1 is answered by `ok`, a tab and `one`, and 1.0 by `other`; by a short or a
+/// scientific formatter of `fr` and its rules 1000000 by `many`. The number becomes what `shown_category` makes of it; it
+/// is taken as it is given. Where there is room, it allocates as `shown_category`. `AllocError`: out of memory; a part of
+/// the answer may then be there.
 pub fn write_category_answer(
     formatter: &NumberFormatter<'_>,
     rules: &PluralRules,

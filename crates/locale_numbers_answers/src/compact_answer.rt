@@ -12,7 +12,7 @@ ghost use Rattle.icu_decimal.specs.ShownChoice.{CanShow};
 ghost use Rattle.locale_numbers_lines.specs.Growth.{Grows};
 ghost use Rattle.locale_numbers_answers.specs.AnswerLine.{written};
 ghost use Rattle.locale_numbers_answers.specs.AnswerSink.{HasRoom};
-ghost use Rattle.locale_numbers_formatter.specs.FormatText.{MayLengthen, compact_tables, format_text, format_value};
+ghost use Rattle.locale_numbers_formatter.specs.FormatText.{MayLengthen, compact_tables, compact_value, format_text, format_value};
 ghost use Rattle.locale_numbers_formatter.specs.HeldDigits.{digits_format};
 ghost use Rattle.locale_numbers_answers.specs.NumberAnswer.{number_answer};
 ghost use Rattle.locale_numbers_requests.specs.Request.{tab};
@@ -150,7 +150,8 @@ fn write_ok_and_digits(
     value: &mut Decimal,
     out: &mut String,
 ) -> Result<u8, AllocError>
-    ensures value { IfOk result (λ exponent. record { significand = value.new; exponent = exponent }
+    ensures value { IfOk result
+        (λ exponent. compact_value (record { significand = value.new; exponent = exponent })
         ≡ format_value (digits_format formatter.now) value.old) }
     ensures text { OnOk result (string_bytes out.new
         ≡ string_bytes out.old ++ written (format_text (digits_format formatter.now) value.old)) }

@@ -1,4 +1,4 @@
-//! The task that writes an exact form: a significand and an exponent, as they are given.
+//! The answer to an exact form by a formatter: its text, or why it has none.
 
 ghost use Rattle.std.specs.Prelude.{◌≡◌, ◌++◌, IfOk, IsOk, OnOk, OnErr, IsErrOf, string_bytes};
 ghost use Rattle.fixed_decimal.specs.CompactText.{ReadsLongCompact};
@@ -73,9 +73,9 @@ fn write_form(
 /// word `range`, where their magnitude is beyond that of a decimal; or the word `exponent`, where the formatter has another
 /// exponent for it.
 ///
-/// By a short formatter of `en` -1.20 and 6 are answered by `ok`, a tab and `-1.20M`. A format without compact patterns has
-/// the exponent 0 alone. Where there is room, it does not allocate. `AllocError`: out of memory; a part of the answer may
-/// then be there.
+/// By a short formatter of `en` -1.20 and 6 are answered by `ok`, a tab and `-1.20M`. A format without compact patterns
+/// has the exponent 0 alone, and a scientific one has none. Where there is room, it does not allocate. `AllocError`: out
+/// of memory; a part of the answer may then be there.
 pub fn write_exact_answer(
     formatter: &NumberFormatter<'_>,
     sign: SignAsked,

@@ -22,6 +22,7 @@ mod exact_answer;
 pub mod laws;
 mod number_answer;
 mod read_answer;
+mod scientific_answer;
 
 pub use answer_line::{write_refusal, write_refusal_or_shape};
 pub use category_answer::{

@@ -1,4 +1,4 @@
-//! The task that writes a number.
+//! The answer to a number by a formatter: its text, and the value shown where that is another.
 
 ghost use Rattle.std.specs.Prelude.{◌≡◌, true, ◌++◌, IfSome, IsOk, OnOk, OnErr, IsErrOf, string_bytes};
 ghost use Rattle.std.specs.Str.{is_utf8};
@@ -18,6 +18,7 @@ ghost use Rattle.locale_numbers_answers.specs.NumberReading.{number, beyond, not
 use crate::answer_line::{write_joined, write_ok};
 use crate::answer_sink::write_piece;
 use crate::compact_answer::{write_compact, write_compact_digits};
+use crate::scientific_answer::write_scientific;
 use fixed_decimal::{Decimal, ParseError};
 use icu_decimal::DecimalFormatter;
 use icu_decimal_direct::{TextDigits, TextTables};
@@ -112,13 +113,14 @@ fn write_amount(
     }
 }
 
-/// Writes the answer to a number by a formatter after what `out` holds: `ok`, a tab and its text, and of a compact format
-/// a tab and the value shown, or the word `range` where it can't be shown.
+/// Writes the answer to a number by a formatter after what `out` holds: `ok`, a tab and its text, and of a compact or a
+/// scientific format a tab and the value shown, or the word `range` where it can't be shown.
 ///
-/// By the formatter of `en` -987654.321 is answered by `ok`, a tab and `-987,654.321`; by a short one 1650 by `ok`, `1.6K`
-/// and `1.6c3`, with tabs between, and the number becomes what is shown. The number is written as it is given. With a
-/// reader of the formatter's its affixes are written, which were put together once; the condition is that it is the
-/// formatter's. Where there is room, it may allocate only by digits of its own that are rounded to multiples of 25.
+/// By the formatter of `en` -987654.321 is answered by `ok`, a tab and `-987,654.321`; by a short one 1650 by `ok`,
+/// `1.6K` and `1.6c3`, with tabs between, and the number becomes what is shown; by a scientific one 1200000 by `ok`,
+/// `1.2E6` and `1.2e6`, and the number becomes the significand. The number is written as it is given. With a reader of the
+/// formatter's its affixes are written, which were put together once; the condition is that it is the formatter's. Where
+/// there is room, it may allocate only by digits of its own, or of a significand, that are rounded to multiples of 25.
 /// `AllocError`: out of memory; a part of the answer may then be there.
 pub fn write_number_answer(
     formatter: &NumberFormatter<'_>,
@@ -138,6 +140,7 @@ pub fn write_number_answer(
         FormatterKind::CompactDigits(formatter) => write_compact_digits(formatter, value, out),
         FormatterKind::Percent(formatter) => write_percents(formatter, reader, value, out),
         FormatterKind::Currency(formatter) => write_amount(formatter, reader, value, out),
+        FormatterKind::Scientific(formatter) => write_scientific(formatter, value, out),
     }
 }
 

@@ -17,17 +17,18 @@ use Rattle.icu_dimension.specs.declared.PercentSign.{PercentSign}
 use Rattle.icu_locale_core.specs.Subtags.{Text}
 use Rattle.icu_locale_core.specs.TagPreferences.{DataLocaleMeaning, Preferences, language_priority}
 use Rattle.locale_numbers_book.specs.Book.{BookTables}
-use Rattle.locale_numbers_book.specs.FoundFormats.{amount_options, compact_found, found_for, mapped, notation_found, percent_options, standard_found}
-use Rattle.locale_numbers_book.specs.TagFormatters.{currencies_in, currency_found_in, found_beside, found_plain, patterns_under, percent_found_in, percents_in}
-use Rattle.locale_numbers_book.specs.Tables.{chain_in, digits_under, parent_under, rules_under, steps_in, symbols_under}
+use Rattle.locale_numbers_book.specs.FoundFormats.{amount_options, compact_found, found_for, mapped, notation_found, percent_options, scientific_found, scientific_of, standard_found, with_signs}
+use Rattle.locale_numbers_book.specs.TagFormatters.{currencies_in, currency_found_in, found_beside, found_plain, patterns_under, percent_found_in, percents_in, signs_found_in}
+use Rattle.locale_numbers_book.specs.Tables.{chain_in, digits_under, parent_under, rules_under, signs_under, steps_in, symbols_under}
 use Rattle.locale_numbers_formats.specs.declared.CompactWidth.{CompactWidth}
 use Rattle.locale_numbers_formats.specs.declared.Notation.{Notation}
-use Rattle.locale_numbers_formats.specs.declared.Notation.TheVariants.{Standard, Compact, CompactDigits}
+use Rattle.locale_numbers_formats.specs.declared.Notation.TheVariants.{Standard, Compact, CompactDigits, Scientific}
 use Rattle.locale_numbers_formats.specs.declared.NumberShape.{NumberShape}
 use Rattle.locale_numbers_formats.specs.declared.NumberUnit.{NumberUnit}
 use Rattle.locale_numbers_formats.specs.declared.NumberUnit.TheVariants as unit
 use Rattle.locale_numbers_formatter.specs.FormatText.{compact_tables, digits_tables, plain_tables, unit_tables}
 use Rattle.locale_numbers_formatter.specs.HeldFormats.{currency_format, percent_format}
+use Rattle.locale_numbers_signs.specs.SignChoice.{signs_found}
 
 -- ---- what is found, by the tables of plain text, the locales and the system
 
@@ -85,6 +86,9 @@ module _ (book : BookTables) (p q : Preferences) (locales : language_priority p.
       ∙ ap (λ locale. amounts_by (currencies_in book) code options (decimals_found (currencies_in book).decimals q options.grouping_strategy) (along locale) p.numbering_system) locales
       ∙ ap (amounts_by (currencies_in book) code options (decimals_found (currencies_in book).decimals q options.grouping_strategy) (along (language_priority q.locale))) systems
 
+  signs_alike : signs_found_in book p ≡ signs_found_in book q
+  signs_alike = ap₂ (λ locale system. signs_found (signs_under book) (along locale) system) locales systems
+
   standard_alike : (beside : NumberUnit) → standard_found beside book p grouping ≡ standard_found beside book q grouping
   standard_alike unit.None = ap (mapped plain_tables) plain_alike
   standard_alike (unit.Percent sign) = ap (mapped (λ settings. unit_tables (percent_format sign settings))) (percents_alike sign)
@@ -96,10 +100,16 @@ module _ (book : BookTables) (p q : Preferences) (locales : language_priority p.
   compact_found_alike width (unit.Percent sign) = refl
   compact_found_alike width (unit.Currency currency) = refl
 
+  scientific_alike : (beside : NumberUnit) → scientific_found beside book p grouping ≡ scientific_found beside book q grouping
+  scientific_alike unit.None = ap₂ with_signs plain_alike signs_alike
+  scientific_alike (unit.Percent sign) = refl
+  scientific_alike (unit.Currency currency) = refl
+
   notation_alike : (notation : Notation) (beside : NumberUnit) → notation_found notation beside book p grouping ≡ notation_found notation beside book q grouping
   notation_alike Standard beside = standard_alike beside
   notation_alike (Compact width) beside = ap (mapped compact_tables) (compact_found_alike width beside)
   notation_alike (CompactDigits width options) beside = ap (mapped (λ tables. digits_tables tables options)) (compact_found_alike width beside)
+  notation_alike (Scientific style options) beside = ap (mapped (scientific_of style options)) (scientific_alike beside)
 
 -- what is found for a shape
 pub shape_alike : (book : BookTables) (p q : Preferences) → language_priority p.locale ≡ language_priority q.locale → p.numbering_system ≡ q.numbering_system

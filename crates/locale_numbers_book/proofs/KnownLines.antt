@@ -21,8 +21,8 @@ without_units = refl
 with_units : book_text ((codes "1" ∷ []) ∷ []) (Some ((codes "2" ∷ []) ∷ [])) None ≡ codes "[[[\n1\n]],[[\n2\n]]]\n"
 with_units = refl
 
-with_plurals : book_text ((codes "1" ∷ []) ∷ []) (Some ((codes "2" ∷ []) ∷ [])) (Some ((codes "3" ∷ []) ∷ [] ∷ [])) ≡ codes "[[[\n1\n]],[[\n2\n]],[[\n3\n],[\n\n]]]\n"
-with_plurals = refl
+with_more : book_text ((codes "1" ∷ []) ∷ []) (Some ((codes "2" ∷ []) ∷ [])) (Some ((codes "3" ∷ []) ∷ [] ∷ [])) ≡ codes "[[[\n1\n]],[[\n2\n]],[[\n3\n],[\n\n]]]\n"
+with_more = refl
 
 -- ---- fields
 

@@ -1,7 +1,7 @@
 -- Rows of docs/books.md, "Formatters of a tag": the second that typed texts are read with, in a book where amounts have symbols of their own.
 use Rattle.std.proofs.Common.{◌≡◌, ℕ, List, [], ◌∷◌, Option, None, Some, option_and_then, option_map, codes, refl}
 use Rattle.std.specs.Result.{result_ok}
-use Rattle.icu_decimal.specs.Identifiers.{of_both, of_locale}
+use Rattle.icu_decimal.specs.Identifiers.{of_locale}
 use Rattle.icu_decimal.specs.declared.options.GroupingStrategy.TheVariants.{Auto}
 use Rattle.icu_dimension.specs.declared.CurrencyStyle.TheVariants as style
 use Rattle.icu_dimension.specs.declared.CurrencyWidth.TheVariants as width
@@ -9,7 +9,7 @@ use Rattle.icu_dimension.specs.declared.PercentSign.TheVariants as sign
 use Rattle.icu_locale_core.specs.TagPreferences.{DataLocaleMeaning, Preferences}
 use Rattle.locale_numbers_book.specs.Book.{BookTables}
 use Rattle.locale_numbers_book.specs.FoundFormats.{found_for, second_for}
-use Rattle.locale_numbers_book.specs.SampleUnitsBook.{after, alone, before, euro, german, latin_symbols, sample_units, sample_units_tables, space, units_book_symbols}
+use Rattle.locale_numbers_book.specs.SampleUnitsBook.{after, alone, before, german, latin_symbols, sample_units, sample_units_tables, space, units_book_symbols}
 use Rattle.locale_numbers_formats.specs.declared.Notation.TheVariants.{Standard}
 use Rattle.locale_numbers_formats.specs.declared.NumberShape.{NumberShape}
 use Rattle.locale_numbers_formats.specs.declared.NumberUnit.{NumberUnit}

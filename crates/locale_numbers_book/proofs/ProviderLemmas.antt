@@ -14,17 +14,20 @@ use Rattle.icu_decimal.specs.declared.options.DecimalFormatterOptions.{DecimalFo
 use Rattle.icu_decimal.specs.declared.options.GroupingStrategy.{GroupingStrategy}
 use Rattle.icu_dimension.specs.FoundUnits.{CurrencySettings, found_currency, found_percent}
 use Rattle.icu_dimension.specs.ProvidedUnits.{AmountTexts, PercentTexts, SymbolText}
+use Rattle.icu_dimension.specs.UnitChoice.{unit_chain}
 use Rattle.icu_dimension.specs.UnitSources.{CurrencySource, DecimalSource, PercentSource}
 use Rattle.icu_dimension.specs.UnitText.{UnitSettings}
 use Rattle.icu_dimension.specs.declared.CurrencyFormatterOptions.{CurrencyFormatterOptions}
 use Rattle.icu_dimension.specs.declared.FractionInfo.{FractionInfo}
 use Rattle.icu_dimension.specs.declared.PercentFormatterOptions.{PercentFormatterOptions}
 use Rattle.icu_locale_core.specs.Subtags.{Text}
-use Rattle.icu_locale_core.specs.TagPreferences.{DataLocaleMeaning, Preferences}
+use Rattle.icu_locale_core.specs.TagPreferences.{DataLocaleMeaning, Preferences, language_priority}
 use Rattle.locale_numbers_book.specs.Book.{BookTables}
-use Rattle.locale_numbers_book.specs.TagFormatters.{currencies_in, currency_found_in, decimals_in, found_beside, found_plain, patterns_under, percent_found_in, percents_in}
-use Rattle.locale_numbers_book.specs.Tables.{accounts_under, chain_in, currencies_under, currency_symbols_under, digits_under, fractions_under, parent_under, percents_under, rules_under, steps_in, symbols_under}
+use Rattle.locale_numbers_book.specs.TagFormatters.{currencies_in, currency_found_in, decimals_in, found_beside, found_plain, patterns_under, percent_found_in, percents_in, signs_found_in}
+use Rattle.locale_numbers_book.specs.Tables.{accounts_under, chain_in, currencies_under, currency_symbols_under, digits_under, fractions_under, parent_under, percents_under, rules_under, signs_under, steps_in, symbols_under}
 use Rattle.locale_numbers_formats.specs.declared.CompactWidth.{CompactWidth}
+use Rattle.locale_numbers_signs.specs.NumberSigns.{SignTexts}
+use Rattle.locale_numbers_signs.specs.SignChoice.{signs_found}
 
 -- ---- without a unit
 
@@ -107,3 +110,12 @@ module _ (next : DataLocaleMeaning → Option DataLocaleMeaning) (limit : ℕ) (
         fractions = λ id. fractions_agree id i;
       } in
       is ∙ ap (λ s. found_currency s p code options) same ∙ ap (found_currency (currencies_in book) p code) made
+
+-- ---- signs
+
+pub signs_found_by : (next : DataLocaleMeaning → Option DataLocaleMeaning) (limit : ℕ) (signs : Identifier → Result SignTexts DataError) (book : BookTables) (p : Preferences) (found : Result SignTexts DataError)
+    → ((l : DataLocaleMeaning) → next l ≡ parent_under book l) → limit ≡ steps_in book.parents → ((id : Identifier) → signs id ≡ signs_under book id)
+    → found ≡ signs_found signs (unit_chain next limit (language_priority p.locale)) p.numbering_system
+    → found ≡ signs_found_in book p
+signs_found_by next limit signs book p found parents_agree limits_agree signs_agree is =
+    is ∙ (λ i. signs_found (λ id. signs_agree id i) (unit_chain (λ l. parents_agree l i) (limits_agree i) (language_priority p.locale)) p.numbering_system)

@@ -1,5 +1,5 @@
 -- The plural rules that tables have which answer as a book does: `specs/FoundRules.antt`.
-use Rattle.std.proofs.Common.{◌≡◌, List, [], ◌∷◌, ◌++◌, Option, None, Some, Result, Ok, Err, refl, ap, ap₂, ◌∙◌}
+use Rattle.std.proofs.Common.{◌≡◌, List, [], ◌∷◌, ◌++◌, Result, ap, ◌∙◌}
 use Rattle.std.specs.Result.{result_ok}
 use Rattle.icu_decimal.specs.Choice.{first_found}
 use Rattle.icu_decimal.specs.Identifiers.{Identifier, under_each}

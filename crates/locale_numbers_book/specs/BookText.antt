@@ -5,8 +5,8 @@ use Rattle.std.specs.Prelude.{ℕ, List, [], ◌∷◌, ◌++◌, codes, Option,
 use Rattle.std.specs.List.{join_by}
 use Rattle.std.specs.Str.Lines.{lines}
 use Rattle.locale_numbers_book.specs.declared.texts.BookTexts.{BookTexts}
+use Rattle.locale_numbers_book.specs.declared.texts.MoreTexts.{MoreTexts}
 use Rattle.locale_numbers_book.specs.declared.texts.NumberTexts.{NumberTexts}
-use Rattle.locale_numbers_book.specs.declared.texts.PluralTexts.{PluralTexts}
 use Rattle.locale_numbers_book.specs.declared.texts.UnitTexts.{UnitTexts}
 
 -- an entry as a text
@@ -25,15 +25,15 @@ array_text entries = codes "[\n" ++ joined_lines entries ++ codes "\n]"
 abbrev pub arrays_text : List (List Line) → List ℕ
 arrays_text arrays = codes "[" ++ join_by array_text (codes ",") arrays ++ codes "]"
 
--- after a comma the arrays of plurals, where there are some
+-- after a comma the arrays of more, where there are some
 abbrev pub more_text : Option (List (List Line)) → List ℕ
 more_text None = []
-more_text (Some plurals) = codes "," ++ arrays_text plurals
+more_text (Some more) = codes "," ++ arrays_text more
 
--- a book, or a book and its units, and after these its plurals
+-- a book, or a book and its units, and after these more
 abbrev pub book_text : List (List Line) → Option (List (List Line)) → Option (List (List Line)) → List ℕ
-book_text numbers None plurals = arrays_text numbers ++ codes "\n"
-book_text numbers (Some units) plurals = codes "[" ++ arrays_text numbers ++ codes "," ++ arrays_text units ++ more_text plurals ++ codes "]\n"
+book_text numbers None more = arrays_text numbers ++ codes "\n"
+book_text numbers (Some units) more = codes "[" ++ arrays_text numbers ++ codes "," ++ arrays_text units ++ more_text more ++ codes "]\n"
 
 -- ---- of texts
 
@@ -61,13 +61,13 @@ abbrev pub option_unit_lines : Option UnitTexts → Option (List (List Line))
 option_unit_lines None = None
 option_unit_lines (Some texts) = Some (unit_lines texts)
 
-abbrev pub plural_lines : PluralTexts → List (List Line)
-plural_lines texts = lines texts.ordinals.now ∷ lines texts.ranges.now ∷ []
+abbrev pub more_lines : MoreTexts → List (List Line)
+more_lines texts = lines texts.ordinals.now ∷ lines texts.ranges.now ∷ lines texts.signs.now ∷ []
 
-abbrev pub option_plural_lines : Option PluralTexts → Option (List (List Line))
-option_plural_lines None = None
-option_plural_lines (Some texts) = Some (plural_lines texts)
+abbrev pub option_more_lines : Option MoreTexts → Option (List (List Line))
+option_more_lines None = None
+option_more_lines (Some texts) = Some (more_lines texts)
 
 -- the book of all of them
 abbrev pub whole_text : BookTexts → List ℕ
-whole_text texts = book_text (number_lines texts.numbers) (option_unit_lines texts.units) (option_plural_lines texts.plurals)
+whole_text texts = book_text (number_lines texts.numbers) (option_unit_lines texts.units) (option_more_lines texts.more)

@@ -2,7 +2,7 @@
 -- of signs, and the first fault of one.
 -- Defined in docs/books.md, "The form", "Units", "More", "Faults" and "Faults of a pair".
 -- Cited by the steps of `Book::from_json`, and by itself through Book.antt and Refusal.antt.
-use Rattle.std.specs.Prelude.{ℕ, Bool, true, false, ◌&&◌, ◌||◌, [], Option, None, Some, unwrap_or, if◌then◌else◌}
+use Rattle.std.specs.Prelude.{Bool, true, false, ◌&&◌, ◌||◌, [], Option, None, Some, unwrap_or, if◌then◌else◌}
 use Rattle.std.specs.Int.{is_in_range}
 use Rattle.std.specs.Option.{option_map_or, option_or}
 use Rattle.serde_json.specs.Data.{Data, null, Items, no_items, item}

@@ -13,6 +13,9 @@ use Rattle.icu_decimal.specs.PlainText.{Tables}
 use Rattle.icu_decimal.specs.SameSymbols.{same_symbols}
 use Rattle.icu_decimal.specs.declared.error.DataError.{DataError}
 use Rattle.icu_decimal.specs.declared.options.GroupingStrategy.{GroupingStrategy}
+use Rattle.icu_decimal.specs.declared.options.GroupingStrategy.TheVariants.{Never}
+use Rattle.icu_decimal_scientific.specs.ExponentialText.{ScientificSettings}
+use Rattle.icu_dimension.specs.FoundUnits.{then_found}
 use Rattle.icu_dimension.specs.declared.CurrencyFormatterOptions.{CurrencyFormatterOptions}
 use Rattle.icu_dimension.specs.declared.FractionInfo.{FractionInfo}
 use Rattle.icu_dimension.specs.declared.PercentFormatterOptions.{PercentFormatterOptions}
@@ -20,18 +23,21 @@ use Rattle.icu_dimension.specs.declared.PercentSign.{PercentSign}
 use Rattle.icu_locale_core.specs.Subtags.{Text}
 use Rattle.icu_locale_core.specs.TagPreferences.{Preferences}
 use Rattle.locale_numbers_book.specs.Book.{BookTables}
-use Rattle.locale_numbers_book.specs.TagFormatters.{currency_found_in, found_beside, found_by, found_plain, patterns_under, percent_found_in}
+use Rattle.locale_numbers_book.specs.TagFormatters.{currency_found_in, found_beside, found_by, found_plain, patterns_under, percent_found_in, signs_found_in}
 use Rattle.locale_numbers_book.specs.Wanted.{wanted_of}
 use Rattle.locale_numbers_book.specs.declared.formatter_error.FormatterError.{FormatterError}
 use Rattle.locale_numbers_formats.specs.declared.CompactWidth.{CompactWidth}
 use Rattle.locale_numbers_formats.specs.declared.CurrencyUnit.{CurrencyUnit}
 use Rattle.locale_numbers_formats.specs.declared.Notation.{Notation}
-use Rattle.locale_numbers_formats.specs.declared.Notation.TheVariants.{Standard, Compact, CompactDigits}
+use Rattle.locale_numbers_formats.specs.declared.Notation.TheVariants.{Standard, Compact, CompactDigits, Scientific}
+use Rattle.locale_numbers_formats.specs.declared.NumberOptions.{NumberOptions}
 use Rattle.locale_numbers_formats.specs.declared.NumberShape.{NumberShape}
 use Rattle.locale_numbers_formats.specs.declared.NumberUnit.{NumberUnit}
 use Rattle.locale_numbers_formats.specs.declared.NumberUnit.TheVariants as unit
-use Rattle.locale_numbers_formatter.specs.FormatText.{FormatTables, UnitFormat, compact_tables, digit_tables, digits_tables, plain_tables, unit_tables}
+use Rattle.locale_numbers_formats.specs.declared.ScientificStyle.{ScientificStyle}
+use Rattle.locale_numbers_formatter.specs.FormatText.{FormatTables, UnitFormat, compact_tables, digit_tables, digits_tables, plain_tables, scientific_tables, unit_tables}
 use Rattle.locale_numbers_formatter.specs.HeldFormats.{currency_format, percent_format}
+use Rattle.locale_numbers_signs.specs.NumberSigns.{SignTexts}
 
 -- ---- for preferences
 
@@ -67,11 +73,28 @@ compact_found width unit.None book preferences grouping = found_beside (patterns
 compact_found width (unit.Percent sign) book preferences grouping = Err DataError.IdentifierNotFound
 compact_found width (unit.Currency currency) book preferences grouping = Err DataError.IdentifierNotFound
 
+-- the tables of scientific numbers: those of plain ones, the text before exponents that the signs have, and the tables of these, without groups
+abbrev pub with_exponents : Tables → SignTexts → ScientificSettings
+with_exponents plain signs = record { tables = plain; separator = signs.exponent; exponents = record plain { strategy = Never } }
+
+abbrev pub with_signs : Result Tables DataError → Result SignTexts DataError → Result ScientificSettings DataError
+with_signs plain signs = then_found plain (λ tables. mapped (with_exponents tables) signs)
+
+-- there are none with a unit
+abbrev pub scientific_found : NumberUnit → BookTables → Preferences → GroupingStrategy → Result ScientificSettings DataError
+scientific_found unit.None book preferences grouping = with_signs (found_plain book preferences (Some grouping)) (signs_found_in book preferences)
+scientific_found (unit.Percent sign) book preferences grouping = Err DataError.IdentifierNotFound
+scientific_found (unit.Currency currency) book preferences grouping = Err DataError.IdentifierNotFound
+
+abbrev pub scientific_of : ScientificStyle → NumberOptions → ScientificSettings → FormatTables
+scientific_of style options settings = scientific_tables (record { settings = settings; style = style; options = options })
+
 abbrev pub notation_found : Notation → NumberUnit → BookTables → Preferences → GroupingStrategy → Result FormatTables DataError
 notation_found Standard unit book preferences grouping = standard_found unit book preferences grouping
 notation_found (Compact width) unit book preferences grouping = mapped compact_tables (compact_found width unit book preferences grouping)
 notation_found (CompactDigits width options) unit book preferences grouping =
     mapped (λ tables. digits_tables tables options) (compact_found width unit book preferences grouping)
+notation_found (Scientific style options) unit book preferences grouping = mapped (scientific_of style options) (scientific_found unit book preferences grouping)
 
 -- what numbers of a shape are written with
 abbrev pub found_for : NumberShape → BookTables → Preferences → Result FormatTables DataError
@@ -102,6 +125,7 @@ amounts_by plain (plain_tables t) = None
 amounts_by plain (compact_tables t) = None
 amounts_by plain (digits_tables t options) = None
 amounts_by plain (unit_tables u) = with_symbols_of plain u u.fractions
+amounts_by plain (scientific_tables s) = None
 
 -- those that plain numbers of the same preferences are written with
 abbrev pub plainly_written : NumberShape → BookTables → Preferences → FormatTables → Option FormatTables

@@ -2,7 +2,7 @@
 -- Defined in docs/books.md, "More"; cardinal rules in docs/compact-text.md, "Compact formatters".
 -- Cited by `find_plural_rules` and `Book::plural_rules`, and by the answer to a line.
 -- It finds tables of each kind for what a tag prefers, so it imports them all.
-use Rattle.std.specs.Prelude.{List, [], ◌∷◌, ◌++◌, Option, None, Some, option_map, unwrap_or, Result}
+use Rattle.std.specs.Prelude.{List, [], ◌∷◌, ◌++◌, Option, None, option_map, unwrap_or, Result}
 use Rattle.std.specs.Result.{result_ok}
 use Rattle.icu_decimal.specs.Choice.{answered, first_found}
 use Rattle.icu_decimal.specs.Identifiers.{identifiers_along}

@@ -15,8 +15,8 @@ use Rattle.locale_numbers_book.specs.Wanted.{wanted_of}
 use Rattle.locale_numbers_book.specs.BookText.{Line, book_text}
 use Rattle.locale_numbers_book.specs.EntryFields.{asked_fronts, begins, opening, second_field, third_field, under_fronts}
 use Rattle.locale_numbers_book.specs.declared.texts.BookTexts.{BookTexts}
+use Rattle.locale_numbers_book.specs.declared.texts.MoreTexts.{MoreTexts}
 use Rattle.locale_numbers_book.specs.declared.texts.NumberTexts.{NumberTexts}
-use Rattle.locale_numbers_book.specs.declared.texts.PluralTexts.{PluralTexts}
 use Rattle.locale_numbers_book.specs.declared.texts.UnitTexts.{UnitTexts}
 
 -- ---- the locales that are asked for, by the entries of parents
@@ -77,11 +77,15 @@ selected_units texts under asked =
     ∷ lines texts.digits.now
     ∷ []
 
--- of plurals
-abbrev pub selected_plurals : PluralTexts → List (List ℕ) → List (List Line)
-selected_plurals texts under = filter (begins under) (lines texts.ordinals.now) ∷ filter (begins under) (lines texts.ranges.now) ∷ []
+-- of more: ordinal rules and ranges, and signs
+abbrev pub selected_more : MoreTexts → List (List ℕ) → List (List ℕ) → List (List Line)
+selected_more texts under asked =
+    filter (begins under) (lines texts.ordinals.now)
+    ∷ filter (begins under) (lines texts.ranges.now)
+    ∷ filter (begins asked) (lines texts.signs.now)
+    ∷ []
 
--- units and plurals are asked for under `und` too
+-- units and more are asked for under `und` too
 abbrev pub unknown : List Text
 unknown = codes "und" ∷ []
 
@@ -89,15 +93,15 @@ abbrev pub option_selected_units : Option UnitTexts → List (List ℕ) → List
 option_selected_units None under asked systems = None
 option_selected_units (Some texts) under asked systems = Some (selected_units texts (under ++ under_fronts unknown) (asked ++ asked_fronts unknown systems))
 
-abbrev pub option_selected_plurals : Option PluralTexts → List (List ℕ) → Option (List (List Line))
-option_selected_plurals None under = None
-option_selected_plurals (Some texts) under = Some (selected_plurals texts (under ++ under_fronts unknown))
+abbrev pub option_selected_more : Option MoreTexts → List (List ℕ) → List (List ℕ) → List Text → Option (List (List Line))
+option_selected_more None under asked systems = None
+option_selected_more (Some texts) under asked systems = Some (selected_more texts (under ++ under_fronts unknown) (asked ++ asked_fronts unknown systems))
 
 -- the book of the entries that begin so
 abbrev pub selected_with : BookTexts → List (List ℕ) → List (List ℕ) → List Text → List Line → List ℕ
 selected_with texts under asked systems parents =
     book_text (selected_numbers texts.numbers under asked systems parents) (option_selected_units texts.units under asked systems)
-    (option_selected_plurals texts.plurals under)
+    (option_selected_more texts.more under asked systems)
 
 -- of these locales, systems and parents
 abbrev pub selected_by : BookTexts → List Text → List Text → List Line → List ℕ

@@ -1,7 +1,7 @@
 -- The tables that a book has for preferences, and the formatters that it has for a tag: those of the tables that are found for what
 -- the tag prefers, with options or the default ones.
 -- Defined in docs/books.md, "Choosing tables", "Choosing units" and "Formatters of a tag".
--- Cited by the seven makers of formatters of `Book`, and by the answer to a line.
+-- Cited by the seven makers of formatters of `Book`, by the private steps that find signs, and by the answer to a line.
 -- It finds tables of each kind and names each error, so it imports them all.
 use Rattle.std.specs.Prelude.{ℕ, Option, Some, None, Result, Ok, Err, if◌then◌else◌}
 use Rattle.icu_decimal.specs.CompactTables.{CompactTables}
@@ -14,18 +14,21 @@ use Rattle.icu_decimal.specs.declared.error.DataError.{DataError}
 use Rattle.icu_decimal.specs.declared.options.GroupingStrategy.{GroupingStrategy}
 use Rattle.icu_dimension.specs.CurrencyCodes.{is_currency_code}
 use Rattle.icu_dimension.specs.FoundUnits.{CurrencySettings, found_currency, found_percent}
+use Rattle.icu_dimension.specs.UnitChoice.{unit_chain}
 use Rattle.icu_dimension.specs.UnitSources.{CurrencySource, DecimalSource, PercentSource}
 use Rattle.icu_dimension.specs.UnitText.{UnitSettings}
 use Rattle.icu_dimension.specs.declared.CurrencyFormatterOptions.{CurrencyFormatterOptions}
 use Rattle.icu_dimension.specs.declared.PercentFormatterOptions.{PercentFormatterOptions}
 use Rattle.icu_locale_core.specs.Subtags.{Text}
-use Rattle.icu_locale_core.specs.TagPreferences.{Preferences}
+use Rattle.icu_locale_core.specs.TagPreferences.{Preferences, language_priority}
 use Rattle.locale_numbers_book.specs.Book.{BookTables}
-use Rattle.locale_numbers_book.specs.Tables.{accounts_under, chain_in, currencies_under, currency_symbols_under, digits_under, fractions_under, long_under, parent_under, percents_under, rules_under, short_under, steps_in, symbols_under}
+use Rattle.locale_numbers_book.specs.Tables.{accounts_under, chain_in, currencies_under, currency_symbols_under, digits_under, fractions_under, long_under, parent_under, percents_under, rules_under, short_under, signs_under, steps_in, symbols_under}
 use Rattle.locale_numbers_book.specs.Wanted.{wanted_of}
 use Rattle.locale_numbers_book.specs.declared.formatter_error.FormatterError.{FormatterError}
 use Rattle.locale_numbers_book.specs.declared.formatter_error.FormatterError.TheVariants.{Tag, Table, Memory, Code}
 use Rattle.locale_numbers_formats.specs.declared.CompactWidth.{CompactWidth}
+use Rattle.locale_numbers_signs.specs.NumberSigns.{SignTexts}
+use Rattle.locale_numbers_signs.specs.SignChoice.{signs_found}
 
 -- ---- for preferences
 
@@ -74,6 +77,13 @@ percent_found_in book preferences options = found_percent (percents_in book) pre
 -- what amounts of a currency are written with
 abbrev pub currency_found_in : BookTables → Preferences → Text → CurrencyFormatterOptions → Result CurrencySettings DataError
 currency_found_in book preferences code options = found_currency (currencies_in book) preferences code options
+
+-- ---- of signs
+
+-- the signs, along the locales that units are asked for along
+abbrev pub signs_found_in : BookTables → Preferences → Result SignTexts DataError
+signs_found_in book preferences =
+    signs_found (signs_under book) (unit_chain (parent_under book) (steps_in book.parents) (language_priority preferences.locale)) preferences.numbering_system
 
 -- ---- for a tag
 

@@ -11,6 +11,7 @@ ghost use Rattle.locale_numbers_book.specs.TagFormatters.{currency_found_in, fou
 ghost use Rattle.locale_numbers_formatter.specs.FormatText.{compact_tables, digits_tables, unit_tables};
 ghost use Rattle.locale_numbers_formatter.specs.HeldFormats.{currency_format};
 
+use crate::scientific_finding::find_scientific;
 use crate::tables::Tables;
 use icu_decimal::options::{
     CompactDecimalFormatterOptions, DecimalFormatterOptions, GroupingStrategy,
@@ -29,7 +30,7 @@ use locale_numbers_formats::{
 use locale_numbers_formatter::{CompactDigitsFormatter, FormatterKind, NumberFormatter};
 
 // The formatter of plain numbers.
-fn find_plain<'a, T: Tables>(
+pub(crate) fn find_plain<'a, T: Tables>(
     tables: &'a T,
     preferences: DecimalFormatterPreferences,
     grouping: GroupingStrategy,
@@ -198,8 +199,8 @@ fn find_with_digits<'a, T: Tables>(
 /// The formatter of a shape for preferences, of the tables of a book: of `SAMPLE_UNITS_BOOK` that of `de-CH` and amounts of
 /// `CHF` writes -5.00 as `CHF-5.00`.
 ///
-/// It borrows its tables. `IdentifierNotFound`: one of the tables is not there, and so where a compact number would have a
-/// unit. It does not allocate.
+/// It borrows its tables. `IdentifierNotFound`: one of the tables is not there, of scientific numbers the signs among them,
+/// and so where a compact or a scientific number would have a unit. It does not allocate.
 pub fn find_formatter<'a, T: Tables>(
     tables: &'a T,
     preferences: DecimalFormatterPreferences,
@@ -217,6 +218,16 @@ pub fn find_formatter<'a, T: Tables>(
                 tables,
                 preferences,
                 width,
+                options,
+                shape.unit,
+                shape.grouping,
+            )
+        }
+        Notation::Scientific(style, options) => {
+            find_scientific(
+                tables,
+                preferences,
+                style,
                 options,
                 shape.unit,
                 shape.grouping,
@@ -294,6 +305,7 @@ fn amounts_by<'a>(
         FormatterKind::Plain(_)
         | FormatterKind::Compact(_)
         | FormatterKind::CompactDigits(_)
+        | FormatterKind::Scientific(_)
         | FormatterKind::Percent(_) => None,
         FormatterKind::Currency(amounts) => with_symbols_of(plain, amounts),
     }

@@ -23,8 +23,8 @@ impl Book {
     /// Its tables are those that `answer` finds for the tag and a form of this shape, and are borrowed from the book.
     ///
     /// - Tag: the text is no locale tag, as `e`.
-    /// - Table: the book lacks a table for it, as `SAMPLE_BOOK` the symbols of `fr`; and where a compact number would have a
-    ///   unit.
+    /// - Table: the book lacks a table for it, as `SAMPLE_BOOK` the symbols of `fr`, or of scientific numbers the signs; and
+    ///   where a compact or a scientific number would have a unit.
     /// - Memory: out of memory. A tag of at most one variant and one keyword does not allocate, nor does one of language, script
     ///   and region only.
     pub fn number_formatter(

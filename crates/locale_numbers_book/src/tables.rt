@@ -10,10 +10,11 @@ use icu_dimension::provider::{
     PercentEssentialsV1,
 };
 use locale_numbers_plurals::{PluralsOrdinalV1, PluralsRangesV1};
+use locale_numbers_signs::NumberSignsV1;
 
-/// Tables of all twelve kinds and parents of locales, as those of a [`Book`]: of the sample book the symbols of `en`, the
-/// digits of `thai`, and so on. The five kinds of units have nothing where the book has no units, and those of ordinal
-/// rules and of ranges where it has no more of plurals.
+/// Tables of all thirteen kinds and parents of locales, as those of a [`Book`]: of the sample book the symbols of `en`, the
+/// digits of `thai`, and so on. The five kinds of units have nothing where the book has no units, those of ordinal rules
+/// and of ranges where it has no more of plurals, and that of signs where it has no signs.
 ///
 /// Under each identifier a type of your own returns what is there in one book, at each call the same, and where
 /// nothing does it returns `IdentifierNotFound`: one that forwards to a book and counts what is loaded, say. Its
@@ -30,13 +31,14 @@ pub trait Tables: DataProvider<DecimalSymbolsV1>
     + DataProvider<CurrencyFractionsV1>
     + DataProvider<PluralsOrdinalV1>
     + DataProvider<PluralsRangesV1>
+    + DataProvider<NumberSignsV1>
     + ParentProvider {
     ghost use Rattle.std.specs.Prelude.{◌≡◌};
     ghost use Rattle.icu_decimal.specs.Identifiers.{Identifier};
     ghost use Rattle.icu_decimal_chains.specs.Chains.{chain};
     ghost use Rattle.icu_locale_core.specs.TagPreferences.{DataLocaleMeaning};
     ghost use Rattle.locale_numbers_book.specs.Book.{BookTables};
-    ghost use Rattle.locale_numbers_book.specs.Tables.{symbols_under, digits_under, rules_under, short_under, long_under, percents_under, currencies_under, accounts_under, currency_symbols_under, fractions_under, ordinals_under, ranges_under, parent_under, chain_in, steps_in};
+    ghost use Rattle.locale_numbers_book.specs.Tables.{symbols_under, digits_under, rules_under, short_under, long_under, percents_under, currencies_under, accounts_under, currency_symbols_under, fractions_under, ordinals_under, ranges_under, signs_under, parent_under, chain_in, steps_in};
 
     // the book that the tables are those of
     ghost book: { Self → BookTables };
@@ -68,12 +70,14 @@ pub trait Tables: DataProvider<DecimalSymbolsV1>
 
     ghost ranges: { (s : Self) (id : Identifier) → Self.DataProvider-12.table s id ≡ ranges_under (book s) id };
 
+    ghost signs: { (s : Self) (id : Identifier) → Self.DataProvider-13.table s id ≡ signs_under (book s) id };
+
     // the next locale is that of the book, and so is the chain: the limit cuts none of it
     ghost parents: { (s : Self) (l : DataLocaleMeaning) → Self.next s l ≡ parent_under (book s) l };
 
     ghost chains: { (s : Self) (l : DataLocaleMeaning) → chain (Self.next s) (Self.limit s) l ≡ chain_in (book s) l };
 
-    // units are asked for under no locale, too, where there are parents at all
+    // units and signs are asked for under no locale, too, where there are parents at all
     ghost limits: { (s : Self) → Self.limit s ≡ steps_in (book s).parents };
 }
 
@@ -105,6 +109,8 @@ impl Tables for Book {
     ghost ordinals = { λ s id. refl };
 
     ghost ranges = { λ s id. refl };
+
+    ghost signs = { λ s id. refl };
 
     ghost parents = { λ s l. refl };
 

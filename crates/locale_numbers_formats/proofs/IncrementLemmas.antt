@@ -7,7 +7,7 @@ use Rattle.std.proofs.lemmas.List.{length-append}
 use Rattle.std.proofs.lemmas.List.Folds.{list_all-append}
 use Rattle.fixed_decimal.specs.declared.RoundingIncrement.{RoundingIncrement}
 use Rattle.locale_numbers_formats.specs.IncrementWords.{digits_setting, from_first, is_zero, zeros_behind}
-use Rattle.locale_numbers_formats.specs.Marks.{leading}
+use Rattle.locale_numbers_formats.specs.Runs.{leading}
 use Rattle.locale_numbers_formats.specs.declared.skeleton_error.WordFault.TheVariants.{Unknown}
 use Rattle.locale_numbers_formats.specs.declared.stems.Setting.TheVariants.{Refused}
 use Rattle.locale_numbers_formats.specs.declared.stems.WholeZeros.{WholeZeros}

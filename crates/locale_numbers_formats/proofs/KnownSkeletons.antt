@@ -7,6 +7,10 @@ use Rattle.fixed_decimal.specs.declared.SignDisplay.TheVariants as display
 use Rattle.fixed_decimal.specs.declared.SignedRoundingMode.TheVariants.{Unsigned}
 use Rattle.fixed_decimal.specs.declared.UnsignedRoundingMode.TheVariants.{Expand, Trunc, HalfEven}
 use Rattle.icu_decimal_symbols.specs.declared.options.GroupingStrategy.TheVariants as strategy
+use Rattle.icu_decimal_scientific.specs.declared.notation.ScientificNotation.{ScientificNotation}
+use Rattle.icu_decimal_scientific.specs.declared.notation.ScientificNotation.TheVariants as exponents
+use Rattle.icu_decimal_scientific.specs.declared.shown.ExponentSign.{ExponentSign}
+use Rattle.icu_decimal_scientific.specs.declared.shown.ExponentSign.TheVariants.{Auto, Always}
 use Rattle.icu_dimension_fractions.specs.declared.CurrencyStyle.TheVariants as style
 use Rattle.icu_dimension_fractions.specs.declared.CurrencyStyle.TheVariants.{Accounting}
 use Rattle.icu_dimension_fractions.specs.declared.CurrencyUsage.TheVariants.{Standard, Cash}
@@ -27,13 +31,14 @@ use Rattle.locale_numbers_formats.specs.declared.shape.CompactWidth.TheVariants.
 use Rattle.locale_numbers_formats.specs.declared.shape.Notation.TheVariants as notation
 use Rattle.locale_numbers_formats.specs.declared.shape.NumberFormat.{NumberFormat}
 use Rattle.locale_numbers_formats.specs.declared.shape.NumberUnit.TheVariants as beside
+use Rattle.locale_numbers_formats.specs.declared.shape.ScientificStyle.{ScientificStyle}
 use Rattle.locale_numbers_formats.specs.declared.skeleton.Skeleton.{Skeleton}
 use Rattle.locale_numbers_formats.specs.declared.skeleton_error.SkeletonError.{SkeletonError}
 use Rattle.locale_numbers_formats.specs.declared.skeleton_error.SkeletonError.TheVariants.{Unknown, Twice, Code, Pair, System, Later, Unsupported}
 use Rattle.locale_numbers_formats.specs.declared.stems.Precision.TheVariants as precision
 use Rattle.locale_numbers_formats.specs.declared.stems.Precision.TheVariants.{Unlimited, Fraction, AtLeast, Whole, Significant, SignificantAtLeast, Either, Increment, WholeCurrency}
 use Rattle.locale_numbers_formats.specs.declared.stems.SkeletonGrouping.TheVariants as grouping
-use Rattle.locale_numbers_formats.specs.declared.stems.SkeletonNotation.TheVariants.{Compact}
+use Rattle.locale_numbers_formats.specs.declared.stems.SkeletonNotation.TheVariants.{Compact, Scientific}
 use Rattle.locale_numbers_formats.specs.declared.stems.SkeletonUnit.TheVariants.{Percent, Currency}
 use Rattle.locale_numbers_formats.specs.declared.stems.WholeZeros.TheVariants.{Shown, Hidden}
 
@@ -253,15 +258,6 @@ is_system = refl
 is_latin_system : skeleton_of (codes "percent latin") ≡ Err (System 8)
 is_latin_system = refl
 
-is_scientific : skeleton_of (codes "E0") ≡ Err (Later 0)
-is_scientific = refl
-
-is_signed_exponent : skeleton_of (codes "E+!00") ≡ Err (Later 0)
-is_signed_exponent = refl
-
-is_engineering : skeleton_of (codes "EE+?0") ≡ Err (Later 0)
-is_engineering = refl
-
 is_exponent_without_digits : skeleton_of (codes "E+!") ≡ Err (Unknown 0)
 is_exponent_without_digits = refl
 
@@ -303,6 +299,82 @@ is_hidden = refl
 
 is_point : skeleton_of (codes "decimal-always") ≡ Err (Unsupported 0)
 is_point = refl
+
+-- ---- scientific numbers
+
+abbrev style_of : ScientificNotation → ExponentSign → ℕ → ScientificStyle
+style_of notation sign digits = record { notation = notation; exponents = record { sign = sign; least_digits = digits } }
+
+abbrev by_exponents : ScientificNotation → ExponentSign → ℕ → Skeleton
+by_exponents notation sign digits = record plain { notation = Scientific (style_of notation sign digits) }
+
+is_scientific : skeleton_of (codes "scientific") ≡ Ok (by_exponents exponents.Scientific Auto 0)
+is_scientific = refl
+
+is_short_scientific : skeleton_of (codes "E0") ≡ Ok (by_exponents exponents.Scientific Auto 0)
+is_short_scientific = refl
+
+is_engineering : skeleton_of (codes "engineering .00") ≡ Ok (record (by_exponents exponents.Engineering Auto 0) { precision = Fraction 2 0 })
+is_engineering = refl
+
+is_signed_exponent : skeleton_of (codes "E+!00") ≡ Ok (by_exponents exponents.Scientific Always 2)
+is_signed_exponent = refl
+
+is_signed_engineering : skeleton_of (codes "EE+!000") ≡ Ok (by_exponents exponents.Engineering Always 3)
+is_signed_engineering = refl
+
+is_padded_exponent : skeleton_of (codes "scientific/*ee") ≡ Ok (by_exponents exponents.Scientific Auto 2)
+is_padded_exponent = refl
+
+is_old_padded_exponent : skeleton_of (codes "engineering/+eee") ≡ Ok (by_exponents exponents.Engineering Auto 3)
+is_old_padded_exponent = refl
+
+-- one digit is usual
+is_one_digit : skeleton_of (codes "scientific/*e") ≡ Ok (by_exponents exponents.Scientific Auto 0)
+is_one_digit = refl
+
+is_option_of_sign : skeleton_of (codes "engineering/sign-always") ≡ Ok (by_exponents exponents.Engineering Always 0)
+is_option_of_sign = refl
+
+is_short_option : skeleton_of (codes "scientific/+!/sign-always/*ee") ≡ Ok (by_exponents exponents.Scientific Always 2)
+is_short_option = refl
+
+-- the last option of a kind counts
+is_last_option : skeleton_of (codes "scientific/sign-always/*eee/sign-auto/*ee") ≡ Ok (by_exponents exponents.Scientific Auto 2)
+is_last_option = refl
+
+is_other_sign : skeleton_of (codes "scientific/sign-never") ≡ Err (Unsupported 0)
+is_other_sign = refl
+
+is_short_other_sign : skeleton_of (codes ". EE+?0") ≡ Err (Unsupported 2)
+is_short_other_sign = refl
+
+is_sign_of_amounts : skeleton_of (codes "scientific/*ee/()!") ≡ Err (Unsupported 0)
+is_sign_of_amounts = refl
+
+is_no_digit : skeleton_of (codes "scientific/*") ≡ Err (Unknown 0)
+is_no_digit = refl
+
+is_no_option : skeleton_of (codes "scientific/") ≡ Err (Unknown 0)
+is_no_option = refl
+
+is_no_second_option : skeleton_of (codes "scientific/*ee/") ≡ Err (Unknown 0)
+is_no_second_option = refl
+
+is_other_option : skeleton_of (codes "engineering/group-off") ≡ Err (Unknown 0)
+is_other_option = refl
+
+is_short_with_option : skeleton_of (codes "E0/sign-always") ≡ Err (Unknown 0)
+is_short_with_option = refl
+
+is_scientific_twice : skeleton_of (codes "K E0") ≡ Err (Twice 2)
+is_scientific_twice = refl
+
+is_scientific_percent : skeleton_of (codes "percent E0") ≡ Err (Later 8)
+is_scientific_percent = refl
+
+is_scientific_amount : skeleton_of (codes "engineering currency/EUR") ≡ Err (Later 0)
+is_scientific_amount = refl
 
 -- ---- what they mean
 
@@ -431,7 +503,40 @@ compact_hundredths_up : format_in (codes "K .00 rounding-mode-up +!")
     ≡ Ok (with_digits Short (record digits { rounding = rounding.At (negsuc 1) (Unsigned Expand) MultiplesOf1; fraction_digits = pos 2; sign = Show display.Always }))
 compact_hundredths_up = refl
 
+-- ---- significands
+
+-- options of the significand, and none of the number: six digits after the point at most
+scientific_format : format_in (codes "scientific") ≡ Ok (record {
+  shape = record {
+    notation = notation.Scientific (style_of exponents.Scientific Auto 0) (record digits { rounding = rounding.At (negsuc 5) (Unsigned HalfEven) MultiplesOf1 });
+    unit = beside.None;
+    grouping = strategy.Auto;
+  };
+  options = unchanged;
+})
+scientific_format = refl
+
+engineering_format : format_in (codes "EE+!00 @@@ 000 +? rounding-mode-up ,_") ≡ Ok (record {
+  shape = record {
+    notation = notation.Scientific (style_of exponents.Engineering Always 2)
+        (record digits { rounding = rounding.Significant (record { least = 3; most = 3 }) (Unsigned Expand); integer_digits = pos 3; sign = Show display.ExceptZero });
+    unit = beside.None;
+    grouping = strategy.Never;
+  };
+  options = unchanged;
+})
+engineering_format = refl
+
 -- ---- normal texts
+
+scientific_text : skeleton_text (by_exponents exponents.Scientific Auto 0) ≡ codes "scientific"
+scientific_text = refl
+
+padded_text : skeleton_text (by_exponents exponents.Scientific Auto 2) ≡ codes "scientific/*ee"
+padded_text = refl
+
+engineering_text : skeleton_text (record (by_exponents exponents.Engineering Always 3) { precision = Fraction 0 0; grouping = grouping.Min2 }) ≡ codes "engineering/*eee/sign-always precision-integer group-min2"
+engineering_text = refl
 
 permille_text : skeleton_text (record plain { unit = Percent signs.Permille }) ≡ codes "permille"
 permille_text = refl

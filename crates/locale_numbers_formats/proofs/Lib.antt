@@ -4,6 +4,7 @@ pub mod CuttingLemmas
 pub mod DigitOrderLemmas
 pub mod DigitShownLemmas
 pub mod EitherLemmas
+pub mod ExponentReads
 pub mod IncrementLemmas
 pub mod IncrementReads
 mod KnownSkeletons

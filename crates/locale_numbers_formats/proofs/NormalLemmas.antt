@@ -38,11 +38,15 @@ at_sign_events_are w =
 pub word_events_are : (spaced : Bool) (w : NormalWord) → bytes (word_after spaced (option_map word_of (Some w))) ≡ word_events spaced w
 word_events_are spaced w =
     bytes_joined (gap spaced) (word_of w)
-    ∙ ap (λ (es : List Event). bytes (gap spaced) ++ es) (bytes_joined w.front.now (zeros ++ (hashes ++ rest))
-    ∙ ap (λ (es : List Event). bytes w.front.now ++ es) (bytes_joined zeros (hashes ++ rest)
+    ∙ ap (λ (es : List Event). bytes (gap spaced) ++ es) (bytes_joined w.front.now (exponents ++ (zeros ++ (hashes ++ rest)))
+    ∙ ap (λ (es : List Event). bytes w.front.now ++ es) (bytes_joined exponents (zeros ++ (hashes ++ rest))
+    ∙ ap (λ (es : List Event). bytes exponents ++ es) (bytes_joined zeros (hashes ++ rest)
     ∙ ap (λ (es : List Event). bytes zeros ++ es) (bytes_joined hashes rest
-    ∙ ap (λ (es : List Event). bytes hashes ++ es) (at_sign_events_are w))))
+    ∙ ap (λ (es : List Event). bytes hashes ++ es) (at_sign_events_are w)))))
   where
+    exponents : List ℕ
+    exponents = marks w.exponents (101 ∷ [])
+
     zeros : List ℕ
     zeros = marks w.zeros (48 ∷ [])
 

@@ -1,22 +1,30 @@
 -- What is read of a skeleton can be asked for by words: the code is one, and there are not too many marks.
-use Rattle.std.proofs.Common.{◌≡◌, ℕ, ◌+◌, ◌-◌, ◌<◌, ◌≤◌, nat_le, nat_lt, Bool, true, false, ◌&&◌, ◌||◌, ◌==◌, List, [], ◌∷◌, ◌++◌, length, drop, take, position, Option, Some, None, unwrap_or, Result, Ok, Err, codes, cond, refl, subst, arith}
+use Rattle.std.proofs.Common.{◌≡◌, ℕ, ◌+◌, ◌<◌, ◌≤◌, nat_le, nat_lt, Bool, true, false, not, ◌&&◌, ◌||◌, ◌==◌, List, [], ◌∷◌, ◌++◌, length, drop, take, position, Option, Some, None, unwrap_or, Result, Ok, Err, codes, cond, refl, sym, ap, subst, ◌∙◌, arith}
 use Rattle.std.specs.List.{list_all}
 use Rattle.std.specs.Str.{bytes_eq}
 use Rattle.std.specs.Char.{is_ascii_digit, to_ascii_uppercase}
 use Rattle.std.specs.Prelude.{slice_index}
-use Rattle.std.proofs.lemmas.Bool.{and_parts, eqb-true, false≢true, le-leb, leb-true, lt-ltb, ltb-false, ltb-true}
+use Rattle.std.proofs.lemmas.Bool.{and_parts, eq-eqb, eqb-true, false≢true, le-leb, leb-true, lt-ltb, ltb-false, ltb-true}
 use Rattle.fixed_decimal.specs.declared.RoundingIncrement.{RoundingIncrement}
 use Rattle.fixed_decimal.specs.declared.SignDisplay.{SignDisplay}
 use Rattle.fixed_decimal.specs.declared.SignDisplay.TheVariants as display
+use Rattle.icu_decimal_scientific.specs.declared.notation.ScientificNotation.{ScientificNotation}
+use Rattle.icu_decimal_scientific.specs.declared.notation.ScientificNotation.TheVariants as exponents
+use Rattle.icu_decimal_scientific.specs.declared.shown.ExponentOptions.{ExponentOptions}
+use Rattle.icu_decimal_scientific.specs.declared.shown.ExponentSign.{ExponentSign}
+use Rattle.icu_decimal_scientific.specs.declared.shown.ExponentSign.TheVariants.{Auto, Always}
 use Rattle.icu_dimension_fractions.specs.CurrencyCodes.{is_currency_code}
 use Rattle.icu_dimension_fractions.specs.declared.CurrencyStyle.{CurrencyStyle}
 use Rattle.icu_dimension_fractions.specs.declared.CurrencyStyle.TheVariants as style
 use Rattle.locale_numbers_formats.specs.Cutting.{cut_at, is_separator}
+use Rattle.locale_numbers_formats.specs.ExponentWords.{digits_by, exponent_digits, exponent_options, exponent_setting, exponent_sign, exponent_signed, least_shown, named_sign, option_by, option_digits, or_refused, read_options, refused_digits, sign_option, slash, with_option, with_sign}
 use Rattle.locale_numbers_formats.specs.IncrementWords.{from_first, increment_at, increment_setting, number_setting, other_step, point, pointed_at, step_of, step_setting}
-use Rattle.locale_numbers_formats.specs.Marks.{digits_end, digits_setting, either_end, either_setting, exponent_digits, exponent_setting, exponent_sign, exponent_signed, fraction_end, fraction_setting, leading, marked, old_end, option_setting, padded_setting, zeros_or}
-use Rattle.locale_numbers_formats.specs.SkeletonLaws.{HasCode, HasMarks, IsSkeleton}
+use Rattle.locale_numbers_formats.specs.Marks.{digits_end, digits_setting, either_end, either_setting, fraction_end, fraction_setting, marked, old_end, option_setting, padded_setting, whole_or, zeros_or}
+use Rattle.locale_numbers_formats.specs.Runs.{leading, marks_alone}
+use Rattle.locale_numbers_formats.specs.SkeletonLaws.{HasCode, HasExponents, HasMarks, IsSkeleton}
 use Rattle.locale_numbers_formats.specs.Skeletons.{at_place, checked, checked_by, no_words, once, pair_fault, read_word, read_words, set, settled, skeleton_of, space, then_read}
-use Rattle.locale_numbers_formats.specs.Stems.{capital_code, coded, fronts, optioned, or_marked, or_slashed, or_unknown, setting_named, slashed_at, slash, stems}
+use Rattle.locale_numbers_formats.specs.StemTable.{fronts, stems, usual_exponents}
+use Rattle.locale_numbers_formats.specs.Stems.{capital_code, coded, optioned, or_marked, or_slashed, or_unknown, setting_named, slashed_at}
 use Rattle.locale_numbers_formats.specs.WordTable.{value_beside}
 use Rattle.locale_numbers_formats.specs.declared.options.RoundingPriority.{RoundingPriority}
 use Rattle.locale_numbers_formats.specs.declared.options.RoundingPriority.TheVariants.{MorePrecision, LessPrecision}
@@ -30,6 +38,8 @@ use Rattle.locale_numbers_formats.specs.declared.stems.Precision.{Precision}
 use Rattle.locale_numbers_formats.specs.declared.stems.Precision.TheVariants as precision
 use Rattle.locale_numbers_formats.specs.declared.stems.Setting.{Setting}
 use Rattle.locale_numbers_formats.specs.declared.stems.Setting.TheVariants.{OfNotation, OfUnit, OfPrecision, OfMode, OfGrouping, OfWhole, OfWidth, OfSign, OfPoint, Refused}
+use Rattle.locale_numbers_formats.specs.declared.stems.SkeletonNotation.{SkeletonNotation}
+use Rattle.locale_numbers_formats.specs.declared.stems.SkeletonNotation.TheVariants as notation
 use Rattle.locale_numbers_formats.specs.declared.stems.SkeletonSign.{SkeletonSign}
 use Rattle.locale_numbers_formats.specs.declared.stems.SkeletonUnit.{SkeletonUnit}
 use Rattle.locale_numbers_formats.specs.declared.stems.SkeletonUnit.TheVariants as unit
@@ -37,6 +47,14 @@ use Rattle.locale_numbers_formats.specs.declared.stems.WholeZeros.{WholeZeros}
 use Rattle.locale_numbers_formats.specs.declared.stems.WholeZeros.TheVariants.{Shown, Hidden}
 
 -- ---- whether a word can ask for a thing
+
+abbrev is_exponent : ExponentOptions → Bool
+is_exponent o = not (o.least_digits == 1) && nat_le o.least_digits 100
+
+abbrev is_notation : SkeletonNotation → Bool
+is_notation notation.Standard = true
+is_notation (notation.Compact pattern) = true
+is_notation (notation.Scientific style) = is_exponent style.exponents
 
 abbrev is_unit : SkeletonUnit → Bool
 is_unit unit.None = true
@@ -65,7 +83,7 @@ is_sign_by style.Accounting display.ExceptZero = true
 is_sign_by style.Accounting display.Negative = true
 
 abbrev is_setting : Setting → Bool
-is_setting (OfNotation x) = true
+is_setting (OfNotation x) = is_notation x
 is_setting (OfUnit x) = is_unit x
 is_setting (OfPrecision x) = is_precision x
 is_setting (OfMode x) = true
@@ -113,14 +131,22 @@ coded_is code = at (length code == 3)
     at true = capital_is capitals
     at false = refl
 
-zeros_is : (f : WordFault) (text : List ℕ) → is_setting (zeros_or f text) ≡ true
-zeros_is f [] = refl
-zeros_is f (c ∷ cs) = at (nat_lt 100 (length (c ∷ cs))) refl (nat_lt (leading 48 (c ∷ cs)) (length (c ∷ cs)))
+-- marks alone are not more than a word may have
+alone_few : (mark : ℕ) (text : List ℕ) (n : ℕ) → marks_alone mark text ≡ Some n → n ≤ 100
+alone_few mark [] n some = absurd (cc)
+alone_few mark (c ∷ cs) n some = at (nat_lt 100 (length (c ∷ cs))) refl (nat_lt (leading mark (c ∷ cs)) (length (c ∷ cs))) some
   where
-    at : (b : Bool) → nat_lt 100 (length (c ∷ cs)) ≡ b → (d : Bool) → is_setting (cond b (Refused f) (cond d (Refused f) (OfWhole (length (c ∷ cs))))) ≡ true
-    at true is d = refl
-    at false is true = refl
-    at false is false = le-leb (length (c ∷ cs)) 100 (ltb-false 100 (length (c ∷ cs)) is)
+    at : (b : Bool) → nat_lt 100 (length (c ∷ cs)) ≡ b → (d : Bool) → cond b None (cond d None (Some (length (c ∷ cs)))) ≡ Some n → n ≤ 100
+    at true is d same = absurd (cc)
+    at false is true same = absurd (cc)
+    at false is false same = subst (λ k. k ≤ 100) (some_is (length (c ∷ cs)) n same) (ltb-false 100 (length (c ∷ cs)) is)
+
+whole_is : (f : WordFault) (o : Option ℕ) → ((n : ℕ) → o ≡ Some n → n ≤ 100) → is_setting (whole_or f o) ≡ true
+whole_is f None few = refl
+whole_is f (Some n) few = le-leb n 100 (few n refl)
+
+zeros_is : (f : WordFault) (text : List ℕ) → is_setting (zeros_or f text) ≡ true
+zeros_is f text = whole_is f (marks_alone 48 text) (alone_few 48 text)
 
 padded_is : (option : List ℕ) → is_setting (padded_setting option) ≡ true
 padded_is [] = refl
@@ -273,15 +299,114 @@ increment_at_is (Some end) option = at (bytes_eq (drop (end + 1) option) (codes 
 increment_is : (option : List ℕ) → is_setting (increment_setting option) ≡ true
 increment_is option = increment_at_is (position (is_separator 47) option) option
 
-optioned_is : (front option : List ℕ) → is_setting (optioned front option) ≡ true
-optioned_is front option = at (bytes_eq front (codes "currency")) (bytes_eq front (codes "integer-width")) (bytes_eq front (codes "precision-integer")) (bytes_eq front (codes "precision-increment"))
+-- ---- exponents
+
+least_is : (n : ℕ) → n ≤ 100 → (not (least_shown n == 1) && nat_le (least_shown n) 100) ≡ true
+least_is n few = at (n == 1) refl
   where
-    at : (b d e f : Bool) → is_setting (cond b (coded option) (cond d (padded_setting option) (cond e (option_setting 0 0 option) (cond f (increment_setting option) (or_unknown (value_beside fronts front)))))) ≡ true
-    at true d e f = coded_is option
-    at false true e f = padded_is option
-    at false false true f = option_is 0 0 option (omega arith)
-    at false false false true = increment_is option
-    at false false false false = or_unknown_is (value_beside fronts front) (λ v some. beside_is fronts front v refl some)
+    at : (b : Bool) → (n == 1) ≡ b → (not (cond b 0 n == 1) && nat_le (cond b 0 n) 100) ≡ true
+    at true is = refl
+    at false is = both (not (n == 1)) (nat_le n 100) (ap not is) (le-leb n 100 few)
+
+digits_by_is : (x : ScientificNotation) (sign : ExponentSign) (o : Option ℕ) → ((n : ℕ) → o ≡ Some n → n ≤ 100) → is_setting (digits_by x sign o) ≡ true
+digits_by_is x sign None few = refl
+digits_by_is x sign (Some n) few = least_is n (few n refl)
+
+exponent_digits_is : (x : ScientificNotation) (sign : ExponentSign) (text : List ℕ) → is_setting (exponent_digits x sign text) ≡ true
+exponent_digits_is x sign text = digits_by_is x sign (marks_alone 48 text) (alone_few 48 text)
+
+refused_is : (o : Option ℕ) → is_setting (refused_digits o) ≡ true
+refused_is None = refl
+refused_is (Some n) = refl
+
+exponent_sign_is : (x : ScientificNotation) (text : List ℕ) → is_setting (exponent_sign x text) ≡ true
+exponent_sign_is x [] = refl
+exponent_sign_is x (c ∷ cs) = at (c == 33) (c == 63)
+  where
+    at : (b d : Bool) → is_setting (cond b (exponent_digits x Always cs) (cond d (refused_digits (marks_alone 48 cs)) (Refused fault.Unknown))) ≡ true
+    at true d = exponent_digits_is x Always cs
+    at false true = refused_is (marks_alone 48 cs)
+    at false false = refl
+
+exponent_signed_is : (x : ScientificNotation) (text : List ℕ) → is_setting (exponent_signed x text) ≡ true
+exponent_signed_is x [] = refl
+exponent_signed_is x (c ∷ cs) = at (c == 43)
+  where
+    at : (b : Bool) → is_setting (cond b (exponent_sign x cs) (exponent_digits x Auto (c ∷ cs))) ≡ true
+    at true = exponent_sign_is x cs
+    at false = exponent_digits_is x Auto (c ∷ cs)
+
+exponent_setting_is : (marks : List ℕ) → is_setting (exponent_setting marks) ≡ true
+exponent_setting_is [] = refl
+exponent_setting_is (c ∷ cs) = at (c == 69)
+  where
+    at : (b : Bool) → is_setting (cond b (exponent_signed exponents.Engineering cs) (exponent_signed exponents.Scientific (c ∷ cs))) ≡ true
+    at true = exponent_signed_is exponents.Engineering cs
+    at false = exponent_signed_is exponents.Scientific (c ∷ cs)
+
+option_few : (option : List ℕ) (n : ℕ) → option_digits option ≡ Some n → n ≤ 100
+option_few [] n some = absurd (cc)
+option_few (c ∷ cs) n some = at ((c == 42) || (c == 43)) some
+  where
+    at : (b : Bool) → cond b (marks_alone 101 cs) None ≡ Some n → n ≤ 100
+    at true same = alone_few 101 cs n same
+    at false same = absurd (cc)
+
+ok_options : (o v : ExponentOptions) → ◌≡◌ {A = Result ExponentOptions WordFault} (Ok o) (Ok v) → o ≡ v
+ok_options o v same = cc
+
+-- another sign leaves the digits
+signed_is : (o : ExponentOptions) (r : Result ExponentSign WordFault) (v : ExponentOptions) → is_exponent o ≡ true → with_sign o r ≡ Ok v → is_exponent v ≡ true
+signed_is o (Ok sign) v is same = subst (λ (x : ExponentOptions). is_exponent x ≡ true) (ok_options (record o { sign = sign }) v same) is
+signed_is o (Err f) v is same = absurd (cc)
+
+sign_option_is : (o : ExponentOptions) (s : Option Setting) (v : ExponentOptions) → is_exponent o ≡ true → sign_option o s ≡ Ok v → is_exponent v ≡ true
+sign_option_is o None v is same = absurd (cc)
+sign_option_is o (Some (OfNotation x)) v is same = absurd (cc)
+sign_option_is o (Some (OfUnit x)) v is same = absurd (cc)
+sign_option_is o (Some (OfPrecision x)) v is same = absurd (cc)
+sign_option_is o (Some (OfMode x)) v is same = absurd (cc)
+sign_option_is o (Some (OfGrouping x)) v is same = absurd (cc)
+sign_option_is o (Some (OfWhole x)) v is same = absurd (cc)
+sign_option_is o (Some (OfWidth x)) v is same = absurd (cc)
+sign_option_is o (Some (OfSign x)) v is same = signed_is o (named_sign x.style x.display) v is same
+sign_option_is o (Some OfPoint) v is same = absurd (cc)
+sign_option_is o (Some (Refused f)) v is same = absurd (cc)
+
+option_by_is : (o : ExponentOptions) (digits : Option ℕ) (option : List ℕ) (v : ExponentOptions) → ((n : ℕ) → digits ≡ Some n → n ≤ 100) → is_exponent o ≡ true → option_by o digits option ≡ Ok v → is_exponent v ≡ true
+option_by_is o None option v few is same = sign_option_is o (value_beside stems option) v is same
+option_by_is o (Some n) option v few is same =
+    subst (λ (x : ExponentOptions). is_exponent x ≡ true) (ok_options (record o { least_digits = least_shown n }) v same) (least_is n (few n refl))
+
+options_are : (x : ScientificNotation) (options : List (List ℕ)) (o : ExponentOptions) → is_exponent o ≡ true → is_setting (read_options x options o) ≡ true
+options_are x [] o is = is
+options_are x (option ∷ rest) o is = at (with_option o option) (λ v same. option_by_is o (option_digits option) option v (option_few option) is same) (λ v. options_are x rest v)
+  where
+    at : (r : Result ExponentOptions WordFault) → ((v : ExponentOptions) → r ≡ Ok v → is_exponent v ≡ true) → ((v : ExponentOptions) → is_exponent v ≡ true → is_setting (read_options x rest v) ≡ true)
+        → is_setting (or_refused (λ v. read_options x rest v) r) ≡ true
+    at (Ok v) first next = next v (first v refl)
+    at (Err f) first next = refl
+
+exponent_options_is : (x : ScientificNotation) (text : List ℕ) → is_setting (exponent_options x text) ≡ true
+exponent_options_is x text = options_are x (cut_at slash text) usual_exponents refl
+
+-- ---- words with a slash
+
+optioned_is : (front option : List ℕ) → is_setting (optioned front option) ≡ true
+optioned_is front option =
+    at (bytes_eq front (codes "currency")) (bytes_eq front (codes "integer-width")) (bytes_eq front (codes "precision-integer")) (bytes_eq front (codes "precision-increment")) (bytes_eq front (codes "scientific"))
+    (bytes_eq front (codes "engineering"))
+  where
+    at : (b d e f g h : Bool)
+        → is_setting (cond b (coded option) (cond d (padded_setting option) (cond e (option_setting 0 0 option) (cond f (increment_setting option)
+        (cond g (exponent_options exponents.Scientific option) (cond h (exponent_options exponents.Engineering option) (or_unknown (value_beside fronts front)))))))) ≡ true
+    at true d e f g h = coded_is option
+    at false true e f g h = padded_is option
+    at false false true f g h = option_is 0 0 option (omega arith)
+    at false false false true g h = increment_is option
+    at false false false false true h = exponent_options_is exponents.Scientific option
+    at false false false false false true = exponent_options_is exponents.Engineering option
+    at false false false false false false = or_unknown_is (value_beside fronts front) (λ v some. beside_is fronts front v refl some)
 
 slashed_is : (o : Option ℕ) (word : List ℕ) → is_setting (slashed_at o word) ≡ true
 slashed_is None word = refl
@@ -310,38 +435,6 @@ fraction_setting_is marks = at (nat_lt 100 (leading 48 marks + leading 35 rest))
     at true is = refl
     at false is = end_is (leading 48 marks) (leading 35 rest) (drop (leading 35 rest) rest) (ltb-false 100 (leading 48 marks + leading 35 rest) is)
 
-exponent_digits_is : (text : List ℕ) → is_setting (exponent_digits text) ≡ true
-exponent_digits_is [] = refl
-exponent_digits_is (c ∷ cs) = at (nat_lt (leading 48 (c ∷ cs)) (length (c ∷ cs)))
-  where
-    at : (b : Bool) → is_setting (cond b (Refused fault.Unknown) (Refused fault.Later)) ≡ true
-    at true = refl
-    at false = refl
-
-exponent_sign_is : (text : List ℕ) → is_setting (exponent_sign text) ≡ true
-exponent_sign_is [] = refl
-exponent_sign_is (c ∷ cs) = at ((c == 33) || (c == 63))
-  where
-    at : (b : Bool) → is_setting (cond b (exponent_digits cs) (Refused fault.Unknown)) ≡ true
-    at true = exponent_digits_is cs
-    at false = refl
-
-exponent_signed_is : (text : List ℕ) → is_setting (exponent_signed text) ≡ true
-exponent_signed_is [] = refl
-exponent_signed_is (c ∷ cs) = at (c == 43)
-  where
-    at : (b : Bool) → is_setting (cond b (exponent_sign cs) (exponent_digits (c ∷ cs))) ≡ true
-    at true = exponent_sign_is cs
-    at false = exponent_digits_is (c ∷ cs)
-
-exponent_setting_is : (marks : List ℕ) → is_setting (exponent_setting marks) ≡ true
-exponent_setting_is [] = refl
-exponent_setting_is (c ∷ cs) = at (c == 69)
-  where
-    at : (b : Bool) → is_setting (cond b (exponent_signed cs) (exponent_signed (c ∷ cs))) ≡ true
-    at true = exponent_signed_is cs
-    at false = exponent_signed_is (c ∷ cs)
-
 marked_is : (word : List ℕ) (v : Setting) → marked word ≡ Some v → is_setting v ≡ true
 marked_is [] v same = absurd (cc)
 marked_is (c ∷ marks) v same = at (c == 46) (c == 48) (c == 64) (c == 69) same
@@ -368,6 +461,7 @@ setting_is word = at (value_beside stems word) (λ v some. beside_is stems word 
 -- ---- and so do all words
 
 record AreWords (w : Words) : Type 0 where
+  notation : (x : SkeletonNotation) → w.notation ≡ Some x → is_notation x ≡ true
   unit : (x : SkeletonUnit) → w.unit ≡ Some x → is_unit x ≡ true
   precision : (x : Precision) → w.precision ≡ Some x → is_precision x ≡ true
   digits : (x : ℕ) → w.integer_digits ≡ Some x → nat_le x 100 ≡ true
@@ -378,23 +472,25 @@ once_is None w v same = cc
 once_is (Some x) w v same = absurd (cc)
 
 set_is : (w : Words) (x : Setting) (v : Words) → AreWords w → is_setting x ≡ true → set w x ≡ Ok v → AreWords v
-set_is w (OfNotation x) v are is same = subst AreWords (once_is w.notation (record w { notation = Some x }) v same) (record { unit = are.unit; precision = are.precision; digits = are.digits; sign = are.sign })
+set_is w (OfNotation x) v are is same =
+    subst AreWords (once_is w.notation (record w { notation = Some x }) v same)
+    (record { notation = λ y some. subst (λ (z : SkeletonNotation). is_notation z ≡ true) (some_is x y some) is; unit = are.unit; precision = are.precision; digits = are.digits; sign = are.sign })
 set_is w (OfUnit x) v are is same =
     subst AreWords (once_is w.unit (record w { unit = Some x }) v same)
-    (record { unit = λ y some. subst (λ (z : SkeletonUnit). is_unit z ≡ true) (some_is x y some) is; precision = are.precision; digits = are.digits; sign = are.sign })
+    (record { notation = are.notation; unit = λ y some. subst (λ (z : SkeletonUnit). is_unit z ≡ true) (some_is x y some) is; precision = are.precision; digits = are.digits; sign = are.sign })
 set_is w (OfPrecision x) v are is same =
     subst AreWords (once_is w.precision (record w { precision = Some x }) v same)
-    (record { unit = are.unit; precision = λ y some. subst (λ (z : Precision). is_precision z ≡ true) (some_is x y some) is; digits = are.digits; sign = are.sign })
-set_is w (OfMode x) v are is same = subst AreWords (once_is w.mode (record w { mode = Some x }) v same) (record { unit = are.unit; precision = are.precision; digits = are.digits; sign = are.sign })
-set_is w (OfGrouping x) v are is same = subst AreWords (once_is w.grouping (record w { grouping = Some x }) v same) (record { unit = are.unit; precision = are.precision; digits = are.digits; sign = are.sign })
+    (record { notation = are.notation; unit = are.unit; precision = λ y some. subst (λ (z : Precision). is_precision z ≡ true) (some_is x y some) is; digits = are.digits; sign = are.sign })
+set_is w (OfMode x) v are is same = subst AreWords (once_is w.mode (record w { mode = Some x }) v same) (record { notation = are.notation; unit = are.unit; precision = are.precision; digits = are.digits; sign = are.sign })
+set_is w (OfGrouping x) v are is same = subst AreWords (once_is w.grouping (record w { grouping = Some x }) v same) (record { notation = are.notation; unit = are.unit; precision = are.precision; digits = are.digits; sign = are.sign })
 set_is w (OfWhole x) v are is same =
     subst AreWords (once_is w.integer_digits (record w { integer_digits = Some x }) v same)
-    (record { unit = are.unit; precision = are.precision; digits = λ y some. subst (λ (z : ℕ). nat_le z 100 ≡ true) (some_is x y some) is; sign = are.sign })
-set_is w (OfWidth x) v are is same = subst AreWords (once_is w.width (record w { width = Some x }) v same) (record { unit = are.unit; precision = are.precision; digits = are.digits; sign = are.sign })
+    (record { notation = are.notation; unit = are.unit; precision = are.precision; digits = λ y some. subst (λ (z : ℕ). nat_le z 100 ≡ true) (some_is x y some) is; sign = are.sign })
+set_is w (OfWidth x) v are is same = subst AreWords (once_is w.width (record w { width = Some x }) v same) (record { notation = are.notation; unit = are.unit; precision = are.precision; digits = are.digits; sign = are.sign })
 set_is w (OfSign x) v are is same =
     subst AreWords (once_is w.sign (record w { sign = Some x }) v same)
-    (record { unit = are.unit; precision = are.precision; digits = are.digits; sign = λ y some. subst (λ (z : SkeletonSign). is_sign_by z.style z.display ≡ true) (some_is x y some) is })
-set_is w OfPoint v are is same = subst AreWords (once_is w.point (record w { point = Some tt }) v same) (record { unit = are.unit; precision = are.precision; digits = are.digits; sign = are.sign })
+    (record { notation = are.notation; unit = are.unit; precision = are.precision; digits = are.digits; sign = λ y some. subst (λ (z : SkeletonSign). is_sign_by z.style z.display ≡ true) (some_is x y some) is })
+set_is w OfPoint v are is same = subst AreWords (once_is w.point (record w { point = Some tt }) v same) (record { notation = are.notation; unit = are.unit; precision = are.precision; digits = are.digits; sign = are.sign })
 set_is w (Refused f) v are is same = absurd (cc)
 
 ok_is : (w v : Words) → ◌≡◌ {A = Result Words SkeletonError} (Ok w) (Ok v) → w ≡ v
@@ -419,9 +515,17 @@ words_are (word ∷ words) place w v are same =
     at (Err e) is next same = absurd (cc)
 
 none_are : AreWords no_words
-none_are = record { unit = λ x some. absurd (cc); precision = λ x some. absurd (cc); digits = λ x some. absurd (cc); sign = λ x some. absurd (cc) }
+none_are = record { notation = λ x some. absurd (cc); unit = λ x some. absurd (cc); precision = λ x some. absurd (cc); digits = λ x some. absurd (cc); sign = λ x some. absurd (cc) }
 
 -- ---- what they ask for
+
+notation_has : (o : Option SkeletonNotation) → ((x : SkeletonNotation) → o ≡ Some x → is_notation x ≡ true) → HasExponents (unwrap_or o notation.Standard)
+notation_has None is = tt
+notation_has (Some notation.Standard) is = tt
+notation_has (Some (notation.Compact pattern)) is = tt
+notation_has (Some (notation.Scientific style)) is =
+    let p = and_parts (not (style.exponents.least_digits == 1)) (nat_le style.exponents.least_digits 100) (is (notation.Scientific style) refl) in
+    (λ one. false≢true (ap not (sym (eq-eqb style.exponents.least_digits 1 one)) ∙ p.0), leb-true style.exponents.least_digits 100 p.1)
 
 unit_has : (o : Option SkeletonUnit) → ((x : SkeletonUnit) → o ≡ Some x → is_unit x ≡ true) → HasCode (unwrap_or o unit.None)
 unit_has None is = tt
@@ -471,6 +575,7 @@ sign_has (Some x) is never = sign_by_has x.style x.display (is x refl) never
 
 settled_is : (w : Words) → AreWords w → pair_fault (settled w) ≡ None → IsSkeleton (settled w)
 settled_is w are pairs = record {
+  exponents = notation_has w.notation are.notation;
   code = unit_has w.unit are.unit;
   marks = precision_has w.precision are.precision;
   whole = digits_has w.integer_digits are.digits;

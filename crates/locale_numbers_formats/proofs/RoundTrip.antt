@@ -1,5 +1,5 @@
 -- The words of the normal text of a skeleton, one after the other, set what it has.
-use Rattle.std.proofs.Common.{◌≡◌, ℕ, zero, suc, ◌+◌, ◌-◌, ◌<◌, ◌≤◌, nat_le, nat_lt, Bool, true, false, not, ◌&&◌, ◌==◌, List, [], ◌∷◌, ◌++◌, length, drop, Option, Some, None, unwrap_or, Ok, codes, cond, refl, sym, ap, subst, ◌∙◌, append-nil, arith}
+use Rattle.std.proofs.Common.{◌≡◌, ◌≢◌, ℕ, zero, suc, ◌+◌, ◌-◌, ◌<◌, ◌≤◌, nat_le, nat_lt, Bool, true, false, not, ◌&&◌, ◌==◌, List, [], ◌∷◌, ◌++◌, length, drop, Option, Some, None, unwrap_or, Ok, codes, cond, refl, sym, ap, subst, ◌∙◌, append-nil, arith}
 use Rattle.std.specs.Char.{is_ascii_uppercase, to_ascii_uppercase}
 use Rattle.std.specs.List.{list_all, onto_first}
 use Rattle.std.proofs.lemmas.Bool.{and_parts, false_from_ne_true, false≢true, eqb-true, le-ltb, leb-true, lt-ltb, ne_eqb}
@@ -11,6 +11,10 @@ use Rattle.fixed_decimal.specs.declared.SignDisplay.TheVariants as display
 use Rattle.fixed_decimal.specs.declared.SignedRoundingMode.{SignedRoundingMode}
 use Rattle.fixed_decimal.specs.declared.SignedRoundingMode.TheVariants.{Unsigned, Ceil, Floor, HalfCeil, HalfFloor}
 use Rattle.fixed_decimal.specs.declared.UnsignedRoundingMode.TheVariants.{Expand, Trunc, HalfExpand, HalfTrunc, HalfEven}
+use Rattle.icu_decimal_scientific.specs.declared.notation.ScientificNotation.{ScientificNotation}
+use Rattle.icu_decimal_scientific.specs.declared.notation.ScientificNotation.TheVariants.{Scientific, Engineering}
+use Rattle.icu_decimal_scientific.specs.declared.shown.ExponentSign.{ExponentSign}
+use Rattle.icu_decimal_scientific.specs.declared.shown.ExponentSign.TheVariants.{Auto, Always}
 use Rattle.icu_dimension_fractions.specs.CurrencyCodes.{is_currency_code}
 use Rattle.icu_dimension_fractions.specs.declared.CurrencyStyle.{CurrencyStyle}
 use Rattle.icu_dimension_fractions.specs.declared.CurrencyStyle.TheVariants as style
@@ -19,11 +23,14 @@ use Rattle.icu_dimension_fractions.specs.declared.CurrencyWidth.{CurrencyWidth}
 use Rattle.icu_dimension_fractions.specs.declared.CurrencyWidth.TheVariants as width
 use Rattle.icu_dimension_fractions.specs.declared.PercentSign.{PercentSign}
 use Rattle.icu_dimension_fractions.specs.declared.PercentSign.TheVariants as sign
-use Rattle.locale_numbers_formats.proofs.IncrementReads.{increment_read, length_marks, number_lacks}
+use Rattle.locale_numbers_formats.proofs.ExponentReads.{alone_are, leading_run, scientific_named}
+use Rattle.locale_numbers_formats.proofs.IncrementReads.{increment_read, number_lacks}
 use Rattle.locale_numbers_formats.specs.Cutting.{cut_at, is_separator}
-use Rattle.locale_numbers_formats.specs.Marks.{digits_counted, digits_end, digits_hashes, digits_setting, either_counted, either_end, either_hashes, either_setting, fraction_counted, fraction_end, fraction_hashes, fraction_setting, leading, option_setting, zeros_or}
-use Rattle.locale_numbers_formats.specs.NormalText.{digits_word, either_mark, grouping_word, joined, marks, mode_word, normal_words, notation_word, number_text, percent_word, pointed, precision_word, priority_mark, sign_word, sign_word_by, at_signs, skeleton_text, unit_word, whole_mark, width_word}
-use Rattle.locale_numbers_formats.specs.SkeletonLaws.{HasCode, HasMarks, IsSkeleton, NormalTextReadsBack}
+use Rattle.locale_numbers_formats.specs.ExponentWords.{shown_by}
+use Rattle.locale_numbers_formats.specs.Marks.{digits_counted, digits_end, digits_hashes, digits_setting, either_counted, either_end, either_hashes, either_setting, fraction_counted, fraction_end, fraction_hashes, fraction_setting, option_setting, whole_or, zeros_or}
+use Rattle.locale_numbers_formats.specs.Runs.{leading}
+use Rattle.locale_numbers_formats.specs.NormalText.{digits_word, either_mark, exponent_mark, exponent_sign_mark, grouping_word, joined, marks, mode_word, normal_words, notation_word, number_text, percent_word, pointed, precision_word, priority_mark, scientific_stem, sign_word, sign_word_by, at_signs, skeleton_text, unit_word, whole_mark, width_word}
+use Rattle.locale_numbers_formats.specs.SkeletonLaws.{HasCode, HasExponents, HasMarks, IsSkeleton, NormalTextReadsBack}
 use Rattle.locale_numbers_formats.specs.Skeletons.{at_place, checked, checked_by, no_words, pair_fault, read_words, set, settled, skeleton_of, space, then_read, usual_grouping}
 use Rattle.locale_numbers_formats.specs.Stems.{capital_code, coded, setting_named, slashed_at}
 use Rattle.locale_numbers_formats.specs.declared.options.RoundingPriority.{RoundingPriority}
@@ -154,10 +161,27 @@ clear_pointed : (zeros hashes : ℕ) (behind : List ℕ) → is_clear_word behin
 clear_pointed zeros hashes behind clear =
     clear_append (marks zeros (48 ∷ [])) (marks hashes (35 ∷ []) ++ behind) (clear_zeros zeros) (clear_append (marks hashes (35 ∷ [])) behind (clear_hashes hashes) clear)
 
+clear_exponents : (count : ℕ) → is_clear_word (marks count (101 ∷ [])) ≡ true
+clear_exponents zero = refl
+clear_exponents (suc count) = clear_exponents count
+
+clear_exponent_sign : (sign : ExponentSign) → is_clear_word (exponent_sign_mark sign) ≡ true
+clear_exponent_sign Auto = refl
+clear_exponent_sign Always = refl
+
+clear_exponent_mark : (digits : ℕ) → is_clear_word (exponent_mark digits) ≡ true
+clear_exponent_mark zero = refl
+clear_exponent_mark (suc digits) = clear_exponents (suc digits)
+
+clear_scientific : (x : ScientificNotation) (digits : ℕ) (sign : ExponentSign) → is_clear_word (scientific_stem x ++ (exponent_mark digits ++ exponent_sign_mark sign)) ≡ true
+clear_scientific Scientific digits sign = clear_append (exponent_mark digits) (exponent_sign_mark sign) (clear_exponent_mark digits) (clear_exponent_sign sign)
+clear_scientific Engineering digits sign = clear_append (exponent_mark digits) (exponent_sign_mark sign) (clear_exponent_mark digits) (clear_exponent_sign sign)
+
 clear_notation : (n : SkeletonNotation) → is_clear_option (notation_word n) ≡ true
 clear_notation notation.Standard = refl
 clear_notation (notation.Compact Short) = refl
 clear_notation (notation.Compact Long) = refl
+clear_notation (notation.Scientific style) = clear_scientific style.notation style.exponents.least_digits style.exponents.sign
 
 clear_percent : (s : PercentSign) → is_clear_word (percent_word s) ≡ true
 clear_percent sign.Percent = refl
@@ -208,6 +232,10 @@ clear_grouping (notation.Compact p) grouping.Auto = refl
 clear_grouping (notation.Compact p) grouping.Off = refl
 clear_grouping (notation.Compact p) grouping.Min2 = refl
 clear_grouping (notation.Compact p) grouping.OnAligned = refl
+clear_grouping (notation.Scientific p) grouping.Auto = refl
+clear_grouping (notation.Scientific p) grouping.Off = refl
+clear_grouping (notation.Scientific p) grouping.Min2 = refl
+clear_grouping (notation.Scientific p) grouping.OnAligned = refl
 
 clear_digits : (digits : ℕ) → is_clear_option (digits_word digits) ≡ true
 clear_digits zero = refl
@@ -252,18 +280,6 @@ clear_words s has =
 
 -- ---- runs of marks
 
-leading_zeros : (count : ℕ) (rest : List ℕ) → leading 48 rest ≡ 0 → leading 48 (marks count (48 ∷ []) ++ rest) ≡ count
-leading_zeros zero rest none = none
-leading_zeros (suc count) rest none = omega (arith, leading_zeros count rest none)
-
-leading_hashes : (count : ℕ) (rest : List ℕ) → leading 35 rest ≡ 0 → leading 35 (marks count (35 ∷ []) ++ rest) ≡ count
-leading_hashes zero rest none = none
-leading_hashes (suc count) rest none = omega (arith, leading_hashes count rest none)
-
-leading_signs : (count : ℕ) (rest : List ℕ) → leading 64 rest ≡ 0 → leading 64 (marks count (64 ∷ []) ++ rest) ≡ count
-leading_signs zero rest none = none
-leading_signs (suc count) rest none = omega (arith, leading_signs count rest none)
-
 drop_marks : (count mark : ℕ) (rest : List ℕ) → drop count (marks count (mark ∷ []) ++ rest) ≡ rest
 drop_marks zero mark rest = refl
 drop_marks (suc count) mark rest = drop_marks count mark rest
@@ -280,9 +296,9 @@ no_sign (suc hashes) behind none = refl
 fraction_is : (least more : ℕ) (behind : List ℕ) → leading 48 behind ≡ 0 → leading 35 behind ≡ 0 → least + more ≤ 100
     → fraction_setting (marks least (48 ∷ []) ++ (marks more (35 ∷ []) ++ behind)) ≡ fraction_end least more behind
 fraction_is least more behind zeros hashes few =
-    ap (λ (n : ℕ). fraction_hashes n (drop n whole)) (leading_zeros least tail (no_zero more behind zeros))
+    ap (λ (n : ℕ). fraction_hashes n (drop n whole)) (leading_run 48 least tail (no_zero more behind zeros))
     ∙ ap (fraction_hashes least) (drop_marks least 48 tail)
-    ∙ ap (λ (n : ℕ). fraction_counted least n (drop n tail)) (leading_hashes more behind hashes)
+    ∙ ap (λ (n : ℕ). fraction_counted least n (drop n tail)) (leading_run 35 more behind hashes)
     ∙ ap (fraction_counted least more) (drop_marks more 35 behind)
     ∙ ap (λ (b : Bool). cond b (Refused Unknown) (fraction_end least more behind)) (le-ltb 100 (least + more) few)
   where
@@ -299,10 +315,10 @@ one_more n = omega arith
 digits_is : (signs more : ℕ) (behind : List ℕ) → leading 64 behind ≡ 0 → leading 35 behind ≡ 0 → suc signs + more ≤ 100
     → digits_setting (at_signs signs more behind) ≡ digits_end (suc signs) more behind
 digits_is signs more behind none hashes few =
-    ap (λ (n : ℕ). digits_hashes (1 + n) (drop n (at_signs signs more behind))) (leading_signs signs tail (no_sign more behind none))
+    ap (λ (n : ℕ). digits_hashes (1 + n) (drop n (at_signs signs more behind))) (leading_run 64 signs tail (no_sign more behind none))
     ∙ ap (λ (n : ℕ). digits_hashes n (drop signs (at_signs signs more behind))) (one_more signs)
     ∙ ap (digits_hashes (suc signs)) (drop_marks signs 64 tail)
-    ∙ ap (λ (n : ℕ). digits_counted (suc signs) n (drop n tail)) (leading_hashes more behind hashes)
+    ∙ ap (λ (n : ℕ). digits_counted (suc signs) n (drop n tail)) (leading_run 35 more behind hashes)
     ∙ ap (digits_counted (suc signs) more) (drop_marks more 35 behind)
     ∙ ap (λ (b : Bool). cond b (Refused Unknown) (digits_end (suc signs) more behind)) (le-ltb 100 (suc signs + more) few)
   where
@@ -313,10 +329,10 @@ digits_is signs more behind none hashes few =
 either_is : (least more signs others : ℕ) (behind : List ℕ) → leading 64 behind ≡ 0 → leading 35 behind ≡ 0 → suc signs + others ≤ 100
     → either_setting least more (at_signs signs others behind) ≡ either_end least more (suc signs) others behind
 either_is least more signs others behind none hashes few =
-    ap (λ (n : ℕ). either_hashes least more (1 + n) (drop n (at_signs signs others behind))) (leading_signs signs tail (no_sign others behind none))
+    ap (λ (n : ℕ). either_hashes least more (1 + n) (drop n (at_signs signs others behind))) (leading_run 64 signs tail (no_sign others behind none))
     ∙ ap (λ (n : ℕ). either_hashes least more n (drop signs (at_signs signs others behind))) (one_more signs)
     ∙ ap (either_hashes least more (suc signs)) (drop_marks signs 64 tail)
-    ∙ ap (λ (n : ℕ). either_counted least more (suc signs) n (drop n tail)) (leading_hashes others behind hashes)
+    ∙ ap (λ (n : ℕ). either_counted least more (suc signs) n (drop n tail)) (leading_run 35 others behind hashes)
     ∙ ap (either_counted least more (suc signs) others) (drop_marks others 35 behind)
     ∙ ap (λ (b : Bool). cond b (Refused Unknown) (either_end least more (suc signs) others behind)) (le-ltb 100 (suc signs + others) few)
   where
@@ -350,22 +366,7 @@ code_named code has =
     ∙ (let p = and_parts (length code == 3) (list_all is_ascii_uppercase code) has in capital_named code (eqb-true (length code) 3 p.0) p.1)
 
 zeros_are : (digits : ℕ) → suc digits ≤ 100 → zeros_or Unsupported (marks (suc digits) (48 ∷ []) ++ []) ≡ OfWhole (suc digits)
-zeros_are digits few =
-    ap (λ (b : Bool). cond b (Refused Unsupported) (cond (nat_lt (leading 48 zeros) (length zeros)) (Refused Unsupported) (OfWhole (length zeros)))) short
-    ∙ ap (λ (b : Bool). cond b (Refused Unsupported) (OfWhole (length zeros))) all
-    ∙ ap OfWhole many
-  where
-    zeros : List ℕ
-    zeros = marks (suc digits) (48 ∷ []) ++ []
-
-    many : length zeros ≡ suc digits
-    many = let long = length_marks (suc digits) 48 [] in omega (arith, long)
-
-    short : nat_lt 100 (length zeros) ≡ false
-    short = le-ltb 100 (length zeros) (omega (arith, many, few))
-
-    all : nat_lt (leading 48 zeros) (length zeros) ≡ false
-    all = le-ltb (leading 48 zeros) (length zeros) (let run = leading_zeros (suc digits) [] refl in omega (arith, many, run))
+zeros_are digits few = ap (whole_or Unsupported) (alone_are 48 digits few)
 
 digits_named : (digits : ℕ) → suc digits ≤ 100 → setting_named (codes "integer-width/*" ++ (marks (suc digits) (48 ∷ []) ++ [])) ≡ OfWhole (suc digits)
 digits_named digits few =
@@ -451,6 +452,7 @@ either_named (suc least) more digits others p z few some most =
 abbrev asked_notation : SkeletonNotation → Option SkeletonNotation
 asked_notation notation.Standard = None
 asked_notation (notation.Compact p) = Some (notation.Compact p)
+asked_notation (notation.Scientific style) = Some (notation.Scientific style)
 
 abbrev asked_unit : SkeletonUnit → Option SkeletonUnit
 asked_unit unit.None = None
@@ -490,6 +492,10 @@ asked_grouping (notation.Compact p) grouping.Auto = Some grouping.Auto
 asked_grouping (notation.Compact p) grouping.Off = Some grouping.Off
 asked_grouping (notation.Compact p) grouping.Min2 = None
 asked_grouping (notation.Compact p) grouping.OnAligned = Some grouping.OnAligned
+asked_grouping (notation.Scientific p) grouping.Auto = None
+asked_grouping (notation.Scientific p) grouping.Off = Some grouping.Off
+asked_grouping (notation.Scientific p) grouping.Min2 = Some grouping.Min2
+asked_grouping (notation.Scientific p) grouping.OnAligned = Some grouping.OnAligned
 
 abbrev asked_digits : ℕ → Option ℕ
 asked_digits zero = None
@@ -525,11 +531,23 @@ read_known : (place : ℕ) (c : ℕ) (cs : List ℕ) (words : List (List ℕ)) (
 read_known place c cs words w setting named =
     ap (λ (x : Setting). then_read (λ (v : Words). read_words (place + (length (c ∷ cs) + 1)) words v) (at_place place (set w x))) named
 
-step_notation : (place : ℕ) (n : SkeletonNotation) (rest : List (Option (List ℕ)))
+step_scientific : (place : ℕ) (x : ScientificNotation) (digits : ℕ) (sign : ExponentSign) (rest : List (Option (List ℕ))) → digits ≢ 1 → digits ≤ 100
+    → read_words place (present (Some (scientific_stem x ++ (exponent_mark digits ++ exponent_sign_mark sign)) ∷ rest)) no_words
+    ≡ read_words (after place (Some (scientific_stem x ++ (exponent_mark digits ++ exponent_sign_mark sign)))) (present rest)
+    (asked (Some (notation.Scientific (record { notation = x; exponents = record { sign = sign; least_digits = digits } }))) None None None None None None None)
+step_scientific place Scientific digits sign rest other few =
+    read_known place 115 (codes "cientific" ++ (exponent_mark digits ++ exponent_sign_mark sign)) (present rest) no_words (shown_by Scientific (record { sign = sign; least_digits = digits }))
+    (scientific_named Scientific digits sign other few)
+step_scientific place Engineering digits sign rest other few =
+    read_known place 101 (codes "ngineering" ++ (exponent_mark digits ++ exponent_sign_mark sign)) (present rest) no_words (shown_by Engineering (record { sign = sign; least_digits = digits }))
+    (scientific_named Engineering digits sign other few)
+
+step_notation : (place : ℕ) (n : SkeletonNotation) (rest : List (Option (List ℕ))) → HasExponents n
     → read_words place (present (notation_word n ∷ rest)) no_words ≡ read_words (after place (notation_word n)) (present rest) (asked (asked_notation n) None None None None None None None)
-step_notation place notation.Standard rest = refl
-step_notation place (notation.Compact Short) rest = refl
-step_notation place (notation.Compact Long) rest = refl
+step_notation place notation.Standard rest has = refl
+step_notation place (notation.Compact Short) rest has = refl
+step_notation place (notation.Compact Long) rest has = refl
+step_notation place (notation.Scientific style) rest has = step_scientific place style.notation style.exponents.least_digits style.exponents.sign rest has.0 has.1
 
 step_unit : (place : ℕ) (n : Option SkeletonNotation) (u : SkeletonUnit) (rest : List (Option (List ℕ))) → HasCode u
     → read_words place (present (unit_word u ∷ rest)) (asked n None None None None None None None) ≡ read_words (after place (unit_word u)) (present rest) (asked n (asked_unit u) None None None None None None)
@@ -606,6 +624,10 @@ module _ (place : ℕ) (n : Option SkeletonNotation) (u : Option SkeletonUnit) (
   step_grouping m (notation.Compact q) grouping.Off = refl
   step_grouping m (notation.Compact q) grouping.Min2 = refl
   step_grouping m (notation.Compact q) grouping.OnAligned = refl
+  step_grouping m (notation.Scientific q) grouping.Auto = refl
+  step_grouping m (notation.Scientific q) grouping.Off = refl
+  step_grouping m (notation.Scientific q) grouping.Min2 = refl
+  step_grouping m (notation.Scientific q) grouping.OnAligned = refl
 
   step_digits : (m : Option SignedRoundingMode) (g : Option SkeletonGrouping) (d : ℕ) → d ≤ 100
       → read_words place (present (digits_word d ∷ rest)) (asked n u p m g None None None) ≡ read_words (after place (digits_word d)) (present rest) (asked n u p m g (asked_digits d) None None)
@@ -636,6 +658,7 @@ module _ (place : ℕ) (n : Option SkeletonNotation) (u : Option SkeletonUnit) (
 notation_back : (n : SkeletonNotation) → unwrap_or (asked_notation n) notation.Standard ≡ n
 notation_back notation.Standard = refl
 notation_back (notation.Compact p) = refl
+notation_back (notation.Scientific style) = refl
 
 unit_back : (u : SkeletonUnit) → unwrap_or (asked_unit u) unit.None ≡ u
 unit_back unit.None = refl
@@ -675,6 +698,10 @@ grouping_back (notation.Compact p) grouping.Auto = refl
 grouping_back (notation.Compact p) grouping.Off = refl
 grouping_back (notation.Compact p) grouping.Min2 = refl
 grouping_back (notation.Compact p) grouping.OnAligned = refl
+grouping_back (notation.Scientific p) grouping.Auto = refl
+grouping_back (notation.Scientific p) grouping.Off = refl
+grouping_back (notation.Scientific p) grouping.Min2 = refl
+grouping_back (notation.Scientific p) grouping.OnAligned = refl
 
 digits_back : (d : ℕ) → unwrap_or (asked_digits d) 0 ≡ d
 digits_back zero = refl
@@ -774,7 +801,7 @@ module _ (s : Skeleton) (is : IsSkeleton s) where
 
   words_read : read_words 0 (present (normal_words s)) no_words ≡ Ok (words_for s)
   words_read =
-      step_notation 0 s.notation rest2
+      step_notation 0 s.notation rest2 is.exponents
       ∙ step_unit place1 n1 s.unit rest3 is.code
       ∙ step_precision place2 n1 u1 s.precision rest4 is.marks
       ∙ step_mode place3 n1 u1 p1 rest5 s.mode

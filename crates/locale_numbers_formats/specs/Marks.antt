@@ -1,54 +1,30 @@
 -- What words of marks set: a zero for each digit that is shown, a hash for each that may be.
 -- ICU's number skeletons; docs/skeletons.md, "Words".
 -- Cited by the calls that read skeletons, through Stems.antt.
-use Rattle.std.specs.Prelude.{ℕ, ◌+◌, ◌==◌, ◌&&◌, ◌||◌, nat_lt, cond, if◌then◌else◌, List, [], ◌∷◌, drop, length, Option, Some, None, codes}
+use Rattle.std.specs.Prelude.{ℕ, ◌+◌, ◌==◌, ◌&&◌, ◌||◌, nat_lt, if◌then◌else◌, List, [], ◌∷◌, drop, Option, Some, None, codes}
 use Rattle.std.specs.Str.{bytes_eq}
+use Rattle.locale_numbers_formats.specs.ExponentWords.{exponent_setting}
+use Rattle.locale_numbers_formats.specs.Runs.{leading, marks_alone}
 use Rattle.locale_numbers_formats.specs.declared.options.RoundingPriority.TheVariants.{MorePrecision, LessPrecision}
 use Rattle.locale_numbers_formats.specs.declared.skeleton_error.WordFault.{WordFault}
-use Rattle.locale_numbers_formats.specs.declared.skeleton_error.WordFault.TheVariants.{Unknown, Later, Unsupported}
+use Rattle.locale_numbers_formats.specs.declared.skeleton_error.WordFault.TheVariants.{Unknown, Unsupported}
 use Rattle.locale_numbers_formats.specs.declared.stems.Precision.TheVariants.{Fraction, AtLeast, Whole, Significant, SignificantAtLeast, Either}
 use Rattle.locale_numbers_formats.specs.declared.stems.Setting.{Setting}
 use Rattle.locale_numbers_formats.specs.declared.stems.Setting.TheVariants.{OfPrecision, OfWhole, Refused}
 use Rattle.locale_numbers_formats.specs.declared.stems.WholeZeros.TheVariants.{Shown, Hidden}
 
--- how many marks of a kind a text begins with
-abbrev pub leading : ℕ → List ℕ → ℕ
-leading mark [] = 0
-leading mark (c ∷ cs) = cond (c == mark) (1 + leading mark cs) 0
+-- zeros alone are so many integer digits
+abbrev pub whole_or : WordFault → Option ℕ → Setting
+whole_or fault None = Refused fault
+whole_or fault (Some digits) = OfWhole digits
 
--- zeros alone, a hundred at most, are so many integer digits
 abbrev pub zeros_or : WordFault → List ℕ → Setting
-zeros_or fault [] = Refused fault
-zeros_or fault (c ∷ cs) =
-    if nat_lt 100 (length (c ∷ cs)) then Refused fault
-    else if nat_lt (leading 48 (c ∷ cs)) (length (c ∷ cs)) then Refused fault
-    else OfWhole (length (c ∷ cs))
+zeros_or fault zeros = whole_or fault (marks_alone 48 zeros)
 
 -- a star or a plus, and zeros
 abbrev pub padded_setting : List ℕ → Setting
 padded_setting [] = Refused Unsupported
 padded_setting (c ∷ zeros) = if (c == 42) || (c == 43) then zeros_or Unsupported zeros else Refused Unsupported
-
--- ---- short forms of scientific notation, which is not written yet
-
--- the digits of an exponent
-abbrev pub exponent_digits : List ℕ → Setting
-exponent_digits [] = Refused Unknown
-exponent_digits (c ∷ cs) = if nat_lt (leading 48 (c ∷ cs)) (length (c ∷ cs)) then Refused Unknown else Refused Later
-
--- its sign, after a plus: always, or but of zero
-abbrev pub exponent_sign : List ℕ → Setting
-exponent_sign [] = Refused Unknown
-exponent_sign (c ∷ cs) = if (c == 33) || (c == 63) then exponent_digits cs else Refused Unknown
-
-abbrev pub exponent_signed : List ℕ → Setting
-exponent_signed [] = Refused Unknown
-exponent_signed (c ∷ cs) = if c == 43 then exponent_sign cs else exponent_digits (c ∷ cs)
-
--- what an `E` sets, by the marks after it: a second one says engineering
-abbrev pub exponent_setting : List ℕ → Setting
-exponent_setting [] = Refused Unknown
-exponent_setting (c ∷ cs) = if c == 69 then exponent_signed cs else exponent_signed (c ∷ cs)
 
 -- ---- significant digits: an at-sign for each that is shown, a hash for each that may be
 

@@ -10,6 +10,10 @@ use Rattle.fixed_decimal.specs.declared.SignDisplay.TheVariants as display
 use Rattle.fixed_decimal.specs.declared.SignedRoundingMode.{SignedRoundingMode}
 use Rattle.fixed_decimal.specs.declared.SignedRoundingMode.TheVariants.{Unsigned, Ceil, Floor, HalfCeil, HalfFloor}
 use Rattle.fixed_decimal.specs.declared.UnsignedRoundingMode.TheVariants.{Expand, Trunc, HalfExpand, HalfTrunc, HalfEven}
+use Rattle.icu_decimal_scientific.specs.declared.notation.ScientificNotation.{ScientificNotation}
+use Rattle.icu_decimal_scientific.specs.declared.notation.ScientificNotation.TheVariants as exponents
+use Rattle.icu_decimal_scientific.specs.declared.shown.ExponentSign.{ExponentSign}
+use Rattle.icu_decimal_scientific.specs.declared.shown.ExponentSign.TheVariants as exponent
 use Rattle.icu_dimension_fractions.specs.declared.CurrencyStyle.{CurrencyStyle}
 use Rattle.icu_dimension_fractions.specs.declared.CurrencyStyle.TheVariants as style
 use Rattle.icu_dimension_fractions.specs.declared.CurrencyUsage.TheVariants.{Standard, Cash}
@@ -23,6 +27,7 @@ use Rattle.locale_numbers_formats.specs.declared.normal_text.NormalWord.{NormalW
 use Rattle.locale_numbers_formats.specs.declared.options.RoundingPriority.{RoundingPriority}
 use Rattle.locale_numbers_formats.specs.declared.options.RoundingPriority.TheVariants.{MorePrecision, LessPrecision}
 use Rattle.locale_numbers_formats.specs.declared.shape.CompactWidth.TheVariants.{Short, Long}
+use Rattle.locale_numbers_formats.specs.declared.shape.ScientificStyle.{ScientificStyle}
 use Rattle.locale_numbers_formats.specs.declared.skeleton.Skeleton.{Skeleton}
 use Rattle.locale_numbers_formats.specs.declared.stems.Precision.{Precision}
 use Rattle.locale_numbers_formats.specs.declared.stems.Precision.TheVariants as precision
@@ -38,10 +43,32 @@ use Rattle.locale_numbers_formats.specs.declared.stems.WholeZeros.TheVariants.{S
 
 -- ---- the word of each thing, where it is not usual
 
+-- a mark, so many times
+abbrev pub marks : ℕ → List ℕ → List ℕ
+marks zero mark = []
+marks (suc count) mark = mark ++ marks count mark
+
+abbrev pub scientific_stem : ScientificNotation → List ℕ
+scientific_stem exponents.Scientific = codes "scientific"
+scientific_stem exponents.Engineering = codes "engineering"
+
+-- how many digits of an exponent are shown at least
+abbrev pub exponent_mark : ℕ → List ℕ
+exponent_mark zero = []
+exponent_mark (suc digits) = codes "/*" ++ marks (suc digits) (codes "e")
+
+abbrev pub exponent_sign_mark : ExponentSign → List ℕ
+exponent_sign_mark exponent.Auto = []
+exponent_sign_mark exponent.Always = codes "/sign-always"
+
+abbrev pub scientific_word : ScientificStyle → List ℕ
+scientific_word style = scientific_stem style.notation ++ (exponent_mark style.exponents.least_digits ++ exponent_sign_mark style.exponents.sign)
+
 abbrev pub notation_word : SkeletonNotation → Option (List ℕ)
 notation_word notation.Standard = None
 notation_word (notation.Compact Short) = Some (codes "compact-short")
 notation_word (notation.Compact Long) = Some (codes "compact-long")
+notation_word (notation.Scientific style) = Some (scientific_word style)
 
 abbrev pub percent_word : PercentSign → List ℕ
 percent_word sign.Percent = codes "percent"
@@ -51,11 +78,6 @@ abbrev pub unit_word : SkeletonUnit → Option (List ℕ)
 unit_word unit.None = None
 unit_word (unit.Percent sign) = Some (percent_word sign)
 unit_word (unit.Currency code) = Some (codes "currency/" ++ code)
-
--- a mark, so many times
-abbrev pub marks : ℕ → List ℕ → List ℕ
-marks zero mark = []
-marks (suc count) mark = mark ++ marks count mark
 
 -- a point, zeros and hashes, and what is behind these
 abbrev pub pointed : ℕ → ℕ → List ℕ → List ℕ
@@ -144,6 +166,10 @@ grouping_word (notation.Compact pattern) grouping.Auto = Some (codes "group-auto
 grouping_word (notation.Compact pattern) grouping.Off = Some (codes "group-off")
 grouping_word (notation.Compact pattern) grouping.Min2 = None
 grouping_word (notation.Compact pattern) grouping.OnAligned = Some (codes "group-on-aligned")
+grouping_word (notation.Scientific style) grouping.Auto = None
+grouping_word (notation.Scientific style) grouping.Off = Some (codes "group-off")
+grouping_word (notation.Scientific style) grouping.Min2 = Some (codes "group-min2")
+grouping_word (notation.Scientific style) grouping.OnAligned = Some (codes "group-on-aligned")
 
 abbrev pub digits_word : ℕ → Option (List ℕ)
 digits_word zero = None
@@ -195,10 +221,10 @@ skeleton_text s = joined false (normal_words s)
 -- ---- the pieces that the code writes
 
 abbrev pub word_of : NormalWord → List ℕ
-word_of w = w.front.now ++ (marks w.zeros (codes "0") ++ (marks w.hashes (codes "#") ++ (w.middle.now ++ (marks w.last (codes "0") ++ at_signs w.signs w.others w.behind.now))))
+word_of w = w.front.now ++ (marks w.exponents (codes "e") ++ (marks w.zeros (codes "0") ++ (marks w.hashes (codes "#") ++ (w.middle.now ++ (marks w.last (codes "0") ++ at_signs w.signs w.others w.behind.now)))))
 
 abbrev pub at_sign_events : NormalWord → List Event
 at_sign_events w = bytes w.middle.now ++ (bytes (marks w.last (codes "0")) ++ (bytes (marks w.signs (codes "@")) ++ (bytes (marks w.others (codes "#")) ++ bytes w.behind.now)))
 
 abbrev pub word_events : Bool → NormalWord → List Event
-word_events spaced w = bytes (gap spaced) ++ (bytes w.front.now ++ (bytes (marks w.zeros (codes "0")) ++ (bytes (marks w.hashes (codes "#")) ++ at_sign_events w)))
+word_events spaced w = bytes (gap spaced) ++ (bytes w.front.now ++ (bytes (marks w.exponents (codes "e")) ++ (bytes (marks w.zeros (codes "0")) ++ (bytes (marks w.hashes (codes "#")) ++ at_sign_events w))))

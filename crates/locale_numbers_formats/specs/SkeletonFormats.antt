@@ -10,7 +10,7 @@ use Rattle.icu_decimal_symbols.specs.declared.options.GroupingStrategy.TheVarian
 use Rattle.icu_dimension_fractions.specs.declared.CurrencyUsage.{CurrencyUsage}
 use Rattle.icu_dimension_fractions.specs.declared.CurrencyUsage.TheVariants.{Standard, Cash}
 use Rattle.locale_numbers_formats.specs.Changed.{unchanged}
-use Rattle.locale_numbers_formats.specs.Skeletons.{is_compact, is_currency, says_mode, says_precision}
+use Rattle.locale_numbers_formats.specs.Skeletons.{is_compact, is_currency, is_scientific, says_mode, says_precision}
 use Rattle.locale_numbers_formats.specs.declared.options.LeadingZeros.TheVariants as leading
 use Rattle.locale_numbers_formats.specs.declared.options.NumberOptions.{NumberOptions}
 use Rattle.locale_numbers_formats.specs.declared.options.Rounding.{Rounding}
@@ -68,19 +68,23 @@ rounding_by amount mode (Increment step zeros digits whole) = rounding.At (pos z
 rounding_by amount mode (Currency usage) = by_usage usage
 rounding_by amount mode (WholeCurrency usage) = by_usage usage
 
--- a precision or a mode asks for digits of what is before a compact pattern
+-- a precision or a mode asks for digits of what is before a compact pattern; those of a significand are asked for in any case
 abbrev pub has_own_digits : Skeleton → Bool
-has_own_digits s = is_compact s.notation && (says_precision s.precision || says_mode s.mode)
+has_own_digits s = is_scientific s.notation || (is_compact s.notation && (says_precision s.precision || says_mode s.mode))
 
 -- without a precision that is rounded to two digits, or to the ones where those show more
 abbrev pub compact_rounding : SignedRoundingMode → Precision → Rounding
 compact_rounding mode precision =
     if says_precision precision then rounding_by false mode precision else rounding.Either MorePrecision (pos 0) (record { least = 1; most = 2 }) mode
 
+-- what a number before a compact pattern, or a significand, is rounded to
+abbrev pub own_rounding : SkeletonNotation → SignedRoundingMode → Precision → Rounding
+own_rounding notation mode precision = if is_compact notation then compact_rounding mode precision else rounding_by false mode precision
+
 -- without either a compact pattern rounds by itself
 abbrev pub rounding_of : Skeleton → Rounding
 rounding_of s =
-    if has_own_digits s then compact_rounding s.mode s.precision
+    if has_own_digits s then own_rounding s.notation s.mode s.precision
     else if is_compact s.notation then rounding.AsGiven
     else rounding_by (is_currency s.unit) s.mode s.precision
 
@@ -133,7 +137,7 @@ strategy_of grouping.Off = strategy.Never
 strategy_of grouping.Min2 = strategy.Min2
 strategy_of grouping.OnAligned = strategy.OnAligned
 
--- what is made of a number, or of what is before a compact pattern
+-- what is made of a number, or of what is before a compact pattern, or of a significand
 abbrev pub options_of : Skeleton → NumberOptions
 options_of s = record {
   rounding = rounding_of s;
@@ -147,6 +151,7 @@ options_of s = record {
 abbrev pub notation_by : SkeletonNotation → Skeleton → Notation
 notation_by asked.Standard s = notation.Standard
 notation_by (asked.Compact width) s = if has_own_digits s then notation.CompactDigits width (options_of s) else notation.Compact width
+notation_by (asked.Scientific style) s = notation.Scientific style (options_of s)
 
 abbrev pub notation_of : Skeleton → Notation
 notation_of s = notation_by s.notation s

@@ -1,7 +1,7 @@
 -- The normal text of a skeleton is read as that skeleton.
 -- Defined in docs/skeletons.md, "Normal text".
 -- Cited by the laws `normal_text_reads_back` and `texts_are_skeletons`.
-use Rattle.std.specs.Prelude.{◌≡◌, ◌+◌, ◌<◌, ◌≤◌, ℕ, true, List, None, Ok}
+use Rattle.std.specs.Prelude.{◌≡◌, ◌≢◌, ◌+◌, ◌<◌, ◌≤◌, ℕ, true, List, None, Ok}
 use Rattle.fixed_decimal.specs.declared.SignDisplay.TheVariants.{Never}
 use Rattle.icu_dimension_fractions.specs.CurrencyCodes.{is_currency_code}
 use Rattle.icu_dimension_fractions.specs.declared.CurrencyStyle.TheVariants as style
@@ -10,6 +10,8 @@ use Rattle.locale_numbers_formats.specs.Skeletons.{pair_fault, skeleton_of}
 use Rattle.locale_numbers_formats.specs.declared.skeleton.Skeleton.{Skeleton}
 use Rattle.locale_numbers_formats.specs.declared.stems.Precision.{Precision}
 use Rattle.locale_numbers_formats.specs.declared.stems.Precision.TheVariants as precision
+use Rattle.locale_numbers_formats.specs.declared.stems.SkeletonNotation.{SkeletonNotation}
+use Rattle.locale_numbers_formats.specs.declared.stems.SkeletonNotation.TheVariants as notation
 use Rattle.locale_numbers_formats.specs.declared.stems.SkeletonUnit.{SkeletonUnit}
 use Rattle.locale_numbers_formats.specs.declared.stems.SkeletonUnit.TheVariants as unit
 
@@ -33,8 +35,15 @@ HasMarks (precision.Increment step zeros digits whole) = (zeros ≤ 100) × (dig
 HasMarks (precision.Currency usage) = Unit {0}
 HasMarks (precision.WholeCurrency usage) = Unit {0}
 
+-- digits of an exponent: no one at least, which is usual, and not more than a word may have
+abbrev pub HasExponents : SkeletonNotation → Type 0
+HasExponents notation.Standard = Unit {0}
+HasExponents (notation.Compact pattern) = Unit {0}
+HasExponents (notation.Scientific style) = (style.exponents.least_digits ≢ 1) × (style.exponents.least_digits ≤ 100)
+
 -- what words can ask for
 pub record IsSkeleton (s : Skeleton) : Type 0 where
+  pub exponents : HasExponents s.notation
   pub code : HasCode s.unit
   pub marks : HasMarks s.precision
   pub whole : s.integer_digits ≤ 100

@@ -85,6 +85,7 @@ read_words_of text = read_words 0 (cut_at space text) no_words
 abbrev pub usual_grouping : SkeletonNotation → SkeletonGrouping
 usual_grouping notation.Standard = grouping.Auto
 usual_grouping (notation.Compact pattern) = grouping.Min2
+usual_grouping (notation.Scientific style) = grouping.Auto
 
 abbrev pub settled : Words → Skeleton
 settled w = record {
@@ -103,6 +104,17 @@ settled w = record {
 abbrev pub is_compact : SkeletonNotation → Bool
 is_compact notation.Standard = false
 is_compact (notation.Compact pattern) = true
+is_compact (notation.Scientific style) = false
+
+abbrev pub is_scientific : SkeletonNotation → Bool
+is_scientific notation.Standard = false
+is_scientific (notation.Compact pattern) = false
+is_scientific (notation.Scientific style) = true
+
+abbrev pub has_unit : SkeletonUnit → Bool
+has_unit unit.None = false
+has_unit (unit.Percent sign) = true
+has_unit (unit.Currency code) = true
 
 abbrev pub is_currency : SkeletonUnit → Bool
 is_currency unit.None = false
@@ -165,7 +177,8 @@ has_amount_digits s = has_currency_digits s.precision || (is_currency s.unit && 
 -- the first fault, by the kind of the word that has it
 abbrev pub pair_fault : Skeleton → Option (SettingKind × WordFault)
 pair_fault s =
-    if is_compact s.notation && has_amount_digits s then Some (kind.Precision, Later)
+    if is_scientific s.notation && has_unit s.unit then Some (kind.Notation, Later)
+    else if is_compact s.notation && has_amount_digits s then Some (kind.Precision, Later)
     else if has_currency_digits s.precision && not (is_currency s.unit) then Some (kind.Precision, Pair)
     else if says_mode s.mode && fits_currency s then Some (kind.Mode, Later)
     else if is_code s.width && not (is_currency s.unit) then Some (kind.Width, Pair)
@@ -173,6 +186,7 @@ pair_fault s =
     else None
 
 abbrev pub is_of : SettingKind → Setting → Bool
+is_of kind.Notation (OfNotation x) = true
 is_of kind.Precision (OfPrecision x) = true
 is_of kind.Mode (OfMode x) = true
 is_of kind.Width (OfWidth x) = true

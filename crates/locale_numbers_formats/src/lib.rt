@@ -17,6 +17,7 @@
 
 mod changing;
 mod cutting;
+mod exponents;
 mod increments;
 pub mod laws;
 mod marks;
@@ -27,6 +28,7 @@ mod shape;
 mod significant;
 mod skeleton;
 mod skeleton_error;
+mod stem_table;
 mod stems;
 mod word_table;
 
@@ -35,7 +37,9 @@ pub use options::{
     LeadingZeros, NumberOptions, Rounding, RoundingPriority, SignAsked, SignificantDigits,
     TrailingZeros,
 };
-pub use shape::{CompactWidth, CurrencyUnit, Notation, NumberFormat, NumberShape, NumberUnit};
+pub use shape::{
+    CompactWidth, CurrencyUnit, Notation, NumberFormat, NumberShape, NumberUnit, ScientificStyle,
+};
 pub use skeleton::Skeleton;
 pub use skeleton_error::SkeletonError;
 pub use stems::{

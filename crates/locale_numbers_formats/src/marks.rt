@@ -1,8 +1,10 @@
 //! Words of digits: zeros for each that is shown, hashes for each that may be.
 
 ghost use Rattle.std.specs.Prelude.{◌≡◌, ◌+◌, ◌≤◌, length};
-ghost use Rattle.locale_numbers_formats.specs.Marks.{digits_end, digits_setting, either_end, either_setting, exponent_digits, exponent_setting, exponent_sign, exponent_signed, fraction_end, fraction_setting, leading, marked, old_end, option_setting, padded_setting, zeros_or};
+ghost use Rattle.locale_numbers_formats.specs.Marks.{digits_end, digits_setting, either_end, either_setting, fraction_end, fraction_setting, marked, old_end, option_setting, padded_setting, zeros_or};
+ghost use Rattle.locale_numbers_formats.specs.Runs.{leading, marks_alone};
 
+use crate::exponents::exponent_setting;
 use crate::options::RoundingPriority;
 use crate::skeleton_error::WordFault;
 use crate::stems::{Precision, Setting, WholeZeros};
@@ -22,14 +24,24 @@ pub(crate) fn leading(text: &[u8], mark: u8) -> usize
     count
 }
 
+// How many marks a text is, where it has those of one kind alone, one at least and a hundred at most.
+pub(crate) fn marks_alone(text: &[u8], mark: u8) -> Option<u8>
+    ensures { result ≡ marks_alone mark text.now }
+{
+    if text.is_empty() || text.len() > MOST || leading(text, mark) < text.len() {
+        None
+    } else {
+        Some(text.len() as u8)
+    }
+}
+
 // What zeros alone set: so many integer digits.
 fn zeros_or(text: &[u8], fault: WordFault) -> Setting
     ensures { result ≡ zeros_or fault text.now }
 {
-    if text.is_empty() || text.len() > MOST || leading(text, b'0') < text.len() {
-        Setting::Refused(fault)
-    } else {
-        Setting::OfWhole(text.len() as u8)
+    match marks_alone(text, b'0') {
+        None => Setting::Refused(fault),
+        Some(digits) => Setting::OfWhole(digits),
     }
 }
 
@@ -44,65 +56,6 @@ pub(crate) fn padded_setting(option: &[u8]) -> Setting
                 zeros_or(zeros, WordFault::Unsupported)
             } else {
                 Setting::Refused(WordFault::Unsupported)
-            }
-        }
-    }
-}
-
-// What the digits of an exponent set.
-fn exponent_digits(text: &[u8]) -> Setting
-    ensures { result ≡ exponent_digits text.now }
-{
-    if text.is_empty() || leading(text, b'0') < text.len() {
-        Setting::Refused(WordFault::Unknown)
-    } else {
-        Setting::Refused(WordFault::Later)
-    }
-}
-
-// What the sign of an exponent sets after its plus, by what follows it.
-fn exponent_sign(text: &[u8]) -> Setting
-    ensures { result ≡ exponent_sign text.now }
-{
-    match text.split_first() {
-        None => Setting::Refused(WordFault::Unknown),
-        Some((first, digits)) => {
-            if *first == b'!' || *first == b'?' {
-                exponent_digits(digits)
-            } else {
-                Setting::Refused(WordFault::Unknown)
-            }
-        }
-    }
-}
-
-// What an exponent sets, with a sign or without.
-fn exponent_signed(text: &[u8]) -> Setting
-    ensures { result ≡ exponent_signed text.now }
-{
-    match text.split_first() {
-        None => Setting::Refused(WordFault::Unknown),
-        Some((first, sign)) => {
-            if *first == b'+' {
-                exponent_sign(sign)
-            } else {
-                exponent_digits(text)
-            }
-        }
-    }
-}
-
-// What an `E` sets, by the marks after it.
-fn exponent_setting(marks: &[u8]) -> Setting
-    ensures { result ≡ exponent_setting marks.now }
-{
-    match marks.split_first() {
-        None => Setting::Refused(WordFault::Unknown),
-        Some((first, exponent)) => {
-            if *first == b'E' {
-                exponent_signed(exponent)
-            } else {
-                exponent_signed(marks)
             }
         }
     }

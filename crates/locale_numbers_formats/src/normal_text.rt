@@ -1,25 +1,28 @@
 //! The normal text of a skeleton: its words in ICU's order.
 
-ghost use Rattle.std.specs.Prelude.{◌≡◌, ◌++◌, ◌||◌, codes, false, is_err, is_some, length, map, option_map, OnOk, OnErr};
+ghost use Rattle.std.specs.Prelude.{◌≡◌, ◌++◌, ◌||◌, codes, false, if◌then◌else◌, [], is_err, is_some, length, map, option_map, OnOk, OnErr};
 ghost use Rattle.writeable.specs.AnnotatedText.{bytes};
 ghost use Rattle.writeable.specs.Taking.{HasBegun};
-ghost use Rattle.locale_numbers_formats.specs.NormalText.{digits_word, either_mark, fraction_word, gap, grouping_word, joined, marks, mode_word, normal_words, notation_word, percent_word, precision_word, number_text, priority_mark, sign_word, step_digits, at_signs, at_sign_events, unit_word, whole_mark, width_word, word_after, word_events, word_of};
+ghost use Rattle.locale_numbers_formats.specs.NormalText.{digits_word, either_mark, exponent_sign_mark, fraction_word, gap, grouping_word, joined, marks, mode_word, normal_words, notation_word, percent_word, precision_word, number_text, priority_mark, scientific_stem, scientific_word, sign_word, step_digits, at_signs, at_sign_events, unit_word, whole_mark, width_word, word_after, word_events, word_of};
 
 use crate::options::RoundingPriority;
-use crate::shape::CompactWidth;
+use crate::shape::{CompactWidth, ScientificStyle};
 use crate::skeleton::Skeleton;
 use crate::stems::{
     Precision, SkeletonGrouping, SkeletonNotation, SkeletonSign, SkeletonUnit, WholeZeros,
 };
 use fixed_decimal::{RoundingIncrement, SignDisplay, SignedRoundingMode, UnsignedRoundingMode};
+use icu_decimal_scientific::{ExponentSign, ScientificNotation};
 use icu_dimension_fractions::{CurrencyStyle, CurrencyUsage, CurrencyWidth, PercentSign};
 use std::fmt;
 use writeable::{Error, Sink, Writeable, display};
 
-// A word: a front, zeros and hashes, a middle, zeros, at-signs and hashes, and what is behind these.
+// A word: a front, an `e` for each digit of an exponent, zeros and hashes, a middle, zeros, at-signs and hashes, and what
+// is behind these.
 #[derive(Clone, Copy)]
 struct NormalWord<'a> {
     front: &'a str,
+    exponents: u8,
     zeros: u8,
     hashes: u8,
     middle: &'a str,
@@ -32,6 +35,7 @@ struct NormalWord<'a> {
 // Nothing.
 const BLANK: NormalWord<'static> = NormalWord {
     front: "",
+    exponents: 0,
     zeros: 0,
     hashes: 0,
     middle: "",
@@ -76,6 +80,41 @@ fn at_signs(signs: u8, others: u8, behind: &'static str) -> NormalWord<'static>
     }
 }
 
+// The front of the word of a scientific notation, before digits of exponents where some are asked for.
+fn scientific_front(notation: ScientificNotation, has_digits: bool) -> &'static str
+    ensures { result.now ≡ scientific_stem notation ++ (if has_digits then codes "/*" else []) }
+{
+    match (notation, has_digits) {
+        (ScientificNotation::Scientific, false) => "scientific",
+        (ScientificNotation::Scientific, true) => "scientific/*",
+        (ScientificNotation::Engineering, false) => "engineering",
+        (ScientificNotation::Engineering, true) => "engineering/*",
+    }
+}
+
+// What says which sign exponents have.
+fn exponent_sign_mark(sign: ExponentSign) -> &'static str
+    ensures { result.now ≡ exponent_sign_mark sign }
+{
+    match sign {
+        ExponentSign::Auto => "",
+        ExponentSign::Always => "/sign-always",
+    }
+}
+
+// The word of a scientific notation.
+fn scientific_word(style: ScientificStyle) -> NormalWord<'static>
+    ensures { word_of result ≡ scientific_word style }
+{
+    let digits = style.exponents.least_digits;
+    NormalWord {
+        front: scientific_front(style.notation, digits > 0),
+        exponents: digits,
+        behind: exponent_sign_mark(style.exponents.sign),
+        ..BLANK
+    }
+}
+
 // The word of a notation.
 fn notation_word(notation: SkeletonNotation) -> Option<NormalWord<'static>>
     ensures { option_map word_of result ≡ notation_word notation }
@@ -84,6 +123,7 @@ fn notation_word(notation: SkeletonNotation) -> Option<NormalWord<'static>>
         SkeletonNotation::Standard => None,
         SkeletonNotation::Compact(CompactWidth::Short) => Some(fixed("compact-short")),
         SkeletonNotation::Compact(CompactWidth::Long) => Some(fixed("compact-long")),
+        SkeletonNotation::Scientific(style) => Some(scientific_word(style)),
     }
 }
 
@@ -313,18 +353,14 @@ fn grouping_word(
     ensures { option_map word_of result ≡ grouping_word notation grouping }
 {
     match (notation, grouping) {
-        (SkeletonNotation::Standard, SkeletonGrouping::Auto) => None,
-        (SkeletonNotation::Standard, SkeletonGrouping::Off) => Some(fixed("group-off")),
-        (SkeletonNotation::Standard, SkeletonGrouping::Min2) => Some(fixed("group-min2")),
-        (SkeletonNotation::Standard, SkeletonGrouping::OnAligned) => Some(fixed(
-            "group-on-aligned",
-        )),
+        (SkeletonNotation::Standard | SkeletonNotation::Scientific(_), SkeletonGrouping::Auto)
+        | (SkeletonNotation::Compact(_), SkeletonGrouping::Min2) => None,
         (SkeletonNotation::Compact(_), SkeletonGrouping::Auto) => Some(fixed("group-auto")),
-        (SkeletonNotation::Compact(_), SkeletonGrouping::Off) => Some(fixed("group-off")),
-        (SkeletonNotation::Compact(_), SkeletonGrouping::Min2) => None,
-        (SkeletonNotation::Compact(_), SkeletonGrouping::OnAligned) => Some(fixed(
-            "group-on-aligned",
-        )),
+        (SkeletonNotation::Standard | SkeletonNotation::Scientific(_), SkeletonGrouping::Min2) => {
+            Some(fixed("group-min2"))
+        }
+        (_, SkeletonGrouping::Off) => Some(fixed("group-off")),
+        (_, SkeletonGrouping::OnAligned) => Some(fixed("group-on-aligned")),
     }
 }
 
@@ -424,6 +460,7 @@ fn write_word<S: Sink>(spaced: bool, word: NormalWord<'_>, sink: &mut S) -> Resu
 {
     write_gap(spaced, sink)?;
     sink.write_str(word.front)?;
+    write_marks(word.exponents, "e", sink)?;
     write_marks(word.zeros, "0", sink)?;
     write_marks(word.hashes, "#", sink)?;
     write_at_signs(word, sink)

@@ -1,6 +1,7 @@
 //! What tables a number is written with, and the format that it is written by.
 
 use crate::options::NumberOptions;
+use icu_decimal_scientific::{ExponentOptions, ScientificNotation};
 use icu_decimal_symbols::options::GroupingStrategy;
 use icu_dimension_fractions::{CurrencyCode, CurrencyStyle, CurrencyWidth, PercentSign};
 
@@ -14,6 +15,15 @@ pub enum CompactWidth {
     Long,
 }
 
+/// How scientific numbers are written: by the default 1200000 is `1.2E6`.
+#[derive(Clone, Copy, Debug, Default, PartialEq, Eq, Hash)]
+pub struct ScientificStyle {
+    /// Which exponents there are: each, or the multiples of three.
+    pub notation: ScientificNotation,
+    /// How they are shown: with which sign and how many digits.
+    pub exponents: ExponentOptions,
+}
+
 /// How the digits of a number are written. After ICU4C's notation of number formatting.
 #[derive(Clone, Copy, Debug, Default, PartialEq, Eq, Hash)]
 pub enum Notation {
@@ -24,6 +34,8 @@ pub enum Notation {
     Compact(CompactWidth),
     /// Those that options leave of what is before a compact pattern: `1.60K` by two fraction digits.
     CompactDigits(CompactWidth, NumberOptions),
+    /// Those that options leave of a significand, with an exponent behind it: `1.6E3`.
+    Scientific(ScientificStyle, NumberOptions),
 }
 
 /// A currency, and how it is written beside an amount.

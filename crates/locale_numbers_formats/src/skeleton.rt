@@ -3,8 +3,8 @@
 ghost use Rattle.std.specs.Prelude.{◌≡◌};
 ghost use Rattle.std.specs.Result.{result_map_both};
 ghost use Rattle.locale_numbers_formats.specs.Cutting.{cut_at};
-ghost use Rattle.locale_numbers_formats.specs.SkeletonFormats.{compact_rounding, digits_from, digits_of, digits_on, format_of, has_own_digits, notation_of, options_of, rounding_by, rounding_of, strategy_of, unit_of, whole_zeros, zeros_of};
-ghost use Rattle.locale_numbers_formats.specs.Skeletons.{fits_currency, has_amount_digits, has_currency_digits, is_accounting, is_code, is_compact, is_currency, is_of, no_words, pair_fault, read_word, read_words_of, says_mode, says_precision, set, settled, skeleton_of, space, usual_grouping, word_place};
+ghost use Rattle.locale_numbers_formats.specs.SkeletonFormats.{compact_rounding, digits_from, digits_of, digits_on, format_of, has_own_digits, notation_of, options_of, own_rounding, rounding_by, rounding_of, strategy_of, unit_of, whole_zeros, zeros_of};
+ghost use Rattle.locale_numbers_formats.specs.Skeletons.{fits_currency, has_amount_digits, has_currency_digits, has_unit, is_accounting, is_code, is_compact, is_currency, is_of, is_scientific, no_words, pair_fault, read_word, read_words_of, says_mode, says_precision, set, settled, skeleton_of, space, usual_grouping, word_place};
 
 use crate::cutting::cut_field;
 use crate::options::{
@@ -49,7 +49,7 @@ fn usual_grouping(notation: SkeletonNotation) -> SkeletonGrouping
     ensures { result ≡ usual_grouping notation }
 {
     match notation {
-        SkeletonNotation::Standard => SkeletonGrouping::Auto,
+        SkeletonNotation::Standard | SkeletonNotation::Scientific(_) => SkeletonGrouping::Auto,
         SkeletonNotation::Compact(_) => SkeletonGrouping::Min2,
     }
 }
@@ -71,6 +71,8 @@ struct Words {
 // What a word sets that may not go with another one.
 #[derive(Clone, Copy)]
 enum SettingKind {
+    // How the digits are written.
+    Notation,
     // Which digits are shown.
     Precision,
     // How the number is rounded.
@@ -180,7 +182,8 @@ fn is_of(kind: SettingKind, setting: Setting) -> bool
 {
     matches!(
         (kind, setting),
-        (SettingKind::Precision, Setting::OfPrecision(_))
+        (SettingKind::Notation, Setting::OfNotation(_))
+            | (SettingKind::Precision, Setting::OfPrecision(_))
             | (SettingKind::Mode, Setting::OfMode(_))
             | (SettingKind::Width, Setting::OfWidth(_))
             | (SettingKind::Sign, Setting::OfSign(_))
@@ -214,8 +217,28 @@ fn is_compact(notation: SkeletonNotation) -> bool
     ensures { result ≡ is_compact notation }
 {
     match notation {
-        SkeletonNotation::Standard => false,
+        SkeletonNotation::Standard | SkeletonNotation::Scientific(_) => false,
         SkeletonNotation::Compact(_) => true,
+    }
+}
+
+// Whether digits are written with an exponent.
+fn is_scientific(notation: SkeletonNotation) -> bool
+    ensures { result ≡ is_scientific notation }
+{
+    match notation {
+        SkeletonNotation::Standard | SkeletonNotation::Compact(_) => false,
+        SkeletonNotation::Scientific(_) => true,
+    }
+}
+
+// Whether anything is beside the digits.
+fn has_unit(unit: SkeletonUnit) -> bool
+    ensures { result ≡ has_unit unit }
+{
+    match unit {
+        SkeletonUnit::None => false,
+        SkeletonUnit::Percent(_) | SkeletonUnit::Currency(_) => true,
     }
 }
 
@@ -356,7 +379,9 @@ impl Skeleton {
     fn pair_fault(&self) -> Option<(SettingKind, WordFault)>
         ensures { result ≡ pair_fault self.now }
     {
-        if is_compact(self.notation) && self.has_amount_digits() {
+        if is_scientific(self.notation) && has_unit(self.unit) {
+            Some((SettingKind::Notation, WordFault::Later))
+        } else if is_compact(self.notation) && self.has_amount_digits() {
             Some((SettingKind::Precision, WordFault::Later))
         } else if has_currency_digits(self.precision) && !is_currency(self.unit) {
             Some((SettingKind::Precision, WordFault::Pair))
@@ -377,7 +402,7 @@ impl Skeleton {
     /// `Unknown`: a word is none, as `foo`. `Twice`: a word sets what another one has set, as the second of `percent
     /// currency/EUR`. `Code`: what follows `currency/` is no code, as `EURO`. `Pair`: a word is for amounts, and there is
     /// no currency, as `sign-accounting` alone. `System`: a word names a numbering system. `Later`: a word, or what goes
-    /// with it, is not written yet, as `scientific`. `Unsupported`: a word asks for what is not written here, as
+    /// with it, is not written yet, as `unit/meter`. `Unsupported`: a word asks for what is not written here, as
     /// `decimal-always`. Each has the place of the word in bytes, 8 of `percent foo`; the first such word is told, and one
     /// that does not go with another only where all are known and none sets twice.
     pub fn try_from_utf8(code_units: &[u8]) -> Result<Skeleton, SkeletonError>
@@ -401,11 +426,13 @@ impl Skeleton {
         Self::try_from_utf8(s.as_bytes())
     }
 
-    // Whether a word asks for digits of what is before a compact pattern.
+    // Whether digits of what is before a compact pattern are asked for, or of a significand.
     fn has_own_digits(&self) -> bool
         ensures { result ≡ has_own_digits self.now }
     {
-        is_compact(self.notation) && (says_precision(self.precision) || says_mode(self.mode))
+        is_scientific(self.notation)
+            || (is_compact(self.notation)
+                && (says_precision(self.precision) || says_mode(self.mode)))
     }
 
     // What a number is rounded to by the precision: an amount of money, or another one.
@@ -451,12 +478,23 @@ impl Skeleton {
         Rounding::Either(RoundingPriority::MorePrecision, 0, two, self.mode)
     }
 
+    // What a number before a compact pattern, or a significand, is rounded to.
+    fn own_rounding(&self) -> Rounding
+        ensures { result ≡ own_rounding self.now.notation self.now.mode self.now.precision }
+    {
+        if is_compact(self.notation) {
+            self.compact_rounding()
+        } else {
+            self.rounding_by(false)
+        }
+    }
+
     // What a number is rounded to.
     fn rounding(&self) -> Rounding
         ensures { result ≡ rounding_of self.now }
     {
         if self.has_own_digits() {
-            self.compact_rounding()
+            self.own_rounding()
         } else if is_compact(self.notation) {
             Rounding::AsGiven
         } else {
@@ -532,7 +570,7 @@ impl Skeleton {
         }
     }
 
-    // What the words make of a number, or of what is before a compact pattern.
+    // What the words make of a number, or of what is before a compact pattern, or of a significand.
     fn number_options(&self) -> NumberOptions
         ensures { result ≡ options_of self.now }
     {
@@ -556,11 +594,15 @@ impl Skeleton {
                 Notation::CompactDigits(width, self.number_options())
             }
             SkeletonNotation::Compact(width) => Notation::Compact(width),
+            SkeletonNotation::Scientific(style) => {
+                Notation::Scientific(style, self.number_options())
+            }
         }
     }
 
     /// The format that it asks for: of `percent .00` that of percents, to hundredths, shown with both; of `compact-short
-    /// .00` that of compact numbers with two such digits before the pattern, `1.23K`. It does not allocate.
+    /// .00` that of compact numbers with two such digits before the pattern, `1.23K`; of `scientific .00` that of numbers
+    /// with two such digits of the significand, `1.23E3`. It does not allocate.
     pub fn format(&self) -> NumberFormat
         ensures { result ≡ format_of self.now }
     {

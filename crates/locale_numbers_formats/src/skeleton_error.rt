@@ -23,7 +23,7 @@ pub enum SkeletonError {
     /// A word names a numbering system, which the tag of a locale has, as `latin`; its place.
     #[error("a numbering system at {0}")]
     System(usize),
-    /// A word, or what it says beside another one, is not written yet, as `scientific`, and `rounding-mode-up` beside
+    /// A word, or what it says beside another one, is not written yet, as `unit/meter`, and `rounding-mode-up` beside
     /// `currency/EUR`; its place.
     #[error("not written yet: the word at {0}")]
     Later(usize),

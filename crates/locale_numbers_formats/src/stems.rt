@@ -1,17 +1,21 @@
 //! The words of skeletons, and what each sets.
 
 ghost use Rattle.std.specs.Prelude.{◌≡◌};
-ghost use Rattle.locale_numbers_formats.specs.Stems.{capital_code, coded, fronts, optioned, or_unknown, setting_named, slashed};
+ghost use Rattle.locale_numbers_formats.specs.StemTable.{fronts};
+ghost use Rattle.locale_numbers_formats.specs.Stems.{capital_code, coded, optioned, or_unknown, setting_named, slashed};
 ghost use Rattle.locale_numbers_formats.specs.WordTable.{value_beside};
 
 use crate::cutting::first_separator;
+use crate::exponents::exponent_options;
 use crate::increments::increment_setting;
 use crate::marks::{marked, option_setting, padded_setting};
 use crate::options::RoundingPriority;
-use crate::shape::CompactWidth;
+use crate::shape::{CompactWidth, ScientificStyle};
 use crate::skeleton_error::WordFault;
+use crate::stem_table::{FRONTS, STEMS};
 use crate::word_table::value_beside;
-use fixed_decimal::{RoundingIncrement, SignDisplay, SignedRoundingMode, UnsignedRoundingMode};
+use fixed_decimal::{RoundingIncrement, SignDisplay, SignedRoundingMode};
+use icu_decimal_scientific::ScientificNotation;
 use icu_dimension_fractions::{
     CurrencyCode, CurrencyStyle, CurrencyUsage, CurrencyWidth, PercentSign,
 };
@@ -23,6 +27,8 @@ pub enum SkeletonNotation {
     Standard,
     /// The first ones, with a compact pattern: `compact-short`, `compact-long`.
     Compact(CompactWidth),
+    /// Those of a significand, with an exponent behind it: `scientific`, `engineering`.
+    Scientific(ScientificStyle),
 }
 
 /// What a skeleton writes beside the digits.
@@ -121,288 +127,6 @@ pub enum Setting {
     Refused(WordFault),
 }
 
-// The words, their short forms beside them, but for those with digits or a part after a slash.
-const STEMS: [(&[u8], Setting); 68] = [
-    (
-        b"compact-short",
-        Setting::OfNotation(SkeletonNotation::Compact(CompactWidth::Short)),
-    ),
-    (
-        b"K",
-        Setting::OfNotation(SkeletonNotation::Compact(CompactWidth::Short)),
-    ),
-    (
-        b"compact-long",
-        Setting::OfNotation(SkeletonNotation::Compact(CompactWidth::Long)),
-    ),
-    (
-        b"KK",
-        Setting::OfNotation(SkeletonNotation::Compact(CompactWidth::Long)),
-    ),
-    (
-        b"notation-simple",
-        Setting::OfNotation(SkeletonNotation::Standard),
-    ),
-    (
-        b"percent",
-        Setting::OfUnit(SkeletonUnit::Percent(PercentSign::Percent)),
-    ),
-    (
-        b"%",
-        Setting::OfUnit(SkeletonUnit::Percent(PercentSign::Percent)),
-    ),
-    (
-        b"permille",
-        Setting::OfUnit(SkeletonUnit::Percent(PercentSign::Permille)),
-    ),
-    (b"base-unit", Setting::OfUnit(SkeletonUnit::None)),
-    (
-        b"precision-integer",
-        Setting::OfPrecision(Precision::Fraction(0, 0)),
-    ),
-    (b".", Setting::OfPrecision(Precision::Fraction(0, 0))),
-    (
-        b"precision-unlimited",
-        Setting::OfPrecision(Precision::Unlimited),
-    ),
-    (b".+", Setting::OfPrecision(Precision::Unlimited)),
-    (b".*", Setting::OfPrecision(Precision::Unlimited)),
-    (
-        b"precision-currency-standard",
-        Setting::OfPrecision(Precision::Currency(CurrencyUsage::Standard)),
-    ),
-    (
-        b"precision-currency-standard/w",
-        Setting::OfPrecision(Precision::WholeCurrency(CurrencyUsage::Standard)),
-    ),
-    (
-        b"precision-currency-cash",
-        Setting::OfPrecision(Precision::Currency(CurrencyUsage::Cash)),
-    ),
-    (
-        b"precision-currency-cash/w",
-        Setting::OfPrecision(Precision::WholeCurrency(CurrencyUsage::Cash)),
-    ),
-    (
-        b"rounding-mode-ceiling",
-        Setting::OfMode(SignedRoundingMode::Ceil),
-    ),
-    (
-        b"rounding-mode-floor",
-        Setting::OfMode(SignedRoundingMode::Floor),
-    ),
-    (
-        b"rounding-mode-down",
-        Setting::OfMode(SignedRoundingMode::Unsigned(UnsignedRoundingMode::Trunc)),
-    ),
-    (
-        b"rounding-mode-up",
-        Setting::OfMode(SignedRoundingMode::Unsigned(UnsignedRoundingMode::Expand)),
-    ),
-    (
-        b"rounding-mode-half-even",
-        Setting::OfMode(SignedRoundingMode::Unsigned(UnsignedRoundingMode::HalfEven)),
-    ),
-    (
-        b"rounding-mode-half-down",
-        Setting::OfMode(SignedRoundingMode::Unsigned(UnsignedRoundingMode::HalfTrunc)),
-    ),
-    (
-        b"rounding-mode-half-up",
-        Setting::OfMode(SignedRoundingMode::Unsigned(UnsignedRoundingMode::HalfExpand)),
-    ),
-    (
-        b"rounding-mode-half-ceiling",
-        Setting::OfMode(SignedRoundingMode::HalfCeil),
-    ),
-    (
-        b"rounding-mode-half-floor",
-        Setting::OfMode(SignedRoundingMode::HalfFloor),
-    ),
-    (b"group-off", Setting::OfGrouping(SkeletonGrouping::Off)),
-    (b",_", Setting::OfGrouping(SkeletonGrouping::Off)),
-    (b"group-min2", Setting::OfGrouping(SkeletonGrouping::Min2)),
-    (b",?", Setting::OfGrouping(SkeletonGrouping::Min2)),
-    (b"group-auto", Setting::OfGrouping(SkeletonGrouping::Auto)),
-    (
-        b"group-on-aligned",
-        Setting::OfGrouping(SkeletonGrouping::OnAligned),
-    ),
-    (b",!", Setting::OfGrouping(SkeletonGrouping::OnAligned)),
-    (b"decimal-auto", Setting::OfPoint),
-    (
-        b"unit-width-iso-code",
-        Setting::OfWidth(CurrencyWidth::IsoCode),
-    ),
-    (b"unit-width-short", Setting::OfWidth(CurrencyWidth::Short)),
-    (
-        b"sign-auto",
-        Setting::OfSign(SkeletonSign {
-            display: SignDisplay::Auto,
-            style: CurrencyStyle::Standard,
-        }),
-    ),
-    (
-        b"sign-always",
-        Setting::OfSign(SkeletonSign {
-            display: SignDisplay::Always,
-            style: CurrencyStyle::Standard,
-        }),
-    ),
-    (
-        b"+!",
-        Setting::OfSign(SkeletonSign {
-            display: SignDisplay::Always,
-            style: CurrencyStyle::Standard,
-        }),
-    ),
-    (
-        b"sign-never",
-        Setting::OfSign(SkeletonSign {
-            display: SignDisplay::Never,
-            style: CurrencyStyle::Standard,
-        }),
-    ),
-    (
-        b"+_",
-        Setting::OfSign(SkeletonSign {
-            display: SignDisplay::Never,
-            style: CurrencyStyle::Standard,
-        }),
-    ),
-    (
-        b"sign-except-zero",
-        Setting::OfSign(SkeletonSign {
-            display: SignDisplay::ExceptZero,
-            style: CurrencyStyle::Standard,
-        }),
-    ),
-    (
-        b"+?",
-        Setting::OfSign(SkeletonSign {
-            display: SignDisplay::ExceptZero,
-            style: CurrencyStyle::Standard,
-        }),
-    ),
-    (
-        b"sign-negative",
-        Setting::OfSign(SkeletonSign {
-            display: SignDisplay::Negative,
-            style: CurrencyStyle::Standard,
-        }),
-    ),
-    (
-        b"+-",
-        Setting::OfSign(SkeletonSign {
-            display: SignDisplay::Negative,
-            style: CurrencyStyle::Standard,
-        }),
-    ),
-    (
-        b"sign-accounting",
-        Setting::OfSign(SkeletonSign {
-            display: SignDisplay::Auto,
-            style: CurrencyStyle::Accounting,
-        }),
-    ),
-    (
-        b"()",
-        Setting::OfSign(SkeletonSign {
-            display: SignDisplay::Auto,
-            style: CurrencyStyle::Accounting,
-        }),
-    ),
-    (
-        b"sign-accounting-always",
-        Setting::OfSign(SkeletonSign {
-            display: SignDisplay::Always,
-            style: CurrencyStyle::Accounting,
-        }),
-    ),
-    (
-        b"()!",
-        Setting::OfSign(SkeletonSign {
-            display: SignDisplay::Always,
-            style: CurrencyStyle::Accounting,
-        }),
-    ),
-    (
-        b"sign-accounting-except-zero",
-        Setting::OfSign(SkeletonSign {
-            display: SignDisplay::ExceptZero,
-            style: CurrencyStyle::Accounting,
-        }),
-    ),
-    (
-        b"()?",
-        Setting::OfSign(SkeletonSign {
-            display: SignDisplay::ExceptZero,
-            style: CurrencyStyle::Accounting,
-        }),
-    ),
-    (
-        b"sign-accounting-negative",
-        Setting::OfSign(SkeletonSign {
-            display: SignDisplay::Negative,
-            style: CurrencyStyle::Accounting,
-        }),
-    ),
-    (
-        b"()-",
-        Setting::OfSign(SkeletonSign {
-            display: SignDisplay::Negative,
-            style: CurrencyStyle::Accounting,
-        }),
-    ),
-    (b"scientific", Setting::Refused(WordFault::Later)),
-    (b"engineering", Setting::Refused(WordFault::Later)),
-    (b"unit-width-narrow", Setting::Refused(WordFault::Later)),
-    (b"unit-width-full-name", Setting::Refused(WordFault::Later)),
-    (b"%x100", Setting::Refused(WordFault::Later)),
-    (b"latin", Setting::Refused(WordFault::System)),
-    (b"decimal-always", Setting::Refused(WordFault::Unsupported)),
-    (
-        b"integer-width-trunc",
-        Setting::Refused(WordFault::Unsupported),
-    ),
-    (
-        b"unit-width-hidden",
-        Setting::Refused(WordFault::Unsupported),
-    ),
-    (
-        b"unit-width-formal",
-        Setting::Refused(WordFault::Unsupported),
-    ),
-    (
-        b"unit-width-variant",
-        Setting::Refused(WordFault::Unsupported),
-    ),
-    (b"group-thousands", Setting::Refused(WordFault::Unsupported)),
-    (
-        b"rounding-mode-half-odd",
-        Setting::Refused(WordFault::Unsupported),
-    ),
-    (
-        b"rounding-mode-unnecessary",
-        Setting::Refused(WordFault::Unsupported),
-    ),
-];
-
-// What is told of words with a part after a slash, by what is before it.
-const FRONTS: [(&[u8], Setting); 8] = [
-    (b"numbering-system", Setting::Refused(WordFault::System)),
-    (b"scale", Setting::Refused(WordFault::Later)),
-    (b"unit", Setting::Refused(WordFault::Later)),
-    (b"measure-unit", Setting::Refused(WordFault::Later)),
-    (b"scientific", Setting::Refused(WordFault::Later)),
-    (b"engineering", Setting::Refused(WordFault::Later)),
-    (
-        b"per-measure-unit",
-        Setting::Refused(WordFault::Unsupported),
-    ),
-    (b"usage", Setting::Refused(WordFault::Unsupported)),
-];
-
 // The currency that a code in capitals names.
 fn capital_code(code: &[u8]) -> Setting
     ensures { result ≡ capital_code code.now }
@@ -449,6 +173,10 @@ fn optioned(front: &[u8], option: &[u8]) -> Setting
         option_setting(0, 0, option)
     } else if front == b"precision-increment".as_slice() {
         increment_setting(option)
+    } else if front == b"scientific".as_slice() {
+        exponent_options(ScientificNotation::Scientific, option)
+    } else if front == b"engineering".as_slice() {
+        exponent_options(ScientificNotation::Engineering, option)
     } else {
         front_setting(front)
     }

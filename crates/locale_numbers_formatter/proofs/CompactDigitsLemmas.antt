@@ -16,9 +16,9 @@ use Rattle.locale_numbers_formats.specs.declared.options.Rounding.{Rounding}
 use Rattle.locale_numbers_formats.specs.declared.options.Rounding.TheVariants.{Usual, Cash, AsGiven, At, Significant, Either}
 use Rattle.locale_numbers_formatter.specs.CompactDigits.{DigitsShown, IsToMultiplesOf25, below_exponent, changed_under, digits_shown, divided, entry_beside, settled}
 use Rattle.locale_numbers_formatter.specs.FormatParts.{events_around, events_of_digits, format_events}
-use Rattle.locale_numbers_formatter.specs.FormatText.{Shown, digits_tables, format_value, shown_in}
+use Rattle.locale_numbers_formatter.specs.FormatText.{Shown, compact_value, digits_tables, format_value, shown_by, shown_in}
 use Rattle.locale_numbers_formatter.specs.HeldDigits.{written_at}
-use Rattle.locale_numbers_formatter.specs.ShownOperands.{shown_operands, value_operands}
+use Rattle.locale_numbers_formatter.specs.ShownOperands.{shown_operands, value_operands, value_seen}
 use Rattle.locale_numbers_formatter.proofs.ExactFormLemmas.{events_under}
 
 -- ---- memory
@@ -125,26 +125,29 @@ module _ (t : CompactTables) (o : NumberOptions) (d s : SignedValue Number) (ind
       sym (events_under t (record { significand = s; exponent = exponent_of (entry_of t.patterns.entries index) }) (entry_of t.patterns.entries index))
       ∙ sym (ap (λ (shown : DigitsShown). let v = put_in_pattern t o shown in events_around (digits_tables t o) v (events_of_digits v)) is)
 
-  pub significand_is : s ≡ (format_value (digits_tables t o) d).significand
+  pub significand_is : s ≡ (shown_by (digits_tables t o) d).significand
   significand_is = sym (ap (λ (shown : DigitsShown). shown.significand) is)
 
   module _ (x : ℕ) (exponent : x ≡ exponent_of (entry_of t.patterns.entries index)) where
-    exponent_is : x ≡ (format_value (digits_tables t o) d).exponent
+    exponent_is : x ≡ (shown_by (digits_tables t o) d).exponent
     exponent_is = exponent ∙ sym (ap (λ (shown : DigitsShown). exponent_of shown.entry) is)
 
-    pub value_is : record { significand = s; exponent = x } ≡ format_value (digits_tables t o) d
-    value_is = λ i. record { significand = significand_is i; exponent = exponent_is i }
+    seen_is : record { significand = s; exponent = x } ≡ value_seen (digits_tables t o) d
+    seen_is = λ i. record { significand = significand_is i; exponent = exponent_is i }
+
+    pub value_is : compact_value (record { significand = s; exponent = x }) ≡ format_value (digits_tables t o) d
+    value_is = ap compact_value seen_is
 
     -- the operands of what is shown, where a number can be
     pub operands_seen : (seen : Operands) → seen ≡ operands_of s.absolute x → below_exponent t.patterns.entries d ≡ 0 → Some seen ≡ shown_operands (digits_tables t o) d
-    operands_seen seen seen_is whole =
-        let value = format_value (digits_tables t o) d in
-        ap Some (seen_is ∙ ap value_operands value_is)
+    operands_seen seen is_seen whole =
+        let value = value_seen (digits_tables t o) d in
+        ap Some (is_seen ∙ ap value_operands seen_is)
         ∙ sym (ap (λ b. cond b (Some (value_operands value)) None) (eq-eqb (below_exponent t.patterns.entries d) 0 whole))
 
 pub none_seen : (t : CompactTables) (o : NumberOptions) (d : SignedValue Number) → (below_exponent t.patterns.entries d ≡ 0 → ⊥) → None ≡ shown_operands (digits_tables t o) d
 none_seen t o d never = at (below_exponent t.patterns.entries d == 0) refl
   where
-    at : (b : Bool) → (below_exponent t.patterns.entries d == 0) ≡ b → None ≡ cond b (Some (value_operands (format_value (digits_tables t o) d))) None
+    at : (b : Bool) → (below_exponent t.patterns.entries d == 0) ≡ b → None ≡ cond b (Some (value_operands (value_seen (digits_tables t o) d))) None
     at true is = absurd (never (eqb-true (below_exponent t.patterns.entries d) 0 is))
     at false is = refl

@@ -1,5 +1,5 @@
 -- A number divided by ten to an exponent, and which numbers have no digit below it: `specs/CompactDigits.antt`.
-use Rattle.std.proofs.Common.{◌≡◌, ◌↔◌, ℕ, zero, suc, ◌+◌, ◌-◌, ◌*◌, ◌/◌, ◌%◌, ◌^◌, ◌<◌, ◌≤◌, max, refl, sym, ap, subst, ◌∙◌, arith, ◌⊎◌, inl, inr, ⊎_elim}
+use Rattle.std.proofs.Common.{◌≡◌, ◌↔◌, ℕ, zero, suc, ◌+◌, ◌-◌, ◌*◌, ◌/◌, ◌%◌, ◌^◌, ◌<◌, ◌≤◌, max, refl, sym, ap, subst, ◌∙◌, arith, inl, inr, ⊎_elim}
 use Rattle.std.proofs.Math.Nat.{div-add-mod', eq-zero-or-pos, mod-lt, mul-le-mul_right, one-mul, pow-le-pow_right, zero-mod, zero-mul}
 use Rattle.std.proofs.lemmas.Bool.{cases_lt}
 use Rattle.fixed_decimal.specs.NonzeroPlaces.{IsLastPlace}

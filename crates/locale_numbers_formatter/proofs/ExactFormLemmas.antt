@@ -1,30 +1,30 @@
 -- Exact forms by layers, and the text of events.
-use Rattle.std.proofs.Common.{◌≡◌, ℕ, ◌==◌, Bool, true, false, cond, List, ◌++◌, Option, None, Some, option_map, refl, sym, ap, ◌∙◌}
-use Rattle.writeable.specs.AnnotatedText.{Event, bytes, text_of}
+use Rattle.std.proofs.Common.{◌≡◌, ◌==◌, Bool, true, false, cond, List, ◌++◌, Option, None, Some, option_map, refl, sym, ap, ◌∙◌}
+use Rattle.writeable.specs.AnnotatedText.{Event, text_of}
 use Rattle.fixed_decimal.specs.CompactText.{CompactValue}
 use Rattle.fixed_decimal.specs.Number.{Number}
 use Rattle.fixed_decimal.specs.SignedValue.{SignedValue}
-use Rattle.icu_decimal.specs.Affixes.{WithSign, affixes_of, prefix_events, suffix_events}
+use Rattle.icu_decimal.specs.Affixes.{affixes_of, prefix_events, suffix_events}
 use Rattle.icu_decimal.specs.CompactLaws.{ExactTextIsOfEvents}
 use Rattle.icu_decimal.specs.CompactTables.{CompactTables}
-use Rattle.icu_decimal.specs.CompactText.{compact_decimal_events, compact_decimal_text, compact_formatted, pattern_of}
-use Rattle.icu_decimal.specs.ExactText.{exact_events, exact_formatted, exact_text, written_text, written_under}
+use Rattle.icu_decimal.specs.CompactText.{pattern_of}
+use Rattle.icu_decimal.specs.ExactText.{exact_events, exact_formatted, written_text, written_under}
 use Rattle.icu_decimal.specs.Operands.{operands_of}
-use Rattle.icu_decimal.specs.Pattern.{InPattern}
-use Rattle.icu_decimal.specs.PlainText.{PlainNumber, Tables, decimal_events, formatted, prefix_text, suffix_text, unsigned_events, unsigned_text}
+use Rattle.icu_decimal.specs.PlainText.{prefix_text, suffix_text, unsigned_events, unsigned_text}
 use Rattle.icu_decimal.specs.ShownChoice.{exact_entry, exponent_of}
 use Rattle.icu_decimal.specs.TextLaws.{DecimalIsText}
 use Rattle.icu_decimal.specs.declared.provider.CompactEntry.{CompactEntry}
-use Rattle.icu_dimension.specs.UnitText.{unit_decimal_events, unit_formatted}
+use Rattle.icu_decimal_scientific.specs.ScientificTextLaws.{ScientificIsText}
 use Rattle.icu_dimension.specs.UnitTextLaws.{UnitIsText}
 use Rattle.icu_decimal.proofs.CompactTextLemmas.{compact_is_text, under_is_text}
 use Rattle.locale_numbers_formats.specs.declared.options.NumberOptions.{NumberOptions}
 use Rattle.locale_numbers_formatter.specs.CompactDigits.{DigitsShown, digits_shown}
-use Rattle.locale_numbers_formatter.specs.ExactForms.{exact_format_text, exact_shown, under_entry}
+use Rattle.locale_numbers_formatter.specs.ExactForms.{exact_format_text, under_entry}
 use Rattle.locale_numbers_formatter.specs.FormatParts.{events_around, events_of_digits, exact_format_events, format_events}
-use Rattle.locale_numbers_formatter.specs.FormatText.{FormatTables, Shown, compact_tables, digits_tables, format_text, plain_tables, shown_as_it_is, text_of_shown, unit_tables}
-use Rattle.locale_numbers_formatter.specs.Laws.{CompactIsLayered, CompactPartsAreLayered, ExactFormatIsText, ExactIsLayered, ExactPartsAreLayered, FormatIsText, PlainIsLayered, PlainPartsAreLayered, UnitIsLayered, UnitPartsAreLayered}
+use Rattle.locale_numbers_formatter.specs.FormatText.{Shown, compact_tables, digits_tables, format_text, plain_tables, scientific_tables, shown_as_it_is, text_of_shown, unit_tables}
+use Rattle.locale_numbers_formatter.specs.Laws.{CompactIsLayered, CompactPartsAreLayered, ExactFormatIsText, ExactIsLayered, ExactPartsAreLayered, FormatIsText, PlainIsLayered, PlainPartsAreLayered, ScientificIsLayered, ScientificPartsAreLayered, UnitIsLayered, UnitPartsAreLayered}
 use Rattle.locale_numbers_formatter.proofs.LayerLemmas.{events_in_layer, text_in_layer}
+use Rattle.locale_numbers_formatter.proofs.ScientificLemmas.{scientific_texts}
 
 -- two steps over what may be there are one
 mapped_twice : {A B C : Type 0} (f : A → B) (g : B → C) (h : A → C) → ((a : A) → g (f a) ≡ h a) → (o : Option A) → option_map g (option_map f o) ≡ option_map h o
@@ -67,14 +67,17 @@ digits_text t o d =
     let form : CompactValue = record { significand = shown.significand; exponent = exponent_of shown.entry } in
     ap text_of (events_under t form shown.entry) ∙ under_is_text t shown.significand shown.entry ∙ sym (text_under t form shown.entry)
 
-pub format_texts : PlainIsLayered → PlainPartsAreLayered → CompactIsLayered → CompactPartsAreLayered → UnitIsLayered → UnitPartsAreLayered → DecimalIsText → UnitIsText → FormatIsText
-format_texts plain plain_parts compact compact_parts united unit_parts decimal_law unit_law (plain_tables t) d =
+pub format_texts : PlainIsLayered → PlainPartsAreLayered → CompactIsLayered → CompactPartsAreLayered → UnitIsLayered → UnitPartsAreLayered → ScientificIsLayered → ScientificPartsAreLayered
+    → DecimalIsText → UnitIsText → ScientificIsText → FormatIsText
+format_texts plain plain_parts compact compact_parts united unit_parts scientific scientific_parts decimal_law unit_law scientific_law (plain_tables t) d =
     ap text_of (plain_parts t d) ∙ decimal_law t d ∙ sym (plain t d)
-format_texts plain plain_parts compact compact_parts united unit_parts decimal_law unit_law (compact_tables t) d =
+format_texts plain plain_parts compact compact_parts united unit_parts scientific scientific_parts decimal_law unit_law scientific_law (compact_tables t) d =
     ap text_of (compact_parts t d) ∙ compact_is_text t d ∙ sym (compact t d)
-format_texts plain plain_parts compact compact_parts united unit_parts decimal_law unit_law (digits_tables t o) d = digits_text t o d
-format_texts plain plain_parts compact compact_parts united unit_parts decimal_law unit_law (unit_tables u) d =
+format_texts plain plain_parts compact compact_parts united unit_parts scientific scientific_parts decimal_law unit_law scientific_law (digits_tables t o) d = digits_text t o d
+format_texts plain plain_parts compact compact_parts united unit_parts scientific scientific_parts decimal_law unit_law scientific_law (unit_tables u) d =
     ap text_of (unit_parts u d) ∙ unit_law u.settings d ∙ sym (united u d)
+format_texts plain plain_parts compact compact_parts united unit_parts scientific scientific_parts decimal_law unit_law scientific_law (scientific_tables s) d =
+    scientific_texts scientific scientific_parts scientific_law s d
 
 -- of one shown thing, where it is there
 shown_text : (events : Shown → List Event) (is : Bool) (s : Shown) → text_of_shown s ≡ text_of (events s)
@@ -97,3 +100,4 @@ exact_texts number exact parts written (compact_tables t) form = compact_exact_t
 exact_texts number exact parts written (digits_tables t o) form = compact_exact_text exact parts written t form
 exact_texts number exact parts written (unit_tables u) form =
     shown_text (λ s. events_around (unit_tables u) s (events_of_digits s)) (form.exponent == 0) (shown_as_it_is (unit_tables u) form.significand) (sym (number (unit_tables u) form.significand))
+exact_texts number exact parts written (scientific_tables s) form = refl

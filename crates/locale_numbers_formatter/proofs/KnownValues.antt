@@ -1,5 +1,5 @@
 -- Values from outside that a wrong definition of the layers does not survive: the tables of docs/plain-text.md, docs/compact-text.md and docs/units.md.
-use Rattle.std.proofs.Common.{◌≡◌, ℕ, List, [], ◌∷◌, ◌++◌, Option, None, Some, refl}
+use Rattle.std.proofs.Common.{◌≡◌, ℕ, List, [], Option, None, Some, refl}
 use Rattle.std.specs.Prelude.{codes}
 use Rattle.fixed_decimal.specs.declared.Sign.{Sign}
 use Rattle.fixed_decimal.specs.declared.Sign.TheVariants.{None as NoSign, Negative, Positive}
@@ -7,11 +7,11 @@ use Rattle.icu_decimal.specs.Pattern.{PatternText, literal, around}
 use Rattle.icu_decimal.specs.PlainText.{Tables}
 use Rattle.icu_decimal.specs.Symbols.{english_symbols}
 use Rattle.icu_decimal.specs.declared.options.GroupingStrategy.TheVariants.{Auto}
-use Rattle.icu_dimension.specs.UnitPatterns.{AffixesText, PatternTexts}
+use Rattle.icu_dimension.specs.UnitPatterns.{AffixesText}
 use Rattle.icu_dimension.specs.declared.UnitKind.TheVariants.{Currency}
 use Rattle.icu_dimension.specs.declared.UnitPlace.TheVariants.{Before}
 use Rattle.locale_numbers_formatter.specs.FormatText.{FormatTables, layers_in, plain_tables, unit_tables}
-use Rattle.locale_numbers_formatter.specs.Layers.{Layers, layered}
+use Rattle.locale_numbers_formatter.specs.Layers.{layered}
 
 abbrev english : Tables
 english = record { symbols = english_symbols; digits = codes "0123456789"; strategy = Auto }

@@ -1,8 +1,6 @@
 -- The layers of plain and of compact text.
 use Rattle.std.proofs.Common.{◌≡◌, ℕ, List, ◌++◌, Option, None, Some, refl, sym, ap, ◌∙◌}
-use Rattle.writeable.specs.AnnotatedText.{Event, bytes, text_of}
-use Rattle.fixed_decimal.specs.Number.{Number}
-use Rattle.fixed_decimal.specs.SignedValue.{SignedValue}
+use Rattle.writeable.specs.AnnotatedText.{Event, bytes}
 use Rattle.icu_decimal.specs.Affixes.{affixes_of, prefix_events, suffix_events}
 use Rattle.icu_decimal.specs.CompactText.{compact_of, text_in}
 use Rattle.icu_decimal.specs.Pattern.{PatternText, literal, around, optional_events}

@@ -2,6 +2,7 @@ pub mod CompactDigitsLemmas
 pub mod DivisionLemmas
 pub mod ExactFormLemmas
 pub mod KnownOperands
+mod KnownScientific
 mod KnownValues
 pub mod JoinedUnitLemmas
 pub mod LayerLemmas
@@ -9,6 +10,7 @@ pub mod LenientLemmas
 pub mod LenientUnitLemmas
 pub mod PairLemmas
 pub mod ReadBackLemmas
+pub mod ScientificLemmas
 pub mod ShownOperandsLemmas
 pub mod TypedLemmas
 pub mod UnitLayerLemmas

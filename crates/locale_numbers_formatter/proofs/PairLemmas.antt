@@ -1,15 +1,14 @@
 -- Plain tables as pairs of affixes: their texts, that they are readable, and what is read.
-use Rattle.std.proofs.Common.{◌≡◌, ◌≢◌, ◌↔◌, ℕ, Bool, true, false, not, ◌&&◌, List, [], ◌∷◌, ◌++◌, refl, sym, ap, subst, ◌∙◌}
+use Rattle.std.proofs.Common.{◌≡◌, ℕ, Bool, true, false, not, ◌&&◌, List, [], ◌∷◌, refl, sym, ap, ◌∙◌}
 use Rattle.std.specs.Str.{IsUtf8, bytes_eq}
 use Rattle.std.proofs.lemmas.Bool.{and_parts}
 use Rattle.fixed_decimal.specs.Number.{Number}
-use Rattle.fixed_decimal.specs.SignedValue.{SignedValue}
 use Rattle.fixed_decimal.specs.declared.Sign.{Sign}
 use Rattle.fixed_decimal.specs.declared.Sign.TheVariants.{None as NoSign, Negative, Positive}
 use Rattle.icu_decimal.specs.DecimalOfText.{IsReading}
 use Rattle.icu_decimal.specs.PlainReading.{PlainReading, decimal, not_written, plain_reading, unreadable}
 use Rattle.icu_decimal.specs.PlainText.{Tables, decimal_text}
-use Rattle.icu_decimal.specs.Readable.{all_differ, are_clear, do_separators_differ, do_signs_differ, has_no_digit, is_readable_by, is_same_pair}
+use Rattle.icu_decimal.specs.Readable.{has_no_digit, is_readable_by, is_same_pair}
 use Rattle.icu_decimal.specs.ReadingLaws.{AreTables, HasOneReading}
 use Rattle.icu_dimension.specs.UnitReading.{AreReaderTexts, IsUnitReading, ReaderTexts, are_clear_pairs, do_differ, do_pairs_differ, is_clear, is_unit_readable_by, pair_for, text_by}
 use Rattle.icu_decimal_reading.proofs.PlainLemmas.{prefix_clear, prefix_utf8, suffix_clear, suffix_utf8, tests_of}

@@ -1,12 +1,11 @@
 -- What a format writes is the text that its reader reads, and is read back.
-use Rattle.std.proofs.Common.{◌≡◌, ◌↔◌, ℕ, true, List, Option, None, Some, refl, sym, ap, subst, ◌∙◌}
+use Rattle.std.proofs.Common.{◌≡◌, ℕ, true, List, Some, refl, sym, ap, ◌∙◌}
 use Rattle.std.specs.Prelude.{IfOk, IsErrOf, Result, Ok, Err}
 use Rattle.fixed_decimal.specs.Number.{Number}
 use Rattle.fixed_decimal.specs.SignedValue.{SignedValue}
-use Rattle.fixed_decimal.specs.TextLaws.{IsDecimal}
 use Rattle.fixed_decimal.specs.declared.Sign.{Sign}
 use Rattle.fixed_decimal.specs.declared.Sign.TheVariants.{None as NoSign, Negative, Positive}
-use Rattle.icu_decimal.specs.PlainReading.{IsAnswered, PlainReading, decimal, not_written, unreadable}
+use Rattle.icu_decimal.specs.PlainReading.{IsAnswered, decimal, not_written}
 use Rattle.icu_decimal.specs.PlainText.{PlainNumber, Tables, unsigned_text}
 use Rattle.icu_decimal.specs.declared.error.ReadError.{ReadError}
 use Rattle.icu_decimal.specs.declared.error.ReadError.TheVariants.{Unreadable, NotWritten, Memory}
@@ -21,7 +20,7 @@ use Rattle.icu_dimension_lenient.specs.UnitReadings.{unit_reading}
 use Rattle.locale_numbers_formatter.proofs.JoinedUnitLemmas.{joined_is_partless, joined_is_read}
 use Rattle.icu_dimension_lenient.proofs.UnitReadingsLemmas.{unit_written_again}
 use Rattle.locale_numbers_formatter.specs.FormatReading.{format_reading, pairs_reader, reader_of, reading_by_reader}
-use Rattle.locale_numbers_formatter.specs.FormatText.{FormatTables, compact_tables, digit_tables, digits_tables, format_text, pair_in, plain_tables, unit_tables}
+use Rattle.locale_numbers_formatter.specs.FormatText.{FormatTables, compact_tables, digit_tables, digits_tables, format_text, pair_in, plain_tables, scientific_tables, unit_tables}
 use Rattle.locale_numbers_formatter.specs.ReadingLaws.{FormatReadIsWrittenAgain, FormatReadsBack}
 
 -- the pair of a sign
@@ -43,6 +42,7 @@ text_is_read (digits_tables t o) r v is = absurd (cc)
 text_is_read (unit_tables u) r v is =
     let same : r ≡ pairs_reader (unit_tables u) = cc in
     ap (λ k. text_by k v) same ∙ between_is (unit_tables u) v
+text_is_read (scientific_tables s) r v is = absurd (cc)
 
 read_by : (f : FormatTables) (r : ReaderTexts) (text : List ℕ) → reader_of f ≡ Some r → format_reading f text ≡ unit_reading r text
 read_by f r text is = ap (λ k. reading_by_reader k text) is
@@ -60,6 +60,7 @@ written_again (plain_tables t) text v is = sym (text_is_read (plain_tables t) _ 
 written_again (compact_tables t) text v is = absurd (cc)
 written_again (digits_tables t o) text v is = absurd (cc)
 written_again (unit_tables u) text v is = sym (text_is_read (unit_tables u) _ v refl) ∙ unit_written_again (pairs_reader (unit_tables u)) text v is
+written_again (scientific_tables s) text v is = absurd (cc)
 
 -- what a readable reader of texts with a unit answers
 pub unit_answered : HasOneExactReading → (r : ReaderTexts) (text : List ℕ) (result : Result (SignedValue Number) ReadError) → AreReaderTexts r → is_unit_readable_by r ≡ true

@@ -15,21 +15,21 @@ use Rattle.icu_decimal.specs.declared.formatter.DecimalFormatter.{DecimalFormatt
 use Rattle.icu_dimension.specs.HeldFormatters.{code_of, currency_settings_of, settings_of_percent, sign_of}
 use Rattle.icu_dimension.specs.declared.currency.CurrencyFormatter.{CurrencyFormatter}
 use Rattle.icu_dimension.specs.declared.percent.PercentFormatter.{PercentFormatter}
-use Rattle.locale_numbers_formatter.specs.FormatText.{FormatTables, UnitFormat, compact_tables, format_value, plain_tables, unit_tables}
+use Rattle.locale_numbers_formatter.specs.FormatText.{FormatTables, UnitFormat, compact_tables, plain_tables, shown_by, unit_tables}
 use Rattle.locale_numbers_formatter.specs.HeldFormats.{currency_format, format_of, percent_format}
 use Rattle.locale_numbers_formatter.specs.declared.number_formatter.FormatterKind.{FormatterKind}
 use Rattle.locale_numbers_formatter.specs.declared.number_formatter.FormatterKind.TheVariants as kind
-use Rattle.locale_numbers_formatter.specs.ShownOperands.{is_shown, shown_operands, value_operands}
+use Rattle.locale_numbers_formatter.specs.ShownOperands.{is_shown, shown_operands, value_operands, value_seen}
 
 module _ (t : CompactTables) (d new : SignedValue Number) (x : ℕ) (entry : Option ℕ) (same : new.sign ≡ d.sign) (shows : Shows t.patterns.entries d.absolute (record { significand = new.absolute; exponent = x; entry = entry })) where
-  pub significand_is : new ≡ (format_value (compact_tables t) d).significand
+  pub significand_is : new ≡ (shown_by (compact_tables t) d).significand
   significand_is = shown_value_is t d new x entry same shows
 
-  pub operands_are : (inside : SignedValue Number) (o : Operands) → inside ≡ new → o ≡ operands_of inside.absolute x → o ≡ value_operands (format_value (compact_tables t) d)
+  pub operands_are : (inside : SignedValue Number) (o : Operands) → inside ≡ new → o ≡ operands_of inside.absolute x → o ≡ value_operands (value_seen (compact_tables t) d)
   operands_are inside o viewed is =
-      let exponent : x ≡ (format_value (compact_tables t) d).exponent = sym (ap (λ c. c.exponent) shows.choice) in
+      let exponent : x ≡ (value_seen (compact_tables t) d).exponent = sym (ap (λ c. c.exponent) shows.choice) in
       is ∙ ap (λ (v : SignedValue Number). operands_of v.absolute x) (viewed ∙ significand_is)
-      ∙ ap (operands_of (format_value (compact_tables t) d).significand.absolute) exponent
+      ∙ ap (operands_of (value_seen (compact_tables t) d).significand.absolute) exponent
 
 -- the test of a decimal
 can_test : (t : CompactTables) (d : SignedValue Number) → CanShow t.patterns.entries d.absolute.count → is_shown (compact_tables t) d ≡ true
@@ -43,18 +43,18 @@ cannot_test t d never = at (nat_lt (shown_under 32768 t.patterns.entries d.absol
     at false is = refl
 
 -- what is seen, and that nothing is
-pub some_seen : (t : CompactTables) (d : SignedValue Number) (o : Operands) → CanShow t.patterns.entries d.absolute.count → o ≡ value_operands (format_value (compact_tables t) d) → Some o ≡ shown_operands (compact_tables t) d
-some_seen t d o can is = ap Some is ∙ sym (ap (λ b. cond b (Some (value_operands (format_value (compact_tables t) d))) None) (can_test t d can))
+pub some_seen : (t : CompactTables) (d : SignedValue Number) (o : Operands) → CanShow t.patterns.entries d.absolute.count → o ≡ value_operands (value_seen (compact_tables t) d) → Some o ≡ shown_operands (compact_tables t) d
+some_seen t d o can is = ap Some is ∙ sym (ap (λ b. cond b (Some (value_operands (value_seen (compact_tables t) d))) None) (can_test t d can))
 
 pub none_seen : (t : CompactTables) (d : SignedValue Number) → (CanShow t.patterns.entries d.absolute.count → ⊥) → None ≡ shown_operands (compact_tables t) d
-none_seen t d never = sym (ap (λ b. cond b (Some (value_operands (format_value (compact_tables t) d))) None) (cannot_test t d never))
+none_seen t d never = sym (ap (λ b. cond b (Some (value_operands (value_seen (compact_tables t) d))) None) (cannot_test t d never))
 
 -- ---- formats without compact patterns
 
 -- a format that shows each number as it is
 pub record ShowsAsItIs (f : FormatTables) : Type 0 where
   pub operands : (d : SignedValue Number) → shown_operands f d ≡ Some (operands_of d.absolute 0)
-  pub value : (d : SignedValue Number) → (format_value f d).significand ≡ d
+  pub value : (d : SignedValue Number) → (shown_by f d).significand ≡ d
 
 plain_shows : (t : Tables) → ShowsAsItIs (plain_tables t)
 plain_shows t = record { operands = λ d. refl; value = λ d. refl }

@@ -1,5 +1,5 @@
 -- The layers of numbers with a unit: a pair within a pair, put together in another order.
-use Rattle.std.proofs.Common.{◌≡◌, List, [], ◌++◌, Option, None, Some, refl, sym, ap, ◌∙◌}
+use Rattle.std.proofs.Common.{◌≡◌, List, ◌++◌, Option, None, Some, sym}
 use Rattle.std.proofs.lemmas.List.{append-nil, append_assoc}
 use Rattle.writeable.specs.AnnotatedText.{Event, bytes}
 use Rattle.fixed_decimal.specs.declared.Sign.{Sign}
@@ -9,7 +9,6 @@ use Rattle.icu_decimal.specs.PlainText.{PlainNumber, unsigned_events}
 use Rattle.icu_dimension.specs.UnitPatterns.{AffixPair, AffixesText, after_in, before_in, own_affixes}
 use Rattle.icu_dimension.specs.UnitText.{UnitName, formatted_by, side_events, unit_decimal_events}
 use Rattle.locale_numbers_formatter.specs.FormatParts.{unit_layers_by}
-use Rattle.locale_numbers_formatter.specs.FormatText.{layers_in, unit_tables}
 use Rattle.locale_numbers_formatter.specs.Laws.{UnitPartsAreLayered}
 use Rattle.locale_numbers_formatter.specs.Layers.{Layers, layered_by}
 

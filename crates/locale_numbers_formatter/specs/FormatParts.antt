@@ -1,19 +1,20 @@
 -- The parts of the text of a number of any format: the same layers over events.
--- Defined in docs/formatters.md, "Parts", docs/units.md, "Parts", and docs/compact-text.md, "Exact forms".
+-- Defined in docs/formatters.md, "Parts", docs/units.md, "Parts", docs/compact-text.md, "Exact forms", and docs/scientific-text.md, "Parts".
 -- Cited by the calls of `NumberFormatter`, and by the laws.
-use Rattle.std.specs.Prelude.{List, ◌++◌, Option, None, Some, option_map}
+use Rattle.std.specs.Prelude.{List, ◌++◌, Option, None, Some, codes, option_map}
 use Rattle.writeable.specs.AnnotatedText.{Event, bytes}
 use Rattle.fixed_decimal.specs.CompactText.{CompactValue}
 use Rattle.fixed_decimal.specs.Number.{Number}
 use Rattle.fixed_decimal.specs.SignedValue.{SignedValue}
 use Rattle.fixed_decimal.specs.declared.Sign.{Sign}
 use Rattle.fixed_decimal.specs.declared.Sign.TheVariants.{None as NoSign}
-use Rattle.icu_decimal.specs.Affixes.{AffixTexts, affixes_of, prefix_events, suffix_events}
-use Rattle.icu_decimal.specs.PlainText.{Tables, unsigned_events, unsigned_text}
+use Rattle.icu_decimal.specs.Affixes.{AffixTexts, affixes_of, as_part, decimal_part, prefix_events, suffix_events}
+use Rattle.icu_decimal.specs.PlainText.{unsigned_events, unsigned_text}
+use Rattle.icu_decimal_scientific.specs.ExponentialText.{exponent_events, signed_exponent}
 use Rattle.icu_dimension.specs.UnitPatterns.{AffixesText, after_in, before_in, own_affixes}
 use Rattle.icu_dimension.specs.UnitText.{UnitName, UnitSettings, side_events}
 use Rattle.locale_numbers_formatter.specs.ExactForms.{exact_shown}
-use Rattle.locale_numbers_formatter.specs.FormatText.{FormatTables, Shown, compact_tables, digits_tables, plain_tables, shown_by, unit_tables}
+use Rattle.locale_numbers_formatter.specs.FormatText.{FormatTables, Power, Shown, compact_tables, digits_tables, plain_tables, scientific_tables, shown_by, unit_tables}
 use Rattle.locale_numbers_formatter.specs.Layers.{Layers, LayersOf, layered_by}
 
 -- ---- the layers
@@ -41,6 +42,7 @@ part_layers (plain_tables t) sign l = symbol_layers (affixes_of t.symbols.string
 part_layers (compact_tables t) sign l = symbol_layers (affixes_of t.plain.symbols.strings sign) l
 part_layers (digits_tables t o) sign l = symbol_layers (affixes_of t.plain.symbols.strings sign) l
 part_layers (unit_tables u) sign l = unit_layers u.settings sign l
+part_layers (scientific_tables s) sign l = symbol_layers (affixes_of s.settings.tables.symbols.strings sign) l
 
 -- ---- the digits
 
@@ -53,11 +55,21 @@ digit_events_in (plain_tables t) s = events_of_digits s
 digit_events_in (compact_tables t) s = bytes (unsigned_text s.tables s.significand.absolute)
 digit_events_in (digits_tables t o) s = events_of_digits s
 digit_events_in (unit_tables u) s = events_of_digits s
+digit_events_in (scientific_tables f) s = events_of_digits s
+
+-- an exponent after them: the text before it, and the exponent
+abbrev pub power_events : Power → List Event
+power_events p = as_part (decimal_part (codes "exponentSeparator")) p.separator ++ exponent_events (signed_exponent p.tables p.exponent)
+
+-- digits with an exponent after them, or with none
+abbrev pub with_power_events : Option Power → List Event → List Event
+with_power_events None digits = digits
+with_power_events (Some p) digits = digits ++ power_events p
 
 -- ---- the text with its parts
 
 abbrev pub events_around : FormatTables → Shown → List Event → List Event
-events_around f s digits = layered_by bytes (part_layers f s.significand.sign s.layers) digits
+events_around f s digits = layered_by bytes (part_layers f s.significand.sign s.layers) (with_power_events s.power digits)
 
 abbrev pub format_events : FormatTables → SignedValue Number → List Event
 format_events f d = let s = shown_by f d in events_around f s (digit_events_in f s)

@@ -1,4 +1,4 @@
--- What a text is read as in a format: the number that is written so between the affixes of its sign; a compact text tells no number.
+-- What a text is read as in a format: the number that is written so between the affixes of its sign; a compact text tells no number, and no reader reads a scientific one.
 -- Defined in docs/reading.md, "Reading", and docs/units.md, "Reading"; a law of `laws.rt` says that plain texts are read so.
 -- Cited by the calls of `NumberReader`, and by the laws.
 use Rattle.std.specs.Prelude.{ℕ, List, [], Option, None, Some}
@@ -8,7 +8,7 @@ use Rattle.fixed_decimal.specs.declared.Sign.TheVariants.{None as NoSign, Negati
 use Rattle.icu_decimal.specs.PlainReading.{PlainReading, unreadable}
 use Rattle.icu_dimension.specs.UnitReading.{HasManyBetween, ReaderTexts, text_by}
 use Rattle.icu_dimension_lenient.specs.UnitReadings.{unit_reading}
-use Rattle.locale_numbers_formatter.specs.FormatText.{FormatTables, compact_tables, digit_tables, digits_tables, pair_in, plain_tables, unit_tables}
+use Rattle.locale_numbers_formatter.specs.FormatText.{FormatTables, compact_tables, digit_tables, digits_tables, pair_in, plain_tables, scientific_tables, unit_tables}
 
 -- the pair of each sign, and what is between them
 abbrev pub pairs_reader : FormatTables → ReaderTexts
@@ -22,6 +22,7 @@ reader_of (plain_tables t) = Some (pairs_reader (plain_tables t))
 reader_of (compact_tables t) = None
 reader_of (digits_tables t o) = None
 reader_of (unit_tables u) = Some (pairs_reader (unit_tables u))
+reader_of (scientific_tables s) = None
 
 -- the text of a number, where a reader is there
 abbrev pub text_by_reader : Option ReaderTexts → SignedValue Number → List ℕ

@@ -6,7 +6,7 @@ use Rattle.icu_decimal.specs.PlainReading.{PlainReading, unreadable}
 use Rattle.icu_decimal.specs.PlainText.{Tables}
 use Rattle.locale_numbers_formatter.specs.TypedPlain.{MayAllocateInTurn, TablesInTurn, reading_in_turn}
 use Rattle.locale_numbers_formatter.specs.TypedUnits.{MayAllocateTypedInTurn, TypedInTurn, TypedTexts, typed_texts, unit_reading_in_turn}
-use Rattle.locale_numbers_formatter.specs.FormatText.{FormatTables, UnitFormat, compact_tables, digits_tables, plain_tables, unit_tables}
+use Rattle.locale_numbers_formatter.specs.FormatText.{FormatTables, UnitFormat, compact_tables, digits_tables, plain_tables, scientific_tables, unit_tables}
 
 -- ---- what texts are read with
 
@@ -23,6 +23,7 @@ plain_in (Some (plain_tables t)) = Some t
 plain_in (Some (compact_tables t)) = None
 plain_in (Some (digits_tables t o)) = None
 plain_in (Some (unit_tables u)) = None
+plain_in (Some (scientific_tables s)) = None
 
 abbrev pub unit_in : Option FormatTables → Option UnitFormat
 unit_in None = None
@@ -30,6 +31,7 @@ unit_in (Some (plain_tables t)) = None
 unit_in (Some (compact_tables t)) = None
 unit_in (Some (digits_tables t o)) = None
 unit_in (Some (unit_tables u)) = Some u
+unit_in (Some (scientific_tables s)) = None
 
 abbrev pub typed_unit : UnitFormat → TypedTexts
 typed_unit u = typed_texts u.settings u.code
@@ -42,6 +44,7 @@ typed_of (plain_tables t) second = plain_typed (record { first = t; second = pla
 typed_of (compact_tables t) second = nothing_typed
 typed_of (digits_tables t o) second = nothing_typed
 typed_of (unit_tables u) second = unit_typed (units_in_turn u (unit_in second))
+typed_of (scientific_tables s) second = nothing_typed
 
 -- ---- the reading
 

@@ -1,7 +1,7 @@
 -- What a formatter of compact numbers with digits of their own holds.
 -- Defined in docs/compact-text.md, "Digits of its own".
 -- Cited by the calls of `CompactDigitsFormatter`, and by the view of `FormattedDigits`.
-use Rattle.std.specs.Prelude.{ℕ, List, Option}
+use Rattle.std.specs.Prelude.{ℕ, Option}
 use Rattle.fixed_decimal.specs.SignedValue.{SignedValue}
 use Rattle.fixed_decimal.specs.Number.{Number}
 use Rattle.icu_decimal.specs.Affixes.{WithSign}

@@ -14,6 +14,8 @@ pub mod ExactErrors
 -- What formatters hold, and what is written.
 pub mod HeldFormats
 pub mod HeldDigits
+pub mod HeldScientific
+pub mod HeldShown
 pub mod HeldLenientReaders
 pub mod HeldNumberReaders
 pub mod HeldTables

@@ -1,7 +1,7 @@
 -- Laws of what people type of numbers with a unit: what the first reader's formatter writes is its own, and what native digits add.
 -- Defined in docs/units.md, "Lenient reading".
 -- Cited by the functions of `laws`.
-use Rattle.std.specs.Prelude.{◌≡◌, ℕ, List, None, Option, Some}
+use Rattle.std.specs.Prelude.{◌≡◌, ℕ, List, None, Some}
 use Rattle.fixed_decimal.specs.Number.{Number}
 use Rattle.fixed_decimal.specs.SignedValue.{SignedValue}
 use Rattle.icu_decimal.specs.Native.{native_text}

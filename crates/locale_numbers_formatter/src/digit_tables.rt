@@ -23,6 +23,7 @@ impl<'a> NumberFormatter<'a> {
             FormatterKind::CompactDigits(formatter) => formatter.compact.plain().tables(),
             FormatterKind::Percent(formatter) => formatter.decimals(),
             FormatterKind::Currency(formatter) => formatter.decimals(),
+            FormatterKind::Scientific(formatter) => formatter.tables.decimals(),
         }
     }
 

@@ -12,7 +12,7 @@ pub enum ExactError {
     #[error("the number is beyond the limits")]
     Range,
     /// The exponent is not that of the pattern of this magnitude, as 5 of 1.2; where the format has no patterns, it is not
-    /// 0.
+    /// 0; or the format is one of scientific numbers.
     #[error("the exponent is not that of the pattern")]
     Exponent,
 }

@@ -1,6 +1,7 @@
 //! A number that a formatter of any kind has formatted.
 
 use crate::formatted_digits::FormattedDigits;
+use crate::formatted_power::FormattedPower;
 use icu_decimal::pattern::Interpolated;
 use icu_decimal::{
     FormattedDecimal, FormattedSign, FormattedUnsignedCompactDecimal, FormattedUnsignedDecimal,
@@ -9,7 +10,7 @@ use icu_dimension::FormattedUnit;
 use std::fmt;
 use writeable::{Error, LengthHint, Sink, Writeable, display};
 
-/// A number as a formatter of any kind writes it: `-1,234.5`, `-1.2K`, `-12.5%` or `-€1,234.50` in English.
+/// A number as a formatter of any kind writes it: `-1,234.5`, `-1.2K`, `-12.5%`, `-€1,234.50` or `-1.2345E3` in English.
 ///
 /// After ICU4C's class of this name.
 #[derive(Debug, Drop)]
@@ -24,6 +25,8 @@ pub enum FormattedNumber<'l> {
     Exact(FormattedSign<'l, Interpolated<'l, FormattedUnsignedDecimal<'l>>>),
     /// Percents, or an amount of money: `-12.5%`, `-€1,234.50`.
     Unit(FormattedUnit<'l>),
+    /// A scientific number: `-1.2345E3`.
+    Scientific(FormattedPower<'l>),
 }
 
 /// What the formatter writes for the number, with its parts: `-€1,234.5`, of which `€` is the part `CURRENCY`.
@@ -44,6 +47,7 @@ impl<'l> Writeable for FormattedNumber<'l> {
             FormattedNumber::Digits(number) => number.write_to(sink),
             FormattedNumber::Exact(number) => number.write_to(sink),
             FormattedNumber::Unit(number) => number.write_to(sink),
+            FormattedNumber::Scientific(number) => number.write_to(sink),
         }
     }
 
@@ -54,6 +58,7 @@ impl<'l> Writeable for FormattedNumber<'l> {
             FormattedNumber::Digits(number) => number.write_text(sink),
             FormattedNumber::Exact(number) => number.write_text(sink),
             FormattedNumber::Unit(number) => number.write_text(sink),
+            FormattedNumber::Scientific(number) => number.write_text(sink),
         }
     }
 
@@ -66,6 +71,7 @@ impl<'l> Writeable for FormattedNumber<'l> {
             FormattedNumber::Digits(number) => number.writeable_length_hint(),
             FormattedNumber::Exact(number) => number.writeable_length_hint(),
             FormattedNumber::Unit(number) => number.writeable_length_hint(),
+            FormattedNumber::Scientific(number) => number.writeable_length_hint(),
         }
     }
 }

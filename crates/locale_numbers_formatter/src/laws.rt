@@ -3,11 +3,12 @@
 
 ghost use Rattle.locale_numbers_formatter.specs.ReadingLaws.{FormatReadIsWrittenAgain, FormatReadsBack, PlainReadsByPairs, ReadersReadFormats};
 ghost use Rattle.locale_numbers_formatter.specs.OwnUnitLaws.{OtherUnitsInTurnStay, OwnUnitTextIsFirsts, UnitInTurnIsAscii, UnitInTurnIsNativeSo};
-ghost use Rattle.locale_numbers_formatter.specs.Laws.{CompactIsLayered, CompactPartsAreLayered, CompactValueIsShown, ExactFormatIsText, ExactIsLayered, ExactPartsAreLayered, FormatIsText, PlainIsLayered, PlainPartsAreLayered, UnitIsLayered, UnitPartsAreLayered};
+ghost use Rattle.locale_numbers_formatter.specs.Laws.{CompactIsLayered, CompactPartsAreLayered, CompactValueIsShown, ExactFormatIsText, ExactIsLayered, ExactPartsAreLayered, FormatIsText, PlainIsLayered, PlainPartsAreLayered, ScientificIsLayered, ScientificPartsAreLayered, ScientificValueIsShown, UnitIsLayered, UnitPartsAreLayered};
 
 use icu_decimal::laws::compact::{exact_texts_are_of_events, sign_round_unsigned};
 use icu_decimal::laws::reading::plain_reading_is_the_reading;
 use icu_decimal::laws::text::text_law;
+use icu_decimal_scientific::laws::text_law as scientific_text_law;
 use icu_dimension::laws::units::{both_trips, text_law as unit_text_law};
 use icu_dimension_lenient::laws::functions_answer_readings;
 
@@ -36,6 +37,14 @@ pub fn unit_is_layered()
     ensures parts { UnitPartsAreLayered }
 {}
 
+/// A law: the text of a scientific number is the digits of its significand with the exponent after them, between the affixes
+/// of the sign: in English `1.2E3`, after `-`. The value shown is that of the layers.
+pub fn scientific_is_layered()
+    ensures text { ScientificIsLayered }
+    ensures parts { ScientificPartsAreLayered }
+    ensures value { ScientificValueIsShown }
+{}
+
 /// A law: what a number of any format writes with its parts is the text of its definition, and so is an exact form.
 pub fn format_is_text()
     ensures number { FormatIsText }
@@ -44,10 +53,12 @@ pub fn format_is_text()
     plain_is_layered();
     compact_is_layered();
     unit_is_layered();
+    scientific_is_layered();
     text_law();
     sign_round_unsigned();
     exact_texts_are_of_events();
     unit_text_law();
+    scientific_text_law();
 }
 
 /// A law: a plain text is read as the number between the affixes of its sign: in English `-1,234.5` as `1,234.5` after

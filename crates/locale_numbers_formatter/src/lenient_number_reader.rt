@@ -27,7 +27,7 @@ pub(crate) enum LenientKind<'a> {
     Plain(PlainReadersInTurn<'a>),
     // Numbers with a unit.
     Unit(UnitReadersInTurn<'a>),
-    // Compact text tells no number.
+    // Compact text tells no number, and scientific text is not read.
     Nothing,
 }
 
@@ -60,7 +60,8 @@ fn second_plain<'a>(second: Option<&NumberFormatter<'a>>) -> Option<DecimalForma
         FormatterKind::Compact(_)
         | FormatterKind::CompactDigits(_)
         | FormatterKind::Percent(_)
-        | FormatterKind::Currency(_) => None,
+        | FormatterKind::Currency(_)
+        | FormatterKind::Scientific(_) => None,
     }
 }
 
@@ -126,9 +127,10 @@ fn second_unit<'a>(
             Ok(reader) => Ok(Some(reader)),
             Err(refused) => Err(refused),
         },
-        FormatterKind::Plain(_) | FormatterKind::Compact(_) | FormatterKind::CompactDigits(_) => {
-            Ok(None)
-        }
+        FormatterKind::Plain(_)
+        | FormatterKind::Compact(_)
+        | FormatterKind::CompactDigits(_)
+        | FormatterKind::Scientific(_) => Ok(None),
     }
 }
 
@@ -148,7 +150,7 @@ impl<'a> LenientNumberReader<'a> {
         }
     }
 
-    // The reader of compact numbers, which reads none.
+    // The reader of compact and of scientific numbers, which reads none.
     pub(crate) fn of_nothing() -> Self
         ensures { result ≡ nothing_typed }
     {
@@ -207,7 +209,8 @@ impl<'a> LenientNumberReader<'a> {
     /// The number that was typed: by that of `en` and `EUR` 1.5 of `€1.5`, `1.5` and `1.5 EUR`; by that of plain numbers 0.5
     /// of `.5`.
     ///
-    /// `Unreadable`: texts can't be read, or not leniently and no number is written so; those of a compact format never can.
+    /// `Unreadable`: texts can't be read, or not leniently and no number is written so; those of a compact or a scientific
+    /// format never can.
     /// `NotWritten`: it is a text of no number, or of two. `Memory`: out of memory. It allocates where the text has more
     /// than sixteen digits, or is folded.
     pub fn read(&self, alloc: Global, text: &str) -> Result<Decimal, ReadError>

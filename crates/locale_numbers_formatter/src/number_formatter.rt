@@ -9,20 +9,27 @@ ghost use Rattle.icu_dimension.specs.HeldFormatters.{code_of, currency_settings_
 ghost use Rattle.locale_numbers_formatter.specs.ExactForms.{IsFormInRange, exact_shown};
 ghost use Rattle.locale_numbers_formatter.specs.FormatParts.{exact_format_events, format_events};
 ghost use Rattle.locale_numbers_formatter.specs.FormatReading.{reader_of};
-ghost use Rattle.locale_numbers_formatter.specs.FormatText.{CanFormat, FormatAllocates, HasNoUnit, ShowAllocates, compact_tables, digits_tables, format_text, format_value, fractions_in, plain_tables, unit_tables};
+ghost use Rattle.locale_numbers_formatter.specs.FormatText.{CanFormat, FormatAllocates, HasNoUnit, ShowAllocates, compact_tables, compact_value, digits_tables, format_text, format_value, fractions_in, plain_tables, scientific_tables, unit_tables};
 ghost use Rattle.locale_numbers_formatter.specs.FormatTyped.{typed_of};
 ghost use Rattle.locale_numbers_formatter.specs.FormattedNumbers.{formatted_events};
 ghost use Rattle.locale_numbers_formatter.specs.HeldDigits.{compact_held, digits_format, options_held};
 ghost use Rattle.locale_numbers_formatter.specs.HeldFormats.{currency_format, format_of, percent_format};
+ghost use Rattle.locale_numbers_formatter.specs.HeldScientific.{scientific_format, scientific_held};
+ghost use Rattle.locale_numbers_formatter.specs.HeldShown.{value_held};
 
 use crate::compact_digits::CompactDigitsFormatter;
 use crate::error::ExactError;
 use crate::formatted_digits::FormattedDigits;
 use crate::formatted_number::FormattedNumber;
-use crate::laws::{compact_is_layered, format_is_text, plain_is_layered, unit_is_layered};
+use crate::formatted_power::FormattedPower;
+use crate::laws::{
+    compact_is_layered, format_is_text, plain_is_layered, scientific_is_layered, unit_is_layered,
+};
 use crate::lenient_number_reader::LenientNumberReader;
 use crate::number_reader::NumberReader;
-use fixed_decimal::{CompactDecimal, Decimal};
+use crate::scientific::ScientificFormatter;
+use crate::shown_number::ShownNumber;
+use fixed_decimal::{CompactDecimal, Decimal, FixedInteger, ScientificDecimal};
 use icu_decimal::{CompactDecimalFormatter, DecimalFormatter};
 use icu_dimension::{CurrencyFormatter, FractionInfo, PercentFormatter};
 use std::alloc::{AllocError, Global};
@@ -41,6 +48,8 @@ pub enum FormatterKind<'a> {
     Percent(PercentFormatter<'a>),
     /// Of amounts in one currency: `€1.50`.
     Currency(CurrencyFormatter<'a>),
+    /// Of numbers in scientific notation: `1.2345E3`.
+    Scientific(ScientificFormatter<'a>),
 }
 
 /// What numbers of a format are written with: the tables of a locale, which it borrows. It is made of the formatter of
@@ -105,6 +114,17 @@ impl<'a> From<PercentFormatter<'a>> for NumberFormatter<'a> {
     fn from(formatter: PercentFormatter<'a>) -> Self {
         NumberFormatter {
             kind: FormatterKind::Percent(formatter),
+        }
+    }
+}
+
+/// The formatter of numbers in scientific notation: that of `en` writes -1234.5 as `-1.2345E3`. It does not allocate.
+impl<'a> From<ScientificFormatter<'a>> for NumberFormatter<'a> {
+    ghost from_gives = { λ formatter made. made ≡ scientific_tables (scientific_held formatter) };
+
+    fn from(formatter: ScientificFormatter<'a>) -> Self {
+        NumberFormatter {
+            kind: FormatterKind::Scientific(formatter),
         }
     }
 }
@@ -183,36 +203,24 @@ fn format_amount<'l>(
     FormattedNumber::Unit(formatter.format(value))
 }
 
-// What compact text shows for a number.
-fn show_compact(
-    formatter: &CompactDecimalFormatter<'_>,
+// A scientific number.
+fn format_scientific<'l>(
+    formatter: &'l ScientificFormatter<'_>,
     value: &Decimal,
-) -> Result<CompactDecimal, AllocError>
-    requires { CanFormat (compact_tables (compact_tables_of formatter.now)) value.now }
+) -> Result<FormattedNumber<'l>, AllocError>
+    requires { CanFormat (scientific_format formatter.now) value.now }
     ensures value { IfOk result
-        (λ shown. shown ≡ format_value (compact_tables (compact_tables_of formatter.now)) value.now) }
-    ensures room { OnErr result (ShowAllocates (compact_tables (compact_tables_of formatter.now)) value.now) }
+        (λ number. formatted_events number ≡ format_events (scientific_format formatter.now) value.now) }
+    ensures room { OnErr result (FormatAllocates (scientific_format formatter.now) value.now) }
 {
-    let text = formatter.format(value)?;
-    let shown = text.value();
-    let significand = shown.significand().try_clone()?;
-    Ok(CompactDecimal::from_significand_and_exponent(
-        Decimal::new(value.sign, significand),
-        shown.exponent(),
-    ))
-}
-
-// What compact text with digits of its own shows for a number.
-fn show_digits(
-    formatter: &CompactDigitsFormatter<'_>,
-    value: &Decimal,
-) -> Result<CompactDecimal, AllocError>
-    ensures value { IfOk result (λ shown. shown ≡ format_value (digits_format formatter.now) value.now) }
-    ensures room { OnErr result (ShowAllocates (digits_format formatter.now) value.now) }
-{
+    scientific_is_layered();
     let mut significand = value.try_clone()?;
     match formatter.show(&mut significand) {
-        Ok(under) => Ok(CompactDecimal::from_significand_and_exponent(significand, under.exponent)),
+        Ok(exponent) => Ok(FormattedNumber::Scientific(FormattedPower::new(
+            &formatter.tables,
+            significand,
+            exponent,
+        ))),
         Err(refused) => {
             drop(significand);
             Err(refused)
@@ -220,13 +228,79 @@ fn show_digits(
     }
 }
 
+// What compact text shows for a number.
+fn show_compact(
+    formatter: &CompactDecimalFormatter<'_>,
+    value: &Decimal,
+) -> Result<ShownNumber, AllocError>
+    requires { CanFormat (compact_tables (compact_tables_of formatter.now)) value.now }
+    ensures value { IfOk result (λ shown.
+        value_held shown ≡ format_value (compact_tables (compact_tables_of formatter.now)) value.now) }
+    ensures room { OnErr result (ShowAllocates (compact_tables (compact_tables_of formatter.now)) value.now) }
+{
+    let text = formatter.format(value)?;
+    let shown = text.value();
+    let significand = shown.significand().try_clone()?;
+    Ok(ShownNumber::Compact(CompactDecimal::from_significand_and_exponent(
+        Decimal::new(value.sign, significand),
+        shown.exponent(),
+    )))
+}
+
+// What compact text with digits of its own shows for a number.
+fn show_digits(
+    formatter: &CompactDigitsFormatter<'_>,
+    value: &Decimal,
+) -> Result<ShownNumber, AllocError>
+    ensures value { IfOk result
+        (λ shown. value_held shown ≡ format_value (digits_format formatter.now) value.now) }
+    ensures room { OnErr result (ShowAllocates (digits_format formatter.now) value.now) }
+{
+    let mut significand = value.try_clone()?;
+    match formatter.show(&mut significand) {
+        Ok(under) => Ok(ShownNumber::Compact(CompactDecimal::from_significand_and_exponent(
+            significand,
+            under.exponent,
+        ))),
+        Err(refused) => {
+            drop(significand);
+            Err(refused)
+        }
+    }
+}
+
+// What the text of a scientific number shows.
+fn show_scientific(
+    formatter: &ScientificFormatter<'_>,
+    value: &Decimal,
+) -> Result<ShownNumber, AllocError>
+    requires { CanFormat (scientific_format formatter.now) value.now }
+    ensures value { IfOk result
+        (λ shown. value_held shown ≡ format_value (scientific_format formatter.now) value.now) }
+    ensures room { OnErr result (ShowAllocates (scientific_format formatter.now) value.now) }
+{
+    let mut significand = value.try_clone()?;
+    let Ok(exponent) = formatter.show(&mut significand) else {
+        drop(significand);
+        return Err(AllocError);
+    };
+    match FixedInteger::try_from(exponent) {
+        Ok(exponent) => Ok(ShownNumber::Scientific(ScientificDecimal::from(significand, exponent))),
+        Err(_) => unreachable!(),
+    }
+}
+
 // A number that is shown as it is.
-fn show_as_it_is(value: &Decimal) -> Result<CompactDecimal, AllocError>
-    ensures value { IfOk result (λ shown. shown ≡ record { significand = value.now; exponent = 0 }) }
+fn show_as_it_is(value: &Decimal) -> Result<ShownNumber, AllocError>
+    ensures value { IfOk result
+        (λ shown. value_held shown ≡ compact_value (record { significand = value.now; exponent = 0 })) }
     ensures room { OnErr result (IsLong value.now.absolute.count) }
 {
     match value.try_clone() {
-        Ok(significand) => Ok(CompactDecimal::from_significand_and_exponent(significand, 0)),
+        Ok(significand) => Ok(ShownNumber::Compact(CompactDecimal::from_significand_and_exponent(
+            significand,
+            0,
+        ))),
         Err(refused) => Err(refused),
     }
 }
@@ -334,14 +408,15 @@ impl<'a> NumberFormatter<'a> {
             FormatterKind::Plain(_)
             | FormatterKind::Compact(_)
             | FormatterKind::CompactDigits(_)
-            | FormatterKind::Percent(_) => None,
+            | FormatterKind::Percent(_)
+            | FormatterKind::Scientific(_) => None,
             FormatterKind::Currency(formatter) => Some(formatter.fractions()),
         }
     }
 
     /// Whether the number can be formatted: always but by compact formatters, which don't write 32,768 nines in English,
-    /// as what they are rounded to, 10^32768, is no decimal; those with digits of their own don't write a number with a
-    /// digit below its exponent, as 1000 and 10^-32768 together.
+    /// as what they are rounded to, 10^32768, is no decimal; those with digits of their own, and those of scientific
+    /// numbers, don't write a number with a digit below its exponent, as 1000 and 10^-32768 together.
     ///
     /// It is the condition of `format` and `shown`. It does not allocate.
     pub fn can_format(&self, value: &Decimal) -> bool
@@ -350,18 +425,20 @@ impl<'a> NumberFormatter<'a> {
         match &self.kind {
             FormatterKind::Compact(formatter) => formatter.can_format(value),
             FormatterKind::CompactDigits(formatter) => formatter.can_show(value),
+            FormatterKind::Scientific(formatter) => formatter.can_show(value),
             FormatterKind::Plain(_) | FormatterKind::Percent(_) | FormatterKind::Currency(_) => {
                 true
             }
         }
     }
 
-    /// The number as this formatter writes it, with its parts: -1234.5 as `-1,234.5`, `-1.2K`, `-1,234.5%` or `-€1,234.5` in
-    /// English.
+    /// The number as this formatter writes it, with its parts: -1234.5 as `-1,234.5`, `-1.2K`, `-1,234.5%`, `-€1,234.5` or
+    /// `-1.2345E3` in English.
     ///
-    /// The condition is `can_format`. It is written as it is given, with its digits, but for compact text. It allocates
-    /// where a compact number has more than sixteen digits, from the first to the last one that is not zero, and it may
-    /// where digits of its own are rounded to multiples of 25. `AllocError`: out of memory, only there.
+    /// The condition is `can_format`. It is written as it is given, with its digits, but for compact and scientific text.
+    /// It allocates where a compact or scientific number has more than sixteen digits, from the first to the last one that
+    /// is not zero, and it may where digits of its own are rounded to multiples of 25. `AllocError`: out of memory, only
+    /// there.
     ///
     /// Source: UTS 35, part 3 (numbers).
     pub fn format<'l>(&'l self, value: &'l Decimal) -> Result<FormattedNumber<'l>, AllocError>
@@ -377,23 +454,26 @@ impl<'a> NumberFormatter<'a> {
             FormatterKind::CompactDigits(formatter) => format_digits(formatter, value),
             FormatterKind::Percent(formatter) => Ok(format_percent(formatter, value)),
             FormatterKind::Currency(formatter) => Ok(format_amount(formatter, value)),
+            FormatterKind::Scientific(formatter) => format_scientific(formatter, value),
         }
     }
 
-    /// What the text of the number shows: of -1172700 in English -1.2 with the exponent 6 by a compact formatter, and the
-    /// number itself with the exponent 0 by any other.
+    /// What the text of the number shows: of -1172700 in English -1.2 with the exponent 6 by a compact formatter, the
+    /// significand and the exponent as it is shown by one of scientific numbers, and the number itself with the exponent 0
+    /// by any other.
     ///
     /// The condition is `can_format`. It allocates where the number, or what is shown for it, has more than sixteen digits,
     /// from the first to the last one that is not zero, and may where `format` may. `AllocError`: out of memory, only
     /// there.
-    pub fn shown(&self, value: &Decimal) -> Result<CompactDecimal, AllocError>
+    pub fn shown(&self, value: &Decimal) -> Result<ShownNumber, AllocError>
         requires { CanFormat self.now value.now }
-        ensures value { IfOk result (λ shown. shown ≡ format_value self.now value.now) }
+        ensures value { IfOk result (λ shown. value_held shown ≡ format_value self.now value.now) }
         ensures room { OnErr result (ShowAllocates self.now value.now) }
     {
         match &self.kind {
             FormatterKind::Compact(formatter) => show_compact(formatter, value),
             FormatterKind::CompactDigits(formatter) => show_digits(formatter, value),
+            FormatterKind::Scientific(formatter) => show_scientific(formatter, value),
             FormatterKind::Plain(_) | FormatterKind::Percent(_) | FormatterKind::Currency(_) => {
                 show_as_it_is(value)
             }
@@ -402,9 +482,9 @@ impl<'a> NumberFormatter<'a> {
 
     /// A number with an exponent that the caller chose, with its parts: of -1.20 and 6 `-1.20M` in English.
     ///
-    /// The digits are written as they are. A format without compact patterns has only the exponent 0. `Range`: by a
-    /// compact formatter, where the magnitude of both together is above 32767. `Exponent`: the format has another exponent
-    /// for this magnitude, as 3 for that of 1.2 and 5. It does not allocate.
+    /// The digits are written as they are. A format without compact patterns has only the exponent 0, and one of scientific
+    /// numbers has none. `Range`: by a compact formatter, where the magnitude of both together is above 32767. `Exponent`:
+    /// the format has another exponent for this magnitude, as 3 for that of 1.2 and 5. It does not allocate.
     pub fn format_exact<'l>(
         &'l self,
         form: &'l CompactDecimal,
@@ -427,11 +507,12 @@ impl<'a> NumberFormatter<'a> {
             FormatterKind::Currency(formatter) => {
                 Ok(format_amount(formatter, without_exponent(form)?))
             }
+            FormatterKind::Scientific(_) => Err(ExactError::Exponent),
         }
     }
 
-    /// What reads what this formatter writes: that of `en` and `EUR` reads `€1.50` as 1.50, and that of compact numbers
-    /// reads nothing. It borrows only what the formatter borrows, so both can be kept beside each other.
+    /// What reads what this formatter writes: that of `en` and `EUR` reads `€1.50` as 1.50, and those of compact and of
+    /// scientific numbers read nothing. It borrows only what the formatter borrows, so both can be kept beside each other.
     ///
     /// It puts the affixes of a unit together: it allocates for each one that is not empty, and without a unit it always
     /// succeeds. `AllocError`: out of memory.
@@ -441,9 +522,9 @@ impl<'a> NumberFormatter<'a> {
     {
         match &self.kind {
             FormatterKind::Plain(formatter) => Ok(NumberReader::of_plain(*formatter)),
-            FormatterKind::Compact(_) | FormatterKind::CompactDigits(_) => {
-                Ok(NumberReader::of_nothing())
-            }
+            FormatterKind::Compact(_)
+            | FormatterKind::CompactDigits(_)
+            | FormatterKind::Scientific(_) => Ok(NumberReader::of_nothing()),
             FormatterKind::Percent(formatter) => read_percents(alloc, formatter),
             FormatterKind::Currency(formatter) => read_amounts(alloc, formatter),
         }
@@ -451,7 +532,7 @@ impl<'a> NumberFormatter<'a> {
 
     /// What reads what people type of the numbers that this formatter writes, and, where one is given, also by a second
     /// formatter, as that of `ar-EG-u-nu-latn` beside that of `ar-EG`: that of `en` and `EUR` reads `€1.5`, `1.5` and
-    /// `1.5 EUR` as 1.5, and that of compact numbers reads nothing.
+    /// `1.5 EUR` as 1.5, and those of compact and of scientific numbers read nothing.
     ///
     /// A second formatter of another kind counts for nothing. It allocates for each affix, and for each folded text; without
     /// a unit it always succeeds. `AllocError`: out of memory.
@@ -468,9 +549,9 @@ impl<'a> NumberFormatter<'a> {
             FormatterKind::Plain(formatter) => {
                 Ok(LenientNumberReader::of_plain(alloc, formatter, second))
             }
-            FormatterKind::Compact(_) | FormatterKind::CompactDigits(_) => {
-                Ok(LenientNumberReader::of_nothing())
-            }
+            FormatterKind::Compact(_)
+            | FormatterKind::CompactDigits(_)
+            | FormatterKind::Scientific(_) => Ok(LenientNumberReader::of_nothing()),
             FormatterKind::Percent(formatter) => {
                 LenientNumberReader::of_percent(alloc, formatter, second)
             }

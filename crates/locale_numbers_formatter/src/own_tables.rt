@@ -3,25 +3,29 @@
 ghost use Rattle.std.specs.Prelude.{◌≡◌, IfOk, IsOk};
 ghost use Rattle.icu_decimal.specs.HeldCompact.{compact_tables_of};
 ghost use Rattle.icu_decimal.specs.HeldTables.{tables_of};
+ghost use Rattle.icu_decimal_scientific.specs.HeldTables.{settings_of as scientific_settings};
 ghost use Rattle.icu_dimension.specs.HeldFormatters.{code_of, currency_settings_of, settings_of_percent, sign_of};
 ghost use Rattle.icu_dimension.specs.HeldUnits.{settings_of};
-ghost use Rattle.locale_numbers_formatter.specs.FormatText.{compact_tables, digits_tables, plain_tables, unit_tables};
+ghost use Rattle.locale_numbers_formatter.specs.FormatText.{compact_tables, digits_tables, plain_tables, scientific_tables, unit_tables};
 ghost use Rattle.locale_numbers_formatter.specs.HeldDigits.{compact_held, options_held};
 ghost use Rattle.locale_numbers_formatter.specs.HeldFormats.{currency_format, percent_format};
-ghost use Rattle.locale_numbers_formatter.specs.Regrouped.{HasNoTexts, compact_regrouped, plain_regrouped, regrouped, unit_regrouped};
+ghost use Rattle.locale_numbers_formatter.specs.HeldScientific.{scientific_format, scientific_held};
+ghost use Rattle.locale_numbers_formatter.specs.Regrouped.{HasNoTexts, compact_regrouped, plain_regrouped, regrouped, scientific_regrouped, unit_regrouped};
 
 use crate::compact_digits::CompactDigitsFormatter;
 use crate::number_formatter::{FormatterKind, NumberFormatter};
+use crate::scientific::ScientificFormatter;
 use icu_decimal::options::GroupingStrategy;
 use icu_decimal::plurals::PluralRules;
 use icu_decimal::provider::CompactPatterns;
 use icu_decimal::{CompactDecimalFormatter, DecimalFormatter, OwnedDecimalTables};
+use icu_decimal_scientific::ScientificTables;
 use icu_dimension::provider::CurrencySymbol;
 use icu_dimension::{
     CurrencyCode, CurrencyFormatter, FractionInfo, LetterEnds, PercentFormatter, PercentSign,
     UnitKind, UnitPattern, UnitTables,
 };
-use locale_numbers_formats::NumberOptions;
+use locale_numbers_formats::{NumberOptions, ScientificStyle};
 use std::alloc::{AllocError, Global};
 use std::marker::Model;
 
@@ -63,6 +67,27 @@ impl Model for OwnUnitTables {
     } };
 }
 
+// What significands are written with, the text before exponents, and what these are written with.
+#[derive(Drop)]
+pub(crate) struct OwnScientificTables {
+    decimals: OwnedDecimalTables,
+    separator: String,
+    exponents: OwnedDecimalTables,
+}
+
+impl Model for OwnScientificTables {
+    ghost use Rattle.std.specs.Prelude.{string_bytes};
+    ghost use Rattle.icu_decimal_scientific.specs.ExponentialText.{ScientificSettings};
+
+    ghost Value = { ScientificSettings };
+
+    ghost view = { λ t. record {
+      tables = t.decimals;
+      separator = string_bytes t.separator;
+      exponents = t.exponents;
+    } };
+}
+
 // Of which kind they are.
 #[derive(Drop)]
 pub(crate) enum OwnTables {
@@ -76,6 +101,8 @@ pub(crate) enum OwnTables {
     Percent(OwnUnitTables, PercentSign),
     // Of amounts, with the code of their currency and its digits.
     Currency(OwnUnitTables, CurrencyCode, FractionInfo),
+    // Of scientific numbers, with their style and the options of their digits.
+    Scientific(OwnScientificTables, ScientificStyle, NumberOptions),
 }
 
 impl OwnCompactTables {
@@ -160,6 +187,43 @@ impl OwnUnitTables {
         let symbol = Some(&self.symbol);
         let decimals = self.decimals.tables();
         CurrencyFormatter::from_parts(decimals, &self.pattern, symbol, code, fractions)
+    }
+}
+
+impl OwnScientificTables {
+    // A copy of these tables, with this strategy of the significand.
+    fn of(
+        alloc: Global,
+        tables: &ScientificTables<'_>,
+        strategy: GroupingStrategy,
+    ) -> Result<OwnScientificTables, AllocError>
+        ensures { IfOk result (λ own. own ≡ scientific_regrouped strategy (scientific_settings tables.now)) }
+    {
+        let decimals = OwnedDecimalTables::try_from_tables(tables.decimals(), strategy)?;
+        let own = tables.exponents();
+        let exponents = OwnedDecimalTables::try_from_tables(own, own.strategy())?;
+        let separator = String::from_str(alloc, tables.separator())?;
+        Ok(OwnScientificTables {
+            decimals,
+            separator,
+            exponents,
+        })
+    }
+
+    // The tables, lent.
+    fn tables(&self) -> ScientificTables<'_>
+        ensures { scientific_settings result ≡ self.now }
+    {
+        let (decimals, exponents) = (self.decimals.tables(), self.exponents.tables());
+        ScientificTables::with_exponents(&decimals, self.separator.as_str(), &exponents)
+    }
+
+    // The formatter that writes with them.
+    fn formatter(&self, style: ScientificStyle, options: NumberOptions) -> ScientificFormatter<'_>
+        ensures { scientific_held result ≡ record { settings = self.now; style = style; options = options } }
+    {
+        let alloc = *self.separator.allocator();
+        ScientificFormatter::new(alloc, self.tables(), style, options)
     }
 }
 
@@ -262,6 +326,20 @@ impl OwnNumberTables {
         })
     }
 
+    // Those of scientific numbers.
+    fn of_scientific(
+        alloc: Global,
+        formatter: &ScientificFormatter<'_>,
+        strategy: GroupingStrategy,
+    ) -> Result<OwnNumberTables, AllocError>
+        ensures { IfOk result (λ own. own ≡ regrouped strategy (scientific_format formatter.now)) }
+    {
+        let tables = OwnScientificTables::of(alloc, &formatter.tables, strategy)?;
+        Ok(OwnNumberTables {
+            tables: OwnTables::Scientific(tables, formatter.style, formatter.options),
+        })
+    }
+
     /// A copy of what the formatter writes with, with this strategy: of that of the percents of English, with `Never`, one
     /// that writes 1234 as `1234%`.
     ///
@@ -288,6 +366,9 @@ impl OwnNumberTables {
             FormatterKind::Currency(formatter) => {
                 OwnNumberTables::of_currency(alloc, formatter, strategy)
             }
+            FormatterKind::Scientific(formatter) => {
+                OwnNumberTables::of_scientific(alloc, formatter, strategy)
+            }
         }
     }
 
@@ -307,6 +388,9 @@ impl OwnNumberTables {
             OwnTables::Percent(tables, sign) => FormatterKind::Percent(tables.percents(*sign)),
             OwnTables::Currency(tables, code, fractions) => {
                 FormatterKind::Currency(tables.amounts(*code, *fractions))
+            }
+            OwnTables::Scientific(tables, style, options) => {
+                FormatterKind::Scientific(tables.formatter(*style, *options))
             }
         };
         NumberFormatter { kind }

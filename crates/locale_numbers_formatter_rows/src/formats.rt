@@ -1,8 +1,8 @@
 //! The formats of rows, with the symbols and digits of English. What a formatter borrows is made by functions that each own
 //! one of its tables and lend it to the next.
 
-use crate::answers;
 use crate::calls::Call;
+use crate::{answers, scientific};
 use icu_decimal::options::GroupingStrategy;
 use icu_decimal::plurals::PluralRules;
 use icu_decimal::provider::{CompactPatterns, DecimalSymbols};
@@ -120,20 +120,30 @@ fn by_patterns(
     by_compact(decimals, format, call, out)
 }
 
-// The compact numbers with digits of their own that a skeleton asks for.
-fn format_of_skeleton(skeleton: &str) -> Result<CompactFormat, Stop> {
-    let notation = match NumberFormat::try_from_str(skeleton) {
+// Compact numbers with digits of their own.
+fn with_own_digits(width: CompactWidth, options: NumberOptions) -> CompactFormat {
+    CompactFormat {
+        patterns: match width {
+            CompactWidth::Short => SHORT,
+            CompactWidth::Long => LONG,
+        },
+        digits: Some(options),
+    }
+}
+
+// The answer of a call of the numbers that a skeleton asks for: compact ones with digits of their own, or scientific ones.
+fn by_skeleton(decimals: DecimalTables<'_>, call: Call<'_>, out: &mut String) -> Result<(), Stop> {
+    let notation = match NumberFormat::try_from_str(call.format) {
         Ok(format) => format.shape.notation,
         Err(_) => return Err(Stop::Unknown),
     };
     match notation {
-        Notation::CompactDigits(width, options) => Ok(CompactFormat {
-            patterns: match width {
-                CompactWidth::Short => SHORT,
-                CompactWidth::Long => LONG,
-            },
-            digits: Some(options),
-        }),
+        Notation::CompactDigits(width, options) => {
+            by_compact(decimals, with_own_digits(width, options), call, out)
+        }
+        Notation::Scientific(style, options) => {
+            scientific::answer(decimals, style, options, call, out)
+        }
         Notation::Standard | Notation::Compact(_) => Err(Stop::Unknown),
     }
 }
@@ -238,10 +248,7 @@ pub fn answer(call: Call<'_>, out: &mut String) -> Result<(), Stop> {
         "percent" => by_percent(decimals, call, out),
         "EUR" => by_euros(decimals, call, out),
         "CHF" => by_francs(decimals, call, out),
-        skeleton => match format_of_skeleton(skeleton) {
-            Ok(format) => by_compact(decimals, format, call, out),
-            Err(stop) => Err(stop),
-        },
+        _ => by_skeleton(decimals, call, out),
     };
     drop(symbols);
     answered

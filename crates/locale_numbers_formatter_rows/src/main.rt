@@ -7,6 +7,7 @@ mod answers;
 mod calls;
 mod formats;
 mod parts;
+mod scientific;
 mod texts;
 
 use calls::Calls;

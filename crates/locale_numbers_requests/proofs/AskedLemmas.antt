@@ -6,13 +6,15 @@ use Rattle.icu_decimal_symbols.specs.declared.options.GroupingStrategy.{Grouping
 use Rattle.icu_dimension_fractions.specs.CurrencyCodes.{is_currency_code}
 use Rattle.icu_dimension_fractions.specs.declared.PercentSign.{PercentSign}
 use Rattle.locale_numbers_formats.proofs.ReadLemmas.{skeleton_is}
+use Rattle.locale_numbers_formats.specs.Changed.{unchanged}
 use Rattle.locale_numbers_formats.specs.Cutting.{cut_at}
 use Rattle.locale_numbers_formats.specs.SkeletonFormats.{format_of, unit_by}
 use Rattle.locale_numbers_formats.specs.SkeletonLaws as skeletons
 use Rattle.locale_numbers_formats.specs.Skeletons.{skeleton_of}
 use Rattle.locale_numbers_formats.specs.declared.Notation.{Notation}
-use Rattle.locale_numbers_formats.specs.declared.Notation.TheVariants.{Standard, Compact, CompactDigits}
+use Rattle.locale_numbers_formats.specs.declared.Notation.TheVariants.{Standard, Compact, CompactDigits, Scientific}
 use Rattle.locale_numbers_formats.specs.declared.NumberFormat.{NumberFormat}
+use Rattle.locale_numbers_formats.specs.declared.NumberOptions.{NumberOptions}
 use Rattle.locale_numbers_formats.specs.declared.NumberUnit.{NumberUnit}
 use Rattle.locale_numbers_formats.specs.declared.NumberUnit.TheVariants as unit
 use Rattle.locale_numbers_formats.specs.declared.SignAsked.{SignAsked}
@@ -21,8 +23,8 @@ use Rattle.locale_numbers_formats.specs.declared.SkeletonError.{SkeletonError}
 use Rattle.locale_numbers_formats.specs.declared.SkeletonUnit.{SkeletonUnit}
 use Rattle.locale_numbers_formats.specs.declared.SkeletonUnit.TheVariants as asked
 use Rattle.locale_numbers_requests.specs.FormField.{colon, exact_by, first_of, form_for, form_named, form_with, format_exact, format_read, is_compact, listed_form, skeleton_by, skeleton_in, skeleton_task, unit_form}
-use Rattle.locale_numbers_requests.specs.Laws.{FitFormat, FitNotation, HasCode, IsAtMagnitude, RequestsAreAtMagnitude, RequestsHaveCodes}
-use Rattle.locale_numbers_requests.specs.Request.{Asked, asked_by, fields, format_asked, format_by, grouping_named, request_by, request_in, says_nothing, sign_named, takes}
+use Rattle.locale_numbers_requests.specs.Laws.{FitDecimals, FitFormat, FitNotation, HasCode, IsAtMagnitude, RequestsAreAtMagnitude, RequestsHaveCodes}
+use Rattle.locale_numbers_requests.specs.Request.{Asked, asked_by, fields, format_asked, format_by, grouping_named, options_by, placed, request_by, request_in, says_nothing, sign_named, takes}
 use Rattle.locale_numbers_requests.specs.RoundingField.{rounding_named}
 use Rattle.locale_numbers_requests.specs.UnitWord.{amount_by, amount_named, amount_word, percents_or, sign_of_percents, unit_named}
 use Rattle.locale_numbers_requests.specs.declared.form_field.FormAsked.{FormAsked}
@@ -109,6 +111,7 @@ exact_so : (notation : Notation) (f : NumberFormat) → FitNotation notation →
 exact_so Standard f fits sound = sound
 exact_so (Compact width) f fits sound = sound
 exact_so (CompactDigits width options) f fits sound = record { code = sound.code; fits = record { options = fits; digits = tt } }
+exact_so (Scientific style options) f fits sound = sound
 
 of_task : (task : Task) (f : NumberFormat) → IsSound f → AreSound (form_for task f)
 of_task Write f sound = sound
@@ -140,6 +143,10 @@ listed : (b : Bool) (task : Task) (notation : Notation) (rest : Option FormAsked
 listed true task notation rest fits sound = record { code = tt; digits = fits }
 listed false task notation rest fits sound = sound
 
+-- options that change nothing fit
+nothing_fits : FitDecimals unchanged
+nothing_fits = record { position = tt; integer = omega arith }
+
 of_list : (word : List ℕ) → AreSound (listed_form word)
 of_list word =
     listed (bytes_eq word (codes "plain")) _ _ _ tt
@@ -151,7 +158,9 @@ of_list word =
     (listed (bytes_eq word (codes "read-lenient")) _ _ _ tt
     (listed (bytes_eq word (codes "plural")) _ _ _ tt
     (listed (bytes_eq word (codes "ordinal")) _ _ _ tt
-    (listed (bytes_eq word (codes "range-plural")) _ _ _ tt tt)))))))))
+    (listed (bytes_eq word (codes "range-plural")) _ _ _ tt
+    (listed (bytes_eq word (codes "scientific")) _ _ _ nothing_fits
+    (listed (bytes_eq word (codes "engineering")) _ _ _ nothing_fits tt)))))))))))
 
 either : (first second : Option FormAsked) → AreSound first → AreSound second → AreSound (first_of first second)
 either (Some form) second sound other = sound
@@ -170,11 +179,19 @@ if_taken : (b : Bool) (tag : List ℕ) (task : Task) (format : NumberFormat) (te
 if_taken true tag task format text sound = sound
 if_taken false tag task format text sound = tt
 
+-- options fit where they are placed
+placed_so : (notation : Notation) (unit : NumberUnit) (g : GroupingStrategy) (options : NumberOptions) → IsSoundWord notation unit → FitDecimals options
+    → IsSound (placed (record { notation = notation; unit = unit; grouping = g }) options)
+placed_so Standard unit g options sound fits = record { code = sound.code; fits = record { options = fits; digits = tt } }
+placed_so (Compact width) unit g options sound fits = record { code = sound.code; fits = record { options = fits; digits = tt } }
+placed_so (CompactDigits width others) unit g options sound fits = record { code = sound.code; fits = record { options = fits; digits = sound.digits } }
+placed_so (Scientific style others) unit g options sound fits = record { code = sound.code; fits = record { options = nothing_fits; digits = fits } }
+
 of_form : (tag : List ℕ) (form : FormAsked) (g : GroupingStrategy) (s : SignAsked) (d : DigitsAsked) (text : List ℕ) → IsSoundForm form → IsAtMagnitude d.rounding
     → IsSoundAsked (asked_by tag (format_asked form g s d) text)
 of_form tag (OfWord task notation unit) g s d text sound at =
     if_taken (takes task unit s d.rounding) tag task (format_by notation unit g s d) text
-    (record { code = sound.code; fits = record { options = record { position = at; integer = omega arith }; digits = sound.digits } })
+    (placed_so notation unit g (options_by s d) sound (record { position = at; integer = omega arith }))
 of_form tag (OfSkeleton task format) g s d text sound at = if_taken (says_nothing g s d.rounding) tag task format text sound
 
 request_is_sound : (tag : List ℕ) (f : Option FormAsked) (g : Option GroupingStrategy) (s : Option SignAsked) (d : Option DigitsAsked) (text : List ℕ) → AreSound f → ArePlaced d

@@ -5,6 +5,10 @@ use Rattle.fixed_decimal.specs.declared.SignedRoundingMode.TheVariants.{Unsigned
 use Rattle.fixed_decimal.specs.declared.UnsignedRoundingMode.TheVariants.{HalfEven, HalfExpand, HalfTrunc, Trunc}
 use Rattle.fixed_decimal.specs.declared.RoundingIncrement.{RoundingIncrement}
 use Rattle.fixed_decimal.specs.declared.RoundingIncrement.TheVariants.{MultiplesOf1, MultiplesOf2, MultiplesOf5, MultiplesOf25}
+use Rattle.icu_decimal_scientific.specs.declared.ExponentSign.{ExponentSign}
+use Rattle.icu_decimal_scientific.specs.declared.ExponentSign.TheVariants as exponent
+use Rattle.icu_decimal_scientific.specs.declared.ScientificNotation.{ScientificNotation}
+use Rattle.icu_decimal_scientific.specs.declared.ScientificNotation.TheVariants as scientific
 use Rattle.icu_decimal_symbols.specs.declared.options.GroupingStrategy.{GroupingStrategy}
 use Rattle.icu_decimal_symbols.specs.declared.options.GroupingStrategy.TheVariants.{Auto, Min2, OnAligned}
 use Rattle.icu_dimension_fractions.specs.declared.CurrencyStyle.TheVariants as style
@@ -14,7 +18,7 @@ use Rattle.icu_plurals.specs.declared.PluralRuleType.TheVariants.{Cardinal, Ordi
 use Rattle.locale_numbers_formats.specs.Changed.{shown, unchanged}
 use Rattle.locale_numbers_formats.specs.declared.CompactWidth.TheVariants as compact
 use Rattle.locale_numbers_formats.specs.declared.LeadingZeros.TheVariants as leading
-use Rattle.locale_numbers_formats.specs.declared.Notation.TheVariants.{Standard, Compact, CompactDigits}
+use Rattle.locale_numbers_formats.specs.declared.Notation.TheVariants.{Standard, Compact, CompactDigits, Scientific}
 use Rattle.locale_numbers_formats.specs.declared.NumberFormat.{NumberFormat}
 use Rattle.locale_numbers_formats.specs.declared.NumberOptions.{NumberOptions}
 use Rattle.locale_numbers_formats.specs.declared.NumberUnit.{NumberUnit}
@@ -294,6 +298,77 @@ skeleton_with_a_sign = refl
 
 skeleton_in_cash : request_in (codes "en" ∷ codes "::currency/CHF" ∷ codes "auto" ∷ codes "keep" ∷ codes "cash" ∷ codes "1" ∷ []) ≡ None
 skeleton_in_cash = refl
+
+-- ---- scientific numbers
+
+-- what is made of a significand, and with how many digits and which sign an exponent is shown
+abbrev with_exponents : ScientificNotation → ExponentSign → ℕ → NumberOptions → NumberFormat
+with_exponents notation sign digits options = record {
+  shape = record { notation = Scientific (record { notation = notation; exponents = record { sign = sign; least_digits = digits } }) options; unit = unit.None; grouping = Auto };
+  options = unchanged;
+}
+
+-- those of the words
+abbrev by_notation : ScientificNotation → NumberOptions → NumberFormat
+by_notation notation options = with_exponents notation exponent.Auto 0 options
+
+-- the significand of a skeleton has six digits after the point at most
+abbrev six_after_point : NumberOptions
+six_after_point = (by_skeleton unit.None (At (negsuc 5) (Unsigned HalfEven) MultiplesOf1) trailing.Trim).options
+
+-- nothing is made of the number, and nothing of its significand
+scientific_line : request_in (codes "en" ∷ codes "scientific" ∷ codes "auto" ∷ codes "keep" ∷ codes "-" ∷ codes "1234567" ∷ [])
+    ≡ Some (record { tag = codes "en"; task = Write; format = by_notation scientific.Scientific (by_words unit.None Auto Usual).options; text = codes "1234567" })
+scientific_line = refl
+
+-- the digits and the sign are those of the significand
+three_digits : request_in (codes "en" ∷ codes "scientific" ∷ codes "auto" ∷ codes "keep" ∷ codes "s1-3,half-even" ∷ codes "1234567" ∷ [])
+    ≡ Some (record {
+      tag = codes "en";
+      task = Write;
+      format = by_notation scientific.Scientific (record { rounding = Significant (record { least = 1; most = 3 }) (Unsigned HalfEven); leading_zeros = leading.Keep; zeros = trailing.Trim; integer_digits = pos 0; fraction_digits = pos 0; sign = Keep });
+      text = codes "1234567";
+    })
+three_digits = refl
+
+engineering_line : request_in (codes "de" ∷ codes "engineering" ∷ codes "auto" ∷ codes "always" ∷ codes "f2-2,half-even,1" ∷ codes "12000" ∷ [])
+    ≡ Some (record {
+      tag = codes "de";
+      task = Write;
+      format = by_notation scientific.Engineering (record { rounding = At (negsuc 1) (Unsigned HalfEven) MultiplesOf1; leading_zeros = leading.Keep; zeros = trailing.Trim; integer_digits = pos 0; fraction_digits = pos 2; sign = Show display.Always });
+      text = codes "12000";
+    })
+engineering_line = refl
+
+-- there are no digits of cash, and nothing is read
+scientific_in_cash : request_in (codes "en" ∷ codes "scientific" ∷ codes "auto" ∷ codes "keep" ∷ codes "cash" ∷ codes "1" ∷ []) ≡ None
+scientific_in_cash = refl
+
+read_scientific_word : form_named (codes "read-scientific") ≡ None
+read_scientific_word = refl
+
+exact_scientific_word : form_named (codes "exact-scientific") ≡ None
+exact_scientific_word = refl
+
+scientific_skeleton : form_named (codes "::scientific") ≡ Some (OfSkeleton Write (by_notation scientific.Scientific six_after_point))
+scientific_skeleton = refl
+
+two_exponent_digits : form_named (codes "::scientific/*ee") ≡ Some (OfSkeleton Write (with_exponents scientific.Scientific exponent.Auto 2 six_after_point))
+two_exponent_digits = refl
+
+signed_exponents : form_named (codes "::engineering/sign-always .00") ≡ Some (OfSkeleton Write (with_exponents scientific.Engineering exponent.Always 0 (by_hundredths trailing.Trim 2)))
+signed_exponents = refl
+
+plural_scientific : form_named (codes "plural::scientific") ≡ Some (OfSkeleton (Category Cardinal) (by_notation scientific.Scientific six_after_point))
+plural_scientific = refl
+
+-- a form, whose text can't be read
+read_scientific : form_named (codes "read::scientific") ≡ Some (OfSkeleton Read (by_notation scientific.Scientific six_after_point))
+read_scientific = refl
+
+-- an exponent is given only for compact numbers
+exact_scientific : form_named (codes "exact::scientific") ≡ None
+exact_scientific = refl
 
 -- ---- plural categories
 
@@ -634,6 +709,9 @@ aligned_was_none = refl
 
 plural_was_none : old_form_named (codes "plural") ≡ None
 plural_was_none = refl
+
+scientific_was_none : old_form_named (codes "scientific") ≡ None
+scientific_was_none = refl
 
 cash_was_none : old_rounding_named (codes "cash") ≡ None
 cash_was_none = refl

@@ -12,7 +12,7 @@ use Rattle.locale_numbers_formats.proofs.ReadLemmas.{skeleton_is}
 use Rattle.locale_numbers_formats.specs.Changed.{unchanged}
 use Rattle.locale_numbers_formats.specs.Cutting.{cut_at}
 use Rattle.locale_numbers_formats.specs.SkeletonFormats as skeletons
-use Rattle.locale_numbers_formats.specs.SkeletonFormats.{by_usage, compact_rounding, format_of, has_own_digits, notation_by, options_of, to_digits}
+use Rattle.locale_numbers_formats.specs.SkeletonFormats.{by_usage, compact_rounding, format_of, has_own_digits, notation_by, options_of, own_rounding, to_digits}
 use Rattle.locale_numbers_formats.specs.SkeletonLaws.{HasMarks}
 use Rattle.locale_numbers_formats.specs.Skeletons.{is_compact, is_currency, says_precision, skeleton_of}
 use Rattle.locale_numbers_formats.specs.declared.LeadingZeros.{LeadingZeros}
@@ -256,12 +256,20 @@ compact_placed mode p marks = by (says_precision p)
     by true = precision_placed false mode p marks
     by false = omega arith
 
+-- of what is before a compact pattern, or of a significand
+own_placed : (notation : SkeletonNotation) (mode : SignedRoundingMode) (p : Precision) → HasMarks p → IsAtMagnitude (own_rounding notation mode p)
+own_placed notation mode p marks = by (is_compact notation)
+  where
+    by : (b : Bool) → IsAtMagnitude (if b then compact_rounding mode p else skeletons.rounding_by false mode p)
+    by true = compact_placed mode p marks
+    by false = precision_placed false mode p marks
+
 skeleton_placed : (s : Skeleton) → HasMarks s.precision → IsAtMagnitude (skeletons.rounding_of s)
 skeleton_placed s marks = by (has_own_digits s) (is_compact s.notation)
   where
     by : (own compact : Bool)
-        → IsAtMagnitude (if own then compact_rounding s.mode s.precision else if compact then AsGiven else skeletons.rounding_by (is_currency s.unit) s.mode s.precision)
-    by true compact = compact_placed s.mode s.precision marks
+        → IsAtMagnitude (if own then own_rounding s.notation s.mode s.precision else if compact then AsGiven else skeletons.rounding_by (is_currency s.unit) s.mode s.precision)
+    by true compact = own_placed s.notation s.mode s.precision marks
     by false true = tt
     by false false = precision_placed (is_currency s.unit) s.mode s.precision marks
 
@@ -273,7 +281,7 @@ read_placed (At position mode increment) = tt
 read_placed (Significant digits mode) = tt
 read_placed (Either priority position digits mode) = tt
 
--- the options of a skeleton are those of the number, or of what is before a compact pattern
+-- the options of a skeleton are those of the number, or of what is before a compact pattern, or of a significand
 options_fit : (s : Skeleton) → FitDecimals (options_of s) → FitDecimals (format_of s).options
 options_fit s fits = by (has_own_digits s)
   where
@@ -288,6 +296,7 @@ notation_fits (asked.Compact width) s fits = by (has_own_digits s)
     by : (own : Bool) → FitNotation (if own then CompactDigits width (options_of s) else Compact width)
     by true = fits
     by false = tt
+notation_fits (asked.Scientific style) s fits = fits
 
 pub skeleton_fits : (text : List ℕ) (s : Skeleton) → skeleton_of text ≡ Ok s → FitFormat (format_of s)
 skeleton_fits text s is =

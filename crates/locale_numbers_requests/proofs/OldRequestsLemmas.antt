@@ -16,13 +16,15 @@ use Rattle.locale_numbers_formats.specs.Changed.{unchanged}
 use Rattle.locale_numbers_formats.specs.Cutting.{cut_at}
 use Rattle.locale_numbers_formats.specs.SkeletonFormats.{format_of, has_own_digits, notation_by, options_of, strategy_of, unit_of}
 use Rattle.locale_numbers_formats.specs.Skeletons.{skeleton_of}
+use Rattle.icu_decimal_scientific.specs.declared.ScientificNotation.TheVariants as scientific
 use Rattle.locale_numbers_formats.specs.declared.CompactWidth.{CompactWidth}
 use Rattle.locale_numbers_formats.specs.declared.CompactWidth.TheVariants.{Short, Long}
 use Rattle.locale_numbers_formats.specs.declared.LeadingZeros.{LeadingZeros}
 use Rattle.locale_numbers_formats.specs.declared.LeadingZeros.TheVariants as leading
 use Rattle.locale_numbers_formats.specs.declared.Notation.{Notation}
-use Rattle.locale_numbers_formats.specs.declared.Notation.TheVariants.{Standard, Compact, CompactDigits}
+use Rattle.locale_numbers_formats.specs.declared.Notation.TheVariants.{Standard, Compact, CompactDigits, Scientific}
 use Rattle.locale_numbers_formats.specs.declared.NumberFormat.{NumberFormat}
+use Rattle.locale_numbers_formats.specs.declared.NumberOptions.{NumberOptions}
 use Rattle.locale_numbers_formats.specs.declared.NumberUnit.{NumberUnit}
 use Rattle.locale_numbers_formats.specs.declared.NumberUnit.TheVariants as unit
 use Rattle.locale_numbers_formats.specs.declared.Rounding.{Rounding}
@@ -36,10 +38,10 @@ use Rattle.locale_numbers_formats.specs.declared.SkeletonNotation.TheVariants as
 use Rattle.locale_numbers_formats.specs.declared.SignificantDigits.{SignificantDigits}
 use Rattle.locale_numbers_formats.specs.declared.TrailingZeros.{TrailingZeros}
 use Rattle.locale_numbers_formats.specs.declared.TrailingZeros.TheVariants as trailing
-use Rattle.locale_numbers_requests.specs.FormField.{colon, first_of, form_for, form_named, form_with, format_exact, is_compact, listed_form, skeleton_by, skeleton_in, skeleton_task, unit_form}
+use Rattle.locale_numbers_requests.specs.FormField.{colon, first_of, form_for, form_named, form_with, format_exact, is_compact, listed_form, scientific_by, skeleton_by, skeleton_in, skeleton_task, unit_form}
 use Rattle.locale_numbers_requests.specs.Increments.{has_no_zeros, increment_by, increment_named, multiples_at, with_zeros}
 use Rattle.locale_numbers_requests.specs.OldRequests.{OldRequestsStay, StaysRequest, same, none, added, is_added, is_added_grouping, is_added_notation, is_added_task, is_added_unit, old_form_named, old_grouping_named, old_increment_named, old_request_by, old_request_in, old_rounding_by, old_rounding_in, old_rounding_named, old_takes, trims}
-use Rattle.locale_numbers_requests.specs.Request.{Asked, asked_by, fields, format_by, grouping_named, is_amount, keeps_sign, request_by, request_in, says_nothing, sign_named, takes}
+use Rattle.locale_numbers_requests.specs.Request.{Asked, asked_by, fields, format_by, grouping_named, is_amount, keeps_sign, notation_with, options_beside, options_by, request_by, request_in, says_nothing, sign_named, takes}
 use Rattle.locale_numbers_requests.specs.RoundingField.{all_of, all_shown, comma, count_named, counts_by, counts_in, digits_by, digits_in, either_by, front_by, is_cash, is_whole, keeps_digits, last_named, least_shown, letter_f, mode_named, multiples_shown, places_named, position_by, position_named, priority_named, rounding_named, significant_at, significant_named, whole_by}
 use Rattle.locale_numbers_requests.specs.declared.form_field.FormAsked.{FormAsked}
 use Rattle.locale_numbers_requests.specs.declared.form_field.FormAsked.TheVariants.{OfWord, OfSkeleton}
@@ -59,9 +61,9 @@ use Rattle.locale_numbers_requests.specs.declared.unit_word.AmountWord.{AmountWo
 abbrev IsNewFormat : NumberFormat → Type 0
 IsNewFormat f = (is_added_notation f.shape.notation || trims f.options.leading_zeros f.options.zeros) ≡ true
 
--- a form that was added: by its task and its unit, or by its format
+-- a form that was added: by its notation, its task and its unit, or by its format
 abbrev IsNew : FormAsked → Type 0
-IsNew (OfWord task notation unit) = is_added_task task unit ≡ true
+IsNew (OfWord task notation unit) = (is_added_notation notation || is_added_task task unit) ≡ true
 IsNew (OfSkeleton task format) = IsNewFormat format
 
 -- a word that was there
@@ -137,6 +139,7 @@ format_is_new s = by s.notation refl
     by : (notation : SkeletonNotation) → s.notation ≡ notation → AddsFormat (format_with (notation_by notation s) (has_own_digits s) s)
     by asked.Standard is = rw is (record { new = refl; exact = refl })
     by (asked.Compact width) is = adds (has_own_digits s) width
+    by (asked.Scientific style) is = record { new = refl; exact = refl }
 
 of_format : (task : Task) (f : NumberFormat) → AddsFormat f → StaysForm (form_for task f) None
 of_format Write f adds = added_form _ adds.new refl refl
@@ -181,7 +184,9 @@ of_list word =
     (listed_new (bytes_eq word (codes "read-lenient")) _ _ refl
     (listed_new (bytes_eq word (codes "plural")) _ _ refl
     (listed_new (bytes_eq word (codes "ordinal")) _ _ refl
-    (listed_new (bytes_eq word (codes "range-plural")) _ _ refl (no_form refl refl))))))))))
+    (listed_new (bytes_eq word (codes "range-plural")) _ _ refl
+    (listed_new (bytes_eq word (codes "scientific")) (OfWord Write (scientific_by scientific.Scientific) unit.None) _ refl
+    (listed_new (bytes_eq word (codes "engineering")) (OfWord Write (scientific_by scientific.Engineering) unit.None) _ refl (no_form refl refl))))))))))))
 
 -- a form, or another that was added
 either : (now before other : Option FormAsked) → StaysForm now before → StaysForm other None → StaysForm (first_of now other) before
@@ -453,6 +458,19 @@ takes_no_cash ReadLenient unit sign old = absurd (cc)
 takes_no_cash (Category rule_type) unit sign old = absurd (cc)
 takes_no_cash RangeCategory unit sign old = absurd (cc)
 
+-- options that go into a notation do not change whether it was added, and those of one that was there are beside it
+stays_added : (options : NumberOptions) (notation : Notation) → is_added_notation (notation_with options notation) ≡ is_added_notation notation
+stays_added options Standard = refl
+stays_added options (Compact width) = refl
+stays_added options (CompactDigits width others) = refl
+stays_added options (Scientific style others) = refl
+
+are_beside : (options : NumberOptions) (notation : Notation) → is_added_notation notation ≡ false → options_beside options notation ≡ options
+are_beside options Standard old = refl
+are_beside options (Compact width) old = refl
+are_beside options (CompactDigits width others) old = refl
+are_beside options (Scientific style others) old = absurd (cc)
+
 module _ (tag : List ℕ) (text : List ℕ) where
   -- a request, where the form takes the other fields
   abbrev asks : Bool → Task → NumberFormat → Option Asked
@@ -478,6 +496,12 @@ module _ (tag : List ℕ) (text : List ℕ) where
   either_true true b is = refl
   either_true false b is = is
 
+  notation_or_task : (g n t a : Bool) → (n || a) ≡ true → ((g || n) || (t || a)) ≡ true
+  notation_or_task true n t a is = refl
+  notation_or_task false true t a is = refl
+  notation_or_task false false true a is = refl
+  notation_or_task false false false a is = is
+
   notation_or_zeros : (g n t a : Bool) → (n || t) ≡ true → ((g || n) || (t || a)) ≡ true
   notation_or_zeros true n t a is = refl
   notation_or_zeros false true t a is = refl
@@ -494,13 +518,15 @@ module _ (tag : List ℕ) (text : List ℕ) where
   with_old (OfWord task notation unit) g None now before old plain stays = none refl refl
   with_old (OfWord task notation unit) g (Some s) now before old plain (same_rounding rounding is e d) =
       rw (e, d) (taken (takes task unit s rounding) (old_takes task s rounding) task (format_by notation unit g s (all_of rounding)) (takes_so task unit s rounding old.done is)
-      (neither (is_added_grouping g) (is_added_notation notation) (is_added_task task unit) plain old.digits old.done))
+      (rw (stays_added (options_by s (all_of rounding)) notation, are_beside (options_by s (all_of rounding)) notation old.digits)
+      (neither (is_added_grouping g) (is_added_notation notation) (is_added_task task unit) plain old.digits old.done)))
   with_old (OfWord task notation unit) g (Some s) now before old plain (no_rounding e d) = rw (e, d) (none refl refl)
   with_old (OfWord task notation unit) g (Some s) now before old plain (added_cash e d) =
       rw (e, d) (not_taken (takes task unit s Cash) task (format_by notation unit g s (all_of Cash)) (takes_no_cash task unit s old.done))
   with_old (OfWord task notation unit) g (Some s) now before old plain (added_digits digits new e d) =
       rw (e, d) (newly_taken (takes task unit s digits.rounding) task (format_by notation unit g s digits)
-      (either_true (is_added_grouping g || is_added_notation notation) (trims digits.leading_zeros digits.zeros || is_added_task task unit) (rw new refl)))
+      (rw (are_beside (options_by s digits) notation old.digits)
+      (either_true (is_added_grouping g || is_added_notation (notation_with (options_by s digits) notation)) (trims digits.leading_zeros digits.zeros || is_added_task task unit) (rw new refl))))
   with_old (OfSkeleton task format) g s now before old plain stays = absurd old
 
   with_new : (form : FormAsked) (g : Option GroupingStrategy) (s : Option SignAsked) (now : Option DigitsAsked) → IsNew form → StaysRequest (request_by tag (Some form) g s now text) None
@@ -508,8 +534,10 @@ module _ (tag : List ℕ) (text : List ℕ) where
   with_new form (Some g) None now new = none refl refl
   with_new form (Some g) (Some s) None new = none refl refl
   with_new (OfWord task notation unit) (Some g) (Some s) (Some d) new =
+      let options : NumberOptions = options_by s d in
+      let beside : NumberOptions = options_beside options notation in
       newly_taken (takes task unit s d.rounding) task (format_by notation unit g s d)
-      (either_true (is_added_grouping g || is_added_notation notation) (trims d.leading_zeros d.zeros || is_added_task task unit) (either_true (trims d.leading_zeros d.zeros) (is_added_task task unit) new))
+      (rw (stays_added options notation) (notation_or_task (is_added_grouping g) (is_added_notation notation) (trims beside.leading_zeros beside.zeros) (is_added_task task unit) new))
   with_new (OfSkeleton task format) (Some g) (Some s) (Some d) new =
       newly_taken (says_nothing g s d.rounding) task format
       (notation_or_zeros (is_added_grouping format.shape.grouping) (is_added_notation format.shape.notation) (trims format.options.leading_zeros format.options.zeros)

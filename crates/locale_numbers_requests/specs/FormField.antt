@@ -4,13 +4,17 @@
 -- A form has a task, a notation and a unit, each a type with cases, and the cases of each are imported beside it.
 use Rattle.std.specs.Prelude.{ℕ, Bool, true, false, if◌then◌else◌, List, [], ◌∷◌, drop, take, Option, Some, None, Result, Ok, codes}
 use Rattle.std.specs.Str.{bytes_eq}
+use Rattle.icu_decimal_scientific.specs.declared.ScientificNotation.{ScientificNotation}
+use Rattle.icu_decimal_scientific.specs.declared.ScientificNotation.TheVariants as scientific
 use Rattle.icu_plurals.specs.declared.PluralRuleType.TheVariants.{Cardinal, Ordinal}
+use Rattle.locale_numbers_formats.specs.Changed.{unchanged}
 use Rattle.locale_numbers_formats.specs.Cutting.{cut_at}
 use Rattle.locale_numbers_formats.specs.SkeletonFormats.{format_of}
 use Rattle.locale_numbers_formats.specs.Skeletons.{skeleton_of}
+use Rattle.locale_numbers_formats.specs.StemTable.{usual_exponents}
 use Rattle.locale_numbers_formats.specs.declared.CompactWidth.TheVariants.{Short, Long}
 use Rattle.locale_numbers_formats.specs.declared.Notation.{Notation}
-use Rattle.locale_numbers_formats.specs.declared.Notation.TheVariants.{Standard, Compact, CompactDigits}
+use Rattle.locale_numbers_formats.specs.declared.Notation.TheVariants.{Standard, Compact, CompactDigits, Scientific}
 use Rattle.locale_numbers_formats.specs.declared.NumberFormat.{NumberFormat}
 use Rattle.locale_numbers_formats.specs.declared.NumberUnit.{NumberUnit}
 use Rattle.locale_numbers_formats.specs.declared.NumberUnit.TheVariants as unit
@@ -72,6 +76,7 @@ abbrev pub exact_by : Notation → NumberFormat → NumberFormat
 exact_by Standard f = f
 exact_by (Compact width) f = f
 exact_by (CompactDigits width options) f = record { shape = record f.shape { notation = Compact width }; options = options }
+exact_by (Scientific style options) f = f
 
 abbrev pub format_exact : NumberFormat → NumberFormat
 format_exact f = exact_by f.shape.notation f
@@ -81,6 +86,7 @@ abbrev pub is_compact : Notation → Bool
 is_compact Standard = false
 is_compact (Compact width) = true
 is_compact (CompactDigits width options) = true
+is_compact (Scientific style options) = false
 
 -- an exponent is given only for compact numbers
 abbrev pub form_for : Task → NumberFormat → Option FormAsked
@@ -102,6 +108,10 @@ skeleton_in _ = None
 
 -- ---- the whole
 
+-- scientific numbers with the exponents of a skeleton that says nothing of them; other fields say what is made of a significand
+abbrev pub scientific_by : ScientificNotation → Notation
+scientific_by notation = Scientific (record { notation = notation; exponents = usual_exponents }) unchanged
+
 -- the forms of a list
 abbrev pub listed_form : List ℕ → Option FormAsked
 listed_form word =
@@ -115,6 +125,8 @@ listed_form word =
     else if bytes_eq word (codes "plural") then Some (OfWord (Category Cardinal) Standard unit.None)
     else if bytes_eq word (codes "ordinal") then Some (OfWord (Category Ordinal) Standard unit.None)
     else if bytes_eq word (codes "range-plural") then Some (OfWord RangeCategory Standard unit.None)
+    else if bytes_eq word (codes "scientific") then Some (OfWord Write (scientific_by scientific.Scientific) unit.None)
+    else if bytes_eq word (codes "engineering") then Some (OfWord Write (scientific_by scientific.Engineering) unit.None)
     else None
 
 abbrev pub first_of : Option FormAsked → Option FormAsked → Option FormAsked

@@ -5,7 +5,7 @@ use Rattle.std.specs.Prelude.{◌≡◌, ◌<◌, ◌≤◌, ℕ, true, List, So
 use Rattle.fixed_decimal.specs.Number.{place}
 use Rattle.icu_dimension_fractions.specs.CurrencyCodes.{is_currency_code}
 use Rattle.locale_numbers_formats.specs.declared.Notation.{Notation}
-use Rattle.locale_numbers_formats.specs.declared.Notation.TheVariants.{Standard, Compact, CompactDigits}
+use Rattle.locale_numbers_formats.specs.declared.Notation.TheVariants.{Standard, Compact, CompactDigits, Scientific}
 use Rattle.locale_numbers_formats.specs.declared.NumberFormat.{NumberFormat}
 use Rattle.locale_numbers_formats.specs.declared.NumberUnit.{NumberUnit}
 use Rattle.locale_numbers_formats.specs.declared.NumberUnit.TheVariants as unit
@@ -38,11 +38,12 @@ pub record FitDecimals (options : NumberOptions) : Type 0 where
   pub position : IsAtMagnitude options.rounding
   pub integer : place options.integer_digits ≤ 65536
 
--- so it is with the options that compact numbers have for digits of their own
+-- so it is with the options that compact numbers have for digits of their own, and scientific ones for a significand
 abbrev pub FitNotation : Notation → Type 0
 FitNotation Standard = Unit {0}
 FitNotation (Compact width) = Unit {0}
 FitNotation (CompactDigits width options) = FitDecimals options
+FitNotation (Scientific style options) = FitDecimals options
 
 -- and with all options of a format
 pub record FitFormat (format : NumberFormat) : Type 0 where

@@ -16,7 +16,7 @@ use Rattle.locale_numbers_formats.specs.declared.CompactWidth.TheVariants.{Short
 use Rattle.locale_numbers_formats.specs.declared.LeadingZeros.{LeadingZeros}
 use Rattle.locale_numbers_formats.specs.declared.LeadingZeros.TheVariants as leading
 use Rattle.locale_numbers_formats.specs.declared.Notation.{Notation}
-use Rattle.locale_numbers_formats.specs.declared.Notation.TheVariants.{Standard, Compact, CompactDigits}
+use Rattle.locale_numbers_formats.specs.declared.Notation.TheVariants.{Standard, Compact, CompactDigits, Scientific}
 use Rattle.locale_numbers_formats.specs.declared.NumberFormat.{NumberFormat}
 use Rattle.locale_numbers_formats.specs.declared.NumberShape.{NumberShape}
 use Rattle.locale_numbers_formats.specs.declared.NumberUnit.{NumberUnit}
@@ -135,11 +135,12 @@ is_added_grouping grouping.Always = false
 is_added_grouping grouping.Min2 = false
 is_added_grouping grouping.OnAligned = true
 
--- compact numbers with digits of their own, which were added
+-- compact numbers with digits of their own and scientific ones, which were added
 abbrev pub is_added_notation : Notation → Bool
 is_added_notation Standard = false
 is_added_notation (Compact width) = false
 is_added_notation (CompactDigits width options) = true
+is_added_notation (Scientific style options) = true
 
 abbrev pub is_added_shape : NumberShape → Bool
 is_added_shape shape = is_added_grouping shape.grouping || is_added_notation shape.notation

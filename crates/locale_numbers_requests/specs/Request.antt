@@ -7,9 +7,13 @@ use Rattle.std.specs.Str.{bytes_eq, is_utf8}
 use Rattle.fixed_decimal.specs.declared.SignDisplay.TheVariants as display
 use Rattle.icu_decimal_symbols.specs.declared.options.GroupingStrategy.{GroupingStrategy}
 use Rattle.icu_decimal_symbols.specs.declared.options.GroupingStrategy.TheVariants.{Auto, Never, Always, Min2, OnAligned}
+use Rattle.locale_numbers_formats.specs.Changed.{unchanged}
 use Rattle.locale_numbers_formats.specs.Cutting.{cut_at}
 use Rattle.locale_numbers_formats.specs.declared.Notation.{Notation}
+use Rattle.locale_numbers_formats.specs.declared.Notation.TheVariants.{Standard, Compact, CompactDigits, Scientific}
 use Rattle.locale_numbers_formats.specs.declared.NumberFormat.{NumberFormat}
+use Rattle.locale_numbers_formats.specs.declared.NumberOptions.{NumberOptions}
+use Rattle.locale_numbers_formats.specs.declared.NumberShape.{NumberShape}
 use Rattle.locale_numbers_formats.specs.declared.NumberUnit.{NumberUnit}
 use Rattle.locale_numbers_formats.specs.declared.NumberUnit.TheVariants as unit
 use Rattle.locale_numbers_formats.specs.declared.Rounding.{Rounding}
@@ -82,19 +86,40 @@ says_nothing Always sign rounding = false
 says_nothing Min2 sign rounding = false
 says_nothing OnAligned sign rounding = false
 
--- the format of a line: none is added in front
-abbrev pub format_by : Notation → NumberUnit → GroupingStrategy → SignAsked → DigitsAsked → NumberFormat
-format_by notation unit grouping sign digits = record {
-  shape = record { notation = notation; unit = unit; grouping = grouping };
-  options = record {
-    rounding = digits.rounding;
-    leading_zeros = digits.leading_zeros;
-    zeros = digits.zeros;
-    integer_digits = pos 0;
-    fraction_digits = digits.fraction_digits;
-    sign = sign;
-  };
+-- the options of scientific numbers are those of the significand, and go into the notation
+abbrev pub notation_with : NumberOptions → Notation → Notation
+notation_with options Standard = Standard
+notation_with options (Compact width) = Compact width
+notation_with options (CompactDigits width others) = CompactDigits width others
+notation_with options (Scientific style others) = Scientific style options
+
+-- and nothing is made of the number before
+abbrev pub options_beside : NumberOptions → Notation → NumberOptions
+options_beside options Standard = options
+options_beside options (Compact width) = options
+options_beside options (CompactDigits width others) = options
+options_beside options (Scientific style others) = unchanged
+
+-- the format of a shape and options, each where it counts
+abbrev pub placed : NumberShape → NumberOptions → NumberFormat
+placed shape options =
+    record { shape = record shape { notation = notation_with options shape.notation }; options = options_beside options shape.notation }
+
+-- what the fields of a line make of a number: no digit is added in front
+abbrev pub options_by : SignAsked → DigitsAsked → NumberOptions
+options_by sign digits = record {
+  rounding = digits.rounding;
+  leading_zeros = digits.leading_zeros;
+  zeros = digits.zeros;
+  integer_digits = pos 0;
+  fraction_digits = digits.fraction_digits;
+  sign = sign;
 }
+
+-- the format of a line
+abbrev pub format_by : Notation → NumberUnit → GroupingStrategy → SignAsked → DigitsAsked → NumberFormat
+format_by notation unit grouping sign digits =
+    placed (record { notation = notation; unit = unit; grouping = grouping }) (options_by sign digits)
 
 -- what is done, and the format, where the form takes the other fields
 abbrev pub format_asked : FormAsked → GroupingStrategy → SignAsked → DigitsAsked → Option (Task × NumberFormat)

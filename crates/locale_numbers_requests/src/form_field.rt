@@ -6,10 +6,11 @@ ghost use Rattle.locale_numbers_requests.specs.FormField.{colon, form_for, form_
 
 use crate::pieces::three_pieces;
 use crate::unit_word::unit_named;
+use icu_decimal_scientific::{ExponentOptions, ExponentSign, ScientificNotation};
 use icu_plurals::PluralRuleType;
 use locale_numbers_formats::{
-    CompactWidth, Notation, NumberFormat, NumberOptions, NumberShape, NumberUnit, Rounding,
-    Skeleton, value_beside,
+    CompactWidth, LeadingZeros, Notation, NumberFormat, NumberOptions, NumberShape, NumberUnit,
+    Rounding, ScientificStyle, SignAsked, Skeleton, TrailingZeros, value_beside,
 };
 
 const COLON: u8 = b':';
@@ -45,13 +46,46 @@ const SHORT: Notation = Notation::Compact(CompactWidth::Short);
 
 const LONG: Notation = Notation::Compact(CompactWidth::Long);
 
+// The exponents of scientific numbers: a minus sign where they are below 0, and no zero in front.
+const EXPONENTS: ExponentOptions = ExponentOptions {
+    sign: ExponentSign::Auto,
+    least_digits: 0,
+};
+
+// Nothing is made of a significand: what is, the other fields say.
+const UNCHANGED: NumberOptions = NumberOptions {
+    rounding: Rounding::AsGiven,
+    leading_zeros: LeadingZeros::Keep,
+    zeros: TrailingZeros::Keep,
+    integer_digits: 0,
+    fraction_digits: 0,
+    sign: SignAsked::Keep,
+};
+
+// Scientific numbers, whose exponents are each whole number or the multiples of three.
+const SCIENTIFIC: Notation = Notation::Scientific(
+    ScientificStyle {
+        notation: ScientificNotation::Scientific,
+        exponents: EXPONENTS,
+    },
+    UNCHANGED,
+);
+
+const ENGINEERING: Notation = Notation::Scientific(
+    ScientificStyle {
+        notation: ScientificNotation::Engineering,
+        exponents: EXPONENTS,
+    },
+    UNCHANGED,
+);
+
 // Categories by the rules of how many there are, and by those of which one it is.
 const CARDINAL: Task = Task::Category(PluralRuleType::Cardinal);
 
 const ORDINAL: Task = Task::Category(PluralRuleType::Ordinal);
 
 // The words of forms, but for those of units.
-const FORMS: [(&[u8], FormAsked); 10] = [
+const FORMS: [(&[u8], FormAsked); 12] = [
     (
         b"plain",
         FormAsked::OfWord(Task::Write, Notation::Standard, NumberUnit::None),
@@ -91,6 +125,14 @@ const FORMS: [(&[u8], FormAsked); 10] = [
     (
         b"range-plural",
         FormAsked::OfWord(Task::RangeCategory, Notation::Standard, NumberUnit::None),
+    ),
+    (
+        b"scientific",
+        FormAsked::OfWord(Task::Write, SCIENTIFIC, NumberUnit::None),
+    ),
+    (
+        b"engineering",
+        FormAsked::OfWord(Task::Write, ENGINEERING, NumberUnit::None),
     ),
 ];
 
@@ -165,7 +207,7 @@ pub fn format_exact(format: NumberFormat) -> NumberFormat
     ensures { result ≡ format_exact format }
 {
     match format.shape.notation {
-        Notation::Standard | Notation::Compact(_) => format,
+        Notation::Standard | Notation::Compact(_) | Notation::Scientific(_, _) => format,
         Notation::CompactDigits(width, options) => NumberFormat {
             shape: NumberShape {
                 notation: Notation::Compact(width),
@@ -180,7 +222,10 @@ pub fn format_exact(format: NumberFormat) -> NumberFormat
 fn is_compact(notation: Notation) -> bool
     ensures { result ≡ is_compact notation }
 {
-    !matches!(notation, Notation::Standard)
+    matches!(
+        notation,
+        Notation::Compact(_) | Notation::CompactDigits(_, _)
+    )
 }
 
 // The form of a task and the format of a skeleton, where they go together.

@@ -32,7 +32,7 @@ pub use increments::{Increment, Multiples, increment_named, multiples_at};
 pub use locale_numbers_formats::{SignAsked, cut_field, cut_last};
 pub use range_text::cut_range;
 pub use refusal::Refusal;
-pub use request::{Request, as_text, grouping_named, is_text, read_request};
+pub use request::{Request, as_text, grouping_named, is_text, placed, read_request};
 pub use rounding_field::{count_named, last_named, mode_named, position_named};
 pub use sign_field::sign_named;
 pub use significant_field::{priority_named, significant_by, significant_count, significant_in};

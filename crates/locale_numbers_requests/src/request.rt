@@ -2,7 +2,7 @@
 
 ghost use Rattle.std.specs.Prelude.{◌≡◌, true, false, ◌∷◌, [], ◌↔◌, length, IsSome, IfSome, MatchOption, Some, None};
 ghost use Rattle.std.specs.Str.{is_utf8};
-ghost use Rattle.locale_numbers_requests.specs.Request.{fields, format_asked, format_by, grouping_named, is_amount, request_of, says_nothing, takes, with_text};
+ghost use Rattle.locale_numbers_requests.specs.Request.{fields, format_asked, format_by, grouping_named, is_amount, options_by, placed, request_of, says_nothing, takes, with_text};
 
 use crate::form_field::{FormAsked, Task, form_named};
 use crate::rounding_field::{DigitsAsked, is_cash, keeps_digits, rounding_named};
@@ -71,6 +71,40 @@ fn says_nothing(grouping: GroupingStrategy, sign: SignAsked, rounding: Rounding)
     matches!(grouping, GroupingStrategy::Auto) && keeps_sign(sign) && keeps_digits(rounding)
 }
 
+/// The format of a shape and options: those of scientific numbers go into the notation, since they are the significand's,
+/// and nothing is made of the number before. Of the notation of `scientific` and two fraction digits 1600 is `1.60E3`. Those
+/// of any other notation are beside the shape. It does not allocate.
+pub fn placed(shape: NumberShape, options: NumberOptions) -> NumberFormat
+    ensures { result ≡ placed shape options }
+{
+    match shape.notation {
+        Notation::Standard | Notation::Compact(_) | Notation::CompactDigits(_, _) => {
+            NumberFormat { shape, options }
+        }
+        Notation::Scientific(style, _) => NumberFormat {
+            shape: NumberShape {
+                notation: Notation::Scientific(style, options),
+                ..shape
+            },
+            options: NumberOptions::unchanged(),
+        },
+    }
+}
+
+// What the fields of a line make of a number.
+fn options_by(sign: SignAsked, digits: &DigitsAsked) -> NumberOptions
+    ensures { result ≡ options_by sign digits.now }
+{
+    NumberOptions {
+        rounding: digits.rounding,
+        leading_zeros: digits.leading_zeros,
+        zeros: digits.zeros,
+        integer_digits: 0,
+        fraction_digits: digits.fraction_digits,
+        sign,
+    }
+}
+
 // The format that a word of a form and the fields beside it ask for.
 fn format_by(
     notation: Notation,
@@ -81,21 +115,12 @@ fn format_by(
 ) -> NumberFormat
     ensures { result ≡ format_by notation unit grouping sign digits.now }
 {
-    NumberFormat {
-        shape: NumberShape {
-            notation,
-            unit,
-            grouping,
-        },
-        options: NumberOptions {
-            rounding: digits.rounding,
-            leading_zeros: digits.leading_zeros,
-            zeros: digits.zeros,
-            integer_digits: 0,
-            fraction_digits: digits.fraction_digits,
-            sign,
-        },
-    }
+    let shape = NumberShape {
+        notation,
+        unit,
+        grouping,
+    };
+    placed(shape, options_by(sign, digits))
 }
 
 // What is done, and the format, where the form takes the fields beside it.

@@ -153,6 +153,27 @@ const PLURALS: &str = r#"[[[["en","","latn","-","","+","",".",",",3,3,1],
  [["en",[["one","other","other"],["other","one","other"],["other","other","other"]]],
   ["fr",[["one","one","one"],["one","other","other"],["other","other","other"]]]]]]"#;
 
+// Entries of five locales, from CLDR, with signs: those of French are left out, so that it has those of `und`. English and
+// French have plural rules. There are parents, and none is listed.
+const SIGNS: &str = r#"[[[["en","","latn","-","","+","",".",",",3,3,1],
+  ["sv","","latn","\u2212","","+","",",","\u00a0",3,3,1],
+  ["de","","latn","-","","+","",",",".",3,3,1],
+  ["fr","","latn","-","","+","",",","\u202f",3,3,1],
+  ["ar-EG","","arab","\u061c-","","\u061c+","","٫","٬",3,3,1],
+  ["ar-EG","latn","latn","\u200e-","","\u200e+","",".",",",3,3,1]],
+ [["latn","0123456789"],["arab","٠١٢٣٤٥٦٧٨٩"]],
+ [["en",[["one","i = 1 and v = 0"],["other",""]]],
+  ["fr",[["one","i = 0,1"],["many","e = 0 and i != 0 and i % 1000000 = 0 and v = 0 or e != 0..5"],["other",""]]]],
+ [],[],[]],
+ [[["en","","%",null,["","¤"]]],[],[],[],[]],
+ [[],[],
+  [["en","","E","×","‰","~",["","–",""],["","+"],["≤",""]],
+   ["sv","","×10^","×","‰","~",["","–",""],["⩾",""],["≤",""]],
+   ["de","","E","·","‰","≈",["","–",""],["","+"],["≤",""]],
+   ["ar-EG","","أس","×","؉","~",["","–",""],["+",""],["≤",""]],
+   ["ar-EG","latn","E","×","‰","~",["","–",""],["+",""],["≤",""]],
+   ["und","","E","×","‰","~",["","–",""],["≥",""],["≤",""]]]]]"#;
+
 /// The text of the book with this name.
 pub fn book_named(name: &str) -> Option<&'static str> {
     match name {
@@ -176,6 +197,7 @@ pub fn book_named(name: &str) -> Option<&'static str> {
         "typed" => Some(TYPED),
         "permille" => Some(PERMILLE),
         "plurals" => Some(PLURALS),
+        "signs" => Some(SIGNS),
         _ => None,
     }
 }

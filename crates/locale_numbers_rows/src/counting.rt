@@ -13,6 +13,7 @@ use icu_dimension::provider::{
 use icu_locale_core::DataLocale;
 use locale_numbers::{Book, Tables};
 use locale_numbers_plurals::{PluralRanges, PluralsOrdinalV1, PluralsRangesV1};
+use locale_numbers_signs::{NumberSigns, NumberSignsV1};
 use std::cell::Cell;
 
 /// The tables of a book, and counts of the loads of digits and of patterns.
@@ -154,6 +155,16 @@ impl<'b> DataProvider<PluralsRangesV1> for Counting<'b> {
     }
 }
 
+impl<'b> DataProvider<NumberSignsV1> for Counting<'b> {
+    ghost use Rattle.locale_numbers.specs.Tables.{signs_under};
+
+    ghost table = { λ s id. signs_under s.book.now id };
+
+    fn load(&self, id: &DataIdentifier) -> Result<&NumberSigns, DataError> {
+        DataProvider::<NumberSignsV1>::load(self.book, id)
+    }
+}
+
 impl<'b> ParentProvider for Counting<'b> {
     ghost use Rattle.locale_numbers.specs.Tables.{parent_under, steps_in};
 
@@ -198,6 +209,8 @@ impl<'b> Tables for Counting<'b> {
     ghost ordinals = { λ s id. refl };
 
     ghost ranges = { λ s id. refl };
+
+    ghost signs = { λ s id. refl };
 
     ghost parents = { λ s l. refl };
 

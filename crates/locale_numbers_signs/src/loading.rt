@@ -2,102 +2,15 @@
 
 ghost use Rattle.std.specs.Prelude.{◌≡◌};
 ghost use Rattle.std.specs.Result.{result_map_both};
-ghost use Rattle.icu_decimal.specs.Chains.{chain};
-ghost use Rattle.icu_decimal.specs.Choice.{first_found, found_or};
-ghost use Rattle.icu_decimal.specs.Identifiers.{identifiers_along, under_each};
-ghost use Rattle.icu_decimal.specs.declared.error.DataError.{DataError};
-ghost use Rattle.icu_dimension.specs.UnitChoice.{unit_chain, unknown_last};
+ghost use Rattle.icu_dimension.specs.UnitChoice.{unit_chain};
 ghost use Rattle.icu_locale_core.specs.TagPreferences.{language_priority};
 ghost use Rattle.locale_numbers_signs.specs.SignChoice.{signs_found};
 
 use crate::marker::NumberSignsV1;
 use crate::number_signs::NumberSigns;
-use icu_decimal::preferences::{DecimalFormatterPreferences, NumberingSystem};
-use icu_decimal::provider::{DataError, DataIdentifier, DataMarker, DataProvider, ParentProvider};
-use icu_locale_core::DataLocale;
-use tinystr::TinyAsciiStr;
-
-// The first table along the chain, under the same attributes at each locale.
-fn load_along<'p, M: DataMarker, P: DataProvider<M> + ParentProvider>(
-    provider: &'p P,
-    locale: &DataLocale,
-    attributes: TinyAsciiStr<8>,
-) -> Result<&'p M::DataStruct, DataError>
-    ensures { result_map_both (λ found. found.now) (λ error. error) result ≡ first_found (λ id. P.table provider.now id)
-        (under_each attributes (chain (P.next provider.now) (P.limit provider.now) locale.now)) }
-{
-    let mut current = *locale;
-    for _turn in 0..provider.chain_limit() {
-        let id = DataIdentifier::for_marker_attributes_and_locale(attributes, current);
-        match provider.load(&id) {
-            Ok(found) => return Ok(found),
-            Err(DataError::IdentifierNotFound) => {}
-            Err(error) => return Err(error),
-        }
-        match provider.parent(&current) {
-            Some(parent) => current = parent,
-            None => return Err(DataError::IdentifierNotFound),
-        }
-    }
-    let id = DataIdentifier::for_marker_attributes_and_locale(attributes, current);
-    provider.load(&id)
-}
-
-// The table of `und`, where the provider has parents.
-fn load_unknown<'p, M: DataMarker, P: DataProvider<M> + ParentProvider>(
-    provider: &'p P,
-    attributes: TinyAsciiStr<8>,
-) -> Result<&'p M::DataStruct, DataError>
-    ensures { result_map_both (λ found. found.now) (λ error. error) result
-        ≡ found_or (λ id. P.table provider.now id) DataError.IdentifierNotFound
-        (under_each attributes (unknown_last (P.limit provider.now))) }
-{
-    if provider.chain_limit() == 0 {
-        return Err(DataError::IdentifierNotFound);
-    }
-    provider.load(&DataIdentifier::for_marker_attributes(attributes))
-}
-
-// The first table along the chain, and then that of `und`.
-fn load_under<'p, M: DataMarker, P: DataProvider<M> + ParentProvider>(
-    provider: &'p P,
-    locale: &DataLocale,
-    attributes: TinyAsciiStr<8>,
-) -> Result<&'p M::DataStruct, DataError>
-    ensures { result_map_both (λ found. found.now) (λ error. error) result ≡ first_found (λ id. P.table provider.now id)
-        (under_each attributes (unit_chain (P.next provider.now) (P.limit provider.now) locale.now)) }
-{
-    match load_along::<M, P>(provider, locale, attributes) {
-        Ok(found) => Ok(found),
-        Err(error) => match error {
-            DataError::IdentifierNotFound => load_unknown::<M, P>(provider, attributes),
-            _ => Err(error),
-        },
-    }
-}
-
-// The first table of the system, where one is asked for, and of none.
-fn load_by_system<'p, M: DataMarker, P: DataProvider<M> + ParentProvider>(
-    provider: &'p P,
-    locale: &DataLocale,
-    system: Option<NumberingSystem>,
-) -> Result<&'p M::DataStruct, DataError>
-    ensures { result_map_both (λ found. found.now) (λ error. error) result ≡ first_found (λ id. P.table provider.now id)
-        (identifiers_along system (unit_chain (P.next provider.now) (P.limit provider.now) locale.now)) }
-{
-    let alone = TinyAsciiStr::default();
-    let system = match system {
-        Some(system) => system.to_tinystr(),
-        None => return load_under::<M, P>(provider, locale, alone),
-    };
-    match load_under::<M, P>(provider, locale, system) {
-        Ok(found) => Ok(found),
-        Err(error) => match error {
-            DataError::IdentifierNotFound => load_under::<M, P>(provider, locale, alone),
-            _ => Err(error),
-        },
-    }
-}
+use icu_decimal::preferences::DecimalFormatterPreferences;
+use icu_decimal::provider::{DataError, DataProvider, ParentProvider};
+use icu_dimension::provider::load_by_system;
 
 /// The signs that the preferences ask for: of the entries of `de` and of `und` with `arab`, `de-AT` has those of `de`, and
 /// `de-AT-u-nu-arab` those of `und` with `arab`.

@@ -16,7 +16,7 @@ ghost use Rattle.locale_numbers_words.specs.SlotTexts.{bare_in, pair_in, pair_of
 use crate::by_category::ByCategory;
 use crate::texts::{CurrencyName, TextPair, UnitText};
 use icu_decimal::plurals::PluralCategory;
-use icu_dimension_words::steps::named_number;
+use icu_dimension_words::named_number;
 use locale_numbers_tables::fields::{has_count, text_at};
 use serde_json::Value;
 use std::alloc::{AllocError, Global};

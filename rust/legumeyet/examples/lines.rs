@@ -3,7 +3,7 @@
 //!
 //! usage: lines BOOK < LINES > ANSWERS
 
-use legumeyet::{Book, CompactDecimalFormatter, DecimalFormatter, Error, Options, PluralRuleType, PluralRules, Rounding, TrailingZeros};
+use legumeyet::{Book, DecimalFormatter, Error, Format, NumberFormatter, Options, PluralRuleType, PluralRules, Rounding, TrailingZeros};
 use std::error;
 use std::io::{self, BufRead, Write};
 
@@ -42,12 +42,21 @@ fn options_of(sign: &str, rounding: &str) -> Option<Options> {
     rounding.split(',').filter(|it| *it != "-").try_fold(options, with_word)
 }
 
-/// The text for a number in compact form; but for an exact form with the value shown after a tab.
-fn compact_text(compact: &CompactDecimalFormatter, form: &str, number: &str, options: &Options) -> Result<String, Error> {
+/// The text for a compact or scientific number; but for an exact form with the value shown after a tab.
+fn shown_text(formatter: &NumberFormatter, form: &str, number: &str, options: &Options) -> Result<String, Error> {
     if form.starts_with("exact-") {
-        return compact.format_exact(number, options);
+        return formatter.format_exact(number, options);
     }
-    Ok(format!("{}\t{}", compact.format(number, options)?, compact.shown(number, options)?))
+    Ok(format!("{}\t{}", formatter.format_with(number, options)?, formatter.shown(number, options)?))
+}
+
+/// The format of a form that has a value shown.
+fn format_of(form: &str) -> Option<Format<'_>> {
+    match form {
+        "scientific" => Some(Format::scientific()),
+        "engineering" => Some(Format::engineering()),
+        _ => Some(Format::compact(form.strip_prefix("exact-").unwrap_or(form).parse().ok()?)),
+    }
 }
 
 /// The word of the plural category of a number, or of the range that it is.
@@ -73,9 +82,8 @@ fn text_for(book: &Book, fields: &[&str]) -> Option<Result<String, Error>> {
         "read" => Some(plain().and_then(|it| it.read(number))),
         "plural" | "ordinal" | "range-plural" => Some(category_for(book, tag, form, number, &options)),
         _ => {
-            let width = form.strip_prefix("exact-").unwrap_or(form).parse().ok()?;
-            let compact = CompactDecimalFormatter::from_book(book, tag, width, grouping);
-            Some(compact.and_then(|it| compact_text(&it, form, number, &options)))
+            let formatter = NumberFormatter::new(book, tag, &format_of(form)?.grouping(grouping));
+            Some(formatter.and_then(|it| shown_text(&it, form, number, &options)))
         }
     }
 }

@@ -20,19 +20,19 @@ impl Error {
     pub const OPTION: Error = Error(4);
     /// The text is no locale tag, as `e`, or as `de_DE`, which is written `de-DE`: `tag_of_locale_name`.
     pub const TAG: Error = Error(5);
-    /// The book lacks a table for the tag, or compact numbers with a unit are asked for.
+    /// The book lacks a table for the tag, or compact or scientific numbers with a unit are asked for.
     pub const TABLE: Error = Error(6);
     /// The text is no decimal number.
     pub const NUMBER: Error = Error(7);
     /// A digit of the number is beyond the magnitudes -32768 to 32767.
     pub const LIMIT: Error = Error(8);
-    /// A digit of what is shown, in compact form or of an exact form, is beyond the magnitudes -32768 to 32767.
+    /// A digit of what is shown, compact or scientific, or of an exact form, is beyond the magnitudes -32768 to 32767.
     pub const RANGE: Error = Error(9);
-    /// Two numbers may have one text: under the symbols, or since they are compact.
+    /// Two numbers may have one text: under the symbols, or since they are compact. No scientific number is read yet.
     pub const UNREADABLE: Error = Error(11);
     /// No number is written so.
     pub const NOT_WRITTEN: Error = Error(12);
-    /// Numbers of the magnitude of an exact form have another exponent.
+    /// Numbers of the magnitude of an exact form have another exponent, as scientific ones always have.
     pub const EXPONENT: Error = Error(13);
     /// The text is no code of a currency, which is three capitals, as `eur`.
     pub const CODE: Error = Error(14);
@@ -74,7 +74,7 @@ impl Error {
     pub const SKELETON_PAIR: Error = Error(204);
     /// A word names a numbering system, which the tag has, as `latin`.
     pub const SKELETON_SYSTEM: Error = Error(205);
-    /// A word, or what it says beside another one, is not written yet: `scientific`, `percent scale/100`.
+    /// A word, or what it says beside another one, is not written yet: `scale/100`.
     pub const SKELETON_LATER: Error = Error(206);
     /// A word asks for what is not written here, as `decimal-always`.
     pub const SKELETON_UNSUPPORTED: Error = Error(207);

@@ -41,7 +41,7 @@ macro_rules! calls {
             ///
             /// # Errors
             ///
-            /// [`Error::OPTION`], [`Error::NUMBER`], [`Error::LIMIT`], [`Error::RANGE`] of a compact number, or [`Error::MEMORY`].
+            /// [`Error::OPTION`], [`Error::NUMBER`], [`Error::LIMIT`], [`Error::RANGE`] of a compact or scientific number, or [`Error::MEMORY`].
             pub fn $format<'a>(&self, number: impl Into<Number<'a>>, options: impl Into<Option<&'a Options>>) -> Result<String, Error> {
                 let (number, options) = (number.into(), words_of(options.into()));
                 written(|out, room, length| self.call(&number, &options, out, room, length))
@@ -67,7 +67,7 @@ macro_rules! calls {
             ///
             /// # Errors
             ///
-            /// [`Error::OPTION`], [`Error::LIMIT`], [`Error::RANGE`] of a compact number, or [`Error::MEMORY`].
+            /// [`Error::OPTION`], [`Error::LIMIT`], [`Error::RANGE`] of a compact or scientific number, or [`Error::MEMORY`].
             pub fn format_i64<'a>(&self, mantissa: i64, exponent: i16, options: impl Into<Option<&'a Options>>) -> Result<String, Error> {
                 let (words, count) = words_of(options.into());
                 // SAFETY: as for `call`.
@@ -96,7 +96,7 @@ macro_rules! calls {
             }
 
             /// The value that the text of a number shows: of a compact number a significand and, after `c`, an exponent where it is not 0,
-            /// `-1.2c6`, and of any other one the number as the options leave it, `5.00` of 5 dollars.
+            /// `-1.2c6`, of a scientific one `-1.2e6`, and of any other one the number as the options leave it, `5.00` of 5 dollars.
             ///
             /// # Errors
             ///
@@ -110,7 +110,7 @@ macro_rules! calls {
             }
 
             /// The text of a significand with an exponent, its digits as they are: `-1.20c6` is `-1.20M` in short English. But of compact
-            /// numbers the exponent is 0: `1.20`. The options change the significand.
+            /// numbers the exponent is 0: `1.20`; no scientific number is written so. The options change the significand.
             ///
             /// # Errors
             ///
@@ -432,7 +432,7 @@ impl NumberFormatter {
     ///
     /// # Errors
     ///
-    /// [`Error::CODE`], [`Error::TAG`], [`Error::TABLE`], also of compact numbers with a unit, or [`Error::MEMORY`].
+    /// [`Error::CODE`], [`Error::TAG`], [`Error::TABLE`], also of compact or scientific numbers with a unit, or [`Error::MEMORY`].
     pub fn new<'b>(book: impl Into<Option<&'b Book>>, tag: &str, format: &Format<'_>) -> Result<NumberFormatter, Error> {
         opened(book.into(), tag, format).map(NumberFormatter)
     }

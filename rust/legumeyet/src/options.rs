@@ -148,6 +148,10 @@ pub enum Notation {
     Standard,
     /// The first ones, by the patterns of a width: `1.6K`.
     Compact(Width),
+    /// Those from the first to the last one that is not zero, with a power of ten: `1.65E3`.
+    Scientific,
+    /// The same with exponents that are multiples of three: 0.00012 as `120E-6`.
+    Engineering,
 }
 
 /// What is written beside the digits.
@@ -177,6 +181,7 @@ pub enum Unit<'a> {
 /// let ungrouped = Format::default().grouping(Grouping::Never);
 /// assert_eq!(NumberFormatter::new(None, "de", &ungrouped)?.format(1234.5)?, "1234,5");
 /// assert_eq!(NumberFormatter::new(None, "en", &Format::compact(Width::Short))?.format(1650)?, "1.6K");
+/// assert_eq!(NumberFormatter::new(None, "sv", &Format::scientific())?.format(1650)?, "1,65×10^3");
 /// # Ok::<(), legumeyet::Error>(())
 /// ```
 #[derive(Clone, Copy, Debug, Default, PartialEq, Eq, Hash)]
@@ -184,7 +189,7 @@ pub enum Unit<'a> {
 pub struct Format<'a> {
     /// How the digits are written.
     pub notation: Notation,
-    /// What is written beside them. Compact numbers have no unit yet: `Error::TABLE`.
+    /// What is written beside them. Compact and scientific numbers have no unit yet: `Error::TABLE`.
     pub unit: Unit<'a>,
     /// How a negative amount of money is written.
     pub currency_style: CurrencyStyle,
@@ -199,6 +204,18 @@ impl<'a> Format<'a> {
     #[must_use]
     pub fn compact(width: Width) -> Format<'a> {
         Format { notation: Notation::Compact(width), grouping: Grouping::Min2, ..Format::default() }
+    }
+
+    /// That of scientific notation. Options change the significand, as 1.65 of `1.65E3`.
+    #[must_use]
+    pub fn scientific() -> Format<'a> {
+        Format { notation: Notation::Scientific, ..Format::default() }
+    }
+
+    /// That of engineering notation.
+    #[must_use]
+    pub fn engineering() -> Format<'a> {
+        Format { notation: Notation::Engineering, ..Format::default() }
     }
 
     /// That of percents.
@@ -224,6 +241,8 @@ impl<'a> Format<'a> {
         let (notation, width) = match self.notation {
             Notation::Standard => (0, 0),
             Notation::Compact(width) => (1, width as i32),
+            Notation::Scientific => (2, 0),
+            Notation::Engineering => (3, 0),
         };
         let (unit, code) = match self.unit {
             Unit::None => (0, ""),
@@ -274,6 +293,14 @@ pub enum Kind {
     Currency,
     /// The sign of percents, which may be inside a sign.
     PercentSign,
+    /// The text before an exponent: `E` of `1.2E-6`.
+    ExponentSeparator,
+    /// The minus sign of an exponent.
+    ExponentMinusSign,
+    /// The plus sign of an exponent.
+    ExponentPlusSign,
+    /// The digits of an exponent.
+    ExponentInteger,
     /// The number of a kind that a later library has.
     Other(u32),
 }
@@ -289,6 +316,10 @@ impl Kind {
             6 => Kind::Fraction,
             7 => Kind::Currency,
             8 => Kind::PercentSign,
+            9 => Kind::ExponentSeparator,
+            10 => Kind::ExponentMinusSign,
+            11 => Kind::ExponentPlusSign,
+            12 => Kind::ExponentInteger,
             other => Kind::Other(other),
         }
     }
@@ -485,7 +516,7 @@ mod tests {
 
     #[test]
     fn kinds() {
-        let kinds: Vec<Kind> = (6..=9).map(Kind::of).collect();
-        assert_eq!(kinds, [Kind::Fraction, Kind::Currency, Kind::PercentSign, Kind::Other(9)]);
+        let kinds: Vec<Kind> = [6, 8, 9, 12, 13].into_iter().map(Kind::of).collect();
+        assert_eq!(kinds, [Kind::Fraction, Kind::PercentSign, Kind::ExponentSeparator, Kind::ExponentInteger, Kind::Other(13)]);
     }
 }

@@ -127,7 +127,7 @@ macro_rules! selects {
             ///
             /// # Errors
             ///
-            /// [`Error::NUMBER`], [`Error::LIMIT`], [`Error::RANGE`] of a compact number, [`Error::OPTION`] or [`Error::MEMORY`].
+            /// [`Error::NUMBER`], [`Error::LIMIT`], [`Error::RANGE`] of a compact or scientific number, [`Error::OPTION`] or [`Error::MEMORY`].
             pub fn category_for<'a>(&self, number: impl Into<Number<'a>>) -> Result<PluralCategory, Error> {
                 let number = number.into();
                 PluralCategory::written(|out, room, length| self.call(&number, &self.1.options, out, room, length))
@@ -180,7 +180,7 @@ impl PluralRules {
         PluralRules::with_format(book, tag, rule_type, &Format::default(), options)
     }
 
-    /// The same of numbers in a format: of compact ones, or of amounts, which have the digits of their currency.
+    /// The same of numbers in a format: of compact or scientific ones, or of amounts, which have the digits of their currency.
     ///
     /// # Errors
     ///

@@ -46,6 +46,8 @@ fn as_a_number_is_shown() {
     let short = Format::compact(Width::Short);
     let french = PluralRules::with_format(None, "fr", Cardinal, &short, None).unwrap();
     assert_eq!(words(&french, &["1200000", "1000000", "1500"]), ["many", "many", "other"]);
+    let powers = PluralRules::with_format(None, "fr", Cardinal, &Format::scientific(), None).unwrap();
+    assert_eq!(words(&powers, &["1200000", "1000", "1"]), ["many", "other", "one"]);
     let dollars = PluralRules::with_format(None, "en", Cardinal, &Format::currency("USD"), None).unwrap();
     assert_eq!(dollars.category_for(1), Ok(PluralCategory::Other));
     let yen = PluralRules::with_format(None, "en", Cardinal, &Format::currency("JPY"), None).unwrap();

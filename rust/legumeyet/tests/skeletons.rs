@@ -58,6 +58,9 @@ fn texts() {
         ("en", "compact-short .00", "-1234", "-1.23K"),
         ("de", "KK .0", "1234567", "1,2 Millionen"),
         ("en", "K rounding-mode-down", "1999", "1.9K"),
+        ("en", "scientific", "1234567.891", "1.234568E6"),
+        ("de", "EE+!00 .00", "1234", "1,23E+03"),
+        ("sv", "engineering @@@", "-0.000999999", "−1,00×10^−3"),
     ] {
         assert_eq!(of(tag, skeleton).format(number).as_deref(), Ok(text), "{tag} {skeleton}");
         assert_eq!(of(tag, skeleton).share().format(number).as_deref(), Ok(text), "{tag} {skeleton}");
@@ -82,7 +85,8 @@ fn faults() {
         ("precision-currency-cash", Error::SKELETON_PAIR, 0),
         ("latin", Error::SKELETON_SYSTEM, 0),
         ("percent numbering-system/thai", Error::SKELETON_SYSTEM, 8),
-        ("scientific", Error::SKELETON_LATER, 0),
+        ("scientific scale/100", Error::SKELETON_LATER, 11),
+        ("scientific/sign-never", Error::SKELETON_UNSUPPORTED, 0),
         ("compact-short unit-width-narrow", Error::SKELETON_LATER, 14),
         ("currency/EUR rounding-mode-up", Error::SKELETON_LATER, 13),
         ("percent  scientific", Error::SKELETON_LATER, 9),
@@ -142,6 +146,8 @@ fn normal_texts() {
         ("currency/EUR  K sign-auto", "compact-short currency/EUR"),
         ("KK ,?", "compact-long"),
         ("K group-auto", "compact-short group-auto"),
+        ("+! EE+!00", "engineering/*ee/sign-always sign-always"),
+        ("scientific/sign-auto/+ee", "scientific/*ee"),
         ("  %   .00## ", "percent .00##"),
         (".00+", ".00*"),
         ("@@+ ,!", "@@* group-on-aligned"),
@@ -219,12 +225,50 @@ fn formats() {
     assert_eq!(NumberFormatter::new(&book, "e", &Format::percent()).err(), Some(Error::TAG));
     assert_eq!(NumberFormatter::new(None, "xx", &Format::percent()).err(), Some(Error::TABLE));
     for format in [Format::percent(), Format::currency("EUR")] {
-        let compact = format.notation(Notation::Compact(Width::Short));
-        assert_eq!(NumberFormatter::new(None, "en", &compact).err(), Some(Error::TABLE));
+        for notation in [Notation::Compact(Width::Short), Notation::Scientific, Notation::Engineering] {
+            assert_eq!(NumberFormatter::new(None, "en", &format.notation(notation)).err(), Some(Error::TABLE));
+        }
     }
     let outlives = new(&Format::percent());
     drop(book);
     assert_eq!(outlives.format(5).unwrap(), "5%");
+}
+
+#[test]
+fn scientific_numbers() {
+    let new = |format: &Format<'_>| NumberFormatter::new(None, "en", format).unwrap();
+    let (powers, engineering) = (new(&Format::scientific()), new(&Format::default().notation(Notation::Engineering)));
+    for (number, text, multiple) in [
+        ("1234567.891", "1.234567891E6", "1.234567891E6"),
+        ("-0.00012", "-1.2E-4", "-120E-6"),
+        ("1000.0", "1E3", "1E3"),
+        ("0.00", "0E0", "0E0"),
+        ("999999", "9.99999E5", "999.999E3"),
+    ] {
+        assert_eq!((powers.format(number).as_deref(), engineering.format(number).as_deref()), (Ok(text), Ok(multiple)), "{number}");
+        assert_eq!(powers.shown(number, None), Ok(text.to_lowercase()));
+    }
+    let as_given = Options::default();
+    for (options, text) in [
+        (as_given.rounded(Rounding::HalfEven, -2), "1.00E1"),
+        (as_given.maximum_significant_digits(2), "1E1"),
+        (as_given.minimum_significant_digits(6), "9.99500E0"),
+        (as_given.minimum_integer_digits(3).sign(Sign::Always), "+009.995E0"),
+        (as_given.rounded(Rounding::Floor, -1).increment(Increment::Five), "9.5E0"),
+    ] {
+        assert_eq!(powers.format_with(9.995, &options).as_deref(), Ok(text));
+    }
+    let (text, parts) = of("ar-EG", "scientific/sign-always").format_parts("-12000", None).unwrap();
+    let ends: Vec<_> = parts.iter().rev().take(3).map(|(kind, at)| (*kind, &text[at.clone()])).collect();
+    assert_eq!(ends, [(Kind::ExponentInteger, "٤"), (Kind::ExponentPlusSign, "\u{61c}+"), (Kind::ExponentSeparator, "أس")]);
+    let (text, parts) = powers.format_parts("0.5", None).unwrap();
+    assert_eq!((text.as_str(), parts[2].clone()), ("5E-1", (Kind::ExponentMinusSign, 2..3)));
+    assert_eq!(powers.format_doubles(&[1.5e20, -0.25], None).unwrap().as_str(), "1.5E20-2.5E-1");
+    assert_eq!(powers.format_exact("1.2c6", None), Err(Error::EXPONENT));
+    assert_eq!(powers.format_exact("1.2e6", None), Err(Error::NUMBER));
+    assert_eq!((powers.read("1.2E6"), powers.read_lenient("1.2E6")), (Err(Error::UNREADABLE), Err(Error::UNREADABLE)));
+    assert_eq!(powers.format(format!("1{0}.{0}1", "0".repeat(30000)).as_str()), Err(Error::RANGE));
+    assert_eq!(powers.share().format(1200).as_deref(), Ok("1.2E3"));
 }
 
 #[test]

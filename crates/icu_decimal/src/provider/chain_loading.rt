@@ -14,8 +14,12 @@ use icu_locale_core::DataLocale;
 use icu_locale_core::preferences::extensions::unicode::keywords::NumberingSystem;
 use tinystr::TinyAsciiStr;
 
-// The first table along the chain, under the same attributes at each locale.
-fn load_pass<'p, M: DataMarker, P: DataProvider<M> + ParentProvider>(
+/// The first table along the chain of the locale, under the same attributes at each: under the parents `en-AU`, `en-001`,
+/// `en` and with `thai` that of `en-AU`, of `en-001` or of `en`, each with `thai`.
+///
+/// It takes as many steps as the provider's `chain_limit` says, at most. Another error than `IdentifierNotFound` is
+/// returned at once; `IdentifierNotFound`: none of them has a table. It does not allocate.
+pub fn load_along<'p, M: DataMarker, P: DataProvider<M> + ParentProvider>(
     provider: &'p P,
     locale: &DataLocale,
     attributes: TinyAsciiStr<8>,
@@ -58,12 +62,12 @@ pub fn load_by_chain<'p, M: DataMarker, P: DataProvider<M> + ParentProvider>(
     let alone = TinyAsciiStr::default();
     let system = match system {
         Some(system) => system.to_tinystr(),
-        None => return load_pass::<M, P>(provider, locale, alone),
+        None => return load_along::<M, P>(provider, locale, alone),
     };
-    match load_pass::<M, P>(provider, locale, system) {
+    match load_along::<M, P>(provider, locale, system) {
         Ok(found) => Ok(found),
         Err(error) => match error {
-            DataError::IdentifierNotFound => load_pass::<M, P>(provider, locale, alone),
+            DataError::IdentifierNotFound => load_along::<M, P>(provider, locale, alone),
             _ => Err(error),
         },
     }

@@ -11,7 +11,7 @@ mod loading;
 mod markers;
 mod parents;
 
-pub use chain_loading::load_by_chain;
+pub use chain_loading::{load_along, load_by_chain};
 pub use data_provider::DataProvider;
 pub use fallback::load_with_fallback;
 pub use icu_decimal_compact_value::CompactEntry;

@@ -2,43 +2,18 @@
 
 ghost use Rattle.std.specs.Prelude.{◌≡◌};
 ghost use Rattle.std.specs.Result.{result_map_both};
-ghost use Rattle.icu_decimal.specs.Chains.{chain};
 ghost use Rattle.icu_decimal.specs.Choice.{first_found, found_or};
 ghost use Rattle.icu_decimal.specs.Identifiers.{under_each};
 ghost use Rattle.icu_decimal.specs.declared.error.DataError.{DataError};
 ghost use Rattle.icu_dimension.specs.UnitChoice.{unit_chain, unknown_last};
 
-use icu_decimal::provider::{DataError, DataIdentifier, DataMarker, DataProvider, ParentProvider};
+use icu_decimal::provider::{
+    DataError, DataIdentifier, DataMarker, DataProvider, ParentProvider, load_along,
+};
 use icu_locale_core::DataLocale;
 use tinystr::TinyAsciiStr;
 
-// The first table along the chain, under the same attributes at each locale.
-fn load_along<'p, M: DataMarker, P: DataProvider<M> + ParentProvider>(
-    provider: &'p P,
-    locale: &DataLocale,
-    attributes: TinyAsciiStr<8>,
-) -> Result<&'p M::DataStruct, DataError>
-    ensures { result_map_both (λ found. found.now) (λ error. error) result ≡ first_found (λ id. P.table provider.now id)
-        (under_each attributes (chain (P.next provider.now) (P.limit provider.now) locale.now)) }
-{
-    let mut current = *locale;
-    for _turn in 0..provider.chain_limit() {
-        let id = DataIdentifier::for_marker_attributes_and_locale(attributes, current);
-        match provider.load(&id) {
-            Ok(found) => return Ok(found),
-            Err(DataError::IdentifierNotFound) => {}
-            Err(error) => return Err(error),
-        }
-        match provider.parent(&current) {
-            Some(parent) => current = parent,
-            None => return Err(DataError::IdentifierNotFound),
-        }
-    }
-    let id = DataIdentifier::for_marker_attributes_and_locale(attributes, current);
-    provider.load(&id)
-}
-
-// The same, and then that of `und`, where the provider has parents.
+// The first table along the chain, and then that of `und`, where the provider has parents.
 pub(crate) fn load_under<'p, M: DataMarker, P: DataProvider<M> + ParentProvider>(
     provider: &'p P,
     locale: &DataLocale,

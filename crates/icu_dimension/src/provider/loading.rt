@@ -24,8 +24,13 @@ use icu_dimension_fractions::{CurrencyCode, CurrencyStyle, CurrencyWidth, Fracti
 use icu_locale_core::DataLocale;
 use tinystr::TinyAsciiStr;
 
-// The first table of the system, where one is asked for, and of none.
-fn load_by_system<'p, M: DataMarker, P: DataProvider<M> + ParentProvider>(
+/// The first table of the numbering system, where one is asked for, along the chain of the locale and then of `und`, and
+/// else the first one of no system: of tables of `de` and of `und` with `arab`, `de-AT` gets that of `de`, and with `arab`
+/// that of `und`.
+///
+/// `und` is asked for only where the provider has parents at all. Another error than `IdentifierNotFound` is returned at
+/// once; `IdentifierNotFound`: nothing is there. It does not allocate.
+pub fn load_by_system<'p, M: DataMarker, P: DataProvider<M> + ParentProvider>(
     provider: &'p P,
     locale: &DataLocale,
     system: Option<NumberingSystem>,

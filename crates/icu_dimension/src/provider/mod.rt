@@ -13,6 +13,7 @@ mod percents;
 
 pub use amounts::AmountPatterns;
 pub(crate) use decimals::load_decimals;
+pub use loading::load_by_system;
 pub(crate) use loading::{load_amounts, load_fractions, load_percent, load_symbol};
 pub use markers::{
     CurrencyAccountingV1, CurrencyEssentialsV1, CurrencyFractionsV1, CurrencySymbolsV1,

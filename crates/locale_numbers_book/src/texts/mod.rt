@@ -1,7 +1,7 @@
 //! A book as texts, an array of it each.
 
 ghost use Rattle.std.specs.Prelude.{◌≡◌, ◌++◌, OnOk, string_bytes};
-ghost use Rattle.locale_numbers_book.specs.BookText.{arrays_text, more_text, number_lines, option_plural_lines, unit_lines, whole_text};
+ghost use Rattle.locale_numbers_book.specs.BookText.{arrays_text, more_text, number_lines, option_more_lines, unit_lines, whole_text};
 
 mod arrays;
 mod chain;
@@ -45,24 +45,27 @@ pub struct UnitTexts<'t> {
     pub digits: &'t str,
 }
 
-/// The entries of what a book has of plurals beside its rules: a text for each array, as [`NumberTexts`] has them.
+/// The entries of what a book has beside its tables of numbers and its units: a text for each array, as [`NumberTexts`] has
+/// them.
 #[derive(Clone, Copy)]
-pub struct PluralTexts<'t> {
+pub struct MoreTexts<'t> {
     /// The ordinal rules of locales.
     pub ordinals: &'t str,
     /// The categories of ranges of locales.
     pub ranges: &'t str,
+    /// Signs, each under a locale and a system or none.
+    pub signs: &'t str,
 }
 
-/// The entries of a book, of its units or none, and of its plurals or none.
+/// The entries of a book, of its units or none, and of more or none.
 #[derive(Clone, Copy)]
 pub struct BookTexts<'t> {
     /// Those of its tables of numbers.
     pub numbers: NumberTexts<'t>,
     /// Those of its units, where it has units.
     pub units: Option<UnitTexts<'t>>,
-    /// Those of its plurals, where it has some. They count where it has units.
-    pub plurals: Option<PluralTexts<'t>>,
+    /// Those of more, where it has some. They count where it has units.
+    pub more: Option<MoreTexts<'t>>,
 }
 
 // Appends the arrays of the tables of numbers.
@@ -98,20 +101,16 @@ fn put_units(alloc: Global, out: &mut String, texts: &UnitTexts<'_>) -> Result<(
     )
 }
 
-// Appends a comma and the arrays of plurals, where there are some.
-fn put_plurals(
-    alloc: Global,
-    out: &mut String,
-    texts: Option<PluralTexts<'_>>,
-) -> Result<(), AllocError>
+// Appends a comma and the arrays of more, where there are some.
+fn put_more(alloc: Global, out: &mut String, texts: Option<MoreTexts<'_>>) -> Result<(), AllocError>
     ensures text { OnOk result (string_bytes out.new
-        ≡ string_bytes out.old ++ more_text (option_plural_lines texts.entry)) }
+        ≡ string_bytes out.old ++ more_text (option_more_lines texts.entry)) }
 {
     let Some(texts) = texts else {
         return Ok(());
     };
     out.push_str(",")?;
-    put_arrays(alloc, out, &[texts.ordinals, texts.ranges])
+    put_arrays(alloc, out, &[texts.ordinals, texts.ranges, texts.signs])
 }
 
 /// Appends the text of a book with all entries of these texts, which `Book::from_json` reads.
@@ -129,6 +128,6 @@ pub fn put_book(alloc: Global, out: &mut String, texts: &BookTexts<'_>) -> Resul
     put_numbers(alloc, out, &texts.numbers)?;
     out.push_str(",")?;
     put_units(alloc, out, &units)?;
-    put_plurals(alloc, out, texts.plurals)?;
+    put_more(alloc, out, texts.more)?;
     out.push_str("]\n")
 }

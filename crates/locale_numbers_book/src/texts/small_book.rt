@@ -5,12 +5,12 @@ ghost use Rattle.std.specs.List.{filter_map};
 ghost use Rattle.std.specs.Str.Lines.{lines};
 ghost use Rattle.locale_numbers_book.specs.BookText.{array_text, arrays_text, more_text};
 ghost use Rattle.locale_numbers_book.specs.EntryFields.{asked_fronts, begins, opening, third_field, under_fronts};
-ghost use Rattle.locale_numbers_book.specs.SelectedText.{option_selected_plurals, selected_by, selected_numbers, selected_plurals, selected_text, selected_units, selected_with, systems_asked, systems_named, unknown};
+ghost use Rattle.locale_numbers_book.specs.SelectedText.{option_selected_more, selected_by, selected_more, selected_numbers, selected_text, selected_units, selected_with, systems_asked, systems_named, unknown};
 
 use crate::texts::arrays::{put_array, put_whole};
 use crate::texts::chain::put_chain;
 use crate::texts::entries::{kept, opening_of, put_all_pairs, put_openings, quoted};
-use crate::texts::{BookTexts, NumberTexts, PluralTexts, UnitTexts};
+use crate::texts::{BookTexts, MoreTexts, NumberTexts, UnitTexts};
 use icu_decimal::DecimalFormatterPreferences;
 use icu_locale_core::preferences::extensions::unicode::keywords::NumberingSystem;
 use std::alloc::{AllocError, Global};
@@ -166,30 +166,32 @@ fn put_units(
     out.push_str("]")
 }
 
-// Appends a comma and the arrays of plurals, where there are some.
-fn put_plurals(
+// Appends a comma and the arrays of more, where there are some.
+fn put_more(
     alloc: Global,
     out: &mut String,
-    texts: &Option<PluralTexts<'_>>,
+    texts: &Option<MoreTexts<'_>>,
     under: &[String],
+    asked: &[String],
 ) -> Result<(), AllocError>
-    ensures { OnOk result (string_bytes out.new ≡ string_bytes out.old
-        ++ more_text (option_map (λ plurals. selected_plurals plurals (map string_bytes under.now)) texts.now)) }
+    ensures { OnOk result (string_bytes out.new ≡ string_bytes out.old ++ more_text
+        (option_map (λ more. selected_more more (map string_bytes under.now) (map string_bytes asked.now)) texts.now)) }
 {
     let Some(texts) = texts else {
         return Ok(());
     };
     put_kept(alloc, out, ",[", texts.ordinals, under)?;
     put_kept(alloc, out, ",", texts.ranges, under)?;
+    put_kept(alloc, out, ",", texts.signs, asked)?;
     out.push_str("]")
 }
 
-// Appends the arrays of units and of plurals, for which `und` is asked for too.
+// Appends the arrays of units and of more, for which `und` is asked for too.
 fn put_beside(
     alloc: Global,
     out: &mut String,
     units: &UnitTexts<'_>,
-    plurals: &Option<PluralTexts<'_>>,
+    more: &Option<MoreTexts<'_>>,
     under: &mut Vec<String>,
     asked: &mut Vec<String>,
     systems: &[&str],
@@ -197,12 +199,13 @@ fn put_beside(
     ensures { OnOk result (string_bytes out.new ≡ string_bytes out.old
         ++ (arrays_text (selected_units units.now (map string_bytes under.old.items ++ under_fronts unknown)
         (map string_bytes asked.old.items ++ asked_fronts unknown (map (λ system. system.now) systems.now)))
-        ++ more_text (option_selected_plurals plurals.now (map string_bytes under.old.items)))) }
+        ++ more_text (option_selected_more more.now (map string_bytes under.old.items) (map string_bytes asked.old.items)
+        (map (λ system. system.now) systems.now)))) }
 {
     put_openings(alloc, under, &["und"])?;
     put_all_pairs(alloc, asked, &["und"], systems)?;
     put_units(alloc, out, units, under.as_slice(), asked.as_slice())?;
-    put_plurals(alloc, out, plurals, under.as_slice())
+    put_more(alloc, out, more, under.as_slice(), asked.as_slice())
 }
 
 // Appends the text of the book of numbers alone, with the entries that begin so, and these parents.
@@ -250,12 +253,12 @@ fn put_first(
     out.push_str(",")
 }
 
-// Appends the arrays of units and of plurals, and what ends them.
+// Appends the arrays of units and of more, and what ends them.
 fn put_second(
     alloc: Global,
     out: &mut String,
     units: &UnitTexts<'_>,
-    plurals: &Option<PluralTexts<'_>>,
+    more: &Option<MoreTexts<'_>>,
     under: &mut Vec<String>,
     asked: &mut Vec<String>,
     systems: &[&str],
@@ -263,19 +266,20 @@ fn put_second(
     ensures { OnOk result (string_bytes out.new ≡ string_bytes out.old
         ++ (arrays_text (selected_units units.now (map string_bytes under.old.items ++ under_fronts unknown)
         (map string_bytes asked.old.items ++ asked_fronts unknown (map (λ system. system.now) systems.now)))
-        ++ more_text (option_selected_plurals plurals.now (map string_bytes under.old.items)) ++ codes "]\n")) }
+        ++ more_text (option_selected_more more.now (map string_bytes under.old.items) (map string_bytes asked.old.items)
+        (map (λ system. system.now) systems.now)) ++ codes "]\n")) }
 {
-    put_beside(alloc, out, units, plurals, under, asked, systems)?;
+    put_beside(alloc, out, units, more, under, asked, systems)?;
     out.push_str("]\n")
 }
 
-// Appends the text of a book, its units and its plurals, with the entries that begin so, and these parents.
+// Appends the text of a book, its units and more, with the entries that begin so, and these parents.
 fn put_parts(
     alloc: Global,
     out: &mut String,
     numbers: &NumberTexts<'_>,
     units: &UnitTexts<'_>,
-    plurals: &Option<PluralTexts<'_>>,
+    more: &Option<MoreTexts<'_>>,
     under: &mut Vec<String>,
     asked: &mut Vec<String>,
     systems: &[&str],
@@ -286,7 +290,8 @@ fn put_parts(
         (map string_bytes asked.old.items) (map (λ system. system.now) systems.now) (map (λ line. line.now) parents.now)) ++ codes ",")
         ++ (arrays_text (selected_units units.now (map string_bytes under.old.items ++ under_fronts unknown)
         (map string_bytes asked.old.items ++ asked_fronts unknown (map (λ system. system.now) systems.now)))
-        ++ more_text (option_selected_plurals plurals.now (map string_bytes under.old.items)) ++ codes "]\n")) }
+        ++ more_text (option_selected_more more.now (map string_bytes under.old.items) (map string_bytes asked.old.items)
+        (map (λ system. system.now) systems.now)) ++ codes "]\n")) }
 {
     put_first(
         alloc,
@@ -297,7 +302,7 @@ fn put_parts(
         systems,
         parents,
     )?;
-    put_second(alloc, out, units, plurals, under, asked, systems)
+    put_second(alloc, out, units, more, under, asked, systems)
 }
 
 // Appends the text of the book with the entries that begin so, and these parents.
@@ -321,7 +326,7 @@ fn put_fronts(
             out,
             &texts.numbers,
             units,
-            &texts.plurals,
+            &texts.more,
             under,
             asked,
             systems,
@@ -434,9 +439,10 @@ fn put_small<'t>(
 ///
 /// They are those of the locales of the chain, without a system, with `latn` and with the system that is preferred; the digits of
 /// these systems and of those that the chosen symbols name; the parents along the chain, from its end to its front; and
-/// of units, of ordinal rules and of ranges those of the chain and of `und`, with the digits of all currencies. Of the world's book with `de-AT` it has the
-/// symbols of `de-AT` and of `de`, the plural rules and patterns of `de`, and the digits of `latn`. An entry is found by the bytes
-/// that it begins with, so each has to be written as those of `books/world.json` are.
+/// of units, of ordinal rules, of ranges and of signs those of the chain and of `und`, with the digits of all currencies. Of
+/// the world's book with `de-AT` it has the symbols of `de-AT` and of `de`, the plural rules, patterns and signs of `de`, and
+/// the digits of `latn`. An entry is found by the bytes that it begins with, so each has to be written as those of
+/// `books/world.json` are.
 ///
 /// It answers each line of the tag as the whole book does, by the law `selected_books_answer_alike` of `locale_numbers`,
 /// and lines of other tags not so. It allocates. `AllocError`: out of memory.

@@ -1,4 +1,4 @@
-use Rattle.std.proofs.Common.{refl, inr}
+use Rattle.std.proofs.Common.{inr}
 use Rattle.legumeyet_c_values.specs.Numbers.{spelled}
 use Rattle.legumeyet_c.specs.Writing.{Asked, asked_for}
 use Rattle.legumeyet_c.proofs.AskedLemmas.{gives_number, refuses_number}
@@ -8,8 +8,8 @@ pub returns-in-Ok-clause-value : goal.returns-in-Ok-clause-value
 returns-in-Ok-clause-value c =
     let lent = c.args.lent.now in
     let asked : Asked = asked_for lent c.args.options.now in (
-      gives_number (spelled c.args.first.now) asked lent c.fractions-fractions.result c.assign_changed.new.number refl c.fractions-fractions.ensures c.in_ok-assign_changed.ensures.value,
-      gives_number (spelled c.args.second.now) asked lent c.fractions-fractions.result c.assign_changed-2.new.number refl c.fractions-fractions.ensures c.in-Ok.ensures.value,
+      gives_number (spelled c.args.first.now) asked c.fractions-fractions.result c.assign_changed.new.number c.fractions-fractions.ensures c.in_ok-assign_changed.ensures.value,
+      gives_number (spelled c.args.second.now) asked c.fractions-fractions.result c.assign_changed-2.new.number c.fractions-fractions.ensures c.in-Ok.ensures.value,
     )
 
 pub returns-in-Err-clause-fault : goal.returns-in-Err-clause-fault
@@ -18,6 +18,6 @@ returns-in-Err-clause-fault c =
     let asked : Asked = asked_for lent c.args.options.now in
     inr (record {
       value = c.assign_changed.new.number;
-      given = gives_number (spelled c.args.first.now) asked lent c.fractions-fractions.result c.assign_changed.new.number refl c.fractions-fractions.ensures c.in_ok-assign_changed.ensures.value;
-      refused = refuses_number (spelled c.args.second.now) asked lent c.fractions-fractions.result c.in-Err.error refl c.fractions-fractions.ensures c.in-Err.ensures.fault;
+      given = gives_number (spelled c.args.first.now) asked c.fractions-fractions.result c.assign_changed.new.number c.fractions-fractions.ensures c.in_ok-assign_changed.ensures.value;
+      refused = refuses_number (spelled c.args.second.now) asked c.fractions-fractions.result c.in-Err.error c.fractions-fractions.ensures c.in-Err.ensures.fault;
     })

@@ -1,11 +1,11 @@
-use Rattle.std.proofs.Common.{rules, w32, Ok, Err, ◌∙◌}
+use Rattle.std.proofs.Common.{rules, w32, Ok, Err, ap, ◌∙◌}
 use Rattle.std.proofs.lemmas.Int.{to_z-of_z}
 use mir.Val.{SFits}
 use Rattle.legumeyet_c_values.specs.Numbers.{given_of}
 use Rattle.legumeyet_c.specs.Kinds.{format_in}
 use Rattle.legumeyet_c.specs.Opened.{opened}
 use Rattle.legumeyet_c.specs.Worded.{IsText, IsTextFault}
-use Rattle.legumeyet_c.specs.Writing.{GivesNumber, IsNumberRefused, asked_of}
+use Rattle.legumeyet_c.specs.Writing.{Asked, GivesNumber, IsNumberRefused, asked_for, asked_of}
 use Rattle.legumeyet_c.proofs.AskedLemmas.{asked_put, unasked_put}
 use Rattle.legumeyet_c.proofs.writing.answer_number.Goals as goal
 
@@ -14,10 +14,10 @@ returns-in-Ok c =
     let fits : SFits w32 c.status_of.result = search rules in
     let number = given_of c.args.number in
     record {
-      outcome = c.write_asked.result;
+      outcome = c.write_given.result;
       number = to_z-of_z w32 c.status_of.result fits ∙ c.status_of.ensures;
-      held = asked_put IsText IsTextFault (GivesNumber number) (IsNumberRefused number) (asked_of (format_in (opened c.args.content)) c.args.words.now) (Ok c.in-Ok.asked) _ _ _ _ _
-          c.in-Ok.ensures c.write_asked.ensures;
+      held = asked_put IsText IsTextFault (GivesNumber number) (IsNumberRefused number) (asked_of (format_in (opened c.args.content)) c.args.words.now)
+          (Ok (asked_for c.asked-in-Ok.inside.lent c.asked-in-Ok.inside.options)) _ _ _ _ _ (ap (λ (a : Asked). Ok a) c.asked-in-Ok.view_is ∙ c.in-Ok.ensures) c.write_given.ensures;
     }
 
 pub returns-in-Err : goal.returns-in-Err

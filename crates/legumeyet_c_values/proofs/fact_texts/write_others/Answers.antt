@@ -1,4 +1,4 @@
-use Rattle.std.proofs.Common.{rules, [], ◌∷◌, ◌++◌, List, ap, subst, ◌≡◌, ◌∙◌}
+use Rattle.std.proofs.Common.{rules, [], ◌∷◌, ◌++◌, List, ap, subst, ◌∙◌}
 use Rattle.std.specs.Prelude.{flat_map}
 use Rattle.icu_plurals.specs.Categories.{word}
 use Rattle.icu_plurals.specs.declared.PluralCategory.{PluralCategory}

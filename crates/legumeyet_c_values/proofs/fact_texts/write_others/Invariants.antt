@@ -1,4 +1,4 @@
-use Rattle.std.proofs.Common.{flat_map, length}
+use Rattle.std.proofs.Common.{flat_map}
 use Rattle.writeable.specs.AnnotatedText.{bytes}
 use Rattle.writeable.specs.Taking.{IsWriting}
 use Rattle.legumeyet_c_values.specs.Facts.{spaced}

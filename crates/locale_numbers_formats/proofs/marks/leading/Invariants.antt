@@ -1,5 +1,5 @@
 use Rattle.std.proofs.Common.{◌≡◌, ◌+◌, ◌-◌, ◌≤◌, drop, length}
-use Rattle.locale_numbers_formats.specs.Marks.{leading}
+use Rattle.locale_numbers_formats.specs.Runs.{leading}
 use Rattle.locale_numbers_formats.proofs.marks.leading.Given as goal
 
 abbrev pub invariant-loop-count : goal.invariant-loop-count

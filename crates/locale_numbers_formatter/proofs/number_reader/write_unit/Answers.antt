@@ -1,9 +1,7 @@
-use Rattle.std.proofs.Common.{◌≡◌, List, OnErr, OnOk, subst}
+use Rattle.std.proofs.Common.{List, OnErr, OnOk, subst}
 use Rattle.icu_decimal.specs.BorrowedTables.{borrowed_tables}
-use Rattle.icu_dimension.specs.UnitReading.{text_by}
-use Rattle.writeable.specs.AnnotatedText.{Event, bytes}
+use Rattle.writeable.specs.AnnotatedText.{Event}
 use Rattle.writeable.specs.Taking.{HasBegun}
-use Rattle.locale_numbers_formatter.specs.JoinedUnit.{joined_events}
 use Rattle.locale_numbers_formatter.proofs.JoinedUnitLemmas.{number_viewed, pair_viewed}
 use Rattle.locale_numbers_formatter.proofs.ReadBackLemmas.{joined_text_is}
 use Rattle.locale_numbers_formatter.proofs.number_reader.write_unit.Goals as goal

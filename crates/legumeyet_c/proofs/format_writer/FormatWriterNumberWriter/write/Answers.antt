@@ -1,4 +1,4 @@
-use Rattle.std.proofs.Common.{Ok, ap, inr, refl}
+use Rattle.std.proofs.Common.{Ok, ap, inr}
 use Rattle.legumeyet_c_values.proofs.NumbersLemmas.{change_fault_other}
 use Rattle.locale_numbers_formatter.specs.FormatText.{fractions_in}
 use Rattle.legumeyet_c.specs.Worded.{IsText, IsTextFault}
@@ -14,8 +14,8 @@ returns-in-Ok c =
     record {
       put = λ number is.
           asked_put IsText IsTextFault (GivesNumber number) (IsNumberRefused number) (Ok c.args.self.now) (Ok asked) _ _ _ _ _ (ap (λ (a : Asked). Ok a) c.self.view_is)
-          (written IsText IsTextFault (GivesNumber number) (IsNumberRefused number) asked lent value _ _ _ _ _ refl
-          (gives_number number asked lent c.fractions.result value refl c.fractions.ensures
+          (written IsText IsTextFault (GivesNumber number) (IsNumberRefused number) asked value _ _ _ _ _
+          (gives_number number asked c.fractions.result value c.fractions.ensures
           (record { given = c.args.number.now; given_is = is; changes = c.in-Ok.ensures.value }))
           c.put_text.ensures);
     }
@@ -26,7 +26,7 @@ returns-in-Err c =
     let asked : Asked = asked_for lent c.self.inside.options.now in
     record {
       put = λ number is.
-          let refused = refuses_number number asked lent c.fractions.result c.in-Err.error refl c.fractions.ensures
+          let refused = refuses_number number asked c.fractions.result c.in-Err.error c.fractions.ensures
           (inr (record { given = c.args.number.now; given_is = is; is_memory = c.in-Err.ensures.fault.0; grows = c.in-Err.ensures.fault.1 })) in
           asked_put IsText IsTextFault (GivesNumber number) (IsNumberRefused number) (Ok c.args.self.now) (Ok asked) _ _ _ _ _ (ap (λ (a : Asked). Ok a) c.self.view_is)
           (ungiven IsText IsTextFault (GivesNumber number) (IsNumberRefused number) asked _ _ c.in-Err.error
