@@ -16,9 +16,11 @@ import tempfile
 TOP = pathlib.Path(__file__).resolve().parent.parent
 sys.path.insert(0, str(TOP / "tools"))
 
-from querying.common import environment, need, run
-from querying.postgresql import VERSIONS, Server, made
+from querying.common import run
+from querying.server import Server, made
 from querying.sqlite import built
+from releasing.databases import VERSIONS
+from testing import environment, need
 
 RUNS = 5
 TABLE = """CREATE TABLE amounts AS SELECT ((n * 7919::bigint % 100000007)::numeric / 100)::numeric(14, 2) AS n,

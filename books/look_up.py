@@ -243,6 +243,11 @@ class Book:
         """The signs of a locale, and the texts of its ranges, for a system or for none; or None."""
         return self.more and find_under(self.more["signs"], self.unit_chain(locale), system)
 
+    def compact_amounts(self, locale, system):
+        """The types of compact amounts of a locale, for a system or for none; or None."""
+        found = self.more and find_under(self.more["compact amounts"], self.unit_chain(locale), system)
+        return found and found[0]
+
     def find(self, kind, along, system):
         """The table of a kind that a chain of locales finds for a system, or for none, or None."""
         return find_under(self.entries[kind], along, system)
@@ -268,8 +273,8 @@ class Book:
 
     def more_locales(self):
         """The locales that have an entry of more."""
-        ordinals, ranges, signs = self.more.values() if self.more else ({}, {}, {})
-        return [*ordinals, *ranges, *(locale for locale, _ in signs)]
+        ordinals, ranges, signs, amounts = self.more.values() if self.more else ({}, {}, {}, {})
+        return [*ordinals, *ranges, *(locale for locale, _ in (*signs, *amounts))]
 
     def systems(self):
         """The systems that the book has digits or an entry for, in order."""
@@ -278,12 +283,15 @@ class Book:
 
 def more_tables(arrays):
     """The tables of the arrays of more, by their kinds, and by locales or, of signs, by locales and systems. Faults where there
-    are not two to eight, or one after the third has entries."""
-    if not LEAST_MORE <= len(arrays) <= MOST_MORE or any(arrays[len(MORE_ARRAYS) :]):
-        raise ValueError("more is two arrays or three, and up to five empty ones")
-    *by_locale, signs = (*arrays, [])[: len(MORE_ARRAYS)]
-    tables = [{locale_of(tag): its for tag, its in array} for array in by_locale]
-    return dict(zip(MORE_ARRAYS, (*tables, {(locale_of(tag), system): rest for tag, system, *rest in signs})))
+    are not two to eight, or one beside the first three and that of compact amounts has entries."""
+    if not LEAST_MORE <= len(arrays) <= MOST_MORE:
+        raise ValueError("more is two arrays to eight")
+    ordinals, ranges, signs, narrow, amounts, *others = (*arrays, [], [], [])
+    if narrow or any(others):
+        raise ValueError("more has entries only in its first three arrays and in the fifth")
+    tables = [{locale_of(tag): its for tag, its in array} for array in (ordinals, ranges)]
+    tables += [{(locale_of(tag), system): rest for tag, system, *rest in array} for array in (signs, amounts)]
+    return dict(zip((*MORE_ARRAYS, "compact amounts"), tables))
 
 
 def parts_of(value):

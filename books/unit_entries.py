@@ -26,11 +26,11 @@ def letters(text):
     return is_letter(text[0]) + 2 * is_letter(text[-1])
 
 
-def number_and_pairs(text, char, minus, plus):
-    """The characters of a pattern's number, and what is before and after the number: without a sign, with a minus, with
-    a plus. None where a half of the pattern has no number or several, or has the placeholder as a text. The unit's character becomes its placeholder."""
+def number_and_pairs(text, char, minus, plus, number="#,0."):
+    """The characters of a pattern's number, of these, and what is before and after the number: without a sign, with a minus,
+    with a plus. None where a half of the pattern has no number or several, or has the placeholder as a text. The unit's character becomes its placeholder."""
     texts = [form for form in halves(text) if form is not None]
-    forms = [around(form, "#,0.") for form in texts]
+    forms = [around(form, number) for form in texts]
     if any(form is None or not form[1] for form in forms) or any((PLACEHOLDER, True) in form for form in texts):
         return None
     pair = lambda form, sign: [written(form[at], {"-": sign, char: PLACEHOLDER}) for at in (0, 2)]

@@ -30,6 +30,8 @@ const OF_FORMATS = {
   decimal: ["useGrouping"], compact: ["useGrouping", "compactDisplay", ...OF_OWN_DIGITS], scientific: ["useGrouping", "notation"], percent: ["useGrouping"],
   currency: ["useGrouping", "currency", "currencySign", "currencyDisplay"], skeleton: ["skeleton"],
 };
+// All options of a kind, but those by which it is opened.
+const NAMES = Object.fromEntries(Object.entries(OF_FORMATS).map(([kind, names]) => [kind, [...names, ...OF_CALLS[kind]]]));
 /** What resolvedOptions does not tell. */
 export const HOW_OPENED = ["book", "fallback"];
 // The options of the rounding that do something where nothing says at which place.
@@ -59,6 +61,20 @@ export function wordsOf({ sign = 0, mode = 0, position = 0, increment = 0, zeros
 
 /** The words for a number that is not rounded, with so many digits of the fraction at least. */
 export const asGiven = (fraction) => wordsOf({ mode: CURRENCY_DIGITS.given, fraction });
+
+/**
+ * The options of these names that say something. Each is read once, of what an object inherits too, as Intl has it.
+ * @param {Record<string, any>} options
+ * @returns {Record<string, any>}
+ */
+export function saidOf(options, names) {
+  const found = {};
+  for (const name of names) {
+    const value = options[name];
+    if (value !== undefined) found[name] = value;
+  }
+  return found;
+}
 
 /**
  * The number that a word of an option has.
@@ -181,9 +197,8 @@ function callOf(kind, options) {
 // Each option that says something, as it was given or as it is without.
 function resolvedOf(kind, options, how) {
   const [mode, least, priority] = [how[2], how[8], how[10]];
-  const given = Object.entries(options).filter(([name, value]) => !HOW_OPENED.includes(name) && value !== undefined);
   /** @type {Record<string, any>} */
-  const found = { useGrouping: kind === "compact" ? "min2" : "auto", signDisplay: "auto", ...Object.fromEntries(given) };
+  const found = { useGrouping: kind === "compact" ? "min2" : "auto", signDisplay: "auto", ...options };
   if (found.useGrouping === true) found.useGrouping = "always";
   if (kind === "compact") found.compactDisplay ??= "short";
   if (kind === "scientific") found.notation ??= "scientific";
@@ -200,7 +215,7 @@ function resolvedOf(kind, options, how) {
 }
 
 // What is opened by the text of a skeleton, whose options are the formatter's own.
-function ofSkeleton({ skeleton }) {
+function ofSkeleton(skeleton) {
   if (typeof skeleton !== "string") throw new TypeError("skeleton is a string, as percent .00");
   const words = skeleton.split(" ");
   const found = Object.keys(OF_SKELETONS).find((it) => words.some(OF_SKELETONS[it])) ?? "decimal";
@@ -256,10 +271,11 @@ const defaults = new Map();
  * @returns {Opening}
  */
 export function readOptions(kind, options) {
-  checked(options, [...HOW_OPENED, ...OF_FORMATS[kind], ...OF_CALLS[kind]], "");
-  if (kind === "skeleton") return ofSkeleton(options);
-  if (kind === "compact" && OF_OWN_DIGITS.some((it) => options[it] !== undefined)) return ofCompactDigits(options);
-  if (Object.keys(options).some((it) => !HOW_OPENED.includes(it))) return ofWords(kind, options);
+  checked(options, [...HOW_OPENED, ...NAMES[kind]], "");
+  const said = saidOf(options, NAMES[kind]);
+  if (kind === "skeleton") return ofSkeleton(said.skeleton);
+  if (kind === "compact" && OF_OWN_DIGITS.some((it) => it in said)) return ofCompactDigits(said);
+  if (Object.keys(said).length > 0) return ofWords(kind, said);
   if (!defaults.has(kind)) defaults.set(kind, ofWords(kind, {}));
   return defaults.get(kind);
 }

@@ -4,7 +4,7 @@ import { USUAL_COMPACT } from "./compact-digits.js";
 import { CompactDecimalFormatter, Formatter, openedOf } from "./formatters.js";
 import { digitsOf } from "./numbers.js";
 import { closesAtEnd } from "./open.js";
-import { HOW_OPENED, OF_DIGITS, SCIENTIFIC, WIDTHS, checked, chosen, readCall } from "./options.js";
+import { HOW_OPENED, OF_DIGITS, SCIENTIFIC, WIDTHS, checked, chosen, readCall, saidOf } from "./options.js";
 import { AS_IT_IS, howFor } from "./rounding.js";
 
 const TYPES = { cardinal: 1, ordinal: 2 };
@@ -19,11 +19,6 @@ const PRECISIONS = Object.keys(USUAL_COMPACT).filter((it) => it !== "roundingPri
 // Numbers that have among them each category of a language.
 const SAMPLES = [...Array.from({ length: 101 }, (_, number) => String(number)), "1000000", "0.1", "1.5"];
 
-// The options that say something.
-function given(options, names) {
-  return Object.fromEntries(names.filter((it) => options[it] !== undefined).map((it) => [it, options[it]]));
-}
-
 // The counts of digits that are given, and those that Intl has in place of others.
 function countsOf(found, name, least, most) {
   const [minimum, maximum] = [`minimum${name}Digits`, `maximum${name}Digits`];
@@ -33,8 +28,8 @@ function countsOf(found, name, least, most) {
 
 // What the options say of the digits that are shown: each that counts, as it is given or as it is without.
 function digitsBy(options) {
-  const found = given(options, DIGITS);
-  const { minimumIntegerDigits, ...others } = { ...USUAL, ...given(options, Object.keys(USUAL)) };
+  const found = saidOf(options, DIGITS);
+  const { minimumIntegerDigits, ...others } = { ...USUAL, ...saidOf(options, Object.keys(USUAL)) };
   const isSignificant = "minimumSignificantDigits" in found || "maximumSignificantDigits" in found;
   const isEither = others.roundingPriority !== "auto";
   const fraction = isSignificant && !isEither ? {} : countsOf(found, "Fraction", 0, others.roundingIncrement === 1 ? 3 : 0);
@@ -43,7 +38,7 @@ function digitsBy(options) {
 
 // Whether compact numbers have digits of their own.
 function hasOwnDigits(options) {
-  return Object.keys(given(options, PRECISIONS)).length > 0 || (options.roundingPriority ?? "auto") !== "auto";
+  return Object.keys(saidOf(options, PRECISIONS)).length > 0 || (options.roundingPriority ?? "auto") !== "auto";
 }
 
 /**
@@ -58,11 +53,11 @@ function openingOf(options) {
   const width = chosen(options, "compactDisplay", WIDTHS, "short");
   const isCompact = form === NOTATIONS.compact;
   const isUsual = isCompact && !hasOwnDigits(options);
-  const digits = isUsual ? { ...USUAL, ...given(options, Object.keys(USUAL)), ...USUAL_COMPACT } : digitsBy(options);
+  const digits = isUsual ? { ...USUAL, ...saidOf(options, Object.keys(USUAL)), ...USUAL_COMPACT } : digitsBy(options);
   const read = readCall("decimal", digits); // and says what is wrong
   const call = isCompact ? readCall("compact", isUsual ? { roundingMode: digits.roundingMode } : {}) : read;
   const format = Int32Array.of(7, form, isCompact ? width : 0, 0, 0, 0, 0, type);
-  const resolved = { type: "cardinal", notation: "standard", ...(isCompact ? { compactDisplay: "short" } : {}), ...given(options, OF_RULES), ...digits };
+  const resolved = { type: "cardinal", notation: "standard", ...(isCompact ? { compactDisplay: "short" } : {}), ...saidOf(options, OF_RULES), ...digits };
   if (!isCompact) delete resolved.compactDisplay;
   return { format, unit: "", isSkeleton: false, hasPlurals: true, key: `${format}`, call, resolved };
 }
@@ -76,7 +71,7 @@ class Categories extends Formatter {
 
 // What shows compact numbers that have digits of their own.
 function compactOf(resolved, book) {
-  return new CompactDecimalFormatter(resolved.locale, { book, ...given(resolved, ["compactDisplay", ...DIGITS]) });
+  return new CompactDecimalFormatter(resolved.locale, { book, ...saidOf(resolved, ["compactDisplay", ...DIGITS]) });
 }
 
 /** Says which plural form goes with a number, by its digits as they are shown. */

@@ -83,12 +83,19 @@ export function install(names = Object.keys(MAKERS)) {
   const unknown = names.find((it) => !Object.hasOwn(MAKERS, it));
   if (unknown !== undefined) throw new RangeError(`${unknown} is no class that is put in place: there are ${Object.keys(MAKERS).join(", ")}`);
   sourceOf(); // which throws where there is no book
-  const undone = names.map((name) => {
-    const Engine = Intl[name];
-    const Own = MAKERS[name](Engine);
-    const put = (value) => Object.defineProperty(Intl, name, { value });
-    put(Own);
-    return () => (Intl[name] === Own ? put(Engine) : undefined);
-  });
-  return () => undone.forEach((undo) => undo());
+  const undone = [];
+  const restore = () => undone.forEach((undo) => undo());
+  try {
+    for (const name of names) {
+      const Engine = Intl[name];
+      const Own = MAKERS[name](Engine);
+      const put = (value) => Object.defineProperty(Intl, name, { value });
+      put(Own);
+      undone.push(() => (Intl[name] === Own ? put(Engine) : undefined));
+    }
+  } catch (error) {
+    restore(); // where a class may not be replaced none is
+    throw error;
+  }
+  return restore;
 }

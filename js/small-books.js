@@ -6,15 +6,15 @@ import { chainOf, shortTag } from "./tags.js";
 // What is before each array of a book with an entry a line, and after the last.
 const BRACKETS = ["[[[", ",[", ",[", ",[", ",[", ",[", "],[[", ",[", ",[", ",[", ",[", "],[[", ",[", ",[", "]]"];
 const AT = { symbols: 0, digits: 1, parents: 5, currencyDigits: 10 };
-// The arrays that formatters of a kind ask for: of plain numbers symbols, digits and parents, of compact ones all but units, plurals and signs. Others may ask for all.
+// The arrays that formatters of a kind ask for: of plain numbers symbols, digits and parents, of compact ones all but units, plurals and signs, and of
+// others what they have besides. What is of no kind may ask for all.
 const OF_PLAIN = [0, 1, 5];
-const OF_COMPACT = [0, 1, 2, 3, 4, 5];
 const OF_ALL = [0, 1, 2, 3, 4, 5, 6, 7, 8, 9, 10, 11, 12, 13];
-const NEEDS = { decimal: OF_PLAIN, compact: OF_COMPACT };
+const NEEDS = { decimal: OF_PLAIN, compact: [0, 1, 2, 3, 4, 5], scientific: [...OF_PLAIN, 13], percent: [...OF_PLAIN, 6], currency: [...OF_PLAIN, 7, 8, 9, 10] };
 const UNDETERMINED = "und"; // where units, plurals and signs are looked for last
 const ANY_SYSTEM = "latn"; // by whose symbols lenient readers read too
-// So many are read at most, which take less time together than the whole. After them that is read.
-const MOST_SMALL = 16;
+// So many arrays are read at most, those of sixteen books for all kinds, which take less time together than the whole. After them that is read.
+const MOST_ARRAYS = 16 * OF_ALL.length;
 
 /** The arrays of a book, each a text of lines; null where it has not an entry a line, as the world's has. */
 function arraysOf(json) {
@@ -51,8 +51,8 @@ function smallBook(arrays, { locale, system }, needs) {
   kept[AT.digits] = [...systems].flatMap((it) => entriesOf(arrays[AT.digits], it));
   // from the end of the chain on, so that none closes a cycle
   kept[AT.parents] = chain.flatMap((it) => entriesOf(arrays[AT.parents], it)).reverse();
-  if (needs !== OF_ALL) return `[${kept.slice(0, AT.parents + 1).map((it) => `[${it}]`)}]`;
-  kept[AT.currencyDigits] = [arrays[AT.currencyDigits].slice(BRACKETS[AT.currencyDigits].length)];
+  if (needs.includes(AT.currencyDigits)) kept[AT.currencyDigits] = [arrays[AT.currencyDigits].slice(BRACKETS[AT.currencyDigits].length)];
+  if (needs.every((it) => it <= AT.parents)) return `[${kept.slice(0, AT.parents + 1).map((it) => `[${it}]`)}]`;
   return kept.map((entries, at) => BRACKETS[at] + entries).join("]");
 }
 
@@ -74,27 +74,27 @@ function askedBy(tag) {
 // What finds the small book of a tag for a kind of numbers: one that was read for it, or for a kind that needs more.
 function finderOf(source, arrays, most) {
   const small = new Map();
-  let count = 0;
+  let left = most;
   return (tag, kind) => {
     const asked = askedBy(tag);
     if (asked === null) return null;
     const [key, needs] = [`${asked.locale} ${asked.system}`, NEEDS[kind] ?? OF_ALL];
     const found = small.get(key);
-    if (found !== undefined && found.needs.length >= needs.length) return found.book;
-    if (count >= most || isRead(source)) return null;
+    if (found !== undefined && needs.every((it) => found.needs.includes(it))) return found.book;
+    if (left < needs.length || isRead(source)) return null;
     const book = unread(smallBook(arrays, asked, needs));
     small.set(key, { needs, book });
-    count += 1;
+    left -= needs.length;
     return book;
   };
 }
 
 /**
  * Makes a book that of formatters for which none is named. Where it has an entry a line, as the world's has, only what a tag can ask for is read of it,
- * until there are `most` small books, or what asks for the whole.
+ * until there are `most` arrays of small books, or what asks for the whole.
  * @param {Uint8Array} json
  */
-export function setLargeWorld(json, most = MOST_SMALL) {
+export function setLargeWorld(json, most = MOST_ARRAYS) {
   const arrays = arraysOf(json);
   if (arrays === null) {
     setWorld(json);

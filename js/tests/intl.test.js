@@ -1,14 +1,18 @@
-// NumberFormat beside Intl.NumberFormat of Node, by drawn options, and by the steps of ECMA-402.
-// usage: node intl.test.js [COUNT]; SEED in the environment draws others, and `node --test` takes 20,000
+// NumberFormat, and that of polyfill in its place, beside Intl.NumberFormat of Node, by drawn options, and by the steps of ECMA-402.
+// usage: node intl.test.js [COUNT]; SEED in the environment draws others, and `node --test` takes 20,000; a tenth of them are drawn for polyfill
 import assert from "node:assert/strict";
 import { createRequire } from "node:module";
 import { test } from "node:test";
 import { CompactDecimalFormatter, NumberFormat } from "legumeyet";
 import locales from "legumeyet/locales";
+import { install } from "legumeyet/polyfill";
 
 const COUNT = Number(process.argv[2] ?? 20000);
 const SEED = process.env.SEED ?? "2026-11-29";
 const Engine = Intl.NumberFormat;
+const restore = install(["NumberFormat"]);
+const Polyfilled = Intl.NumberFormat;
+restore();
 // Node 20 and later have the options of digits and signs that are drawn.
 const isNew = Number(process.versions.node.split(".")[0]) >= 20;
 const hasSameData = process.versions.cldr?.split(".")[0] === "48";
@@ -116,17 +120,18 @@ function outcome(call) {
   }
 }
 
-test("drawn options, beside Intl of Node", { skip: !isNew || !hasSameData }, () => {
+// Compares what a class makes of so many drawn options with what Node makes of them.
+function comparedBy(Own, times) {
   const known = locales.filter(isKnown);
   const counts = {};
   const unknown = [];
   const count = (it) => (counts[it] = (counts[it] ?? 0) + 1);
-  for (let times = 0; times < COUNT; times += 1) {
+  for (let at = 0; at < times; at += 1) {
     const locale = oneOf(known);
     const tag = oneIn(12) ? `${locale}-u-nu-${oneOf(SYSTEMS)}` : locale;
     const options = someOptions();
     const said = `${tag} ${JSON.stringify(options)}`;
-    const [theirs, ours] = [Engine, NumberFormat].map((Type) => outcome(() => new Type(tag, options)));
+    const [theirs, ours] = [Engine, Own].map((Type) => outcome(() => new Type(tag, options)));
     if (theirs.error !== undefined) {
       assert.equal(ours.error?.constructor, theirs.error.constructor, `${said}: ${theirs.error}, and here ${ours.error}`);
       count("refused by both");
@@ -137,7 +142,7 @@ test("drawn options, beside Intl of Node", { skip: !isNew || !hasSameData }, () 
     } else {
       for (const number of Array.from({ length: 3 }, someNumber)) compared(tag, options, ours.value, theirs.value, number, count, unknown);
       const [here, there] = [ours, theirs].map((it) => it.value.resolvedOptions());
-      assert.deepEqual(Object.keys(here), IN_ORDER.filter((it) => it in here), said);
+      if (Own === NumberFormat) assert.deepEqual(Object.keys(here), IN_ORDER.filter((it) => it in here), said);
       for (const name of new Set([...Object.keys(here), ...Object.keys(there)])) {
         if (here[name] === there[name]) continue;
         const cause = causeOfOption(name, tag, options);
@@ -146,9 +151,13 @@ test("drawn options, beside Intl of Node", { skip: !isNew || !hasSameData }, () 
       }
     }
   }
-  console.log(`${known.length} of ${locales.length} locales, ${COUNT} options: ${JSON.stringify(counts, null, 1)}`);
+  console.log(`${known.length} of ${locales.length} locales, ${times} options: ${JSON.stringify(counts, null, 1)}`);
   assert.deepEqual(unknown.slice(0, 20), [], `${unknown.length} differ by no cause that is named, by seed ${SEED}`);
-});
+}
+
+const skip = !isNew || !hasSameData;
+test("drawn options, beside Intl of Node", { skip }, () => comparedBy(NumberFormat, COUNT));
+test("drawn options of polyfill, beside Intl of Node", { skip }, () => comparedBy(Polyfilled, Math.ceil(COUNT / 10)));
 
 // Compares the texts and the parts of a number, and counts them by the cause that they differ for.
 function compared(tag, options, ours, theirs, number, count, unknown) {
@@ -229,7 +238,8 @@ function causeOfCompact(tag, number, ours) {
   const resolved = ours.resolvedOptions();
   const isUsual = Object.entries(USUAL).every(([name, value]) => resolved[name] === value);
   const own = Object.entries(resolved).filter(([name]) => name === "compactDisplay" || (isUsual ? name === "roundingMode" : /Digits$|^rounding/.test(name)));
-  const digits = typeof number === "bigint" ? String(number) : String(Number(number)).replace("e+", "e");
+  const isGiven = typeof number === "bigint" || (typeof number === "string" && /^-?\d+\.\d+$/.test(number)); // more digits than a double has
+  const digits = isGiven ? String(number) : String(Number(number)).replace("e+", "e");
   const [significand, exponent = "0"] = new CompactDecimalFormatter(tag, Object.fromEntries(own)).shown(digits).split("c");
   const magnitude = (it) => Number(Number(it).toExponential().split("e")[1]);
   const isCarried = magnitude(significand) + Number(exponent) > magnitude(digits);

@@ -40,6 +40,17 @@ test("a call with options is one of a formatter that has them", () => {
   }
 });
 
+test("each option is read once, of what an object inherits too, and none is changed", () => {
+  for (const [Type, format, own] of KINDS) {
+    const options = Object.freeze({ ...format, ...own });
+    const reads = [];
+    const getters = Object.entries(options).map(([name, value]) => [name, { get: () => (reads.push(name), value) }]);
+    const [wanted, it] = [options, Object.create(Object.create({}, Object.fromEntries(getters)))].map((one) => new Type("en", one));
+    assert.deepEqual(reads.sort(), Object.keys(options).sort());
+    assert.deepEqual([it.resolvedOptions(), NUMBERS.map((number) => it.format(number))], [wanted.resolvedOptions(), NUMBERS.map((number) => wanted.format(number))]);
+  }
+});
+
 test("a number beside a number says nothing", () => {
   const it = new DecimalFormatter("en", { minimumFractionDigits: 1 });
   assert.deepEqual([1, "2", 3n].map(it.format), ["1.0", "2.0", "3.0"]);

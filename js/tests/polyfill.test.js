@@ -42,6 +42,16 @@ test("one of them, and none that there is not", () => {
   assert.ok(isEngine());
 });
 
+test("where one may not be replaced, none is", () => {
+  const own = Intl;
+  for (const fixed of ["PluralRules", "NumberFormat"]) {
+    globalThis.Intl = new Proxy(own, { defineProperty: (its, name, described) => name !== fixed && Reflect.defineProperty(its, name, described) });
+    assert.throws(() => install(), TypeError);
+    globalThis.Intl = own;
+    assert.ok(isEngine());
+  }
+});
+
 test("what is put in later stays", () => {
   const first = install();
   const Other = class {};

@@ -178,7 +178,9 @@ test("scientific numbers, as Intl has them", { skip: !isNew }, () => {
   ];
   for (const precision of precisions) {
     for (const [tag, more] of [["en", {}], ["de", { signDisplay: "always" }], ["sv", { useGrouping: false }], ["ar-EG", { signDisplay: "exceptZero" }], ["fa", { useGrouping: "always", signDisplay: "never" }]]) {
-      for (const [notation, roundingMode] of ["scientific", "engineering"].flatMap((it) => [undefined, "floor", "halfEven"].map((mode) => [it, mode]))) {
+      // a sign that is left out is not seen where carried multiples are rounded once more: another test has rows of it
+      const directed = more.signDisplay === "never" && precision.roundingIncrement > 1 ? "trunc" : "floor";
+      for (const [notation, roundingMode] of ["scientific", "engineering"].flatMap((it) => [undefined, directed, "halfEven"].map((mode) => [it, mode]))) {
         const options = { notation, ...precision, ...more, ...(roundingMode === undefined ? {} : { roundingMode }) };
         const [ours, theirs] = [new ScientificFormatter(tag, options), new Intl.NumberFormat(tag, options)];
         const texts = all.map((it) => ours.format(it));
@@ -196,6 +198,14 @@ test("a significand that a rounding raises by several powers of ten", () => {
   for (const [notation, roundingIncrement, text, shown] of [["scientific", 500, "500E2", "500e2"], ["engineering", 5000, "5,000E3", "5000e3"]]) {
     const it = new ScientificFormatter("en", { notation, minimumFractionDigits: 0, maximumFractionDigits: 0, roundingIncrement, roundingMode: "expand" });
     assert.deepEqual([it.format("3"), it.shown("3")], [text, shown]);
+  }
+});
+
+test("carried multiples of a number whose sign is left out are rounded once more without it", () => {
+  // Node rounds with the sign both times, and has `2.0E2` and `0.0E2`
+  for (const [roundingMode, text, shown] of [["floor", "0.0E2", "0.0e2"], ["halfCeil", "2.0E2", "2.0e2"]]) {
+    const it = new ScientificFormatter("en", { minimumFractionDigits: 1, maximumFractionDigits: 1, roundingIncrement: 20, roundingMode, signDisplay: "never" });
+    assert.deepEqual([it.format("-99.5"), it.shown("-99.5")], [text, shown]);
   }
 });
 

@@ -13,6 +13,8 @@ import { drawer, lineOf, tagsBy } from "./tags.js";
 import { linesOf } from "./texts.js";
 
 const SEED = process.env.SEED ?? "2026-12-01";
+// Choices of options that linesOf has, each by its place.
+const CHOICES = [...Array(71).keys()];
 const root = pathToFileURL(createRequire(import.meta.url).resolve("legumeyet/legumeyet.wasm"));
 const json = readFileSync(new URL("world.json", root));
 // The package's own module, which has more than its exports.
@@ -31,13 +33,28 @@ function saysTheSame(tags, linesOf) {
 test("each locale is written and read as by the whole book", () => {
   const drawn = drawer(SEED);
   const tags = [...locales, ...locales.filter((it) => drawn([true, ...Array(11)])).map((it) => `${it}-u-nu-${drawn(["latn", "arab", "deva", "thai", "beng", "foo"])}`)];
-  const taken = new Map(tags.map((tag) => [tag, new Set(Array.from({ length: 5 }, () => drawn([...Array(71).keys()])))]));
+  const taken = new Map(tags.map((tag) => [tag, new Set(Array.from({ length: 5 }, () => drawn(CHOICES)))]));
   const some = (tag) => {
     let at = 0;
     return () => taken.get(tag).has(at++);
   };
   saysTheSame(tags, (it, tag) => linesOf(it, tag, some(tag)));
   saysTheSame(["de-AT", "ar-EG-u-nu-latn", "en-AU", "hi-Latn-IN", "brx-IN", "zh-Hant-MO", "pt-CV", "ks-u-nu-deva"], (it, tag) => linesOf(it, tag));
+});
+
+test("so is each choice of options, where nothing else of its tag was asked for before", () => {
+  const tags = ["de-AT", "ar-EG", "en-AU", "hi-Latn-IN", "pt-CV"];
+  const said = (only) => tags.map((tag) => {
+    let at = 0;
+    return linesOf(library, tag, () => at++ === only);
+  });
+  useWhole();
+  const wanted = CHOICES.map(said);
+  assert.ok(wanted.every((lines) => lines.every((it) => it.length === 2)));
+  for (const only of CHOICES) {
+    useSmall(Infinity);
+    assert.deepEqual(said(only), wanted[only]);
+  }
 });
 
 test("so is a tag of any form, or it is refused alike", () => saysTheSame(tagsBy(SEED), lineOf));

@@ -173,7 +173,7 @@ class Skeletons(unittest.TestCase):
 
     def test_long_skeletons(self):
         """Its time is linear in its length, and the error tells its beginning."""
-        began = time.monotonic()
+        began = time.process_time()
         many = 10_000_000
         self.assertEqual(NumberFormatter("en", " " * many + "percent").format(5), "5%")
         self.assertEqual(normal_skeleton(" " * many), "")
@@ -182,7 +182,7 @@ class Skeletons(unittest.TestCase):
                 normal_skeleton(skeleton)
             self.assertEqual(caught.exception.place, place)
             self.assertLess(len(str(caught.exception)), 300)
-        self.assertLess(time.monotonic() - began, 20)
+        self.assertLess(time.process_time() - began, 20)
 
     def test_books(self):
         with Book(WORLD.read_bytes()) as book:

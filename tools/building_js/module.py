@@ -43,14 +43,15 @@ PARTS_OF_PAGE = {
 }
 CHOSEN = [it for it in PARTS_OF_PAGE if it != "opening"]  # what a page may be made without, as js/pages.js has it
 # The functions of the library that only calls for a part come to, though calls of all pages name them: compact numbers, those with digits of their own,
-# percents and amounts. Where a page does without the part they stop, and what only they call goes. Those of `opening` no page comes to: formatters with
-# tables of their own, which a page's book never opens; numbers that are no texts; and tags of more than js/tags.js makes of them for a page.
+# percents and amounts, whose tables are looked for as the signs of scientific numbers are. Where a page does without the part they stop, and what only
+# they call goes. Those of `opening` no page comes to: formatters with tables of their own, which a page's book never opens; numbers that are no texts;
+# and tags of more than js/tags.js makes of them for a page.
 OF_DIGITS = r"locale_numbers_formatter::compact_digits::|::number_formatter::(?:format|show)_digits\b|::shown_operands::digits_operands\b"
 ONLY_OF = {
     "opening": re.compile(r"locale_numbers_formatter::own_tables::|own_tables\+\+\w+\+Destruct::drop|::held_(?:formatter::own_of|plurals::own_plurals)|held_answers|::book::Book::drop\b"
                           r"|legumeyet_c_values::numbers::assign_(?:double|scaled)\b|::tag_reader::read_any\b"),
     "compact": re.compile(r"icu_decimal::(?:compact_formatter|formatted_compact)::|::find_compact\b|" + OF_DIGITS),
-    "units": re.compile(r"icu_dimension(?:_affixes|_lenient)?::(?!\w+::drop)|::find_(?:amounts|percents)\b"),
+    "units": re.compile(r"icu_dimension(?:_affixes|_lenient)?::(?!\w+::drop|provider::)|::find_(?:amounts|percents)\b"),
     "skeletons": re.compile(OF_DIGITS),
     "plurals": re.compile(r"legumeyet_c::categories::|::find_plural_rules\b"),
 }

@@ -1,65 +1,44 @@
-"""What is wrong, what is missing, and commands, of the trials of the databases."""
-import os
-import pathlib
+"""Commands, pages and bounds of the trials of the databases."""
+import functools
 import re
-import subprocess
+import signal
 
-TOP = pathlib.Path(__file__).resolve().parent.parent.parent
-# So many seconds a command has at most.
-BOUND = 900
-WIDTH = 400  # of a line of what a command said
+import testing
+from testing import TOP
+
+# So many seconds the trials take at most; to stop a server takes some more.
+BOUND = 1800
 # So many kilobytes a process grows by at most, from a thousand tags to a million.
 MOST_GROWTH = 4096
 SANITIZE = ("-fsanitize=address,undefined", "-fno-sanitize-recover=all", "-fno-omit-frame-pointer", "-g")
 
 
-class Missing(Exception):
-    """A tool that a trial needs is not there."""
-
-
-class Wrong(Exception):
-    """What is not as it should be."""
-
-
 def run(*words, stdin="", **how):
-    """The standard output of a command. Raises Wrong where it fails, with what it said last."""
-    words = [str(word) for word in words]
-    ran = subprocess.run(words, input=stdin.encode(), stdout=subprocess.PIPE, stderr=subprocess.PIPE, timeout=BOUND, check=False, **how)
-    if ran.returncode:
-        said = (ran.stderr.strip() or ran.stdout).decode(errors="replace").splitlines()[-12:]
-        said = [line[:WIDTH] for line in said]
-        raise Wrong("\n    ".join([f"{' '.join(words[:6])} ended with status {ran.returncode}", *said]))
-    return ran.stdout.decode(errors="replace")
+    """The text that a command says. Where it fails, so does the test."""
+    return testing.run(*words, stdin=stdin.encode(), **how).decode(errors="replace")
 
 
-def environment(**more):
-    """The environment of a command with these too, and without what an earlier one left for make."""
-    own = {name: value for name, value in os.environ.items() if name not in ("MAKEFLAGS", "MAKELEVEL", "MFLAGS")}
-    return {**own, **{name: str(value) for name, value in more.items()}}
+@functools.lru_cache(None)
+def folder():
+    """A folder that goes with the script, and that another user may enter. Its path has no blank, at which make would part it, and is short, since that
+    of a socket has 107 bytes at most."""
+    place = testing.script_folder("try-")
+    place.chmod(0o755)
+    return place
 
 
-def need(*names):
-    """Sees to it that tools are there, by tools/need."""
-    ran = subprocess.run((TOP / "tools/need", *names), stdin=subprocess.DEVNULL, stdout=subprocess.PIPE, stderr=subprocess.STDOUT, check=False)
-    if ran.returncode:
-        raise Missing("; ".join(ran.stdout.decode(errors="replace").strip().splitlines()))
+@functools.lru_cache(None)
+def library():
+    """The folder of the library for C, below that one. From now on the time of the trials counts."""
+    link = folder() / "library"
+    link.symlink_to(testing.library())
+    signal.alarm(BOUND)
+    return link
 
 
 def runtimes(compiler):
     """The libraries of the sanitizers, as LD_PRELOAD has them: the program that loads what they look at has none of its own."""
     return " ".join(run(compiler, f"-print-file-name={it}").strip() for it in ("libasan.so", "libubsan.so"))
-
-
-def expect(what, got, wanted):
-    """Raises Wrong where a text is another one."""
-    if got != wanted:
-        raise Wrong(f"{what}: {got!r}, and not {wanted!r}")
-
-
-def header_version():
-    """The version that the header has."""
-    text = (TOP / "include/legumeyet.h").read_text(encoding="utf-8")
-    return ".".join(re.search(rf"^#define LEGUMEYET_{name} (\d+)$", text, re.M)[1] for name in ("VERSION", "MINOR"))
 
 
 def page_block(heading, page="databases"):

@@ -2,7 +2,10 @@
 import sys
 import zipfile
 
-from .common import TOP, environment, expect, need, page_block, run, trimmed
+import testing
+from testing import TOP, environment, need
+
+from .common import folder, library, page_block, run, trimmed
 
 # That of Debian, which has Dask.
 PYTHON = "/usr/bin/python3"
@@ -24,15 +27,29 @@ print(len(spread) if spread.equals(written(rows)) else "other texts")
 """
 
 
-def try_dask(library, folder):
-    """Tries it by threads and by processes, with the wheel unpacked."""
-    need("cc", "Python.h", "dask", "pandas")
-    wheel = run(sys.executable, TOP / "tools/build_wheel", "--library", library, folder / "wheels").rstrip("\n")
-    with zipfile.ZipFile(wheel) as packed:
-        packed.extractall(folder / "site")
-    typed, shown = page_block("Dask and Spark", "engines")
-    for scheduler in ("threads", "processes"):
-        how = environment(PYTHONPATH=folder / "site", PYTHONDONTWRITEBYTECODE=1, DASK_SCHEDULER=scheduler)
-        expect(f"docs/engines.md by {scheduler}", trimmed(run(PYTHON, "-c", typed, env=how)), shown)
-        expect(f"a column by {scheduler}", run(PYTHON, "-c", ROWS, env=how), "200000\n")
-    return f"Dask {run(PYTHON, '-c', 'import dask; print(dask.__version__)').strip()}"
+class Dask(testing.Rows):
+    """Tests by threads and by processes, with the wheel unpacked."""
+
+    @classmethod
+    def setUpClass(cls):
+        """Makes the wheel."""
+        need("cc", "Python.h", "dask", "pandas")
+        wheel = run(sys.executable, TOP / "tools/build_wheel", "--library", library(), folder() / "wheels").rstrip("\n")
+        with zipfile.ZipFile(wheel) as packed:
+            packed.extractall(folder() / "site")
+
+    def answers(self, typed):
+        """What Python prints by each scheduler."""
+        how = {"PYTHONPATH": folder() / "site", "PYTHONDONTWRITEBYTECODE": 1}
+        return {it: run(PYTHON, "-c", typed, env=environment(DASK_SCHEDULER=it, **how)) for it in ("threads", "processes")}
+
+    def test_page(self):
+        """What docs/engines.md has somebody type prints what it says."""
+        typed, shown = page_block("Dask and Spark", "engines")
+        for scheduler, said in self.answers(typed).items():
+            self.row(f"docs/engines.md by {scheduler}", trimmed(said), shown)
+
+    def test_column(self):
+        """200,000 rows."""
+        for scheduler, said in self.answers(ROWS).items():
+            self.row(f"a column by {scheduler}", said, "200000\n")

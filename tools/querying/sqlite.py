@@ -3,7 +3,10 @@ import re
 import shutil
 import sys
 
-from .common import MOST_GROWTH, SANITIZE, TOP, Missing, Wrong, environment, expect, need, page_block, run, runtimes, trimmed
+import testing
+from testing import TOP, environment, need
+
+from .common import MOST_GROWTH, SANITIZE, folder, library, page_block, run, runtimes, trimmed
 
 WARNINGS = "-O2 -Wall -Wextra -Wpedantic -Wshadow -Wconversion -Werror"
 # Where the package of a release has it.
@@ -24,39 +27,12 @@ SELECT count(legumeyet_format(n, 'de-x-a' || n || '{long}')) FROM few;
 """
 
 
-def built(library, folder, name, *flags):
-    """The extension, made with these flags too."""
-    source = folder / name
+def built(over, place, name, *flags):
+    """The extension over a library, made in a folder, with these flags too."""
+    source = place / name
     shutil.copytree(TOP / "sqlite", source)
-    run("make", "-C", source, f"LEGUMEYET={library}", f"CFLAGS={' '.join([WARNINGS, *flags])}", env=environment())
+    run("make", "-C", source, f"LEGUMEYET={over}", f"CFLAGS={' '.join([WARNINGS, *flags])}", env=environment())
     return source / "legumeyet.so"
-
-
-def try_shell(extension, folder, *words, **more):
-    """The rows of test.sql are answered as test.out has them."""
-    script = f".load {extension}\n{(TOP / 'sqlite/test.sql').read_text(encoding='utf-8')}"
-    said = run(*words, "sqlite3", "-batch", "-bail", ":memory:", stdin=script, cwd=folder, env=environment(**more))
-    expect("the shell of SQLite", said, (TOP / "sqlite/test.out").read_text(encoding="utf-8"))
-
-
-def try_many_tags(extension, rows, *words, **more):
-    """Writes rows of as many tags as rows, and returns by how many kilobytes the process grew."""
-    script = MANY_TAGS.format(extension=extension, rows=rows, long="-abcdefgh" * 40)
-    said = run(*words, "sqlite3", "-batch", "-bail", ":memory:", stdin=script, env=environment(**more))
-    expect("rows of many tags", re.findall(r"^\d+$", said, re.M), ["20000", str(rows), "20000", "20000"])
-    before, after = map(int, re.findall(r"VmRSS:\s*(\d+) kB", said))
-    return after - before
-
-
-def try_page(extension):
-    """What docs/databases.md has somebody type prints what it says, with this extension in place of the installed one."""
-    typed, shown = page_block("SQLite")
-    expect("docs/databases.md", trimmed(run("sqlite3", ":memory:", stdin=typed.replace(INSTALLED, str(extension)))), shown)
-
-
-def try_python(extension, python, **more):
-    """The rows of test.py hold."""
-    run(python, "-W", "error", TOP / "sqlite/test.py", env=environment(LEGUMEYET_SQLITE=extension, PYTHONDONTWRITEBYTECODE="1", **more))
 
 
 def python_that_loads():
@@ -64,25 +40,61 @@ def python_that_loads():
     for it in (sys.executable, "/usr/bin/python3"):
         if shutil.which(it) and run("sh", "-c", '"$0" -c "$1" 2>&1 || echo no', it, CAN_LOAD) == "":
             return it
-    raise Missing("no Python is there whose module sqlite3 loads extensions")
+    raise AssertionError("no Python is there whose module sqlite3 loads extensions")
 
 
-def try_sqlite(library, folder):
-    """Tries it as it is, under valgrind and under the sanitizers of gcc."""
-    need("cc", "make", "sqlite3", "sqlite3ext.h", "valgrind")
-    python = python_that_loads()
-    extension = built(library, folder, "plain")
-    try_shell(extension, folder)
-    try_page(extension)
-    try_python(extension, python)
-    growth = try_many_tags(extension, 1_000_000)
-    if growth > MOST_GROWTH:
-        raise Wrong(f"SQLite has {growth} kB more after a million tags")
-    try_shell(extension, folder, *VALGRIND)
-    try_many_tags(extension, 20_000, *VALGRIND)
-    sanitized = built(library, folder, "sanitized", *SANITIZE)
-    how = {"LD_PRELOAD": runtimes("gcc"), "ASAN_OPTIONS": "detect_leaks=0"}
-    try_shell(sanitized, folder, **how)
-    try_many_tags(sanitized, 1_000_000, **how)
-    try_python(sanitized, python, PYTHONMALLOC="malloc", **how)
-    return f"SQLite {run('sqlite3', '--version').split()[0]}"
+class SQLite(testing.Rows):
+    """Tests of the extension as it is, under valgrind, and under the sanitizers of gcc."""
+
+    @classmethod
+    def setUpClass(cls):
+        """Makes it."""
+        need("cc", "gcc", "make", "sqlite3", "sqlite3ext.h", "valgrind")
+        cls.python, cls.extension = python_that_loads(), built(library(), folder(), "plain")
+
+    def shell(self, extension, *words, **more):
+        """A row: the rows of test.sql are answered as test.out has them."""
+        script = f".load {extension}\n{(TOP / 'sqlite/test.sql').read_text(encoding='utf-8')}"
+        said = run(*words, "sqlite3", "-batch", "-bail", ":memory:", stdin=script, cwd=folder(), env=environment(**more))
+        self.row("the shell of SQLite", said, (TOP / "sqlite/test.out").read_text(encoding="utf-8"))
+
+    def module(self, extension, **more):
+        """The rows of test.py hold."""
+        run(self.python, "-W", "error", TOP / "sqlite/test.py", env=environment(LEGUMEYET_SQLITE=extension, PYTHONDONTWRITEBYTECODE="1", **more))
+
+    def growth(self, extension, rows, *words, **more):
+        """By how many kilobytes the process grows that writes rows of as many tags as rows."""
+        script = MANY_TAGS.format(extension=extension, rows=rows, long="-abcdefgh" * 40)
+        said = run(*words, "sqlite3", "-batch", "-bail", ":memory:", stdin=script, env=environment(**more))
+        self.row("rows of many tags", re.findall(r"^\d+$", said, re.M), ["20000", str(rows), "20000", "20000"])
+        before, after = map(int, re.findall(r"VmRSS:\s*(\d+) kB", said))
+        return after - before
+
+    def test_shell(self):
+        """From the shell."""
+        self.shell(self.extension)
+
+    def test_page(self):
+        """What docs/databases.md has somebody type prints what it says, with this extension in place of the installed one."""
+        typed, shown = page_block("SQLite")
+        self.row("docs/databases.md", trimmed(run("sqlite3", ":memory:", stdin=typed.replace(INSTALLED, str(self.extension)))), shown)
+
+    def test_module(self):
+        """From Python's module."""
+        self.module(self.extension)
+
+    def test_many_tags(self):
+        """A million tags hold no more memory than a thousand."""
+        self.assertLessEqual(self.growth(self.extension, 1_000_000), MOST_GROWTH, "kB more after a million tags")
+
+    def test_valgrind(self):
+        """No call leaves memory, or reads what is not its own."""
+        self.shell(self.extension, *VALGRIND)
+        self.growth(self.extension, 20_000, *VALGRIND)
+
+    def test_sanitized(self):
+        """The sanitizers find nothing."""
+        extension, how = built(library(), folder(), "sanitized", *SANITIZE), {"LD_PRELOAD": runtimes("gcc"), "ASAN_OPTIONS": "detect_leaks=0"}
+        self.shell(extension, **how)
+        self.growth(extension, 1_000_000, **how)
+        self.module(extension, PYTHONMALLOC="malloc", **how)

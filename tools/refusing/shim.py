@@ -1,16 +1,11 @@
 """Runs a program under tools/refuse.c, which refuses what is wished and counts."""
 import os
-import shutil
-import subprocess
 import typing
 
-TOOLS = os.path.dirname(os.path.dirname(os.path.realpath(__file__)))
+from testing import TOP, run
+
 # The counts of the last run, by what they count.
 COUNTS = ("memory", "read", "write")
-
-
-class Fault(Exception):
-    """Why nothing can be tried, in one line."""
 
 
 class Ended(typing.NamedTuple):
@@ -32,12 +27,7 @@ def shown(text):
 
 def compile_c(name, output, *words):
     """Compiles a C file of tools/."""
-    if shutil.which("cc") is None:
-        raise Fault("there is no cc on the PATH, so nothing can be refused")
-    source = f"{TOOLS}/{name}"
-    ran = subprocess.run(["cc", "-O2", "-Wall", *words, "-o", output, source], stdin=subprocess.DEVNULL, check=False)
-    if ran.returncode:
-        raise Fault(f"{source} was not compiled")
+    run("cc", "-O2", "-Wall", *words, "-o", output, TOP / "tools" / name)
 
 
 def compile_shim(folder):

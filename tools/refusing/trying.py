@@ -12,10 +12,8 @@ OUT_OF_MEMORY = b"Error: Kind(OutOfMemory)\n"
 
 
 class Tried(typing.NamedTuple):
-    """What came of a case: how many runs there were, how many ended by a refusal, what was wrong, and whether it was left out,
-    since it asks too often."""
+    """What came of a case: how many runs ended by a refusal, what was wrong, and whether it was left out, since it asks too often."""
 
-    runs: int
     refusals: int
     wrong: list
     is_left_out: bool = False
@@ -181,14 +179,13 @@ def in_turn(case, refused, words=(), **wishes):
         elif not is_right(case, ended) or (is_met and not refused.may_be_right):
             wrong.append(f"{case.name}, {' and '.join(refused.wishes)} {number} of {asked}: {ended}")
         if asked < number:
-            return Tried(number, refusals, wrong)
-    return Tried(MOST, refusals, [*wrong, f"{case.name}, {refused.wishes}: no end of requests"])
+            return Tried(refusals, wrong)
+    return Tried(refusals, [*wrong, f"{case.name}, {refused.wishes}: no end of requests"])
 
 
 def joined(all_tried):
     """What came of several tries, as one."""
-    wrong = [text for it in all_tried for text in it.wrong]
-    return Tried(sum(it.runs for it in all_tried), sum(it.refusals for it in all_tried), wrong)
+    return Tried(sum(it.refusals for it in all_tried), [text for it in all_tried for text in it.wrong])
 
 
 def try_lines(case):
@@ -201,14 +198,14 @@ def try_lines(case):
 def try_exact(case):
     ended = shim.run_again(case.program, [], **case.wishes)
     is_fine = (ended.status, ended.output, ended.error) == case.end
-    return Tried(1, 0, [] if is_fine else [f"{case.name}: {ended}, and not {case.end}"])
+    return Tried(0, [] if is_fine else [f"{case.name}: {ended}, and not {case.end}"])
 
 
 def try_call(case):
     """A call of the command with memory refused: it ends as ever, or says that it is out of memory, behind a beginning."""
     free = shim.run_again(case.program, case.words)
     if (free.status, free.error) != (0, b""):
-        return Tried(1, 0, [f"{case.name}: {free}"])
+        return Tried(0, [f"{case.name}: {free}"])
     return in_turn(case._replace(whole=free.output), OF_COMMAND, case.words)
 
 
@@ -216,7 +213,7 @@ def try_row(case):
     """A row with memory refused: it is answered as ever, or the program ends without an answer and says why."""
     ended = shim.run_again(case.program, ())
     if ended.asked["memory"] > MOST_OF_ROW:
-        return Tried(1, 0, [] if is_right(case, ended) else [f"{case.name}: {ended}"], True)
+        return Tried(0, [] if is_right(case, ended) else [f"{case.name}: {ended}"], True)
     return in_turn(case, Refused(("REFUSE_MEMORY",), "memory", ends_by_row, True))
 
 
@@ -227,7 +224,7 @@ def try_change(case):
     gate = free.asked["read"]
     ended = shim.run_again(case.program, (), REFUSE_MEMORY="all", REFUSE_FROM=gate)
     is_fine = is_right(case, free) and ended.asked["read"] == gate and (is_right if case.is_silent else is_kept)(case, ended)
-    first = Tried(2, 0, [] if is_fine else [f"{case.name}: {free}, and with all refused {ended}"])
+    first = Tried(0, [] if is_fine else [f"{case.name}: {free}, and with all refused {ended}"])
     if case.is_silent:
         return first
     return joined([first, in_turn(case, Refused(("REFUSE_MEMORY",), "memory", is_kept, True), REFUSE_FROM=gate)])

@@ -3,18 +3,17 @@ import shutil
 
 # The packages whose name is another one than the command's.
 PACKAGES = {
-    "cc": "gcc", "c++": "g++", "dpkg-deb": "dpkg", "qemu-aarch64-static": "qemu-user-static", "chroot": "coreutils", "unshare": "util-linux",
-    "stubtest": "mypy",
+    "cc": "gcc", "dpkg-deb": "dpkg", "chroot": "coreutils", "unshare": "util-linux",
     **dict.fromkeys(("ar", "ld", "objcopy", "objdump", "readelf", "strip"), "binutils"),
 }
-KNOWN = {*PACKAGES, "cargo", "debootstrap", "git", "lintian", "valgrind"}
+KNOWN = {*PACKAGES, "debootstrap", "git", "lintian"}
 ARM64 = "aarch64-linux-gnu-"
 
 
 def package_of(command):
-    """Debian's package that has a command, or None where it is not known. The binutils for ARM come with the compilers for it."""
+    """Debian's package that has a command, or None where it is not known. The binutils for ARM come with the compiler for it."""
     if command.startswith(ARM64):
-        return f"{'g++' if command == f'{ARM64}g++' else 'gcc'}-aarch64-linux-gnu"
+        return "gcc-aarch64-linux-gnu"
     return PACKAGES.get(command, command) if command in KNOWN else None
 
 

@@ -84,9 +84,11 @@ def made():
 
 
 def check():
-    """Raises a Fault where the list is not as the kit has it. Without the kit that it is of nothing is looked at."""
+    """Raises a Fault where the list is not as the kit has it, or there is no kit. Says so where the list is that of another kit."""
     ours = (TOP / FOLDER / LIST).read_bytes()
-    if kit_folder() is not None and f"here {kit.name()}, ".encode() in ours and ours != made()[LIST]:
+    if f"here {kit.name()}, ".encode() not in ours:
+        print(f"not looked at: {FOLDER}/{LIST} is the list of another kit than {kit.name()}")
+    elif ours != made()[LIST]:
         raise Fault(f"{FOLDER}/{LIST} is not as the kit has it: tools/notices --write makes it")
 
 

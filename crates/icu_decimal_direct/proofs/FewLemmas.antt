@@ -39,8 +39,8 @@ some_point : (fraction : List ℕ) → 0 < length fraction → 0 < length (after
 some_point [] some = absurd (omega (arith, some))
 some_point (c ∷ cs) some = omega arith
 
--- no more than sixteen are before the point
-pub few_above : (text integer fraction : List ℕ) (above : ℕ) → text ≡ integer ++ after_point fraction → AreFewDigits integer fraction → AreDigits (take above text) → above ≤ length text → above ≤ 16
+-- no more than thirty-two are before the point
+pub few_above : (text integer fraction : List ℕ) (above : ℕ) → text ≡ integer ++ after_point fraction → AreFewDigits integer fraction → AreDigits (take above text) → above ≤ length text → above ≤ 32
 few_above text integer fraction above is h digits within =
     let few = h.few in
     let less = front_within integer (after_point fraction) above (point_is_none fraction) (subst (λ t. AreDigits (take above t)) is digits) (subst (λ t. above ≤ length t) is within) in
@@ -103,7 +103,7 @@ point_long [] = omega arith
 point_long (c ∷ cs) = omega arith
 
 -- such a text is short
-pub few_long : (text integer fraction : List ℕ) → text ≡ integer ++ after_point fraction → AreFewDigits integer fraction → length text ≤ 33
+pub few_long : (text integer fraction : List ℕ) → text ≡ integer ++ after_point fraction → AreFewDigits integer fraction → length text ≤ 65
 few_long text integer fraction is h =
     let few = h.few in let below = h.few_below in
     omega (arith, few, below, point_long fraction, ap length is ∙ length-append integer (after_point fraction))

@@ -89,6 +89,11 @@ module _ (d : List ℕ) (i n r : ℕ) (z : List ℕ) (room : i + n ≤ length d)
       let byte : get_or d (i + r) 0 < 256 = (fits (i + r)).fits in
       at_least _ _ (stop_told (get_or d (i + r) 0) byte (subst (λ x. not (stops x) ≡ false) here goes))
 
+pub digits_take : (n : ℕ) (bytes : List ℕ) → AreDigits bytes → AreDigits (take n bytes)
+digits_take zero bytes h = tt
+digits_take (suc n) [] h = tt
+digits_take (suc n) (c ∷ cs) h = (h.0, digits_take n cs h.1)
+
 -- eight bytes after eight
 digits_after : (a b : ℕ) (text : List ℕ) → a ≤ length text → AreDigits (take a text) → AreDigits (take b (drop a text)) → AreDigits (take (a + b) text)
 digits_after zero b text within h k = let none : 0 + b ≡ b = omega arith in subst (λ n. AreDigits (take n text)) (sym none) k
@@ -100,3 +105,8 @@ digits_after (suc a) b (c ∷ cs) within h k =
 pub digits_both_eights : (text : List ℕ) (a b n : ℕ) → a ≡ 8 → 8 ≤ length text → n ≡ 8 + b → AreDigits (take a (drop 0 text)) → AreDigits (take b (drop 8 text)) → AreDigits (take n text)
 digits_both_eights text a b n first within whole h k =
     subst (λ m. AreDigits (take m text)) (sym whole) (digits_after 8 b text within (subst (λ m. AreDigits (take m text)) first h) k)
+
+-- digits that lap over the first ones
+pub digits_lapped : (text : List ℕ) (first last more : ℕ) → last ≤ first → last ≤ length text → AreDigits (take first (drop 0 text)) → AreDigits (take more (drop last text)) → AreDigits (take (last + more) text)
+digits_lapped text first last more over within h k =
+    digits_after last more text within (subst AreDigits (take-take last first text over) (digits_take last (take first text) h)) k

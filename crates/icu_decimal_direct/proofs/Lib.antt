@@ -2,6 +2,8 @@ pub mod FewLemmas
 pub mod LaneLemmas
 pub mod OperandsLemmas
 pub mod PuttingLemmas
+pub mod ShortLemmas
 pub mod ShownLemmas
 pub mod TextLemmas
+pub mod UnitLemmas
 pub mod Utf8Lemmas

@@ -97,3 +97,6 @@ pub rest_enough : (left fewer size n : ℕ) → left ≡ suc fewer → left * si
 rest_enough left fewer size n more enough =
     let all : suc fewer * size ≤ n = subst (λ k. k * size ≤ n) more enough in
     omega (arith, all)
+
+pub size_more : (left fewer size : ℕ) → left ≡ suc fewer → left * size ≡ fewer * size + size
+size_more left fewer size more = ap (λ k. k * size) more ∙ omega arith

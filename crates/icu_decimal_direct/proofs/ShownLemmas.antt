@@ -14,7 +14,7 @@ use Rattle.fixed_decimal_digits.proofs.ShownDigitsLemmas.{down_inside}
 use Rattle.icu_decimal_direct.proofs.LaneLemmas.{digits_each}
 use Rattle.icu_decimal_direct.specs.FewDigits.{AreFewDigits, are_digits, plain_number}
 
-digits_both : (xs ys : List ℕ) → AreDigits xs → AreDigits ys → AreDigits (xs ++ ys)
+pub digits_both : (xs ys : List ℕ) → AreDigits xs → AreDigits ys → AreDigits (xs ++ ys)
 digits_both [] ys h k = k
 digits_both (x ∷ xs) ys h k = (h.0, digits_both xs ys h.1 k)
 
@@ -77,10 +77,10 @@ nothing_moved : (b : Bool) (n : ℕ) → cond b n n ≡ n
 nothing_moved true n = refl
 nothing_moved false n = refl
 
-plain_within : (above below up down : ℕ) → above ≤ 16 → below ≤ 16 → up ≡ 0 → down ≡ 0 → AreEndsIn above below up down
+plain_within : (above below up down : ℕ) → above ≤ 32 → below ≤ 32 → up ≡ 0 → down ≡ 0 → AreEndsIn above below up down
 plain_within above below up down a b u d = record { exponent_high = omega (arith, u); exponent_low = omega (arith, d); first = omega (arith, a, u); last = omega (arith, b, d) }
 
-pub reads_plain : (text integer fraction : List ℕ) → text ≡ integer ++ after_point fraction → AreDigits integer → AreDigits fraction → 0 < length integer → length integer ≤ 16 → length fraction ≤ 16
+pub reads_plain : (text integer fraction : List ℕ) → text ≡ integer ++ after_point fraction → AreDigits integer → AreDigits fraction → 0 < length integer → length integer ≤ 32 → length fraction ≤ 32
     → Reads text (plain_number integer fraction)
 reads_plain text integer fraction is h k some few_above few_below =
     let parts : Parts = record { integer = integer; fraction = fraction; negative = false; exponent = [] } in
@@ -102,7 +102,7 @@ reads_plain text integer fraction is h k some few_above few_below =
     }
 
 -- a text of digits alone
-pub reads_whole : (text : List ℕ) (above : ℕ) → above ≡ length text → AreDigits (take above text) → 0 < length (take above text) → length (take above text) ≤ 16
+pub reads_whole : (text : List ℕ) (above : ℕ) → above ≡ length text → AreDigits (take above text) → 0 < length (take above text) → length (take above text) ≤ 32
     → Reads text (plain_number (take above text) [])
 reads_whole text above all h some few =
     reads_plain text (take above text) [] (sym (append-nil (take above text) ∙ take_all above text (omega (arith, all)))) h tt some few (omega arith)
@@ -113,7 +113,7 @@ point_before (c ∷ cs) some = refl
 
 -- a text of digits, a point and digits
 pub reads_both : (text fraction : List ℕ) (above : ℕ) → above < length text → get_or text above 0 ≡ 46 → fraction ≡ drop (above + 1) text
-    → AreDigits (take above text) → AreDigits fraction → 0 < length (take above text) → length (take above text) ≤ 16 → 0 < length fraction → length fraction ≤ 16
+    → AreDigits (take above text) → AreDigits fraction → 0 < length (take above text) → length (take above text) ≤ 32 → 0 < length fraction → length fraction ≤ 32
     → Reads text (plain_number (take above text) fraction)
 reads_both text fraction above within mark same h k some few more few_below =
     reads_plain text (take above text) fraction
@@ -145,13 +145,13 @@ pub few_digits : (text : List ℕ) (n : ℕ) → length text ≤ n → AreDigits
 few_digits text n all h = subst AreDigits (take_all n text all) h
 
 -- the digits of a text, as they are kept
-pub few_whole : (text : List ℕ) (above : ℕ) → above ≤ length text → AreDigits (take above text) → ¬ (above ≡ 0) → above ≤ 16 → AreFewDigits (take above text) []
+pub few_whole : (text : List ℕ) (above : ℕ) → above ≤ length text → AreDigits (take above text) → ¬ (above ≡ 0) → above ≤ 32 → AreFewDigits (take above text) []
 few_whole text above within h some few =
     let long : length (take above text) ≡ above = length-take-le above text within in
     record { whole = told_digits (take above text) h; part = refl; some = omega (arith, long, some); few = omega (arith, long, few); few_below = omega arith }
 
-pub few_both : (text fraction : List ℕ) (above below : ℕ) → above ≤ length text → AreDigits (take above text) → ¬ (above ≡ 0) → above ≤ 16
-    → AreDigits (take below fraction) → length fraction ≤ below → length fraction ≤ 16 → AreFewDigits (take above text) fraction
+pub few_both : (text fraction : List ℕ) (above below : ℕ) → above ≤ length text → AreDigits (take above text) → ¬ (above ≡ 0) → above ≤ 32
+    → AreDigits (take below fraction) → length fraction ≤ below → length fraction ≤ 32 → AreFewDigits (take above text) fraction
 few_both text fraction above below within h some few k all few_below =
     let long : length (take above text) ≡ above = length-take-le above text within in
     record {

@@ -20,6 +20,7 @@ use Rattle.icu_decimal_plain.proofs.RunLemmas.{run_digits, run_is}
 use Rattle.icu_decimal_direct.specs.FewDigits.{AreFewDigits, plain_number}
 use Rattle.icu_decimal_direct.specs.Direct.{AreHeld}
 use Rattle.icu_decimal_direct.specs.declared.text_tables.Direct.{Direct}
+use Rattle.icu_decimal_direct.proofs.LaneLemmas.{digits_take}
 use Rattle.icu_decimal_direct.proofs.PuttingLemmas.{alone}
 use Rattle.icu_decimal_direct.proofs.ShownLemmas.{digits_told, fraction_shown, whole_shown}
 
@@ -46,12 +47,7 @@ pub own_digits : (table bytes : List ℕ) → IsRun 48 table → AreDigits bytes
 own_digits table bytes run h =
     sym (bytes_are bytes h) ∙ run_digits 48 table (map digit_value bytes) run (all_below_base_from_digits 10 bytes h)
 
-pub digits_take : (n : ℕ) (bytes : List ℕ) → AreDigits bytes → AreDigits (take n bytes)
-digits_take zero bytes h = tt
-digits_take (suc n) [] h = tt
-digits_take (suc n) (c ∷ cs) h = (h.0, digits_take n cs h.1)
-
-digits_drop : (n : ℕ) (bytes : List ℕ) → AreDigits bytes → AreDigits (drop n bytes)
+pub digits_drop : (n : ℕ) (bytes : List ℕ) → AreDigits bytes → AreDigits (drop n bytes)
 digits_drop zero bytes h = h
 digits_drop (suc n) [] h = tt
 digits_drop (suc n) (c ∷ cs) h = digits_drop n cs h.1
@@ -91,7 +87,7 @@ one_more n zero = refl
 one_more n (suc k) = ap (λ sizes. n ∷ sizes) (one_more n k)
 
 -- few digits are one group
-pub whole_one : (t : Tables) (d : Direct) (integer : List ℕ) → AreHeld d t → AreDigits integer → 0 < length integer → length integer ≤ 16 → length integer < d.groups.least
+pub whole_one : (t : Tables) (d : Direct) (integer : List ℕ) → AreHeld d t → AreDigits integer → 0 < length integer → length integer ≤ 32 → length integer < d.groups.least
     → whole_text t (map digit_value integer) ≡ integer
 whole_one t d integer held h some few below =
     let n : ℕ = length integer in
@@ -101,7 +97,7 @@ whole_one t d integer held h some few below =
     ∙ append-nil (take n integer) ∙ take_all n integer (omega arith)
 
 -- of more the sizes are those of the middle, and three at the end
-sizes_known : (t : Tables) (d : Direct) (n m : ℕ) → AreHeld d t → n ≤ 16 → d.groups.least ≤ n → d.groups.middle ≡ m → group_sizes t.strategy t.symbols.grouping_sizes n ≡ cut_sizes 3 m n
+sizes_known : (t : Tables) (d : Direct) (n m : ℕ) → AreHeld d t → n ≤ 32 → d.groups.least ≤ n → d.groups.middle ≡ m → group_sizes t.strategy t.symbols.grouping_sizes n ≡ cut_sizes 3 m n
 sizes_known t d n m held few from is =
     let g = held.groups in
     let s = t.symbols.grouping_sizes in
@@ -116,7 +112,7 @@ threes_are n groups first from many left =
     let front : first ≡ n - 3 - k * 3 = omega (arith, left, more) in
     ap (λ f. f ∷ replicate groups 3) front ∙ ap (λ m. (n - 3 - k * 3) ∷ replicate m 3) more ∙ ap (λ sizes. (n - 3 - k * 3) ∷ sizes) (sym (one_more 3 k))
 
-pub whole_threes : (t : Tables) (d : Direct) (groups first : ℕ) (integer : List ℕ) → AreHeld d t → AreDigits integer → length integer ≤ 16 → d.groups.least ≤ length integer → d.groups.middle ≡ 3
+pub whole_threes : (t : Tables) (d : Direct) (groups first : ℕ) (integer : List ℕ) → AreHeld d t → AreDigits integer → length integer ≤ 32 → d.groups.least ≤ length integer → d.groups.middle ≡ 3
     → groups ≡ (length integer - 1) / 3 → first ≡ length integer - 3 * groups
     → whole_text t (map digit_value integer) ≡ take first integer ++ groups_ahead d.group.now byte_text (replicate groups 3) (drop first integer)
 whole_threes t d groups first integer held h few from is many left =
@@ -134,7 +130,7 @@ ahead_joined separator (n ∷ ns) ms bytes =
     ∙ sym (append_assoc part (groups_ahead separator byte_text ns (drop n bytes)) (groups_ahead separator byte_text ms (drop (sum ns) (drop n bytes))))
     ∙ ap (λ bs. (part ++ groups_ahead separator byte_text ns (drop n bytes)) ++ groups_ahead separator byte_text ms bs) past
 
-pub whole_pairs : (t : Tables) (d : Direct) (pairs first last : ℕ) (integer : List ℕ) → AreHeld d t → AreDigits integer → length integer ≤ 16 → d.groups.least ≤ length integer → d.groups.middle ≡ 2
+pub whole_pairs : (t : Tables) (d : Direct) (pairs first last : ℕ) (integer : List ℕ) → AreHeld d t → AreDigits integer → length integer ≤ 32 → d.groups.least ≤ length integer → d.groups.middle ≡ 2
     → pairs ≡ (length integer - 4) / 2 → first ≡ length integer - 3 - 2 * pairs → last ≡ length integer - 3
     → whole_text t (map digit_value integer)
     ≡ take first integer ++ (groups_ahead d.group.now byte_text (replicate pairs 2) (drop first integer) ++ groups_ahead d.group.now byte_text (replicate 1 3) (drop last integer))
@@ -158,11 +154,11 @@ whole_pairs t d pairs first last integer held h few from is many left end =
 pub rest_of : (n : ℕ) (xs : List ℕ) → take (length xs - n) (drop n xs) ≡ drop n xs
 rest_of n xs = take_all (length xs - n) (drop n xs) (omega (arith, length-drop n xs))
 
-pub one_put : (t : Tables) (d : Direct) (integer before after : List ℕ) → AreHeld d t → AreDigits integer → 0 < length integer → length integer ≤ 16 → length integer < d.groups.least
+pub one_put : (t : Tables) (d : Direct) (integer before after : List ℕ) → AreHeld d t → AreDigits integer → 0 < length integer → length integer ≤ 32 → length integer < d.groups.least
     → after ≡ before ++ integer → after ≡ before ++ whole_text t (map digit_value integer)
 one_put t d integer before after held h some few below put = put ∙ ap (λ text. before ++ text) (sym (whole_one t d integer held h some few below))
 
-pub threes_put : (t : Tables) (d : Direct) (integer separator before begun after : List ℕ) (groups first : ℕ) → separator ≡ d.group.now → AreHeld d t → AreDigits integer → length integer ≤ 16 → d.groups.least ≤ length integer → ¬ (d.groups.middle ≡ 2)
+pub threes_put : (t : Tables) (d : Direct) (integer separator before begun after : List ℕ) (groups first : ℕ) → separator ≡ d.group.now → AreHeld d t → AreDigits integer → length integer ≤ 32 → d.groups.least ≤ length integer → ¬ (d.groups.middle ≡ 2)
     → groups ≡ (length integer - 1) / 3 → first ≡ length integer - 3 * groups
     → begun ≡ before ++ take first integer → after ≡ begun ++ groups_ahead separator byte_text (replicate groups 3) (take (length integer - first) (drop first integer))
     → after ≡ before ++ whole_text t (map digit_value integer)
@@ -177,7 +173,7 @@ threes_put t d integer separator before begun after groups first same held h few
     ∙ ap (λ bs. before ++ (take first integer ++ groups_ahead d.group.now byte_text (replicate groups 3) bs)) (rest_of first integer)
     ∙ ap (λ text. before ++ text) (sym (whole_threes t d groups first integer held h few from three many left))
 
-pub pairs_put : (t : Tables) (d : Direct) (integer separator before begun paired after : List ℕ) (pairs first last : ℕ) → separator ≡ d.group.now → AreHeld d t → AreDigits integer → length integer ≤ 16 → d.groups.least ≤ length integer → d.groups.middle ≡ 2
+pub pairs_put : (t : Tables) (d : Direct) (integer separator before begun paired after : List ℕ) (pairs first last : ℕ) → separator ≡ d.group.now → AreHeld d t → AreDigits integer → length integer ≤ 32 → d.groups.least ≤ length integer → d.groups.middle ≡ 2
     → pairs ≡ (length integer - 4) / 2 → first ≡ length integer - 3 - 2 * pairs → last ≡ length integer - 3
     → begun ≡ before ++ take first integer → paired ≡ begun ++ groups_ahead separator byte_text (replicate pairs 2) (take (length integer - first) (drop first integer))
     → after ≡ paired ++ groups_ahead separator byte_text (replicate 1 3) (take (length integer - last) (drop last integer))

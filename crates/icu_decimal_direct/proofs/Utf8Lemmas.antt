@@ -72,7 +72,7 @@ utf8_unsigned t d integer fraction held h =
     (IsUtf8-append (whole_text t ds) (fraction_text t (map digit_value fraction)) whole
     (utf8_fraction t (map digit_value fraction) held.run (subst IsUtf8 held.decimal (IsUtf8-had d.decimal.now held.utf8_decimal)) (all_below_base_from_digits 10 fraction (digits_told fraction h.part))))
 
-utf8_between : (t : Tables) (d : Direct) (integer fraction before behind : List ℕ) → AreHeld d t → AreFewDigits integer fraction → IsUtf8 before → IsUtf8 behind
+pub utf8_between : (t : Tables) (d : Direct) (integer fraction before behind : List ℕ) → AreHeld d t → AreFewDigits integer fraction → IsUtf8 before → IsUtf8 behind
     → IsUtf8 (before ++ (unsigned_text t (plain_number integer fraction) ++ behind))
 utf8_between t d integer fraction before behind held h first last =
     IsUtf8-append before (unsigned_text t (plain_number integer fraction) ++ behind) first

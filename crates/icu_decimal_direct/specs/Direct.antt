@@ -10,14 +10,14 @@ use Rattle.icu_decimal_plain.specs.Runs.{IsRun}
 use Rattle.icu_decimal_direct.specs.declared.text_tables.Direct.{Direct}
 use Rattle.icu_decimal_direct.specs.declared.text_tables.Grouped.{Grouped}
 
--- up to sixteen digits have groups from so many on, of which the last has three digits, and those between it and the first
+-- up to thirty-two digits have groups from so many on, of which the last has three digits, and those between it and the first
 -- have so many each
 pub record AreGrouped (t : GroupingStrategy) (s : GroupingSizes) (g : Grouped) : Type 0 where
   pub some : 4 ≤ g.least
-  pub below : (n : ℕ) → n < g.least → n ≤ 16 → is_grouped t s n ≡ false
-  pub above : (n : ℕ) → g.least ≤ n → n ≤ 16 → is_grouped t s n ≡ true
-  pub primary : g.least ≤ 16 → s.primary ≡ 3
-  pub middle : g.least ≤ 16 → middle_size s ≡ g.middle
+  pub below : (n : ℕ) → n < g.least → n ≤ 32 → is_grouped t s n ≡ false
+  pub above : (n : ℕ) → g.least ≤ n → n ≤ 32 → is_grouped t s n ≡ true
+  pub primary : g.least ≤ 32 → s.primary ≡ 3
+  pub middle : g.least ≤ 32 → middle_size s ≡ g.middle
   pub two : 2 ≤ g.middle
   pub three : g.middle ≤ 3
 

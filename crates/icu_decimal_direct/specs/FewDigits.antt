@@ -17,13 +17,13 @@ plain_number integer fraction = number_at (spelled (integer ++ fraction)) (lengt
 abbrev pub are_digits : List ℕ → Bool
 are_digits text = list_all (λ c. nat_lt (digit_value c) 10) text
 
--- one to sixteen digits before the point, and none or up to sixteen after it
+-- one to thirty-two digits before the point, and none or up to thirty-two after it
 pub record AreFewDigits (integer fraction : List ℕ) : Type 0 where
   pub whole : are_digits integer ≡ true
   pub part : are_digits fraction ≡ true
   pub some : 0 < length integer
-  pub few : length integer ≤ 16
-  pub few_below : length fraction ≤ 16
+  pub few : length integer ≤ 32
+  pub few_below : length fraction ≤ 32
 
 -- the text is made of few digits: a sign or none, those before the point, and a point and those after it where there are any
 pub record IsFewText (text : List ℕ) : Type 0 where

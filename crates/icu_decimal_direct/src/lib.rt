@@ -12,12 +12,19 @@
 //! ```
 #![tactic(auto)]
 
+mod appending;
 mod choosing;
 mod operands;
 mod putting;
 mod reading;
+mod short_putting;
+mod short_text;
 mod text_digits;
 mod text_tables;
+mod unit_choosing;
+mod unit_putting;
+mod unit_text_tables;
 
 pub use text_digits::TextDigits;
 pub use text_tables::TextTables;
+pub use unit_text_tables::{UnitAffixTexts, UnitTextTables};

@@ -17,7 +17,7 @@ use fixed_decimal::Sign;
 // Puts bytes after the first `len` ones, and returns how many there are then.
 #[inline(always)]
 #[tactic(auto, using(crate::proofs::PuttingLemmas::byte_next, crate::proofs::PuttingLemmas::byte_none))]
-fn put_bytes<const N: usize>(out: &mut [u8; N], len: usize, bytes: &[u8]) -> usize
+pub(crate) fn put_bytes<const N: usize>(out: &mut [u8; N], len: usize, bytes: &[u8]) -> usize
     requires room { len + length bytes.now ≤ N }
     ensures text { take result out.new ≡ take len out.old ++ bytes.now }
     ensures room { result ≡ len + length bytes.now }
@@ -87,13 +87,12 @@ fn put_groups<const N: usize>(
     size: usize,
     groups: usize,
 ) -> usize
-    requires room { len + 8 * groups ≤ N }
+    requires room { len + 4 * groups + groups * size ≤ N }
     requires short { length separator.now ≤ 4 }
-    requires few { size ≤ 4 }
     requires enough { groups * size ≤ length bytes.now }
     ensures text { take result out.new
         ≡ take len out.old ++ groups_ahead separator.now byte_text (replicate groups size) bytes.now }
-    ensures room { result ≤ len + 8 * groups }
+    ensures room { result ≤ len + 4 * groups + groups * size }
 {
     let mut end = len;
     let mut ahead = bytes;
@@ -118,12 +117,12 @@ fn put_threes<const N: usize>(
     bytes: &[u8],
     groups: usize,
 ) -> usize
-    requires room { len + 8 * groups ≤ N }
+    requires room { len + 7 * groups ≤ N }
     requires short { length separator.now ≤ 4 }
     requires enough { 3 * groups ≤ length bytes.now }
     ensures text { take result out.new
         ≡ take len out.old ++ groups_ahead separator.now byte_text (replicate groups 3) bytes.now }
-    ensures room { result ≤ len + 8 * groups }
+    ensures room { result ≤ len + 7 * groups }
 {
     if separator.len() == 1 {
         return put_byte_threes(out, len, separator[0], bytes, groups);
@@ -140,14 +139,14 @@ fn put_pairs<const N: usize>(
     tables: &TextTables<'_>,
     integer: &[u8],
 ) -> usize
-    requires room { len + 80 ≤ N }
+    requires room { len + 92 ≤ N }
     requires digits { AreDigits integer.now }
-    requires few { length integer.now ≤ 16 }
+    requires few { length integer.now ≤ 32 }
     requires grouped { tables.now.direct.groups.least ≤ length integer.now }
     requires pairs { tables.now.direct.groups.middle ≡ 2 }
     ensures text { take result out.new
         ≡ take len out.old ++ whole_text (text_tables tables.now) (map digit_value integer.now) }
-    ensures room { result ≤ len + 80 }
+    ensures room { result ≤ len + 92 }
 {
     let separator = tables.direct.group.as_bytes();
     let pairs = (integer.len() - 4) / 2;
@@ -160,19 +159,19 @@ fn put_pairs<const N: usize>(
 
 // Puts digits in their groups after the first `len` bytes, and returns how many bytes there are then.
 #[inline(always)]
-fn put_integer<const N: usize>(
+pub(crate) fn put_integer<const N: usize>(
     out: &mut [u8; N],
     len: usize,
     tables: &TextTables<'_>,
     integer: &[u8],
 ) -> usize
-    requires room { len + 80 ≤ N }
+    requires room { len + 92 ≤ N }
     requires digits { AreDigits integer.now }
     requires some { 0 < length integer.now }
-    requires few { length integer.now ≤ 16 }
+    requires few { length integer.now ≤ 32 }
     ensures text { take result out.new
         ≡ take len out.old ++ whole_text (text_tables tables.now) (map digit_value integer.now) }
-    ensures room { result ≤ len + 80 }
+    ensures room { result ≤ len + 92 }
 {
     let groups = &tables.direct.groups;
     if integer.len() < groups.least as usize {
@@ -201,11 +200,11 @@ fn put_unsigned<const N: usize>(
     tables: &TextTables<'_>,
     digits: &TextDigits<'_>,
 ) -> usize
-    requires room { len + 100 ≤ N }
+    requires room { len + 128 ≤ N }
     ensures text { take result out.new
         ≡ take len out.old
         ++ unsigned_text (text_tables tables.now) (plain_number digits.now.integer.now digits.now.fraction.now) }
-    ensures room { result ≤ len + 100 }
+    ensures room { result ≤ len + 128 }
 {
     let end = put_integer(out, len, tables, digits.integer);
     if digits.fraction.is_empty() {
@@ -219,7 +218,7 @@ impl TextTables<'_> {
     /// Puts the text of a number after the first `len` bytes, and returns how many bytes there are then: `-1,234.5` for
     /// the digits of `-1234.5` in English. It does not allocate.
     ///
-    /// The condition is that there is room for 108 bytes more.
+    /// The condition is that there is room for 136 bytes more.
     #[inline(always)]
     pub fn put<const N: usize>(
         &self,
@@ -227,11 +226,11 @@ impl TextTables<'_> {
         out: &mut [u8; N],
         len: usize,
     ) -> usize
-        requires room { len + 108 ≤ N }
+        requires room { len + 136 ≤ N }
         ensures text { take result out.new
             ≡ take len out.old ++ decimal_text (text_tables self.now) (number_spelled digits.now) }
         ensures utf8 { IsUtf8 (decimal_text (text_tables self.now) (number_spelled digits.now)) }
-        ensures room { result ≤ len + 108 }
+        ensures room { result ≤ len + 136 }
     {
         let (prefix, suffix) = match digits.sign {
             Sign::None => return put_unsigned(out, len, self, digits),

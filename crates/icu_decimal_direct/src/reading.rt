@@ -13,10 +13,10 @@ use fixed_decimal::Sign;
 use std::simd::prelude::*;
 
 // How many digits a text may have on each side of its point.
-const FEW: usize = 16;
+const FEW: usize = 32;
 
 // How many bytes it then has at most, without its sign.
-const LONGEST: usize = 33;
+const LONGEST: usize = 65;
 
 // The place of the lowest bit that is set in a mask of so many lanes, and their count where none is.
 #[inline(always)]
@@ -74,9 +74,11 @@ fn digits_from(text: &[u8], from: usize) -> usize
     count
 }
 
-// How many digits a text begins with, by four where it has as many bytes.
+// How many digits a text of at most seven bytes begins with, by four where it has as many: the last four lap over the first
+// ones.
 #[inline(always)]
 fn digits_ahead_few(text: &[u8]) -> usize
+    requires { length text.now ≤ 8 }
     ensures within { result ≤ length text.now }
     ensures digits { AreDigits (take result text.now) }
     ensures stops { result < length text.now → 10 ≤ digit_value (slice_index text.now result) }
@@ -88,33 +90,19 @@ fn digits_ahead_few(text: &[u8]) -> usize
     if first < 4 {
         return first;
     }
-    digits_from(text, 4)
+    let last = text.len() - 4;
+    let more = digits_in_four(text, last);
+    last + more
 }
 
-// Sixteen digits that a text begins with, or seventeen where another follows.
-#[inline(always)]
-#[tactic(auto, using(std::proofs::lemmas::Int::Digits::digits_more))]
-fn digits_past(text: &[u8]) -> usize
-    requires known { AreDigits (take 16 text.now) }
-    requires long { 16 ≤ length text.now }
-    ensures within { result ≤ length text.now }
-    ensures digits { AreDigits (take result text.now) }
-    ensures stops { result ≤ 16 → result < length text.now → 10 ≤ digit_value (slice_index text.now result) }
-{
-    if text.len() > 16 && text[16].is_ascii_digit() {
-        17
-    } else {
-        16
-    }
-}
-
-// How many digits a text begins with, by eights where it has as many bytes; seventeen where there are more.
+// How many digits a text begins with, by eights where it has as many bytes: below sixteen the last eight lap over the first
+// ones.
 #[inline(always)]
 #[tactic(auto, using(crate::proofs::LaneLemmas::digits_both_eights))]
 fn digits_ahead(text: &[u8]) -> usize
     ensures within { result ≤ length text.now }
     ensures digits { AreDigits (take result text.now) }
-    ensures stops { result ≤ 16 → result < length text.now → 10 ≤ digit_value (slice_index text.now result) }
+    ensures stops { result < length text.now → 10 ≤ digit_value (slice_index text.now result) }
 {
     if text.len() < 8 {
         return digits_ahead_few(text);
@@ -124,13 +112,15 @@ fn digits_ahead(text: &[u8]) -> usize
         return first;
     }
     if text.len() < 16 {
-        return digits_from(text, 8);
+        let last = text.len() - 8;
+        let lapping = digits_in_eight(text, last);
+        return last + lapping;
     }
     let more = digits_in_eight(text, 8);
     if more < 8 {
         return 8 + more;
     }
-    digits_past(text)
+    digits_from(text, 16)
 }
 
 // The digits of a text without a sign, with this sign. `None`: it is another text, or has more digits.

@@ -76,7 +76,7 @@ fn answer_by_formatter<'r>(
         marks: None,
         passed,
     };
-    formatters::answer(call, out)
+    formatters::answer(&call, out)
 }
 
 // The answer of a call of a plain formatter with separators, sizes and digits of its row.
@@ -93,7 +93,7 @@ fn answer_by_marks<'r>(name: &'r str, fields: &'r [&'r str], out: &mut String) -
         marks: Some(Marks::of(NO_SIGNS, decimal, group, sizes, digits)?),
         passed,
     };
-    formatters::answer(call, out)
+    formatters::answer(&call, out)
 }
 
 // The answer of a call of a plain formatter with separators, sizes, digits and prefixes of signs of its row.
@@ -121,7 +121,7 @@ fn answer_by_signs<'r>(name: &'r str, fields: &'r [&'r str], out: &mut String) -
         marks: Some(Marks::of(signs, decimal, group, sizes, digits)?),
         passed,
     };
-    formatters::answer(call, out)
+    formatters::answer(&call, out)
 }
 
 // The answer of a call of a formatter with separators, sizes and digits of its row, which are before its name, and
@@ -151,5 +151,5 @@ fn answer_under_marks(fields: &[&str], out: &mut String) -> Result<(), Stop> {
         marks: Some(Marks::of(ENGLISH_SIGNS, decimal, group, sizes, digits)?),
         passed,
     };
-    formatters::answer(call, out)
+    formatters::answer(&call, out)
 }

@@ -102,7 +102,7 @@ fn put_plain(formatter: &DecimalFormatter<'_>, number: &str, out: &mut String) -
 // The answer of a call of a plain formatter: its own, or one of any formatter.
 fn by_plain(
     provider: &OneLocale<'_>,
-    call: FormatterCall<'_>,
+    call: &FormatterCall<'_>,
     out: &mut String,
 ) -> Result<(), Stop> {
     let formatter = plain_of(provider, call.grouping, out)?;
@@ -118,7 +118,7 @@ fn by_plain(
 // The answer of a call of a compact formatter: one of its own, or of any formatter.
 fn by_compact(
     provider: &OneLocale<'_>,
-    call: FormatterCall<'_>,
+    call: &FormatterCall<'_>,
     out: &mut String,
 ) -> Result<(), Stop> {
     let formatter = compact_of(provider, call.form, call.grouping, out)?;
@@ -152,7 +152,7 @@ fn digits_of(marks: Option<Marks<'_>>) -> [char; 10] {
 // The answer of a call over these tables.
 fn over_tables(
     provider: &OneLocale<'_>,
-    call: FormatterCall<'_>,
+    call: &FormatterCall<'_>,
     out: &mut String,
 ) -> Result<(), Stop> {
     if call.form == "plain" {
@@ -166,7 +166,7 @@ fn over_tables(
 fn over_patterns(
     rules: &PluralRules,
     patterns: &CompactPatterns,
-    call: FormatterCall<'_>,
+    call: &FormatterCall<'_>,
     out: &mut String,
 ) -> Result<(), Stop> {
     let symbols = symbols_of(*out.allocator(), call.marks)?;
@@ -182,7 +182,7 @@ fn over_patterns(
 }
 
 // The answer of a call over these rules and the patterns of its row.
-fn over_rules(rules: &PluralRules, call: FormatterCall<'_>, out: &mut String) -> Result<(), Stop> {
+fn over_rules(rules: &PluralRules, call: &FormatterCall<'_>, out: &mut String) -> Result<(), Stop> {
     let patterns = table_of(call.table, None, out)?;
     let answered = over_patterns(rules, &patterns, call, out);
     drop(patterns);
@@ -190,7 +190,7 @@ fn over_rules(rules: &PluralRules, call: FormatterCall<'_>, out: &mut String) ->
 }
 
 /// The answer of a call of a formatter.
-pub fn answer(call: FormatterCall<'_>, out: &mut String) -> Result<(), Stop> {
+pub fn answer(call: &FormatterCall<'_>, out: &mut String) -> Result<(), Stop> {
     let rules = rules_of(call.rules, out)?;
     let answered = over_rules(&rules, call, out);
     drop(rules);

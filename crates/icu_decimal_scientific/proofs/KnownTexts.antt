@@ -34,15 +34,15 @@ abbrev value_of : Sign → Sign → Number → ScientificValue
 value_of sign raised exponent =
     record { significand = record { sign = sign; absolute = twelve_tenths }; exponent = record { sign = raised; absolute = exponent } }
 
-abbrev tables_of : SymbolStrings → List ℕ → Tables
+abbrev pub tables_of : SymbolStrings → List ℕ → Tables
 tables_of strings digits = record { symbols = record { strings = strings; grouping_sizes = english_symbols.grouping_sizes }; digits = digits; strategy = Auto }
 
 -- exponents with the same symbols and digits
-abbrev alike : SymbolStrings → List ℕ → List ℕ → ScientificSettings
+abbrev pub alike : SymbolStrings → List ℕ → List ℕ → ScientificSettings
 alike strings digits separator =
     record { tables = tables_of strings digits; separator = separator; exponents = record (tables_of strings digits) { strategy = Never } }
 
-abbrev english : List ℕ → ScientificSettings
+abbrev pub english : List ℕ → ScientificSettings
 english separator = alike english_strings (codes "0123456789") separator
 
 -- ---- English
@@ -98,18 +98,18 @@ shown_far = refl
 
 -- ---- German, with raised digits
 
-abbrev german_strings : SymbolStrings
+abbrev pub german_strings : SymbolStrings
 german_strings = record english_strings { decimal_separator = codes ","; grouping_separator = codes "." }
 
 -- U+207B and U+207A, and the digits from U+2070 to U+2079
-abbrev raised_strings : SymbolStrings
+abbrev pub raised_strings : SymbolStrings
 raised_strings = record english_strings { minus_sign_prefix = 226 ∷ 129 ∷ 187 ∷ []; plus_sign_prefix = 226 ∷ 129 ∷ 186 ∷ [] }
 
-abbrev raised_digits : List ℕ
+abbrev pub raised_digits : List ℕ
 raised_digits = 8304 ∷ 185 ∷ 178 ∷ 179 ∷ 8308 ∷ 8309 ∷ 8310 ∷ 8311 ∷ 8312 ∷ 8313 ∷ []
 
 -- U+00B7 before 10
-abbrev raised : ScientificSettings
+abbrev pub raised : ScientificSettings
 raised = record {
   tables = tables_of german_strings (codes "0123456789");
   separator = 194 ∷ 183 ∷ codes "10";
@@ -126,14 +126,14 @@ german_raised = refl
 
 -- ---- Egyptian Arabic, with its own digits
 
-abbrev arabic_strings : SymbolStrings
+abbrev pub arabic_strings : SymbolStrings
 arabic_strings = record english_strings { minus_sign_prefix = 216 ∷ 156 ∷ 45 ∷ []; plus_sign_prefix = 216 ∷ 156 ∷ 43 ∷ []; decimal_separator = 217 ∷ 171 ∷ []; grouping_separator = 217 ∷ 172 ∷ [] }
 
-abbrev arabic_digits : List ℕ
+abbrev pub arabic_digits : List ℕ
 arabic_digits = 1632 ∷ 1633 ∷ 1634 ∷ 1635 ∷ 1636 ∷ 1637 ∷ 1638 ∷ 1639 ∷ 1640 ∷ 1641 ∷ []
 
 -- U+0623 and U+0633
-abbrev arabic_separator : List ℕ
+abbrev pub arabic_separator : List ℕ
 arabic_separator = 216 ∷ 163 ∷ 216 ∷ 179 ∷ []
 
 arabic_four : scientific_text (alike arabic_strings arabic_digits arabic_separator) (value_of NoSign Negative four)

@@ -1,5 +1,6 @@
 mod KnownCarry
 mod KnownProducts
+mod KnownReadings
 mod KnownTexts
 pub mod KnownValues
 pub mod BareLemmas
@@ -15,5 +16,8 @@ pub mod ProductLemmas
 pub mod ReadableLemmas
 pub mod ReaderLemmas
 pub mod ScientificReadingLemmas
+pub mod ScientificReadingsLemmas
 pub mod ScientificTextLemmas
 pub mod ShownExponentLemmas
+pub mod ShownFormLemmas
+pub mod SidesLemmas

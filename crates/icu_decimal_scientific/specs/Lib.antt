@@ -9,6 +9,8 @@ pub mod ReadingSteps
 pub mod Scientific
 pub mod ScientificLaws
 pub mod ScientificReading
+pub mod ScientificReadings
+pub mod ScientificReadingsLaws
 pub mod ScientificTextLaws
 pub mod ShownNumbers
 pub mod Steps

@@ -2,6 +2,7 @@
 ghost use Rattle.icu_decimal_scientific.specs.CarryLaws.{BeyondIsBelow, CarriedIsNormal, FormIsFunction, FunctionIsForm, ShownExponentIsFunction, UnchangedIsForm};
 ghost use Rattle.icu_decimal_scientific.specs.NotationLaws.{DecimalHasFormText, DecimalIsReadBack, FormHasProduct, FormIsWrittenAgain, OneProduct, ProductIsTheNumber, TextHasOneForm};
 ghost use Rattle.icu_decimal_scientific.specs.ScientificLaws.{BeyondHasNoForm, FormIsNormal, FormIsTheNumber, NormalFormIsTheForm, OneForm, OneNumber};
+ghost use Rattle.icu_decimal_scientific.specs.ScientificReadingsLaws.{DecimalReadsBack, FormReadsBack, HasOneDecimalReading, ProductIsFunction, ProductIsTested, ReadFormIsWrittenAgain, ReadIsDecimal};
 ghost use Rattle.icu_decimal_scientific.specs.ScientificTextLaws.{HasOneScientificReading, ReadIsWrittenAgain, ScientificIsText, TextsHaveOneNumber, TextsHaveOneValue, WrittenIsReadBack};
 
 /// A law: the significand times ten to the exponent is the number. 1.2 and 6 are the form of 1200000 alone, whatever
@@ -87,4 +88,28 @@ pub fn shown_exponent_is_a_function()
 pub fn carried_is_normal()
     ensures normal { CarriedIsNormal }
     ensures unchanged { UnchangedIsForm }
+{}
+
+/// A law: functions say whether a significand and an exponent are a decimal, and which: 1.20 and 6 are 1200000.
+pub fn product_is_a_function()
+    ensures test { ProductIsTested }
+    ensures value { ProductIsFunction }
+{}
+
+/// A law: the function `scientific_reading` says what a text is in a notation: the decimal that is written so, or that
+/// there is none, or that the tables are not readable. In English with `E` and the default options `1.20E6` is 1200000,
+/// and `1.20E06` is none.
+pub fn scientific_reading_is_the_reading()
+    ensures { HasOneDecimalReading }
+{}
+
+/// A law: where the tables are readable, the text of a significand and an exponent that are normal, and a decimal, is
+/// read as the decimal; so what was written of a decimal is read as the decimal, whatever zeros that shows. A text that
+/// was read is that of a normal significand and exponent, and what was read is their decimal. In English with `E`
+/// 1200000.0 is written `1.2E6`, and this is read as 1200000; `1.20E6` is too, and is the text of 1.20 and 6.
+pub fn decimal_trips()
+    ensures form { FormReadsBack }
+    ensures back { DecimalReadsBack }
+    ensures decimal { ReadIsDecimal }
+    ensures again { ReadFormIsWrittenAgain }
 {}

@@ -1,12 +1,14 @@
 //! Reading texts of a notation.
 
-ghost use Rattle.std.specs.Prelude.{◌≡◌, ◌↔◌, ℤ, false, IfNone, IfOk, IfSome, IsErrOf, IsFalse, IsTrue};
+ghost use Rattle.std.specs.Prelude.{◌≡◌, ◌↔◌, ℤ, false, true, IfNone, IfOk, IfSome, IsErrOf, IsFalse, IsTrue};
 ghost use Rattle.fixed_decimal.specs.IntegerText.{ShowsNoFraction};
+ghost use Rattle.icu_decimal_reading.specs.DecimalOfText.{IsAnswered};
 ghost use Rattle.icu_decimal_scientific.specs.HeldTables.{settings_of};
 ghost use Rattle.icu_decimal_scientific.specs.NotationReading.{HasNoForm, IsDecimalText, IsFormText, IsShownForm, ShowsNoForm};
 ghost use Rattle.icu_decimal_scientific.specs.Scientific.{step};
 ghost use Rattle.icu_decimal_scientific.specs.ScientificLaws.{IsNormal};
 ghost use Rattle.icu_decimal_scientific.specs.ScientificReading.{HasManyBeside, is_scientific_readable_by};
+ghost use Rattle.icu_decimal_scientific.specs.ScientificReadings.{scientific_reading};
 ghost use Rattle.icu_decimal_scientific.specs.Steps.{IsFormExponent};
 
 use crate::exponent_reader::{exponent_value, is_shown_so};
@@ -14,6 +16,7 @@ use crate::notation::ScientificNotation;
 use crate::number::ScientificNumber;
 use crate::places::{fall_of, first_place, rise_of};
 use crate::product::is_decimal;
+use crate::readable::are_texts;
 use crate::shown::{ExponentOptions, ShownScientific};
 use crate::tables::ScientificTables;
 use fixed_decimal::{Decimal, UnsignedDecimal};
@@ -105,6 +108,30 @@ impl ShownScientific {
     }
 }
 
+// The form of a text of tables that are known to be readable.
+fn read_readable_form(
+    alloc: Global,
+    tables: &ScientificTables<'_>,
+    notation: ScientificNotation,
+    options: ExponentOptions,
+    text: &str,
+) -> Result<ScientificNumber, ReadError>
+    requires { is_scientific_readable_by (settings_of tables.now) ≡ true }
+    ensures unreadable { ¬ (IsErrOf result ReadError.Unreadable) }
+    ensures not_written { IsErrOf result ReadError.NotWritten → HasNoForm (settings_of tables.now) notation options text.now }
+    ensures memory { IsErrOf result ReadError.Memory → HasManyBeside (settings_of tables.now) text.now }
+    ensures value { IfOk result (λ form. IsFormText (settings_of tables.now) notation options text.now form) }
+{
+    are_texts(&tables.decimals, tables.separator, &tables.exponents);
+    match tables.read_readable(alloc, text) {
+        Ok(shown) => match shown.into_form(notation, options) {
+            Some(form) => Ok(form),
+            None => Err(ReadError::NotWritten),
+        },
+        Err(error) => Err(error),
+    }
+}
+
 impl<'b> ScientificTables<'b> {
     /// The significand and the exponent whose text in a notation this is: in English with `E`, `-1.20E6` is -1.20 and 6,
     /// in either notation.
@@ -129,10 +156,33 @@ impl<'b> ScientificTables<'b> {
         if !self.is_readable() {
             return Err(ReadError::Unreadable);
         }
-        match self.read_readable(alloc, text) {
-            Ok(shown) => match shown.into_form(notation, options) {
-                Some(form) => Ok(form),
-                None => Err(ReadError::NotWritten),
+        read_readable_form(alloc, self, notation, options, text)
+    }
+
+    /// As `read_decimal`, of tables that are known to be readable: in English with `E`, `-1.20E6` is -1200000.
+    ///
+    /// The condition is `is_readable`, which looks through all texts: a caller who reads many texts tests it once.
+    /// `NotWritten`: no number is written so in the notation and by the options. `Memory`: out of memory. It allocates
+    /// where more than sixteen digits are before the exponent, or in it.
+    pub fn read_readable_decimal(
+        &self,
+        alloc: Global,
+        notation: ScientificNotation,
+        options: ExponentOptions,
+        text: &str,
+    ) -> Result<Decimal, ReadError>
+        requires { is_scientific_readable_by (settings_of self.now) ≡ true }
+        ensures unreadable { ¬ (IsErrOf result ReadError.Unreadable) }
+        ensures not_written { IsErrOf result ReadError.NotWritten → HasNoForm (settings_of self.now) notation options text.now }
+        ensures memory { IsErrOf result ReadError.Memory → HasManyBeside (settings_of self.now) text.now }
+        ensures value { IfOk result (λ decimal. IsDecimalText (settings_of self.now) notation options text.now decimal) }
+        ensures reading { IsAnswered result (scientific_reading (settings_of self.now) notation options text.now) }
+    {
+        are_texts(&self.decimals, self.separator, &self.exponents);
+        match read_readable_form(alloc, self, notation, options, text) {
+            Ok(form) => match form.into_decimal() {
+                Ok(decimal) => Ok(decimal),
+                Err(_) => unreachable!(),
             },
             Err(error) => Err(error),
         }
@@ -142,6 +192,7 @@ impl<'b> ScientificTables<'b> {
     /// scientific notation.
     ///
     /// The errors are those of `read_form`, and so is where it allocates.
+    #[tactic(auto, using(crate::proofs::ScientificReadingsLemmas::unread))]
     pub fn read_decimal(
         &self,
         alloc: Global,
@@ -153,13 +204,11 @@ impl<'b> ScientificTables<'b> {
         ensures not_written { IsErrOf result ReadError.NotWritten → HasNoForm (settings_of self.now) notation options text.now }
         ensures memory { IsErrOf result ReadError.Memory → HasManyBeside (settings_of self.now) text.now }
         ensures value { IfOk result (λ decimal. IsDecimalText (settings_of self.now) notation options text.now decimal) }
+        ensures reading { IsAnswered result (scientific_reading (settings_of self.now) notation options text.now) }
     {
-        match self.read_form(alloc, notation, options, text) {
-            Ok(form) => match form.into_decimal() {
-                Ok(decimal) => Ok(decimal),
-                Err(_) => unreachable!(),
-            },
-            Err(error) => Err(error),
+        if !self.is_readable() {
+            return Err(ReadError::Unreadable);
         }
+        self.read_readable_decimal(alloc, notation, options, text)
     }
 }

@@ -19,7 +19,7 @@ use locale_numbers_formatter::laws::plain_is_layered;
 use locale_numbers_formatter::{FormatterKind, NumberFormatter};
 
 // The most bytes of a text that is put directly.
-const ROOM: usize = 108;
+const ROOM: usize = 136;
 
 // What texts are put with directly by a formatter, where it writes plain numbers in the digits of ASCII.
 fn texts_of<'a>(formatter: &NumberFormatter<'a>) -> Option<TextTables<'a>>

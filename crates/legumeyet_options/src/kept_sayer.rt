@@ -81,7 +81,7 @@ fn known_texts<'a>(sayer: &Sayer<'a>) -> Option<TextTables<'a>>
 }
 
 // How many bytes a text may have that is put directly.
-const ROOM: usize = 108;
+const ROOM: usize = 136;
 
 // Puts the text of digits after what `out` holds.
 fn put_digits(

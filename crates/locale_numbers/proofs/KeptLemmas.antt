@@ -25,7 +25,7 @@ use Rattle.locale_numbers_formatter.specs.FormatTyped.{format_typed_reading, rea
 use Rattle.locale_numbers_requests.specs.declared.Refusal.TheVariants as refusal
 use Rattle.locale_numbers.specs.Answer.{found_for, plural_rules_for, refused, second_for}
 use Rattle.locale_numbers.specs.FormatterKeys.{finds, finds_rules, rules_for}
-use Rattle.locale_numbers.specs.Front.{PutsTogether, is_as_it_is}
+use Rattle.locale_numbers.specs.Front.{PutsTogether, as_usual, is_as_it_is}
 use Rattle.locale_numbers.specs.KeptFormatters.{IsMadeFor, IsSameFormatter, Kept, reader_is_kept, rules_found, typed_is_kept}
 use Rattle.locale_numbers.specs.declared.formatter_key.FormatterKey.{FormatterKey}
 use Rattle.locale_numbers.specs.declared.formatter_key.Purpose.TheVariants.{ReadsTyped, Writes}
@@ -208,12 +208,11 @@ still_made book key old new made same = record {
 pub made_before : (after before : BookTables) (key : FormatterKey) (kept : Kept) → after ≡ before → IsMadeFor after key kept → IsMadeFor before key kept
 made_before after before key kept same made = subst (λ b. IsMadeFor b key kept) same made
 
--- of a plain number as it is given
+-- a number as it is given is as its formatter usually shows it
 pub digits_by : (book : BookTables) (key : FormatterKey) (kept : Kept) → IsMadeFor book key kept → (options : NumberOptions) → is_as_it_is (record { shape = key.shape; options = options }) ≡ true
-    → (text : List ℕ) (value : SignedValue Number) → reading_of text ≡ number value → written_found (found_for key.shape book key.preferences) options value ≡ number_answer kept.formatter value
+    → (text : List ℕ) (value : SignedValue Number) → reading_of text ≡ number value → changed options (fractions_in kept.formatter) value ≡ as_usual kept.formatter value
 digits_by book key kept made options plain text value reads =
-    written_by book key kept made options value
-    ∙ leaves_so (record { shape = key.shape; options = options }) plain book key.preferences kept.formatter made.found value text reads
+    leaves_so (record { shape = key.shape; options = options }) plain book key.preferences kept.formatter made.found value text reads
 
 -- ---- what reads is kept, or it takes no memory to put it together
 

@@ -47,7 +47,7 @@ use Rattle.locale_numbers.specs.Answer.{answer_asked, answer_tagged, plural_rule
 use Rattle.locale_numbers.specs.AskedFormats.{grouping_in, keeping, options_of, plain_shape}
 use Rattle.locale_numbers.specs.Laws.{EachGroupingIsReadLeniently, FindsTables, FindsTexts, ReadIsReadLeniently, ReadIsWrittenAgain, RoundedIsWrittenAgain, TrimsNothing, WrittenReadsBack, grouped_by, lenient_request, plain_request, reading_request}
 use Rattle.locale_numbers.proofs.FoundTexts.{in_plain}
-use Rattle.locale_numbers.proofs.TextDigitsLemmas.{changes_none}
+use Rattle.locale_numbers.proofs.TextDigitsLemmas.{changes_amount}
 
 -- ---- answers apart
 
@@ -221,7 +221,7 @@ read_again pairs one again book asked tables text digits finds same =
     let read = read_of pairs book asked tables finds text digits same in
     let plain = read_plainly pairs book asked tables finds one text read.value read.is in
     plain_found_is pairs book asked tables finds (options_of Usual Keep) digits read.value (sent_again pairs book asked tables finds text digits read plain.decimal)
-    ∙ ap (λ v. written (decimal_text tables v)) (changes_none (record { shape = plain_shape (grouping_in asked); options = options_of Usual Keep }) refl read.value plain.decimal)
+    ∙ ap (λ v. written (decimal_text tables v)) (changes_amount (record { shape = plain_shape (grouping_in asked); options = options_of Usual Keep }) refl None (λ _. refl) read.value plain.decimal)
     ∙ ap written (again tables text read.value read.is)
 
 pub each_grouping_is_read : PlainReadsByPairs → EachGroupingIsReadLeniently

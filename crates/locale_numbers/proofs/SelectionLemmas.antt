@@ -20,25 +20,29 @@ use Rattle.icu_dimension.specs.UnitChoice.{unknown_last}
 use Rattle.icu_locale_core.specs.DataLocales.{truncated, unknown_data}
 use Rattle.icu_locale_core.specs.Subtags.{Text}
 use Rattle.icu_locale_core.specs.TagPreferences.{DataLocaleMeaning, Preferences, language_priority}
+use Rattle.icu_plurals.specs.declared.PluralRuleType.{PluralRuleType}
 use Rattle.locale_numbers.specs.Answer.{answer_of}
 use Rattle.locale_numbers_book.specs.Book.{BookTables, IsBook}
-use Rattle.locale_numbers_book.specs.FoundFormats.{in_latin}
+use Rattle.locale_numbers_book.specs.FoundFormats.{beside_second, both_found, formats_for, found_for, in_latin, mapped}
 use Rattle.locale_numbers_book.specs.FoundLocale.{found_locale, locale_for}
-use Rattle.locale_numbers_book.specs.FoundRules.{chain_with_unknown}
+use Rattle.locale_numbers_book.specs.FoundRules.{chain_with_unknown, plural_rules_for, plural_rules_of}
 use Rattle.locale_numbers_book.specs.Tables.{chain_in, digits_under, fractions_under, ordinals_there, ranges_there, rules_under, step_in, steps_in, symbols_under}
 use Rattle.locale_numbers_book.specs.TagFormatters.{found_by, or_no_table}
 use Rattle.locale_numbers_book.specs.Wanted.{wanted_of}
 use Rattle.locale_numbers_book.proofs.BookChains.{chains_end}
 use Rattle.locale_numbers_book.specs.Parents.{Entry, IsParents, leads_to, listed_parent, most_steps, parent_step}
 use Rattle.locale_numbers_parents.proofs.ParentsLemmas.{no_longer, no_parents, one_more, stays_open}
+use Rattle.locale_numbers_formats.specs.declared.NumberShape.{NumberShape}
+use Rattle.locale_numbers_formatter.specs.FormatText.{FormatTables}
 use Rattle.locale_numbers_requests.specs.Request.{Asked, request_of}
 use Rattle.locale_numbers_book.specs.Keys.{same_data_locale, same_key, table_at}
 use Rattle.locale_numbers_tables.proofs.KeyLemmas.{same_data_locales, same_keys}
 use Rattle.locale_numbers_book.specs.Units.{UnitsTables}
 use Rattle.locale_numbers_plurals.specs.Plurals.{PluralTables}
 use Rattle.locale_numbers.specs.Serving.{Agree, Serves, unit_locales_in}
-use Rattle.locale_numbers.specs.Selection.{SelectedParentsAreParents, is_among, is_asked, is_text_among, kept_named, kept_of, named_by, own_step, selected, selected_plurals, selected_units, steps_along, systems_of}
-use Rattle.locale_numbers.proofs.ServingLemmas.{agreed, answered_alike, located}
+use Rattle.locale_numbers.specs.Selection.{SelectedBooksHaveTheFormatters, SelectedParentsAreParents, is_among, is_asked, is_text_among, kept_named, kept_of, named_by, own_step, selected, selected_plurals, selected_units, steps_along, systems_of}
+use Rattle.locale_numbers.proofs.SecondLemmas.{second_same}
+use Rattle.locale_numbers.proofs.ServingLemmas.{agreed, answered_alike, located, plain_same, rules_served, shape_same}
 
 -- ---- what a selection finds
 
@@ -421,3 +425,32 @@ located_alike value whole is tag p wants =
     ap (found_by (found_locale (selected whole p))) wants
     ∙ ap or_no_table (located (selected whole p) whole p serves)
     ∙ sym (ap (found_by (found_locale whole)) wants)
+
+-- ---- formatters and rules
+
+-- both that are found for a shape
+both_same : (small whole : BookTables) (p : Preferences) (shape : NumberShape) → Serves small whole p → Serves small whole (in_latin p) → both_found shape small p ≡ both_found shape whole p
+both_same small whole p shape serves latin =
+    ap (mapped (beside_second shape small p)) (shape_same small whole p serves shape)
+    ∙ ap (λ (second : FormatTables → Option FormatTables). mapped {A = FormatTables} {B = FormatTables × Option FormatTables} (λ f. (f, second f)) (found_for shape whole p))
+    (second_same small whole p p shape (plain_same small whole p serves shape.grouping) (shape_same small whole (in_latin p) latin shape))
+
+formats_alike : (small whole : BookTables) (tag : Text) (p : Preferences) → wanted_of tag ≡ Some p → Serves small whole p → Serves small whole (in_latin p)
+    → (shape : NumberShape) → formats_for small tag shape ≡ formats_for whole tag shape
+formats_alike small whole tag p wants serves latin shape =
+    ap (found_by (both_found shape small)) wants ∙ ap or_no_table (both_same small whole p shape serves latin) ∙ sym (ap (found_by (both_found shape whole)) wants)
+
+rules_alike : (small whole : BookTables) (tag : Text) (p : Preferences) → wanted_of tag ≡ Some p → Serves small whole p
+    → (rule_type : PluralRuleType) → plural_rules_of small tag rule_type ≡ plural_rules_of whole tag rule_type
+rules_alike small whole tag p wants serves rule_type =
+    ap (found_by (λ q. answered (plural_rules_for rule_type small q))) wants
+    ∙ ap (λ rules. or_no_table (answered rules)) (rules_served small whole p serves rule_type)
+    ∙ sym (ap (found_by (λ q. answered (plural_rules_for rule_type whole q))) wants)
+
+pub selected_formatters : SelectedBooksHaveTheFormatters
+selected_formatters value whole is tag p wants =
+    let f = chains_end value whole is (language_priority p.locale) in
+    let serves = serving whole p p.numbering_system (own_asked p.numbering_system) f in (
+      formats_alike (selected whole p) whole tag p wants serves (serving whole p (in_latin p).numbering_system (latin_asked p.numbering_system) f),
+      rules_alike (selected whole p) whole tag p wants serves,
+    )

@@ -85,7 +85,7 @@ module _ (small whole : BookTables) (p : Preferences) (serves : Serves small who
       ap (with_digits strategy symbols) (agreed (digits_under small) (digits_under whole) (digits_identifiers p.numbering_system symbols.strings.numsys) (serves.digits symbols is))
   digits_same strategy (Err error) is = refl
 
-  plain_same : (grouping : GroupingStrategy) → found_plain small p (Some grouping) ≡ found_plain whole p (Some grouping)
+  pub plain_same : (grouping : GroupingStrategy) → found_plain small p (Some grouping) ≡ found_plain whole p (Some grouping)
   plain_same grouping =
       ap (with_symbols grouping (digits_under small) p) symbols_same
       ∙ digits_same grouping (first_found (symbols_under whole) (symbols_identifiers (chain_in whole) p)) refl
@@ -178,7 +178,7 @@ module _ (small whole : BookTables) (p : Preferences) (serves : Serves small who
   notation_same (CompactDigits wide options) of grouping = ap (mapped (λ tables. digits_tables tables options)) (compact_found_same wide of grouping)
   notation_same (Scientific style options) of grouping = ap (mapped (scientific_of style options)) (scientific_same of grouping)
 
-  shape_same : (shape : NumberShape) → found_for shape small p ≡ found_for shape whole p
+  pub shape_same : (shape : NumberShape) → found_for shape small p ≡ found_for shape whole p
   shape_same shape = notation_same shape.notation shape.unit shape.grouping
 
   -- ---- plurals
@@ -201,7 +201,7 @@ module _ (small whole : BookTables) (p : Preferences) (serves : Serves small who
   abbrev ruled : Result Rules DataError → Result (List PluralRange) DataError → Option (Rules × List PluralRange)
   ruled rules ranges = option_map {T = Rules} {U = Rules × List PluralRange} (λ r. (r, unwrap_or (result_ok ranges) [])) (result_ok rules)
 
-  rules_served : (rule_type : PluralRuleType) → plural_rules_for rule_type small p ≡ plural_rules_for rule_type whole p
+  pub rules_served : (rule_type : PluralRuleType) → plural_rules_for rule_type small p ≡ plural_rules_for rule_type whole p
   rules_served Cardinal = ap₂ ruled rules_same ranges_same
   rules_served Ordinal = ap₂ ruled ordinals_same ranges_same
 

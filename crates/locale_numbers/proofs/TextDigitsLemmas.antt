@@ -1,5 +1,5 @@
--- The digits of a text are of the number that the text is read as, which a format of plain numbers leaves as it is given.
-use Rattle.std.proofs.Common.{◌≡◌, ◌≤◌, ◌-◌, ◌&&◌, ℕ, ℤ, Bool, List, Option, None, Some, IfSome, Result, Ok, Err, true, max, min, refl, sym, ap, ◌∙◌, arith}
+-- The digits of a text are of the number that the text is read as, which some formats leave as it is given, but for the digits of a currency.
+use Rattle.std.proofs.Common.{◌≡◌, ◌≤◌, ◌&&◌, ℕ, ℤ, Bool, List, Option, None, Some, IfSome, Result, Ok, Err, true, refl, sym, ap, ◌∙◌, arith}
 use Rattle.std.proofs.lemmas.Bool.{and_parts}
 use Rattle.std.proofs.lemmas.Bool.Decides.{nat_tests}
 use Rattle.std.specs.Prelude.{if◌then◌else◌, neg_ℤ}
@@ -9,21 +9,27 @@ use Rattle.fixed_decimal.specs.SignedValue.{SignedValue}
 use Rattle.icu_decimal.specs.PlainText.{Tables}
 use Rattle.icu_decimal.specs.declared.error.DataError.{DataError}
 use Rattle.icu_decimal_direct.specs.TextDigits.{number_spelled}
+use Rattle.icu_decimal_direct.specs.UnitTexts.{IsShownBy, UnitTexts, shown_down}
 use Rattle.icu_decimal_direct.specs.declared.text_digits.TextDigits.{TextDigits}
+use Rattle.icu_dimension_fractions.specs.Fractions.{fraction_for}
+use Rattle.icu_dimension_fractions.specs.declared.CurrencyUsage.TheVariants as usage
+use Rattle.icu_dimension_fractions.specs.declared.FractionInfo.{FractionInfo}
 use Rattle.locale_numbers_answers.specs.Answers.{written_found, written_to}
 use Rattle.locale_numbers_answers.specs.NumberAnswer.{number_answer}
 use Rattle.locale_numbers_answers.specs.NumberReading.{number, reading_of}
-use Rattle.locale_numbers_answers.proofs.NumberBounds.{reading_is_decimal}
+use Rattle.locale_numbers_answers.specs.UnitFractions.{has_digits_of}
+use Rattle.locale_numbers_answers.proofs.NumberBounds.{amount_is_decimal, reading_is_decimal}
 use Rattle.locale_numbers_answers.proofs.NumberReadingLemmas.{signed_number}
 use Rattle.locale_numbers_answers.proofs.TextLemmas.{number_is_text}
+use Rattle.locale_numbers_answers.proofs.UnitFractionsLemmas.{put_so}
 use Rattle.locale_numbers_book.specs.Book.{BookTables}
 use Rattle.locale_numbers_book.specs.FoundFormats.{found_for, mapped, notation_found}
 use Rattle.locale_numbers_book.specs.TagFormatters.{found_plain}
-use Rattle.locale_numbers_formats.specs.Changed.{changed, changed_by, end_padded, end_trimmed, front_padded, front_trimmed, padded_down, rounded_by, settled_rounding, shown, shown_signed, signed_as, whole_shown, zeros_by}
+use Rattle.locale_numbers_formats.specs.Changed.{amount_by, changed, changed_by, end_padded, end_trimmed, front_padded, front_trimmed, padded_down, rounded_by, settled_rounding, shown, shown_signed, signed_as, whole_shown, zeros_by}
 use Rattle.locale_numbers_formats.specs.declared.LeadingZeros.{LeadingZeros}
 use Rattle.locale_numbers_formats.specs.declared.LeadingZeros.TheVariants as leading
 use Rattle.locale_numbers_formats.specs.declared.Notation.{Notation}
-use Rattle.locale_numbers_formats.specs.declared.Notation.TheVariants.{Standard}
+use Rattle.locale_numbers_formats.specs.declared.Notation.TheVariants.{Compact, CompactDigits, Scientific, Standard}
 use Rattle.locale_numbers_formats.specs.declared.NumberFormat.{NumberFormat}
 use Rattle.locale_numbers_formats.specs.declared.NumberOptions.{NumberOptions}
 use Rattle.locale_numbers_formats.specs.declared.NumberUnit.{NumberUnit}
@@ -41,7 +47,7 @@ use Rattle.locale_numbers_requests.specs.declared.Refusal.TheVariants as refusal
 use Rattle.icu_locale_core.specs.TagPreferences.{Preferences}
 use Rattle.locale_numbers.specs.Answer.{refused}
 use Rattle.locale_numbers.specs.FormatterKeys.{key_text}
-use Rattle.locale_numbers.specs.Front.{adds_none, if_text, is_as_it_is, is_plain, keeps_zeros, key_if_text, rounds_none}
+use Rattle.locale_numbers.specs.Front.{adds_none, as_usual, if_text, is_as_it_is, is_standard, is_usual, keeps_zeros, key_if_text, rounds_none, rounds_so}
 use Rattle.locale_numbers.specs.declared.formatter_key.FormatterKey.{FormatterKey}
 
 pub digits_read : (text : List ℕ) (found : Option TextDigits) → IfSome found (λ digits. ReadsSigned text (number_spelled digits)) → IfSome found (λ digits. reading_of text ≡ number (number_spelled digits))
@@ -59,7 +65,20 @@ pub keyed_so : (key : FormatterKey) (text : List ℕ) (value : SignedValue Numbe
 keyed_so key text value reads =
     ap (λ reading. key_if_text text (key_text key reading)) reads ∙ ap (λ b. if b then Some key else None) (number_is_text text value reads)
 
--- ---- a format that leaves a number as it is given
+-- ---- a format that leaves a number as it is given, but for the digits of a currency
+
+usual_none : (rounding : Rounding) → is_usual rounding ≡ true → rounds_none rounding ≡ true
+usual_none Usual h = refl
+usual_none Cash h = absurd (cc)
+usual_none AsGiven h = absurd (cc)
+usual_none (At position mode increment) h = absurd (cc)
+usual_none (Significant digits mode) h = absurd (cc)
+usual_none (Either priority position digits mode) h = absurd (cc)
+
+none_rounded : (of : NumberUnit) (rounding : Rounding) → rounds_so of rounding ≡ true → rounds_none rounding ≡ true
+none_rounded unit.None rounding h = h
+none_rounded (unit.Percent sign) rounding h = usual_none rounding h
+none_rounded (unit.Currency currency) rounding h = usual_none rounding h
 
 rounds : (rounding : Rounding) (value : SignedValue Number) → rounds_none rounding ≡ true → rounded_by rounding None value ≡ value
 rounds Usual value h = refl
@@ -68,6 +87,28 @@ rounds AsGiven value h = refl
 rounds (At position mode increment) value h = absurd (cc)
 rounds (Significant digits mode) value h = absurd (cc)
 rounds (Either priority position digits mode) value h = absurd (cc)
+
+usual_amount : (rounding : Rounding) (fractions : Option FractionInfo) (value : SignedValue Number) → is_usual rounding ≡ true → rounded_by rounding fractions value ≡ amount_by fractions usage.Standard value
+usual_amount Usual fractions value h = refl
+usual_amount Cash fractions value h = absurd (cc)
+usual_amount AsGiven fractions value h = absurd (cc)
+usual_amount (At position mode increment) fractions value h = absurd (cc)
+usual_amount (Significant digits mode) fractions value h = absurd (cc)
+usual_amount (Either priority position digits mode) fractions value h = absurd (cc)
+
+-- a number without a unit has no currency
+rounds_amount : (of : NumberUnit) (rounding : Rounding) (fractions : Option FractionInfo) (value : SignedValue Number) → rounds_so of rounding ≡ true → (of ≡ unit.None → fractions ≡ None)
+    → rounded_by rounding fractions value ≡ amount_by fractions usage.Standard value
+rounds_amount unit.None rounding fractions value h none =
+    ap (λ (f : Option FractionInfo). rounded_by rounding f value) (none refl)
+    ∙ rounds rounding value h
+    ∙ ap (λ (f : Option FractionInfo). amount_by f usage.Standard value) (sym (none refl))
+rounds_amount (unit.Percent sign) rounding fractions value h none = usual_amount rounding fractions value h
+rounds_amount (unit.Currency currency) rounding fractions value h none = usual_amount rounding fractions value h
+
+amount_is_number : (fractions : Option FractionInfo) (value : SignedValue Number) → IsNumber value.absolute → IsNumber (amount_by fractions usage.Standard value).absolute
+amount_is_number None value is = is
+amount_is_number (Some info) value is = amount_is_decimal (fraction_for info usage.Standard) value is
 
 settles : (rounding : Rounding) (value : SignedValue Number) → rounds_none rounding ≡ true → settled_rounding rounding value ≡ rounding
 settles Usual value h = refl
@@ -121,8 +162,8 @@ none_up digits h = grind (arith, nat_tests)
 
 -- each part of what is asked
 pub record LeavesAll (format : NumberFormat) : Type 0 where
-  pub plain : is_plain format.shape.notation format.shape.unit ≡ true
-  pub rounds : rounds_none format.options.rounding ≡ true
+  pub standard : is_standard format.shape.notation ≡ true
+  pub rounds : rounds_so format.shape.unit format.options.rounding ≡ true
   pub zeros : keeps_zeros format.options.leading_zeros format.options.zeros ≡ true
   pub integer_digits : adds_none format.options.integer_digits ≡ true
   pub fraction_digits : adds_none format.options.fraction_digits ≡ true
@@ -131,53 +172,73 @@ pub record LeavesAll (format : NumberFormat) : Type 0 where
 pub leaves_all : (format : NumberFormat) → is_as_it_is format ≡ true → LeavesAll format
 leaves_all format h =
     let o = format.options in
-    let shape : Bool = is_plain format.shape.notation format.shape.unit in
-    let e = and_parts (shape && rounds_none o.rounding && keeps_zeros o.leading_zeros o.zeros && adds_none o.integer_digits && adds_none o.fraction_digits) (keeps_sign o.sign) h in
-    let d = and_parts (shape && rounds_none o.rounding && keeps_zeros o.leading_zeros o.zeros && adds_none o.integer_digits) (adds_none o.fraction_digits) e.0 in
-    let c = and_parts (shape && rounds_none o.rounding && keeps_zeros o.leading_zeros o.zeros) (adds_none o.integer_digits) d.0 in
-    let b = and_parts (shape && rounds_none o.rounding) (keeps_zeros o.leading_zeros o.zeros) c.0 in
-    let a = and_parts shape (rounds_none o.rounding) b.0 in
-    record { plain = a.0; rounds = a.1; zeros = b.1; integer_digits = c.1; fraction_digits = d.1; sign = e.1 }
+    let shape : Bool = is_standard format.shape.notation in
+    let rounding : Bool = rounds_so format.shape.unit o.rounding in
+    let e = and_parts (shape && rounding && keeps_zeros o.leading_zeros o.zeros && adds_none o.integer_digits && adds_none o.fraction_digits) (keeps_sign o.sign) h in
+    let d = and_parts (shape && rounding && keeps_zeros o.leading_zeros o.zeros && adds_none o.integer_digits) (adds_none o.fraction_digits) e.0 in
+    let c = and_parts (shape && rounding && keeps_zeros o.leading_zeros o.zeros) (adds_none o.integer_digits) d.0 in
+    let b = and_parts (shape && rounding) (keeps_zeros o.leading_zeros o.zeros) c.0 in
+    let a = and_parts shape rounding b.0 in
+    record { standard = a.0; rounds = a.1; zeros = b.1; integer_digits = c.1; fraction_digits = d.1; sign = e.1 }
 
 shown_so : (format : NumberFormat) → LeavesAll format → (value : Number) → IsNumber value → shown format.options.rounding format.options value ≡ value
 shown_so format all value is =
     let o = format.options in
+    let quiet = none_rounded format.shape.unit o.rounding all.rounds in
     let front : Number = front_trimmed o.leading_zeros o.rounding value in
     let end : Number = end_trimmed (zeros_by o.rounding o.zeros) front in
-    let untrimmed : end ≡ value = ap (λ (zeros : TrailingZeros). end_trimmed zeros front) (zeros_are o.rounding o.zeros all.rounds) ∙ trims o.leading_zeros o.zeros o.rounding value all.zeros in
+    let untrimmed : end ≡ value = ap (λ (zeros : TrailingZeros). end_trimmed zeros front) (zeros_are o.rounding o.zeros quiet) ∙ trims o.leading_zeros o.zeros o.rounding value all.zeros in
     let down = none_down o.fraction_digits all.fraction_digits in
     let up = none_up o.integer_digits all.integer_digits in
     let low = is.low in
     let ones = is.ones in
     whole_is o.leading_zeros o.zeros (end_padded o.rounding o.fraction_digits (front_padded o.integer_digits end)) all.zeros
-    ∙ least_is o.rounding o.fraction_digits (front_padded o.integer_digits end) all.rounds
+    ∙ least_is o.rounding o.fraction_digits (front_padded o.integer_digits end) quiet
     ∙ ap (λ (n : Number). padded_down (place (neg_ℤ o.fraction_digits)) (front_padded o.integer_digits n)) untrimmed
     ∙ same_fields (padded_down (place (neg_ℤ o.fraction_digits)) (front_padded o.integer_digits value)) value refl (omega (arith, down, low)) (omega (arith, up, ones))
 
-pub changes_none : (format : NumberFormat) → is_as_it_is format ≡ true → (value : SignedValue Number) → IsNumber value.absolute → changed format.options None value ≡ value
-changes_none format h value is =
+pub changes_amount : (format : NumberFormat) → is_as_it_is format ≡ true → (fractions : Option FractionInfo) → (format.shape.unit ≡ unit.None → fractions ≡ None)
+    → (value : SignedValue Number) → IsNumber value.absolute → changed format.options fractions value ≡ amount_by fractions usage.Standard value
+changes_amount format h fractions none value is =
     let all = leaves_all format h in
     let o = format.options in
-    ap (λ (asked : Rounding). changed_by asked o None value) (settles o.rounding value all.rounds)
-    ∙ ap (shown_signed o.rounding o) (rounds o.rounding value all.rounds)
-    ∙ ap (λ (n : Number). signed_as o.sign (record { sign = value.sign; absolute = n })) (shown_so format all value.absolute is)
-    ∙ signs o.sign value all.sign
+    let amount : SignedValue Number = amount_by fractions usage.Standard value in
+    ap (λ (asked : Rounding). changed_by asked o fractions value) (settles o.rounding value (none_rounded format.shape.unit o.rounding all.rounds))
+    ∙ ap (shown_signed o.rounding o) (rounds_amount format.shape.unit o.rounding fractions value all.rounds none)
+    ∙ ap (λ (n : Number). signed_as o.sign (record { sign = amount.sign; absolute = n })) (shown_so format all amount.absolute (amount_is_number fractions value is))
+    ∙ signs o.sign amount all.sign
 
--- such a format finds plain tables
-finds_plain : (notation : Notation) (of : NumberUnit) (book : BookTables) (p : Preferences) (format : NumberFormat) → is_plain notation of ≡ true
+-- without a unit it finds plain tables
+finds_plain : (notation : Notation) (of : NumberUnit) (book : BookTables) (p : Preferences) (format : NumberFormat) → is_standard notation ≡ true → of ≡ unit.None
     → notation_found notation of book p format.shape.grouping ≡ mapped plain_tables (found_plain book p (Some format.shape.grouping))
-finds_plain Standard unit.None book p format h = refl
-finds_plain _ _ book p format h = absurd (cc)
+finds_plain Standard of book p format h none = ap (λ (u : NumberUnit). notation_found Standard u book p format.shape.grouping) none
+finds_plain (Compact width) of book p format h none = absurd (cc)
+finds_plain (CompactDigits width options) of book p format h none = absurd (cc)
+finds_plain (Scientific style options) of book p format h none = absurd (cc)
 
 no_fractions : (found : Result Tables DataError) (format : FormatTables) → mapped plain_tables found ≡ Ok format → fractions_in format ≡ None
 no_fractions (Ok tables) format is = let one : plain_tables tables ≡ format = cc in ap fractions_in (sym one)
 no_fractions (Err error) format is = absurd (cc)
 
--- so what is answered of a number is it, as it is given
+-- so what it makes of a number is it as it usually shows it
 pub leaves_so : (format : NumberFormat) → is_as_it_is format ≡ true → (book : BookTables) (p : Preferences) (made : FormatTables) → found_for format.shape book p ≡ Ok made
-    → (value : SignedValue Number) (text : List ℕ) → reading_of text ≡ number value → number_answer made (changed format.options (fractions_in made) value) ≡ number_answer made value
+    → (value : SignedValue Number) (text : List ℕ) → reading_of text ≡ number value → changed format.options (fractions_in made) value ≡ as_usual made value
 leaves_so format h book p made is value text reads =
-    let plain = finds_plain format.shape.notation format.shape.unit book p format (leaves_all format h).plain in
-    let none : fractions_in made ≡ None = no_fractions (found_plain book p (Some format.shape.grouping)) made (sym plain ∙ is) in
-    ap (λ fractions. number_answer made (changed format.options fractions value)) none
-    ∙ ap (number_answer made) (changes_none format h value (reading_is_decimal text value reads))
+    let standard = (leaves_all format h).standard in
+    changes_amount format h (fractions_in made)
+    (λ none. no_fractions (found_plain book p (Some format.shape.grouping)) made (sym (finds_plain format.shape.notation format.shape.unit book p format standard none) ∙ is))
+    value (reading_is_decimal text value reads)
+
+-- ---- put directly
+
+-- as plain tables put it
+pub plain_so : (format : FormatTables) (tables : Tables) → format ≡ plain_tables tables → (options : NumberOptions) (value : SignedValue Number)
+    → changed options (fractions_in format) value ≡ as_usual format value → number_answer format (changed options (fractions_in format) value) ≡ number_answer (plain_tables tables) value
+plain_so format tables is options value usual =
+    ap (number_answer format) (usual ∙ ap (λ (f : FormatTables). as_usual f value) is)
+    ∙ ap (λ (f : FormatTables). number_answer f value) is
+
+-- and as those with a unit do
+pub unit_so : (format : FormatTables) (u : UnitTexts) → has_digits_of (fractions_in format) u ≡ true → (options : NumberOptions) (value : SignedValue Number) (text : List ℕ) → reading_of text ≡ number value
+    → IsShownBy u value → changed options (fractions_in format) value ≡ as_usual format value → changed options (fractions_in format) value ≡ shown_down u.least value
+unit_so format u digits options value text reads shown usual = usual ∙ put_so (fractions_in format) u digits value (reading_is_decimal text value reads) shown

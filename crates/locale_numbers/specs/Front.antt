@@ -7,11 +7,13 @@ use Rattle.std.specs.Str.{is_utf8}
 use Rattle.fixed_decimal.specs.Number.{Number, place}
 use Rattle.fixed_decimal.specs.SignedValue.{SignedValue}
 use Rattle.icu_decimal.specs.declared.error.DataError.{DataError}
+use Rattle.icu_dimension_fractions.specs.declared.CurrencyUsage.TheVariants as usage
 use Rattle.locale_numbers_answers.specs.AnswerMemory.{AnswerAllocates}
 use Rattle.locale_numbers_answers.specs.Answers.{answer_by}
 pub use Rattle.locale_numbers_answers.specs.AnswerLine.{if_text}
 use Rattle.locale_numbers_book.specs.Book.{BookTables}
 use Rattle.locale_numbers_book.specs.Wanted.{wanted_of}
+use Rattle.locale_numbers_formats.specs.Changed.{amount_by}
 use Rattle.locale_numbers_formats.specs.declared.LeadingZeros.{LeadingZeros}
 use Rattle.locale_numbers_formats.specs.declared.LeadingZeros.TheVariants as leading
 use Rattle.locale_numbers_formats.specs.declared.Notation.{Notation}
@@ -23,7 +25,7 @@ use Rattle.locale_numbers_formats.specs.declared.Rounding.{Rounding}
 use Rattle.locale_numbers_formats.specs.declared.Rounding.TheVariants.{Usual, Cash, AsGiven, At, Significant, Either}
 use Rattle.locale_numbers_formats.specs.declared.TrailingZeros.{TrailingZeros}
 use Rattle.locale_numbers_formats.specs.declared.TrailingZeros.TheVariants as trailing
-use Rattle.locale_numbers_formatter.specs.FormatText.{FormatTables, compact_tables, digits_tables, plain_tables, scientific_tables, unit_tables}
+use Rattle.locale_numbers_formatter.specs.FormatText.{FormatTables, compact_tables, digits_tables, fractions_in, plain_tables, scientific_tables, unit_tables}
 use Rattle.locale_numbers_requests.specs.Request.{Asked, keeps_sign, request_of, with_text}
 use Rattle.locale_numbers_requests.specs.declared.Refusal.TheVariants as refusal
 use Rattle.locale_numbers_requests.specs.declared.Task.{Task}
@@ -38,15 +40,22 @@ use Rattle.locale_numbers.specs.declared.front.Front.{Front}
 abbrev pub asked_text : List ℕ → Option Asked → Option Asked
 asked_text text asked = if is_utf8 text then with_text text asked else None
 
--- ---- plain numbers as they are given
+-- ---- numbers as they are given, but for the digits of a currency
 
-abbrev pub is_plain : Notation → NumberUnit → Bool
-is_plain Standard unit.None = true
-is_plain Standard (unit.Percent sign) = false
-is_plain Standard (unit.Currency currency) = false
-is_plain (Compact width) unit = false
-is_plain (CompactDigits width options) unit = false
-is_plain (Scientific style options) unit = false
+-- they are written with all their digits
+abbrev pub is_standard : Notation → Bool
+is_standard Standard = true
+is_standard (Compact width) = false
+is_standard (CompactDigits width options) = false
+is_standard (Scientific style options) = false
+
+abbrev pub is_usual : Rounding → Bool
+is_usual Usual = true
+is_usual Cash = false
+is_usual AsGiven = false
+is_usual (At position mode increment) = false
+is_usual (Significant digits mode) = false
+is_usual (Either priority position digits mode) = false
 
 -- a number that is no amount is not rounded
 abbrev pub rounds_none : Rounding → Bool
@@ -56,6 +65,12 @@ rounds_none AsGiven = true
 rounds_none (At position mode increment) = false
 rounds_none (Significant digits mode) = false
 rounds_none (Either priority position digits mode) = false
+
+-- one with a unit is rounded as it usually is
+abbrev pub rounds_so : NumberUnit → Rounding → Bool
+rounds_so unit.None rounding = rounds_none rounding
+rounds_so (unit.Percent sign) rounding = is_usual rounding
+rounds_so (unit.Currency currency) rounding = is_usual rounding
 
 abbrev pub keeps_zeros : LeadingZeros → TrailingZeros → Bool
 keeps_zeros leading.Keep trailing.Keep = true
@@ -71,12 +86,16 @@ adds_none digits = nat_le (place digits) 32768
 
 abbrev pub is_as_it_is : NumberFormat → Bool
 is_as_it_is format =
-    is_plain format.shape.notation format.shape.unit
-    && rounds_none format.options.rounding
+    is_standard format.shape.notation
+    && rounds_so format.shape.unit format.options.rounding
     && keeps_zeros format.options.leading_zeros format.options.zeros
     && adds_none format.options.integer_digits
     && adds_none format.options.fraction_digits
     && keeps_sign format.options.sign
+
+-- a number as a format usually shows it: an amount is rounded to the digits of its currency
+abbrev pub as_usual : FormatTables → SignedValue Number → SignedValue Number
+as_usual format value = amount_by (fractions_in format) usage.Standard value
 
 -- ---- fronts
 

@@ -5,16 +5,20 @@ use Rattle.std.specs.Prelude.{◌≡◌, Bool, true, false, List, Option, None, 
 use Rattle.icu_decimal.specs.Rules.{Rules}
 use Rattle.icu_decimal.specs.declared.error.DataError.{DataError}
 use Rattle.icu_decimal_direct.specs.TextTables.{text_tables}
+use Rattle.icu_decimal_direct.specs.HeldUnits.{unit_texts}
 use Rattle.icu_decimal_direct.specs.declared.text_tables.TextTables.{TextTables}
+use Rattle.icu_decimal_direct.specs.declared.unit_text_tables.UnitTextTables.{UnitTextTables}
 use Rattle.icu_dimension.specs.UnitReading.{ReaderTexts}
 use Rattle.icu_locale_core.specs.TagPreferences.{Preferences}
 use Rattle.icu_plurals.specs.declared.PluralRange.{PluralRange}
 use Rattle.icu_plurals.specs.declared.PluralRuleType.{PluralRuleType}
+use Rattle.locale_numbers_answers.specs.UnitAnswer.{texts_read}
+use Rattle.locale_numbers_answers.specs.UnitFractions.{has_digits_of}
 use Rattle.locale_numbers_book.specs.Book.{BookTables}
 use Rattle.locale_numbers_book.specs.FoundFormats.{found_for, second_for}
 use Rattle.locale_numbers_book.specs.FoundRules.{plural_rules_for}
 use Rattle.locale_numbers_formatter.specs.FormatReading.{reader_of}
-use Rattle.locale_numbers_formatter.specs.FormatText.{FormatTables, plain_tables}
+use Rattle.locale_numbers_formatter.specs.FormatText.{FormatTables, fractions_in, plain_tables}
 use Rattle.locale_numbers.specs.FormatterKeys.{finds_rules, rules_for}
 use Rattle.locale_numbers.specs.declared.formatter_key.FormatterKey.{FormatterKey}
 use Rattle.locale_numbers.specs.declared.formatter_key.Purpose.TheVariants.{ReadsTyped}
@@ -41,6 +45,13 @@ typed_is_kept (Some kept) = kept.keeps_typed
 -- what texts are put with, where that is known, are the tables of plain numbers
 abbrev pub KnowsTexts : FormatTables → Option TextTables → Type 0
 KnowsTexts format texts = IfSome texts (λ known. format ≡ plain_tables (text_tables known))
+
+-- what texts with a unit are put with, where that is known: the affixes that are read, and the digits of the currency
+abbrev pub KnowsAffixes : FormatTables → Option UnitTextTables → Type 0
+KnowsAffixes format texts = IfSome texts (λ known. reader_of format ≡ Some (texts_read (unit_texts known)))
+
+abbrev pub KnowsDigits : FormatTables → Option UnitTextTables → Type 0
+KnowsDigits format texts = IfSome texts (λ known. has_digits_of (fractions_in format) (unit_texts known) ≡ true)
 
 -- what reads, where that is known, reads what is written
 abbrev pub KnowsReader : FormatTables → Option (Option ReaderTexts) → Type 0

@@ -1,7 +1,8 @@
 -- The small book of preferences: the entries of the locales of a chain and of the systems asked for, and the parents along it; of units,
 -- plurals and signs those of `und` too.
 -- Defined in docs/books.md, "The small book of a tag".
--- Cited by `laws::selected_books_answer_alike`, `laws::selected_books_find_alike`, `laws::selected_parents_are_parents` and `laws::numbers_need_no_units`.
+-- Cited by `laws::selected_books_answer_alike`, `laws::selected_books_find_alike`, `laws::selected_books_have_the_formatters`, `laws::selected_parents_are_parents` and
+-- `laws::numbers_need_no_units`.
 -- It picks entries of each table of a book, and imports the types of all.
 use Rattle.std.specs.Prelude.{◌≡◌, ℕ, Bool, true, false, ◌&&◌, List, [], ◌∷◌, ◌++◌, codes, filter, map, Option, None, Some, IfSome, option_map, option_to_list}
 use Rattle.std.specs.List.{list_any}
@@ -11,9 +12,11 @@ use Rattle.icu_decimal.specs.Identifiers.{Identifier}
 use Rattle.icu_decimal.specs.Symbols.{Symbols}
 use Rattle.icu_locale_core.specs.Subtags.{Text}
 use Rattle.icu_locale_core.specs.TagPreferences.{DataLocaleMeaning, Preferences, language_priority}
+use Rattle.icu_plurals.specs.declared.PluralRuleType.{PluralRuleType}
 use Rattle.icu_plurals.specs.declared.PluralRuleType.TheVariants as rule
 use Rattle.locale_numbers.specs.Answer.{answer_of}
 use Rattle.locale_numbers_book.specs.Book.{BookTables, IsBook}
+use Rattle.locale_numbers_book.specs.FoundFormats.{formats_for}
 use Rattle.locale_numbers_book.specs.FoundLocale.{locale_for}
 use Rattle.locale_numbers_book.specs.Tables.{chain_in}
 use Rattle.locale_numbers_book.specs.Wanted.{wanted_of}
@@ -22,11 +25,12 @@ use Rattle.locale_numbers_requests.specs.Request.{Asked, request_of}
 use Rattle.locale_numbers_requests.specs.declared.Task.{Task}
 use Rattle.locale_numbers_requests.specs.declared.Task.TheVariants.{Write, WriteExact, Read, ReadLenient, Category, RangeCategory}
 use Rattle.locale_numbers_book.specs.Keys.{same_data_locale}
-use Rattle.locale_numbers_book.specs.FoundRules.{chain_with_unknown}
+use Rattle.locale_numbers_book.specs.FoundRules.{chain_with_unknown, plural_rules_of}
 use Rattle.locale_numbers_book.specs.Units.{UnitsTables}
 use Rattle.locale_numbers_plurals.specs.Plurals.{PluralTables}
 use Rattle.locale_numbers.specs.Serving.{unit_locales_in}
 use Rattle.locale_numbers.specs.WithoutUnits.{without_units}
+use Rattle.locale_numbers_formats.specs.declared.NumberShape.{NumberShape}
 use Rattle.locale_numbers_formats.specs.declared.NumberUnit.{NumberUnit}
 use Rattle.locale_numbers_formats.specs.declared.NumberUnit.TheVariants as unit
 
@@ -106,6 +110,12 @@ SelectedBooksAnswerAlike = (value : Data) (whole : BookTables) → IsBook value 
 abbrev pub SelectedBooksFindAlike : Type 0
 SelectedBooksFindAlike = (value : Data) (whole : BookTables) → IsBook value whole → (tag : Text) (p : Preferences)
     → wanted_of tag ≡ Some p → locale_for (selected whole p) tag ≡ locale_for whole tag
+
+-- what numbers of each shape are written with for the tag, the second tables too, and its plural rules are those of the whole
+abbrev pub SelectedBooksHaveTheFormatters : Type 0
+SelectedBooksHaveTheFormatters = (value : Data) (whole : BookTables) → IsBook value whole → (tag : Text) (p : Preferences) → wanted_of tag ≡ Some p
+    → ((shape : NumberShape) → formats_for (selected whole p) tag shape ≡ formats_for whole tag shape)
+    × ((rule_type : PluralRuleType) → plural_rules_of (selected whole p) tag rule_type ≡ plural_rules_of whole tag rule_type)
 
 -- the parents along the chain, from its end to its front, are parents: none is twice, and none closes a cycle
 abbrev pub SelectedParentsAreParents : Type 0

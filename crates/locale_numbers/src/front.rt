@@ -2,7 +2,7 @@
 
 ghost use Rattle.std.specs.Prelude.{◌≡◌, ◌++◌, IfOk, OnErr, option_map};
 ghost use Rattle.locale_numbers.specs.FormatterKeys.{key_with};
-ghost use Rattle.locale_numbers.specs.Front.{adds_none, asked_text, front_of, is_as_it_is, is_plain, keeps_zeros, rounds_none};
+ghost use Rattle.locale_numbers.specs.Front.{adds_none, asked_text, front_of, is_as_it_is, is_standard, is_usual, keeps_zeros, rounds_none, rounds_so};
 ghost use Rattle.locale_numbers.specs.LineMemory.{MayTakeTag};
 ghost use Rattle.locale_numbers_requests.specs.Request.{request_of};
 
@@ -26,7 +26,7 @@ pub(crate) struct Front {
     pub task: Task,
     /// What is made of a number.
     pub options: NumberOptions,
-    /// Whether it asks for plain numbers, as they are given.
+    /// Whether it asks for numbers as they are given, but for the digits of a currency.
     pub is_as_it_is: bool,
     /// What its formatter is kept under, hashed once; `None` where its tag is no tag.
     pub key: Option<Hashed<FormatterKey>>,
@@ -42,13 +42,27 @@ pub(crate) fn cut_text(line: &[u8]) -> (&[u8], &[u8])
     cut_last(line, TAB)
 }
 
-// Whether a shape is that of plain numbers.
-fn is_plain(shape: &NumberShape) -> bool
-    ensures { result ≡ is_plain shape.now.notation shape.now.unit }
+// Whether numbers of a notation are written with all their digits.
+fn is_standard(notation: Notation) -> bool
+    ensures { result ≡ is_standard notation }
 {
-    match shape.notation {
-        Notation::Standard => matches!(shape.unit, NumberUnit::None),
+    match notation {
+        Notation::Standard => true,
         Notation::Compact(_) | Notation::CompactDigits(_, _) | Notation::Scientific(_, _) => false,
+    }
+}
+
+// Whether a rounding is the usual one.
+fn is_usual(rounding: Rounding) -> bool
+    ensures { result ≡ is_usual rounding }
+{
+    match rounding {
+        Rounding::Usual => true,
+        Rounding::Cash
+        | Rounding::AsGiven
+        | Rounding::At(_, _, _)
+        | Rounding::Significant(_, _)
+        | Rounding::Either(_, _, _, _) => false,
     }
 }
 
@@ -59,6 +73,16 @@ fn rounds_none(rounding: Rounding) -> bool
     match rounding {
         Rounding::Usual | Rounding::Cash | Rounding::AsGiven => true,
         Rounding::At(_, _, _) | Rounding::Significant(_, _) | Rounding::Either(_, _, _, _) => false,
+    }
+}
+
+// Whether a rounding leaves a number with this unit, or with none, as it is, but for the digits of a currency.
+fn rounds_so(unit: NumberUnit, rounding: Rounding) -> bool
+    ensures { result ≡ rounds_so unit rounding }
+{
+    match unit {
+        NumberUnit::None => rounds_none(rounding),
+        NumberUnit::Percent(_) | NumberUnit::Currency(_) => is_usual(rounding),
     }
 }
 
@@ -79,13 +103,13 @@ fn adds_none(digits: i16) -> bool
     digits <= 0
 }
 
-// Whether a format is that of plain numbers, which it leaves as they are given.
+// Whether a format leaves numbers as they are given, but for the digits of a currency.
 fn is_as_it_is(format: &NumberFormat) -> bool
     ensures { result ≡ is_as_it_is format.now }
 {
     let options = &format.options;
-    is_plain(&format.shape)
-        && rounds_none(options.rounding)
+    is_standard(format.shape.notation)
+        && rounds_so(format.shape.unit, options.rounding)
         && keeps_zeros(options.leading_zeros, options.zeros)
         && adds_none(options.integer_digits)
         && adds_none(options.fraction_digits)

@@ -4,12 +4,13 @@ ghost use Rattle.std.specs.Prelude.{◌≡◌, false, None, Some, IfSome, MatchO
 ghost use Rattle.locale_numbers_book.specs.FoundFormats.{found_for};
 ghost use Rattle.locale_numbers_formatter.specs.FormatTyped.{typed_of};
 ghost use Rattle.locale_numbers.specs.FormatterKeys.{finds, finds_rules, rules_for};
-ghost use Rattle.locale_numbers.specs.KeptFormatters.{IsMadeFor, IsSameFormatter, KnowsReader, KnowsTexts};
+ghost use Rattle.locale_numbers.specs.KeptFormatters.{IsMadeFor, IsSameFormatter, KnowsAffixes, KnowsDigits, KnowsReader, KnowsTexts};
 ghost use Rattle.locale_numbers.specs.declared.formatter_key.Purpose.{Purpose};
 
 use crate::formatter_key::{FormatterKey, Purpose};
-use icu_decimal_direct::TextTables;
+use icu_decimal_direct::{TextTables, UnitTextTables};
 use icu_plurals::{PluralRuleType, PluralRulesWithRanges};
+use locale_numbers_answers::unit_text_tables;
 use locale_numbers_book::{Tables, find_formatter, find_plural_rules, find_second};
 use locale_numbers_cache::{Hashed, Maker};
 use locale_numbers_formatter::{FormatterKind, LenientNumberReader, NumberFormatter, NumberReader};
@@ -24,6 +25,9 @@ pub(crate) struct KeptFormatter<'a> {
     pub formatter: NumberFormatter<'a>,
     /// The tables of plain numbers, as texts are put with directly; `None` where they can't be, or were not asked.
     pub texts: Option<TextTables<'a>>,
+    /// Those of percents or of amounts, with the affixes in place, in a box, so that one that is made takes little stack;
+    /// `None` as above, and where memory was refused.
+    pub unit_texts: Option<Box<UnitTextTables<'a>>>,
     /// What reads what it writes; `None` where it is put together for each text.
     pub reader: Option<NumberReader<'a>>,
     /// What people's texts are read by too, where they are read and there is such a thing.
@@ -36,10 +40,10 @@ pub(crate) struct KeptFormatter<'a> {
 }
 
 impl<'a> Model for KeptFormatter<'a> {
-    ghost use Rattle.std.specs.Prelude.{◌≡◌, IfSome, is_some, option_map};
+    ghost use Rattle.std.specs.Prelude.{◌≡◌, IfSome, Some, is_some, option_map};
     ghost use Rattle.locale_numbers_book.specs.FoundRules.{rules_held};
     ghost use Rattle.locale_numbers_formatter.specs.FormatTyped.{typed_of};
-    ghost use Rattle.locale_numbers.specs.KeptFormatters.{Kept, KnowsReader, KnowsTexts};
+    ghost use Rattle.locale_numbers.specs.KeptFormatters.{Kept, KnowsAffixes, KnowsDigits, KnowsReader, KnowsTexts};
 
     ghost Value = { Kept };
 
@@ -52,6 +56,8 @@ impl<'a> Model for KeptFormatter<'a> {
     } };
 
     ghost invariant = { λ k. KnowsTexts k.formatter k.texts
+        × IfSome k.unit_texts (λ kept. KnowsAffixes k.formatter (Some kept.value))
+        × IfSome k.unit_texts (λ kept. KnowsDigits k.formatter (Some kept.value))
         × KnowsReader k.formatter k.reader
         × IfSome k.lenient (λ reader. reader.value ≡ typed_of k.formatter k.second) };
 }
@@ -95,6 +101,20 @@ fn boxed<T: Drop>(alloc: Global, value: T) -> Option<Box<T>>
     }
 }
 
+// What texts with a unit are put with directly, in a box; `None` where they can't be, and where memory is refused.
+fn kept_unit_texts<'a>(
+    alloc: Global,
+    formatter: &NumberFormatter<'a>,
+) -> Option<Box<UnitTextTables<'a>>>
+    ensures affixes { IfSome result (λ kept. KnowsAffixes formatter.now (Some kept.value)) }
+    ensures digits { IfSome result (λ kept. KnowsDigits formatter.now (Some kept.value)) }
+{
+    match unit_text_tables(alloc, formatter) {
+        Some(texts) => boxed(alloc, texts),
+        None => None,
+    }
+}
+
 // What reads what people type, put together and folded now; where memory is refused, for each text.
 fn kept_lenient_reader<'a>(
     alloc: Global,
@@ -125,6 +145,7 @@ fn typed_formatter<'a, T: Tables>(
     Some(KeptFormatter {
         formatter,
         texts: None,
+        unit_texts: None,
         reader: None,
         second,
         lenient: None,
@@ -140,6 +161,7 @@ fn written_formatter<'a>(formatter: NumberFormatter<'a>) -> Option<KeptFormatter
     Some(KeptFormatter {
         formatter,
         texts: None,
+        unit_texts: None,
         reader: None,
         second: None,
         lenient: None,
@@ -165,6 +187,7 @@ fn ruled_formatter<'a, T: Tables>(
         Some(rules) => Some(KeptFormatter {
             formatter,
             texts: None,
+            unit_texts: None,
             reader: None,
             second: None,
             lenient: None,
@@ -219,6 +242,7 @@ fn keep_reader(alloc: Global, kept: &mut KeptFormatter<'_>)
     ensures { IsSameFormatter kept.old kept.new }
 {
     kept.texts = kept_texts(&kept.formatter);
+    kept.unit_texts = kept_unit_texts(alloc, &kept.formatter);
     kept.reader = kept_reader(alloc, &kept.formatter);
 }
 

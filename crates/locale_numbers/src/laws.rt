@@ -8,7 +8,7 @@ ghost use Rattle.locale_numbers.specs.FormatterKeys.{same_keys};
 ghost use Rattle.locale_numbers.specs.Laws.{AlikeTagsAreAnsweredAlike, NormalTextIsAnsweredAlike, AutoIsAnsweredAsAlways, AreTexts, EachGroupingIsReadLeniently, FoundTablesAreTexts, LinesAskTheirFields, ReadIsReadLeniently, ReadIsWrittenAgain, RoundedIsWrittenAgain, TellsKeys, WrittenIsUtf8, WrittenReadsBack};
 ghost use Rattle.locale_numbers.specs.OldLines.{OldLinesStay};
 ghost use Rattle.locale_numbers.specs.PrintedLaws.{FoundTablesAreSound, IsSoundWhereFound, PrintedIsAnswered, PrintedIsNear, PrintedIsWrittenAgain, PrintedKeepsOrder, PrintedPrintsItself, ZeroIsPrintedForZero};
-ghost use Rattle.locale_numbers.specs.Selection.{NumbersNeedNoUnits, SelectedBooksAnswerAlike, SelectedBooksFindAlike, SelectedParentsAreParents};
+ghost use Rattle.locale_numbers.specs.Selection.{NumbersNeedNoUnits, SelectedBooksAnswerAlike, SelectedBooksFindAlike, SelectedBooksHaveTheFormatters, SelectedParentsAreParents};
 ghost use Rattle.locale_numbers.specs.Serving.{ServedBooksAnswerAlike};
 ghost use Rattle.locale_numbers.specs.LenientUnitLaws.{EachUnitGroupingIsReadLeniently, ReadUnitIsReadLeniently};
 ghost use Rattle.locale_numbers.specs.UnitLaws.{FoundUnitsAreTexts, ReadUnitIsWrittenAgain, WrittenPercentReadsBack, WrittenUnitIsUtf8, WrittenUnitReadsBack};
@@ -95,6 +95,12 @@ pub fn selected_books_answer_alike()
 /// book has symbols of this.
 pub fn selected_books_find_alike()
     ensures { SelectedBooksFindAlike }
+{}
+
+/// The small book of a tag has for it the formatters of the whole book, of each shape, those for typed texts too, and its plural
+/// rules: that of `de-AT` writes amounts with the symbols of `de-AT`, and reads typed ones by those of `de` too.
+pub fn selected_books_have_the_formatters()
+    ensures { SelectedBooksHaveTheFormatters }
 {}
 
 /// The parents along a chain, from its end to its front, are parents of a book: no locale is twice, and none closes a cycle.

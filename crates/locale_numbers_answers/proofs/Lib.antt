@@ -14,5 +14,7 @@ pub mod PartsLemmas
 pub mod ReadingLemmas
 pub mod RoundedLemmas
 pub mod TextLemmas
+pub mod UnitAnswerLemmas
+pub mod UnitFractionsLemmas
 pub mod UnitLemmas
 pub mod ValueLemmas

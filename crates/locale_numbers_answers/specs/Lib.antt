@@ -1,6 +1,8 @@
 -- What a reader must believe: what is answered to a text, by a task and a format, with what is found.
 pub mod AnswerLine
 pub mod NumberAnswer
+pub mod UnitAnswer
+pub mod UnitFractions
 pub mod ReadAnswer
 pub mod CategoryAnswer
 pub mod Answers

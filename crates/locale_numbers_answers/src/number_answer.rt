@@ -1,10 +1,12 @@
 //! The answer to a number by a formatter: its text, and the value shown where that is another.
 
-ghost use Rattle.std.specs.Prelude.{◌≡◌, true, ◌++◌, IfSome, IsOk, OnOk, OnErr, IsErrOf, string_bytes};
+ghost use Rattle.std.specs.Prelude.{◌≡◌, true, ◌++◌, IfSome, Some, IsOk, OnOk, OnErr, IsErrOf, string_bytes};
 ghost use Rattle.std.specs.Str.{is_utf8};
 ghost use Rattle.icu_decimal.specs.HeldTables.{tables_of};
+ghost use Rattle.icu_decimal_direct.specs.HeldUnits.{unit_texts};
 ghost use Rattle.icu_decimal_direct.specs.TextDigits.{number_spelled};
 ghost use Rattle.icu_decimal_direct.specs.TextTables.{text_tables};
+ghost use Rattle.icu_decimal_direct.specs.UnitTexts.{IsShownBy, shown_down};
 ghost use Rattle.icu_dimension.specs.HeldFormatters.{code_of, currency_settings_of, settings_of_percent, sign_of};
 ghost use Rattle.locale_numbers_lines.specs.Growth.{Grows};
 ghost use Rattle.locale_numbers_formatter.specs.FormatReading.{reader_of};
@@ -14,6 +16,7 @@ ghost use Rattle.locale_numbers_answers.specs.AnswerMemory.{ReadsMore};
 ghost use Rattle.locale_numbers_answers.specs.AnswerSink.{HasRoom};
 ghost use Rattle.locale_numbers_answers.specs.NumberAnswer.{number_answer};
 ghost use Rattle.locale_numbers_answers.specs.NumberReading.{number, beyond, nothing, reading_of};
+ghost use Rattle.locale_numbers_answers.specs.UnitAnswer.{texts_read};
 
 use crate::answer_line::{write_joined, write_ok};
 use crate::answer_sink::write_piece;
@@ -21,7 +24,7 @@ use crate::compact_answer::{write_compact, write_compact_digits};
 use crate::scientific_answer::write_scientific;
 use fixed_decimal::{Decimal, ParseError};
 use icu_decimal::DecimalFormatter;
-use icu_decimal_direct::{TextDigits, TextTables};
+use icu_decimal_direct::{TextDigits, TextTables, UnitTextTables};
 use icu_dimension::laws::units::text_law;
 use icu_dimension::{CurrencyFormatter, PercentFormatter};
 use locale_numbers_formatter::laws::{plain_is_layered, unit_is_layered, written_reads_back};
@@ -144,8 +147,10 @@ pub fn write_number_answer(
     }
 }
 
-// The bytes that an answer may have whose text is put directly.
-const ROOM: usize = 128;
+// The bytes that an answer may have whose text is put directly, and those of one with a unit.
+const ROOM: usize = 139;
+
+const UNIT_ROOM: usize = 195;
 
 /// Writes the answer that is the number of a text, put directly with these tables, after what `out` holds.
 ///
@@ -164,6 +169,35 @@ pub fn write_digits_answer(
 {
     plain_is_layered();
     let mut answer = [0; ROOM];
+    answer[0] = b'o';
+    answer[1] = b'k';
+    answer[2] = b'\t';
+    let end = tables.put(digits, &mut answer, 3);
+    write_piece(out, unsafe { str::from_utf8_unchecked(&answer[..end]) })
+}
+
+/// Writes the answer that is the number of a text with its unit, put directly with these tables, after what `out` holds.
+///
+/// With those of `en` and euros the digits of -1234.5 are answered by `ok`, a tab and `-€1,234.50`. The conditions are that
+/// the tables are the formatter's, and that the digits can be put. Where there is room, it does not allocate.
+/// `AllocError`: out of memory; `out` is then as before.
+pub fn write_unit_digits_answer(
+    _formatter: &NumberFormatter<'_>,
+    tables: &UnitTextTables<'_>,
+    digits: &TextDigits<'_>,
+    out: &mut String,
+) -> Result<(), AllocError>
+    requires known { reader_of _formatter.now ≡ Some (texts_read (unit_texts tables.now)) }
+    requires shown { IsShownBy (unit_texts tables.now) (number_spelled digits.now) }
+    ensures text { OnOk result (string_bytes out.new ≡ string_bytes out.old
+        ++ number_answer _formatter.now (shown_down (unit_texts tables.now).least (number_spelled digits.now))) }
+    ensures err { OnErr result (string_bytes out.new ≡ string_bytes out.old) }
+    ensures room { HasRoom out.old
+        (number_answer _formatter.now (shown_down (unit_texts tables.now).least (number_spelled digits.now)))
+        → IsOk result }
+{
+    written_reads_back();
+    let mut answer = [0; UNIT_ROOM];
     answer[0] = b'o';
     answer[1] = b'k';
     answer[2] = b'\t';

@@ -51,7 +51,7 @@ returns-then-above-eq0-clause-some c =
     λ integer fraction is h. elim c.then-above-eq0.branch [
       | then-above-eq0-via-then-above-eq0 w ↦
           let none = w.if-above-eq0.true in
-          absurd (some_above c.args.text.now integer fraction ahead.result is h ahead.ensures.digits ahead.ensures.within (ahead.ensures.stops (omega (arith, none))) none)
+          absurd (some_above c.args.text.now integer fraction ahead.result is h ahead.ensures.digits ahead.ensures.within ahead.ensures.stops none)
       | then-above-eq0-via-else-above-eq0+then-above-gt-FEW w ↦
           let few = few_above c.args.text.now integer fraction ahead.result is h ahead.ensures.digits ahead.ensures.within in
           let many = w.if-above-gt-FEW.true in
@@ -63,10 +63,10 @@ returns-then-text-above-ne46-clause-some c =
     let ahead = c.digits_ahead-above in
     λ integer fraction is h.
     let text = c.args.text.now in
-    let some : 0 < length fraction = behind_some text integer fraction ahead.result is h ahead.ensures.digits ahead.ensures.within (ahead.ensures.stops c.if-above-gt-FEW.false) c.if-above-text.false in
-    let size = ap length (behind_is text integer fraction ahead.result is h ahead.ensures.digits ahead.ensures.within (ahead.ensures.stops c.if-above-gt-FEW.false) some) in
+    let some : 0 < length fraction = behind_some text integer fraction ahead.result is h ahead.ensures.digits ahead.ensures.within ahead.ensures.stops c.if-above-text.false in
+    let size = ap length (behind_is text integer fraction ahead.result is h ahead.ensures.digits ahead.ensures.within ahead.ensures.stops some) in
     elim c.then-text-above-ne46.branch [
-      | then-text-above-ne46-via-then-text-above-ne46 w ↦ absurd (w.if-text-above-ne46.true (mark_is text integer fraction ahead.result is h ahead.ensures.digits ahead.ensures.within (ahead.ensures.stops c.if-above-gt-FEW.false) some))
+      | then-text-above-ne46-via-then-text-above-ne46 w ↦ absurd (w.if-text-above-ne46.true (mark_is text integer fraction ahead.result is h ahead.ensures.digits ahead.ensures.within ahead.ensures.stops some))
       | then-text-above-ne46-via-else-text-above-ne46+then-is_empty w ↦
           let empty = w.is_empty.ensures in
           absurd (grind (arith, nat_tests, empty, w.if-is_empty.true, size, some))
@@ -82,9 +82,9 @@ returns-then-digits_ahead-fraction-clause-some c =
     let behind = c.digits_ahead in
     λ integer fraction is h.
     let text = c.args.text.now in
-    let some : 0 < length fraction = behind_some text integer fraction ahead.result is h ahead.ensures.digits ahead.ensures.within (ahead.ensures.stops c.if-above-gt-FEW.false) c.if-above-text.false in
-    let same = behind_is text integer fraction ahead.result is h ahead.ensures.digits ahead.ensures.within (ahead.ensures.stops c.if-above-gt-FEW.false) some in
-    let all = all_ahead fraction behind.result (digits_told fraction h.part) (subst (λ t. behind.result < length t → 10 ≤ digit_value (slice_index t behind.result)) same (λ less. let few = c.if-fraction-gt-FEW.false in behind.ensures.stops (omega (arith, less, few)) less)) in
+    let some : 0 < length fraction = behind_some text integer fraction ahead.result is h ahead.ensures.digits ahead.ensures.within ahead.ensures.stops c.if-above-text.false in
+    let same = behind_is text integer fraction ahead.result is h ahead.ensures.digits ahead.ensures.within ahead.ensures.stops some in
+    let all = all_ahead fraction behind.result (digits_told fraction h.part) (subst (λ t. behind.result < length t → 10 ≤ digit_value (slice_index t behind.result)) same behind.ensures.stops) in
     let size = ap length same in
     let less = c.if-digits_ahead-fraction.true in
     absurd (omega (arith, all, size, less))

@@ -1,11 +1,12 @@
 use Rattle.std.proofs.Common.{◌≡◌, false, subst, sym, rules}
 use Rattle.std.specs.Prelude.{string_bytes}
 use Rattle.icu_decimal_direct.specs.TextDigits.{number_spelled}
-use Rattle.locale_numbers_answers.specs.AnswerMemory.{MayLengthenFound}
+use Rattle.locale_numbers_answers.specs.AnswerMemory.{MayGrowFound, MayLengthenFound}
 use Rattle.locale_numbers_answers.specs.AnswerSink.{HasRoom}
+use Rattle.locale_numbers_answers.specs.NumberReading.{number}
 use Rattle.locale_numbers.specs.FormatterKeys.{finds}
 use Rattle.locale_numbers.proofs.AnsweringLemmas.{grows_by_none, on_ok_same}
-use Rattle.locale_numbers.proofs.KeptLemmas.{digits_by, made_before, none_written}
+use Rattle.locale_numbers.proofs.KeptLemmas.{digits_by, made_before, none_written, written_by}
 use Rattle.locale_numbers.proofs.number_line.answer_digits.Goals as goal
 
 pub returns-in_err-found-clause-err : goal.returns-in_err-found-clause-err
@@ -15,13 +16,20 @@ pub returns-then-not-found-clause-text : goal.returns-then-not-found-clause-text
 returns-then-not-found-clause-text g c =
     let book = g.F.Formatters.book c.args.formatters.now in
     let none : finds book c.args.key.now ≡ false = search rules in
-    on_ok_same c.write_refusal.result _ (string_bytes c.args.out.now) _ _ (sym (none_written book c.args.key.now c.args._options (number_spelled c.args.digits.now) c.requires.ruleless none)) c.write_refusal.ensures.text
+    on_ok_same c.write_refusal.result _ (string_bytes c.args.out.now) _ _ (sym (none_written book c.args.key.now c.args.options (number_spelled c.args.digits.now) c.requires.ruleless none)) c.write_refusal.ensures.text
 
 pub returns-then-not-found-clause-room : goal.returns-then-not-found-clause-room
-returns-then-not-found-clause-room g c = λ room quiet more short.
+returns-then-not-found-clause-room g c = λ room quiet more small short.
     let book = g.F.Formatters.book c.args.formatters.now in
     let none : finds book c.args.key.now ≡ false = search rules in
-    c.write_refusal.ensures.room (subst (λ answer. HasRoom c.args.out.now answer) (none_written book c.args.key.now c.args._options (number_spelled c.args.digits.now) c.requires.ruleless none) room)
+    c.write_refusal.ensures.room (subst (λ answer. HasRoom c.args.out.now answer) (none_written book c.args.key.now c.args.options (number_spelled c.args.digits.now) c.requires.ruleless none) room)
+
+pub write_digits_by_formatter-requires-clause-usual : goal.write_digits_by_formatter-requires-clause-usual
+write_digits_by_formatter-requires-clause-usual g c =
+    let book = g.F.Formatters.book c.args.formatters.now in
+    let same : g.F.Formatters.book c.find.new.self ≡ book = search rules in
+    let made = made_before (g.F.Formatters.book c.find.new.self) book c.args.key.now c.found.result.now same c.found.ensures.made in
+    digits_by book c.args.key.now c.found.result.now made c.args.options c.requires.plain c.args.text.now (number_spelled c.args.digits.now) c.requires.reads
 
 pub returns-clause-text : goal.returns-clause-text
 returns-clause-text g c =
@@ -29,15 +37,17 @@ returns-clause-text g c =
     let same : g.F.Formatters.book c.find.new.self ≡ book = search rules in
     let made = made_before (g.F.Formatters.book c.find.new.self) book c.args.key.now c.found.result.now same c.found.ensures.made in
     on_ok_same c.write_digits_by_formatter.result _ (string_bytes c.args.out.now) _ _
-    (sym (digits_by book c.args.key.now c.found.result.now made c.args._options c.requires.plain c.args.text.now (number_spelled c.args.digits.now) c.requires.reads))
+    (sym (written_by book c.args.key.now c.found.result.now made c.args.options (number_spelled c.args.digits.now)))
     c.write_digits_by_formatter.ensures.text
 
 pub returns-clause-room : goal.returns-clause-room
-returns-clause-room g c = λ room quiet more short.
+returns-clause-room g c = λ room quiet more small short.
     let book = g.F.Formatters.book c.args.formatters.now in
     let same : g.F.Formatters.book c.find.new.self ≡ book = search rules in
     let made = made_before (g.F.Formatters.book c.find.new.self) book c.args.key.now c.found.result.now same c.found.ensures.made in
     c.write_digits_by_formatter.ensures.room
     (subst (λ answer. HasRoom c.args.out.now answer)
-    (digits_by book c.args.key.now c.found.result.now made c.args._options c.requires.plain c.args.text.now (number_spelled c.args.digits.now) c.requires.reads) room)
-    more (subst (λ found. ¬ (MayLengthenFound found)) made.found short)
+    (written_by book c.args.key.now c.found.result.now made c.args.options (number_spelled c.args.digits.now)) room)
+    more
+    (subst (λ found. ¬ (MayGrowFound found c.args.options.rounding (number (number_spelled c.args.digits.now)))) made.found small)
+    (subst (λ found. ¬ (MayLengthenFound found)) made.found short)

@@ -23,7 +23,9 @@ returns-in-Some-clause-room g c = λ room quiet more small short.
     c.answer_digits.ensures.room
     (subst (λ answer. HasRoom c.args.out.now answer)
     (answered_so (found_for key.shape (g.F.Formatters.book c.args.formatters.now) key.preferences) c.args.options c.args.text.now (number_spelled digits.digits) digits.ensures.reads) room)
-    quiet more short
+    quiet more
+    (λ grows. small (subst (λ reading. MayGrowFound (found_for key.shape (g.F.Formatters.book c.args.formatters.now) key.preferences) c.args.options.rounding reading) (sym digits.ensures.reads) grows))
+    short
 
 pub returns-in-Some-clause-counted : goal.returns-in-Some-clause-counted
 returns-in-Some-clause-counted g c =

@@ -1,0 +1,4 @@
+pub mod AmountTableLemmas
+pub mod CompactAmountLemmas
+mod AmountRowLemmas
+mod KnownValues

@@ -1,0 +1,4 @@
+pub mod AmountTables
+pub mod CompactAmounts
+pub mod CompactAmountLaws
+pub mod HeldAmounts
