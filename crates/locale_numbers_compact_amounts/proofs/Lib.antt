@@ -1,0 +1,3 @@
+pub mod AmountLemmas
+pub mod FaultLemmas
+mod KnownValues
