@@ -12,7 +12,6 @@ pub mod Opened
 pub mod Opening
 pub mod Owned
 pub mod Reading
-pub mod SmallBooks
 pub mod Telling
 pub mod Views
 pub mod Worded

@@ -1,3 +1,0 @@
-pub mod AmountLemmas
-pub mod FaultLemmas
-mod KnownValues
