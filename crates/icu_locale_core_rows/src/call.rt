@@ -39,7 +39,7 @@ impl<'r> Call<'r> {
     }
 
     /// The call that reads the value of a text.
-    pub fn reading(self, text: &'r str) -> Call<'r> {
+    pub fn reading(&self, text: &'r str) -> Call<'r> {
         Call {
             alloc: self.alloc,
             kind: self.kind,

@@ -38,7 +38,8 @@ impl Table for Calls {
 
 // Writes the answer of a row, `""` where it is the empty text.
 fn answer_row(alloc: Global, row: &str, bytes: &[u8], out: &mut String) -> Result<(), Stop> {
-    of_tags(Call::of(alloc, row, bytes)?, out)?;
+    let call = Call::of(alloc, row, bytes)?;
+    of_tags(&call, out)?;
     if out.is_empty() {
         put_text(out, "\"\"")
     } else {
@@ -47,7 +48,7 @@ fn answer_row(alloc: Global, row: &str, bytes: &[u8], out: &mut String) -> Resul
 }
 
 // The answer of a call of tags, of what they prefer, and of their extensions.
-fn of_tags(call: Call<'_>, out: &mut String) -> Result<(), Stop> {
+fn of_tags(call: &Call<'_>, out: &mut String) -> Result<(), Stop> {
     match call.kind {
         "Locale" => locales::locale(call, out),
         "LanguageIdentifier" => identifiers::identifier(call, out),
@@ -71,7 +72,7 @@ fn of_tags(call: Call<'_>, out: &mut String) -> Result<(), Stop> {
 }
 
 // The answer of a call of subtags, of readers of single parts, of errors, and of keywords with a type of their own.
-fn of_subtags(call: Call<'_>, out: &mut String) -> Result<(), Stop> {
+fn of_subtags(call: &Call<'_>, out: &mut String) -> Result<(), Stop> {
     match call.kind {
         "Language" => subtags::language(call, out),
         "Script" => answer::<Script>(call, out),

@@ -14,7 +14,7 @@ use rows::{Stop, put, put_debug, put_last_written, put_text, put_written};
 
 /// Writes the text of the data locale that has this subdivision alone, and of its locale, and whether that one's data
 /// locale is unknown.
-pub fn with_subdivision(call: Call<'_>, out: &mut String) -> Result<(), Stop> {
+pub fn with_subdivision(call: &Call<'_>, out: &mut String) -> Result<(), Stop> {
     let mut data_locale = DataLocale::default();
     data_locale.subdivision = Some(read(SubdivisionId::try_from_str(call.first), out)?);
     put_written(out, &data_locale)?;
@@ -27,7 +27,7 @@ pub fn with_subdivision(call: Call<'_>, out: &mut String) -> Result<(), Stop> {
 }
 
 impl Part for DataLocale {
-    fn make(call: Call<'_>, out: &mut String) -> Result<Option<Self>, Stop> {
+    fn make(call: &Call<'_>, out: &mut String) -> Result<Option<Self>, Stop> {
         match call.name {
             "try_from_str" => read_some(Self::try_from_str(call.alloc, call.first), out),
             "try_from_utf8" => read_some(Self::try_from_utf8(call.alloc, call.bytes), out),
@@ -68,7 +68,7 @@ impl Part for DataLocale {
     fn answer(
         &mut self,
         other: Option<&Self>,
-        call: Call<'_>,
+        call: &Call<'_>,
         out: &mut String,
     ) -> Result<(), Stop> {
         match call.name {
@@ -96,7 +96,7 @@ impl Part for DataLocale {
 }
 
 impl Part for SubdivisionId {
-    fn make(call: Call<'_>, out: &mut String) -> Result<Option<Self>, Stop> {
+    fn make(call: &Call<'_>, out: &mut String) -> Result<Option<Self>, Stop> {
         match call.name {
             "try_from_str" => read_some(Self::try_from_str(call.first), out),
             "try_from_utf8" => read_some(Self::try_from_utf8(call.bytes), out),
@@ -112,7 +112,7 @@ impl Part for SubdivisionId {
     fn answer(
         &mut self,
         other: Option<&Self>,
-        call: Call<'_>,
+        call: &Call<'_>,
         out: &mut String,
     ) -> Result<(), Stop> {
         match call.name {

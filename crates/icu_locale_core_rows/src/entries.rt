@@ -32,7 +32,7 @@ impl Kind for transform::KeyRule {
 }
 
 impl<K: Kind> Part for EntriesOf<K> {
-    fn make(call: Call<'_>, out: &mut String) -> Result<Option<Self>, Stop> {
+    fn make(call: &Call<'_>, out: &mut String) -> Result<Option<Self>, Stop> {
         match call.name {
             "try_from_str" => read_some(Self::try_from_str(call.alloc, call.first), out),
             "try_from_utf8" => read_some(Self::try_from_utf8(call.alloc, call.bytes), out),
@@ -50,7 +50,7 @@ impl<K: Kind> Part for EntriesOf<K> {
     fn answer(
         &mut self,
         other: Option<&Self>,
-        call: Call<'_>,
+        call: &Call<'_>,
         out: &mut String,
     ) -> Result<(), Stop> {
         match call.name {
@@ -87,7 +87,7 @@ impl<K: Kind> Part for EntriesOf<K> {
 
 // A key and its value.
 fn entry<K: EntryKind>(
-    call: Call<'_>,
+    call: &Call<'_>,
     key: &str,
     value: &str,
     out: &mut String,
@@ -99,7 +99,7 @@ fn entry<K: EntryKind>(
 // Puts the entries between spaces to the others, each a key, a hyphen and its value.
 fn push_entries<K: EntryKind>(
     entries: &mut Vec<(SubtagOf<K, 2>, ValueOf<K>)>,
-    call: Call<'_>,
+    call: &Call<'_>,
     out: &mut String,
 ) -> Result<(), Stop> {
     for text in call.first.split(' ') {
@@ -109,7 +109,7 @@ fn push_entries<K: EntryKind>(
     Ok(())
 }
 
-fn collected<K: EntryKind>(call: Call<'_>, out: &mut String) -> Result<EntriesOf<K>, Stop> {
+fn collected<K: EntryKind>(call: &Call<'_>, out: &mut String) -> Result<EntriesOf<K>, Stop> {
     let mut entries = Vec::new(call.alloc);
     let pushed = push_entries(&mut entries, call, out);
     let entries = filled(entries, pushed)?;
@@ -119,7 +119,7 @@ fn collected<K: EntryKind>(call: Call<'_>, out: &mut String) -> Result<EntriesOf
 // The answer of a call of entries and a key.
 fn at_key<K: EntryKind>(
     map: &mut EntriesOf<K>,
-    call: Call<'_>,
+    call: &Call<'_>,
     out: &mut String,
 ) -> Result<(), Stop> {
     let key = read(SubtagOf::<K, 2>::try_from_str(call.second), out)?;
@@ -144,7 +144,7 @@ fn at_key<K: EntryKind>(
 fn put_pushed<K: EntryKind>(
     map: &mut EntriesOf<K>,
     key: &SubtagOf<K, 2>,
-    call: Call<'_>,
+    call: &Call<'_>,
     out: &mut String,
 ) -> Result<(), Stop> {
     let subtag = read(Subtag::try_from_str(call.third), out)?;

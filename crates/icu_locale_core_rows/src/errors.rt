@@ -16,11 +16,18 @@ fn put_error<E: Display>(out: &mut String, name: &str, error: &E, number: u8) ->
 }
 
 /// The answer of a call of an error by its type and its case; `PreferencesParseError` has one case.
-pub fn answer(call: Call<'_>, out: &mut String) -> Result<(), Stop> {
-    if call.kind == "PreferencesParseError" {
-        let error = PreferencesParseError::InvalidKeywordValue;
-        return put_error(out, call.name, &error, error.number());
+pub fn answer(call: &Call<'_>, out: &mut String) -> Result<(), Stop> {
+    match call.kind {
+        "PreferencesParseError" => {
+            let error = PreferencesParseError::InvalidKeywordValue;
+            put_error(out, call.name, &error, error.number())
+        }
+        _ => parse_error(call, out),
     }
+}
+
+// The same, of a case of `ParseError`.
+fn parse_error(call: &Call<'_>, out: &mut String) -> Result<(), Stop> {
     let error = match call.first {
         "InvalidLanguage" => ParseError::InvalidLanguage,
         "InvalidSubtag" => ParseError::InvalidSubtag,

@@ -13,7 +13,7 @@ use rows::{Stop, push, put, put_debug, put_text, put_written};
 use std::alloc::Global;
 
 impl Part for Unicode {
-    fn make(call: Call<'_>, out: &mut String) -> Result<Option<Self>, Stop> {
+    fn make(call: &Call<'_>, out: &mut String) -> Result<Option<Self>, Stop> {
         match call.name {
             "try_from_str" => read_some(Self::try_from_str(call.alloc, call.first), out),
             "try_from_utf8" => read_some(Self::try_from_utf8(call.alloc, call.bytes), out),
@@ -25,7 +25,7 @@ impl Part for Unicode {
     fn answer(
         &mut self,
         other: Option<&Self>,
-        call: Call<'_>,
+        call: &Call<'_>,
         out: &mut String,
     ) -> Result<(), Stop> {
         match call.name {
@@ -41,7 +41,7 @@ impl Part for Unicode {
 }
 
 impl Part for Transform {
-    fn make(call: Call<'_>, out: &mut String) -> Result<Option<Self>, Stop> {
+    fn make(call: &Call<'_>, out: &mut String) -> Result<Option<Self>, Stop> {
         match call.name {
             "try_from_str" => read_some(Self::try_from_str(call.alloc, call.first), out),
             "try_from_utf8" => read_some(Self::try_from_utf8(call.alloc, call.bytes), out),
@@ -52,7 +52,7 @@ impl Part for Transform {
     fn answer(
         &mut self,
         other: Option<&Self>,
-        call: Call<'_>,
+        call: &Call<'_>,
         out: &mut String,
     ) -> Result<(), Stop> {
         match call.name {
@@ -69,7 +69,7 @@ impl Part for Transform {
 }
 
 impl Part for Other {
-    fn make(call: Call<'_>, out: &mut String) -> Result<Option<Self>, Stop> {
+    fn make(call: &Call<'_>, out: &mut String) -> Result<Option<Self>, Stop> {
         match call.name {
             "try_from_str" => read_some(Self::try_from_str(call.alloc, call.first), out),
             "try_from_utf8" => read_some(Self::try_from_utf8(call.alloc, call.bytes), out),
@@ -80,7 +80,7 @@ impl Part for Other {
     fn answer(
         &mut self,
         other: Option<&Self>,
-        call: Call<'_>,
+        call: &Call<'_>,
         out: &mut String,
     ) -> Result<(), Stop> {
         match call.name {
@@ -117,7 +117,7 @@ fn of_tag(tag: Result<Locale, ParseError>, out: &mut String) -> Result<Option<Ex
 
 /// Extensions are read of a whole tag.
 impl Part for Extensions {
-    fn make(call: Call<'_>, out: &mut String) -> Result<Option<Self>, Stop> {
+    fn make(call: &Call<'_>, out: &mut String) -> Result<Option<Self>, Stop> {
         match call.name {
             "try_from_str" => of_tag(Locale::try_from_str(call.alloc, call.first), out),
             "try_from_utf8" => of_tag(Locale::try_from_utf8(call.alloc, call.bytes), out),
@@ -133,7 +133,7 @@ impl Part for Extensions {
     fn answer(
         &mut self,
         other: Option<&Self>,
-        call: Call<'_>,
+        call: &Call<'_>,
         out: &mut String,
     ) -> Result<(), Stop> {
         match call.name {
@@ -166,7 +166,7 @@ fn retain(extensions: &mut Extensions, what: &str) -> Result<(), Stop> {
 
 /// Pushes the other extensions that the second argument has between spaces, of which a singleton alone is an emptied
 /// one.
-pub fn push_others(others: &mut Vec<Other>, call: Call<'_>, out: &mut String) -> Result<(), Stop> {
+pub fn push_others(others: &mut Vec<Other>, call: &Call<'_>, out: &mut String) -> Result<(), Stop> {
     for text in call.second.split_whitespace() {
         push(others, other_of(call.alloc, text, out)?)?;
     }

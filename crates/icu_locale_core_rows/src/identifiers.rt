@@ -15,7 +15,7 @@ use rows::{Stop, escaped, put, put_debug, put_last, put_text, put_written};
 use writeable::TextSink;
 
 /// The answer of a call of language identifiers.
-pub fn identifier(call: Call<'_>, out: &mut String) -> Result<(), Stop> {
+pub fn identifier(call: &Call<'_>, out: &mut String) -> Result<(), Stop> {
     match call.name {
         "normalize" => put_normal(out, LanguageIdentifier::normalize(call.alloc, call.first)),
         "normalize_utf8" => {
@@ -38,7 +38,7 @@ pub fn identifier(call: Call<'_>, out: &mut String) -> Result<(), Stop> {
 
 // Writes what a mode reads of the pieces of a text, of none where the call is `parse_after_the_end`; the first piece
 // that it leaves, or `-`; and of a refused text that piece alone, by `peek_after_refusal`.
-fn of_iterator(call: Call<'_>, out: &mut String) -> Result<(), Stop> {
+fn of_iterator(call: &Call<'_>, out: &mut String) -> Result<(), Stop> {
     let mode = mode_of(call.first)?;
     let mut iter = SubtagIterator::new(call.second.as_bytes());
     if call.name == "parse_after_the_end" {
@@ -74,7 +74,7 @@ fn put_after_refusal(
 }
 
 impl Part for LanguageIdentifier {
-    fn make(call: Call<'_>, out: &mut String) -> Result<Option<Self>, Stop> {
+    fn make(call: &Call<'_>, out: &mut String) -> Result<Option<Self>, Stop> {
         match call.name {
             "try_from_str" => read_some(Self::try_from_str(call.alloc, call.first), out),
             "try_from_utf8" => read_some(Self::try_from_utf8(call.alloc, call.bytes), out),
@@ -98,7 +98,7 @@ impl Part for LanguageIdentifier {
     fn answer(
         &mut self,
         other: Option<&Self>,
-        call: Call<'_>,
+        call: &Call<'_>,
         out: &mut String,
     ) -> Result<(), Stop> {
         match call.name {
@@ -135,7 +135,7 @@ impl Part for LanguageIdentifier {
 }
 
 // The language identifier of parts.
-fn of_parts(call: Call<'_>, out: &mut String) -> Result<Option<LanguageIdentifier>, Stop> {
+fn of_parts(call: &Call<'_>, out: &mut String) -> Result<Option<LanguageIdentifier>, Stop> {
     let alloc = call.alloc;
     let id = match call.name {
         "unknown" => LanguageIdentifier::unknown(alloc),
@@ -159,7 +159,7 @@ fn of_parts(call: Call<'_>, out: &mut String) -> Result<Option<LanguageIdentifie
 
 /// The language and the region of the first two arguments, without a script.
 pub fn triple(
-    call: Call<'_>,
+    call: &Call<'_>,
     out: &mut String,
 ) -> Result<(Language, Option<Script>, Option<Region>), Stop> {
     let language = read(Language::try_from_str(call.first), out)?;

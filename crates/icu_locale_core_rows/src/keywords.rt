@@ -17,7 +17,7 @@ use std::fmt::Debug;
 use std::hash::Hash;
 
 /// The answer of a call of a keyword with a type.
-pub fn keyword(call: Call<'_>, out: &mut String) -> Result<(), Stop> {
+pub fn keyword(call: &Call<'_>, out: &mut String) -> Result<(), Stop> {
     match call.name {
         "try_from" => tried(call, out),
         "try_from_subtag" if call.kind == "NumberingSystem" => {
@@ -38,7 +38,7 @@ pub fn keyword(call: Call<'_>, out: &mut String) -> Result<(), Stop> {
 }
 
 // The answer of a call that many of them have, by the type.
-fn by_type(call: Call<'_>, out: &mut String) -> Result<(), Stop> {
+fn by_type(call: &Call<'_>, out: &mut String) -> Result<(), Stop> {
     match call.kind {
         "NumberingSystem" => answer::<NumberingSystem>(call, out),
         "RegionalSubdivision" => answer::<RegionalSubdivision>(call, out),
@@ -58,7 +58,7 @@ fn by_type(call: Call<'_>, out: &mut String) -> Result<(), Stop> {
 
 // The preference that the value of a text states.
 fn preference<P: PreferenceKey + Copy>(
-    call: Call<'_>,
+    call: &Call<'_>,
     text: &str,
     out: &mut String,
 ) -> Result<P, Stop> {
@@ -70,7 +70,7 @@ fn preference<P: PreferenceKey + Copy>(
 
 // The answer of a call that every keyword has.
 fn answer<P: PreferenceKey + Copy + Debug + PartialEq + Hash>(
-    call: Call<'_>,
+    call: &Call<'_>,
     out: &mut String,
 ) -> Result<(), Stop> {
     match call.name {
@@ -90,7 +90,7 @@ fn answer<P: PreferenceKey + Copy + Debug + PartialEq + Hash>(
 // The answer of a call of a preference.
 fn answer_of<P: PreferenceKey + Copy + Debug + PartialEq + Hash>(
     one: P,
-    call: Call<'_>,
+    call: &Call<'_>,
     out: &mut String,
 ) -> Result<(), Stop> {
     match call.name {
@@ -113,7 +113,7 @@ fn answer_of<P: PreferenceKey + Copy + Debug + PartialEq + Hash>(
 
 // The answer of a call of a keyword whose values are words.
 fn of_words<W: WordKeyword + Debug + PartialEq + Hash + 'static>(
-    call: Call<'_>,
+    call: &Call<'_>,
     out: &mut String,
 ) -> Result<(), Stop> {
     match call.name {
@@ -128,7 +128,7 @@ fn of_words<W: WordKeyword + Debug + PartialEq + Hash + 'static>(
 }
 
 // The answer of `try_from`, of the value of a text.
-fn tried(call: Call<'_>, out: &mut String) -> Result<(), Stop> {
+fn tried(call: &Call<'_>, out: &mut String) -> Result<(), Stop> {
     let value = read(Value::try_from_str(call.alloc, call.first), out)?;
     let done = tried_of(&value, call.kind, out);
     drop(value);
@@ -177,7 +177,7 @@ fn put_subdivision(out: &mut String, id: SubdivisionId) -> Result<(), Stop> {
 }
 
 // The word of the case that a text states, by `as_str` of the type.
-fn word_of(call: Call<'_>, out: &mut String) -> Result<&'static str, Stop> {
+fn word_of(call: &Call<'_>, out: &mut String) -> Result<&'static str, Stop> {
     let text = call.first;
     match call.kind {
         "FirstDay" => Ok(preference::<FirstDay>(call, text, out)?.as_str()),

@@ -15,7 +15,7 @@ use rows::{Stop, filled, number_of, put, put_debug, put_last, put_written};
 use std::alloc::AllocError;
 
 /// The answer of a call of locales.
-pub fn locale(call: Call<'_>, out: &mut String) -> Result<(), Stop> {
+pub fn locale(call: &Call<'_>, out: &mut String) -> Result<(), Stop> {
     match call.name {
         "normalize" => put_normal(out, Locale::normalize(call.alloc, call.first)),
         "normalize_utf8" => put_normal(out, Locale::normalize_utf8(call.alloc, call.bytes)),
@@ -37,7 +37,7 @@ fn push_times(text: &mut String, piece: &str, times: usize) -> Result<(), AllocE
 }
 
 // Writes how many private subtags the locale has of a front and a piece after it so many times.
-fn put_repeated(call: Call<'_>, out: &mut String) -> Result<(), Stop> {
+fn put_repeated(call: &Call<'_>, out: &mut String) -> Result<(), Stop> {
     let times = number_of(call.third)?;
     let mut text = String::from_str(call.alloc, call.first)?;
     let pushed = push_times(&mut text, call.second, times);
@@ -51,7 +51,7 @@ fn put_repeated(call: Call<'_>, out: &mut String) -> Result<(), Stop> {
 }
 
 impl Part for Locale {
-    fn make(call: Call<'_>, out: &mut String) -> Result<Option<Self>, Stop> {
+    fn make(call: &Call<'_>, out: &mut String) -> Result<Option<Self>, Stop> {
         match call.name {
             "try_from_str" => read_some(Self::try_from_str(call.alloc, call.first), out),
             "try_from_utf8" => read_some(Self::try_from_utf8(call.alloc, call.bytes), out),
@@ -69,7 +69,7 @@ impl Part for Locale {
     fn answer(
         &mut self,
         other: Option<&Self>,
-        call: Call<'_>,
+        call: &Call<'_>,
         out: &mut String,
     ) -> Result<(), Stop> {
         match call.name {
@@ -88,7 +88,7 @@ impl Part for Locale {
 }
 
 // The answer of a call that leaves the locale.
-fn answer_of(locale: &Locale, call: Call<'_>, out: &mut String) -> Result<(), Stop> {
+fn answer_of(locale: &Locale, call: &Call<'_>, out: &mut String) -> Result<(), Stop> {
     match call.name {
         "try_clone" => put_copy(locale, locale.try_clone(), out),
         "strict_cmp" => put_debug(out, &locale.strict_cmp(call.bytes)),
@@ -110,7 +110,7 @@ fn answer_of(locale: &Locale, call: Call<'_>, out: &mut String) -> Result<(), St
 }
 
 // The locale of parts.
-fn of_parts(call: Call<'_>, out: &mut String) -> Result<Option<Locale>, Stop> {
+fn of_parts(call: &Call<'_>, out: &mut String) -> Result<Option<Locale>, Stop> {
     let alloc = call.alloc;
     let locale = match call.name {
         "unknown" => Locale::unknown(alloc),

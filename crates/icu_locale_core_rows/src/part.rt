@@ -11,20 +11,20 @@ use writeable::{LengthHint, Writeable};
 /// A tag or a part of one.
 pub trait Part: Display + Drop + Hash + PartialEq + Sized + Writeable {
     /// The value that a call makes, `try_from_str` and others; `None` where the call makes none.
-    fn make(call: Call<'_>, out: &mut String) -> Result<Option<Self>, Stop>;
+    fn make(call: &Call<'_>, out: &mut String) -> Result<Option<Self>, Stop>;
 
     /// Writes the answer of a call that only the type has, of a value that it may change, and of another one where the call compares
     /// two.
     fn answer(
         &mut self,
         other: Option<&Self>,
-        call: Call<'_>,
+        call: &Call<'_>,
         out: &mut String,
     ) -> Result<(), Stop>;
 }
 
 /// Writes the answer of a call of a part of a tag.
-pub fn answer<T: Part>(call: Call<'_>, out: &mut String) -> Result<(), Stop> {
+pub fn answer<T: Part>(call: &Call<'_>, out: &mut String) -> Result<(), Stop> {
     match T::make(call, out)? {
         Some(value) => put_last_written(out, value),
         None => answer_one::<T>(call, out),
@@ -32,15 +32,15 @@ pub fn answer<T: Part>(call: Call<'_>, out: &mut String) -> Result<(), Stop> {
 }
 
 /// The value of a text, by `try_from_str`.
-pub fn of_text<T: Part>(call: Call<'_>, text: &str, out: &mut String) -> Result<T, Stop> {
-    match T::make(call.reading(text), out)? {
+pub fn of_text<T: Part>(call: &Call<'_>, text: &str, out: &mut String) -> Result<T, Stop> {
+    match T::make(&call.reading(text), out)? {
         Some(value) => Ok(value),
         None => Err(Stop::Unknown),
     }
 }
 
 // The answer of a call of the value of the first argument.
-fn answer_one<T: Part>(call: Call<'_>, out: &mut String) -> Result<(), Stop> {
+fn answer_one<T: Part>(call: &Call<'_>, out: &mut String) -> Result<(), Stop> {
     let mut one = of_text::<T>(call, call.first, out)?;
     let done = answer_beside(&mut one, call, out);
     drop(one);
@@ -48,7 +48,7 @@ fn answer_one<T: Part>(call: Call<'_>, out: &mut String) -> Result<(), Stop> {
 }
 
 // The value of the second argument, where the call compares two.
-fn other_of<T: Part>(call: Call<'_>, out: &mut String) -> Result<Option<T>, Stop> {
+fn other_of<T: Part>(call: &Call<'_>, out: &mut String) -> Result<Option<T>, Stop> {
     match call.name {
         "==" | "hash" | "cmp" | "partial_cmp" | "total_cmp" => {
             Ok(Some(of_text(call, call.second, out)?))
@@ -57,7 +57,7 @@ fn other_of<T: Part>(call: Call<'_>, out: &mut String) -> Result<Option<T>, Stop
     }
 }
 
-fn answer_beside<T: Part>(one: &mut T, call: Call<'_>, out: &mut String) -> Result<(), Stop> {
+fn answer_beside<T: Part>(one: &mut T, call: &Call<'_>, out: &mut String) -> Result<(), Stop> {
     let other: Option<T> = other_of(call, out)?;
     let done = answer_of(one, other.as_ref(), call, out);
     drop(other);
@@ -67,7 +67,7 @@ fn answer_beside<T: Part>(one: &mut T, call: Call<'_>, out: &mut String) -> Resu
 fn answer_of<T: Part>(
     one: &mut T,
     other: Option<&T>,
-    call: Call<'_>,
+    call: &Call<'_>,
     out: &mut String,
 ) -> Result<(), Stop> {
     match call.name {

@@ -7,7 +7,7 @@ use rows::{Stop, escaped, put_text};
 /// The answer of a call of the pieces of a text: all of them; the first as `peek` gives it, of the iterator and of its
 /// copy, and as `next` does, then what is left in a copy, and in the iterator itself; the first as `next_const` gives
 /// it, the one that is peeked at after it, and what three more steps give.
-pub fn pieces(call: Call<'_>, out: &mut String) -> Result<(), Stop> {
+pub fn pieces(call: &Call<'_>, out: &mut String) -> Result<(), Stop> {
     let mut pieces = SubtagIterator::new(call.first.as_bytes());
     match call.name {
         "new" => put_all(out, pieces),

@@ -10,7 +10,7 @@ use icu_locale_core::preferences::{LocalePreferences, numbering_system};
 use rows::{Stop, put, put_last_written, put_written};
 
 /// The answer of a call of preferences, which are those of the locale of a text.
-pub fn preferences(call: Call<'_>, out: &mut String) -> Result<(), Stop> {
+pub fn preferences(call: &Call<'_>, out: &mut String) -> Result<(), Stop> {
     match call.name {
         "default" => put_locale(out, call, LocalePreferences::default()),
         "from_locale_strict" | "numbering_system" => {
@@ -27,14 +27,14 @@ pub fn preferences(call: Call<'_>, out: &mut String) -> Result<(), Stop> {
 // Writes the locale that has these preferences.
 fn put_locale(
     out: &mut String,
-    call: Call<'_>,
+    call: &Call<'_>,
     preferences: LocalePreferences,
 ) -> Result<(), Stop> {
     put_last_written(out, preferences.to_locale(call.alloc)?)
 }
 
 // The answer of a call that is lent a locale.
-fn answer_lent(locale: &Locale, call: Call<'_>, out: &mut String) -> Result<(), Stop> {
+fn answer_lent(locale: &Locale, call: &Call<'_>, out: &mut String) -> Result<(), Stop> {
     if call.name == "numbering_system" {
         return put_optional(out, numbering_system(locale).as_ref());
     }
@@ -43,7 +43,11 @@ fn answer_lent(locale: &Locale, call: Call<'_>, out: &mut String) -> Result<(), 
 }
 
 // The preferences of the locale of a text.
-fn preferences_of(call: Call<'_>, text: &str, out: &mut String) -> Result<LocalePreferences, Stop> {
+fn preferences_of(
+    call: &Call<'_>,
+    text: &str,
+    out: &mut String,
+) -> Result<LocalePreferences, Stop> {
     let locale: Locale = of_text(call, text, out)?;
     let preferences = LocalePreferences::from(&locale);
     drop(locale);
@@ -51,7 +55,7 @@ fn preferences_of(call: Call<'_>, text: &str, out: &mut String) -> Result<Locale
 }
 
 // The answer of a call of the preferences of two texts.
-fn answer_two(call: Call<'_>, out: &mut String) -> Result<(), Stop> {
+fn answer_two(call: &Call<'_>, out: &mut String) -> Result<(), Stop> {
     let mut one = preferences_of(call, call.first, out)?;
     let other = preferences_of(call, call.second, out)?;
     match call.name {
@@ -66,7 +70,7 @@ fn answer_two(call: Call<'_>, out: &mut String) -> Result<(), Stop> {
 
 fn answer_one(
     preferences: LocalePreferences,
-    call: Call<'_>,
+    call: &Call<'_>,
     out: &mut String,
 ) -> Result<(), Stop> {
     match call.name {

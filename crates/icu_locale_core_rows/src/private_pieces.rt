@@ -9,7 +9,7 @@ use icu_locale_core::parser::SubtagIterator;
 use rows::{Stop, number_of, put, put_debug, put_written};
 
 impl Part for Private {
-    fn make(call: Call<'_>, out: &mut String) -> Result<Option<Self>, Stop> {
+    fn make(call: &Call<'_>, out: &mut String) -> Result<Option<Self>, Stop> {
         match call.name {
             "try_from_str" => read_some(Self::try_from_str(call.alloc, call.first), out),
             "try_from_utf8" => read_some(Self::try_from_utf8(call.alloc, call.bytes), out),
@@ -29,7 +29,7 @@ impl Part for Private {
     fn answer(
         &mut self,
         other: Option<&Self>,
-        call: Call<'_>,
+        call: &Call<'_>,
         out: &mut String,
     ) -> Result<(), Stop> {
         match call.name {
@@ -52,7 +52,7 @@ impl Part for Private {
 }
 
 /// The answer of a call of one subtag, another that is pushed after it, and a text.
-pub fn push_alike(call: Call<'_>, out: &mut String) -> Result<(), Stop> {
+pub fn push_alike(call: &Call<'_>, out: &mut String) -> Result<(), Stop> {
     let first = read(Subtag::try_from_str(call.first), out)?;
     let second = read(Subtag::try_from_str(call.second), out)?;
     let mut one = Private::new_single(call.alloc, first)?;
@@ -65,7 +65,7 @@ pub fn push_alike(call: Call<'_>, out: &mut String) -> Result<(), Stop> {
 fn put_alike(
     one: &mut Private,
     more: Subtag,
-    call: Call<'_>,
+    call: &Call<'_>,
     out: &mut String,
 ) -> Result<(), Stop> {
     one.push(more)?;

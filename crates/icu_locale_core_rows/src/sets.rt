@@ -15,12 +15,12 @@ use writeable::TextSink;
 /// A class of subtags that are in sets.
 pub trait Kind: SubtagRule<8> + Sized {
     /// The set that a call makes; `None` where the call makes none.
-    fn set(call: Call<'_>, out: &mut String) -> Result<Option<SubtagSet<Self>>, Stop>;
+    fn set(call: &Call<'_>, out: &mut String) -> Result<Option<SubtagSet<Self>>, Stop>;
 }
 
 /// Variants are between spaces, and are pushed one after another.
 impl Kind for VariantRule {
-    fn set(call: Call<'_>, out: &mut String) -> Result<Option<Variants>, Stop> {
+    fn set(call: &Call<'_>, out: &mut String) -> Result<Option<Variants>, Stop> {
         match call.name {
             "new" | "try_from_str" => {
                 let mut set = Variants::new(call.alloc);
@@ -45,7 +45,7 @@ fn push_all(set: &mut Variants, texts: &str, out: &mut String) -> Result<(), Sto
 
 /// Attributes have readers.
 impl Kind for AttributeRule {
-    fn set(call: Call<'_>, out: &mut String) -> Result<Option<Attributes>, Stop> {
+    fn set(call: &Call<'_>, out: &mut String) -> Result<Option<Attributes>, Stop> {
         match call.name {
             "try_from_str" => read_some(Attributes::try_from_str(call.alloc, call.first), out),
             "try_from_utf8" => read_some(Attributes::try_from_utf8(call.alloc, call.bytes), out),
@@ -59,20 +59,20 @@ impl Kind for AttributeRule {
     }
 }
 
-fn extend(set: &mut Attributes, call: Call<'_>, out: &mut String) -> Result<(), Stop> {
+fn extend(set: &mut Attributes, call: &Call<'_>, out: &mut String) -> Result<(), Stop> {
     let others = read(Attributes::try_from_str(call.alloc, call.second), out)?;
     Ok(set.extend_from_attributes(others)?)
 }
 
 impl<R: Kind> Part for SubtagSet<R> {
-    fn make(call: Call<'_>, out: &mut String) -> Result<Option<Self>, Stop> {
+    fn make(call: &Call<'_>, out: &mut String) -> Result<Option<Self>, Stop> {
         R::set(call, out)
     }
 
     fn answer(
         &mut self,
         other: Option<&Self>,
-        call: Call<'_>,
+        call: &Call<'_>,
         out: &mut String,
     ) -> Result<(), Stop> {
         match call.name {
@@ -103,7 +103,7 @@ impl<R: Kind> Part for SubtagSet<R> {
 // set.
 fn at_subtag<R: Kind>(
     set: &mut SubtagSet<R>,
-    call: Call<'_>,
+    call: &Call<'_>,
     out: &mut String,
 ) -> Result<(), Stop> {
     let subtag = read(SubtagOf::<R, 8>::try_from_str(call.second), out)?;

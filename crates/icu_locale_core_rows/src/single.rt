@@ -23,7 +23,7 @@ pub fn mode_of(name: &str) -> Result<ParserMode, Stop> {
 }
 
 /// The answer of a call of the readers that take a mode.
-pub fn in_mode(call: Call<'_>, out: &mut String) -> Result<(), Stop> {
+pub fn in_mode(call: &Call<'_>, out: &mut String) -> Result<(), Stop> {
     let mode = mode_of(call.first)?;
     let text = call.second.as_bytes();
     match call.name {

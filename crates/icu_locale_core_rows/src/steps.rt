@@ -10,7 +10,7 @@ use rows::{Stop, put_last_written, put_text};
 use std::alloc::{AllocError, Global};
 
 /// Writes the language identifier after the pieces of a text and one more, and whether that one was taken.
-pub fn language_behind(call: Call<'_>, out: &mut String) -> Result<(), Stop> {
+pub fn language_behind(call: &Call<'_>, out: &mut String) -> Result<(), Stop> {
     let stage = language_stage(call.alloc, call.first)?;
     match language_after(call.alloc, stage, call.second.as_bytes())? {
         Step::Taken(stage) => put_stage(out, stage, " true"),
@@ -40,7 +40,7 @@ fn put_stage(out: &mut String, stage: Option<LanguageStage>, behind: &str) -> Re
 
 /// The entries of the pieces between spaces, without those that are refused; where the last entry may not end, `-` is
 /// the answer.
-pub fn headed<K: EntryKind>(call: Call<'_>, out: &mut String) -> Result<EntriesOf<K>, Stop> {
+pub fn headed<K: EntryKind>(call: &Call<'_>, out: &mut String) -> Result<EntriesOf<K>, Stop> {
     let stage = stage_of::<K>(call.alloc, call.first)?;
     match headed_finish(call.alloc, stage)? {
         Some((_, map)) => Ok(map),

@@ -10,7 +10,7 @@ use std::collections::BTreeSet;
 use tinystr::TinyAsciiStr;
 
 impl<R: SubtagRule<N>, const N: usize> Part for SubtagOf<R, N> {
-    fn make(call: Call<'_>, out: &mut String) -> Result<Option<Self>, Stop> {
+    fn make(call: &Call<'_>, out: &mut String) -> Result<Option<Self>, Stop> {
         match call.name {
             "try_from_str" => read_some(Self::try_from_str(call.first), out),
             "try_from_utf8" => read_some(Self::try_from_utf8(call.bytes), out),
@@ -32,7 +32,7 @@ impl<R: SubtagRule<N>, const N: usize> Part for SubtagOf<R, N> {
     fn answer(
         &mut self,
         other: Option<&Self>,
-        call: Call<'_>,
+        call: &Call<'_>,
         out: &mut String,
     ) -> Result<(), Stop> {
         match call.name {
@@ -50,7 +50,7 @@ impl<R: SubtagRule<N>, const N: usize> Part for SubtagOf<R, N> {
 }
 
 /// The answer of a call of languages.
-pub fn language(call: Call<'_>, out: &mut String) -> Result<(), Stop> {
+pub fn language(call: &Call<'_>, out: &mut String) -> Result<(), Stop> {
     match call.name {
         "default" => put_written(out, &Language::default()),
         "UNKNOWN" => unknown(out),
@@ -67,7 +67,7 @@ fn unknown(out: &mut String) -> Result<(), Stop> {
 }
 
 /// The answer of a call of regions.
-pub fn region(call: Call<'_>, out: &mut String) -> Result<(), Stop> {
+pub fn region(call: &Call<'_>, out: &mut String) -> Result<(), Stop> {
     match call.name {
         "is_alphabetic" => {
             let region = read(Region::try_from_str(call.first), out)?;
@@ -78,10 +78,14 @@ pub fn region(call: Call<'_>, out: &mut String) -> Result<(), Stop> {
 }
 
 /// The answer of a call of variants one by one: `sorted` writes those between spaces in their order, each once.
-pub fn variant(call: Call<'_>, out: &mut String) -> Result<(), Stop> {
-    if call.name != "sorted" {
-        return part::answer::<Variant>(call, out);
+pub fn variant(call: &Call<'_>, out: &mut String) -> Result<(), Stop> {
+    match call.name {
+        "sorted" => put_sorted(call, out),
+        _ => part::answer::<Variant>(call, out),
     }
+}
+
+fn put_sorted(call: &Call<'_>, out: &mut String) -> Result<(), Stop> {
     let mut set = BTreeSet::new(call.alloc);
     let inserted = insert_all(&mut set, call.first, out);
     let done = put_spaced(out, &set);
@@ -105,7 +109,7 @@ fn put_spaced(out: &mut String, set: &BTreeSet<Variant>) -> Result<(), Stop> {
 }
 
 /// The answer of a call of the subtags that any extension may have.
-pub fn subtag(call: Call<'_>, out: &mut String) -> Result<(), Stop> {
+pub fn subtag(call: &Call<'_>, out: &mut String) -> Result<(), Stop> {
     match call.name {
         "try_from" => match TinyAsciiStr::<16>::try_from_str(call.first) {
             Ok(small) => put_read(Subtag::try_from(small), out),
@@ -120,7 +124,7 @@ pub fn subtag(call: Call<'_>, out: &mut String) -> Result<(), Stop> {
     }
 }
 
-fn of_subtag(call: Call<'_>, out: &mut String) -> Result<(), Stop> {
+fn of_subtag(call: &Call<'_>, out: &mut String) -> Result<(), Stop> {
     let subtag = read(Subtag::try_from_str(call.first), out)?;
     match call.name {
         "len" => put(out, &subtag.len()),

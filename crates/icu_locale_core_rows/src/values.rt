@@ -9,7 +9,7 @@ use icu_locale_core_keywords_fields::{EntryKind, ValueOf};
 use rows::{Stop, number_of, put, put_debug, put_written};
 
 impl<K: EntryKind> Part for ValueOf<K> {
-    fn make(call: Call<'_>, out: &mut String) -> Result<Option<Self>, Stop> {
+    fn make(call: &Call<'_>, out: &mut String) -> Result<Option<Self>, Stop> {
         match call.name {
             "try_from_str" => read_some(Self::try_from_str(call.alloc, call.first), out),
             "try_from_utf8" => read_some(Self::try_from_utf8(call.alloc, call.bytes), out),
@@ -35,7 +35,7 @@ impl<K: EntryKind> Part for ValueOf<K> {
     fn answer(
         &mut self,
         other: Option<&Self>,
-        call: Call<'_>,
+        call: &Call<'_>,
         out: &mut String,
     ) -> Result<(), Stop> {
         match call.name {
@@ -62,7 +62,7 @@ impl<K: EntryKind> Part for ValueOf<K> {
 // The answer of a call of a value with one more subtag.
 fn with_subtag<K: EntryKind>(
     value: &mut ValueOf<K>,
-    call: Call<'_>,
+    call: &Call<'_>,
     out: &mut String,
 ) -> Result<(), Stop> {
     value.push_subtag(read(Subtag::try_from_str(call.second), out)?)?;

@@ -72,7 +72,7 @@ pub fn put_normal(
 }
 
 /// The JSON value of the first argument: `"en"` is a text, `null` is not one.
-pub fn json_of(call: Call<'_>) -> Result<Value, Stop> {
+pub fn json_of(call: &Call<'_>) -> Result<Value, Stop> {
     match Value::from_slice(call.alloc, call.first.as_bytes()) {
         Ok(value) => Ok(value),
         Err(fault) if fault.is_memory() => Err(Stop::Memory),
