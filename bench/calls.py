@@ -4,8 +4,8 @@
 usage: bench/calls.py [--functions KIND] [LIBRARY [COUNT]]
 
 The calls are those of bench/c/calls.c: by formatters of the world's book, `-k` of one that is kept, `-s` shared; what each writes is printed beside
-it. `open-k` and `open` open a formatter of a book that is open, and `first` the world's book, a formatter of it and writes its first text. A call
-costs the difference between a run of 2 * COUNT calls and one of COUNT, over COUNT, without the loop around it. With --functions it prints in which functions the instructions
+it. `open-k` and `open` open a formatter of a book that is open; `first`, `first-short` and `first-amount` open one of a tag alone and write its
+first text, `first-book` opens the world's book before, and `text-a` is by one of a tag alone. A call costs the difference between a run of 2 * COUNT calls and one of COUNT, over COUNT, without the loop around it. With --functions it prints in which functions the instructions
 of a call are, each without those that it calls. Without LIBRARY, a folder as tools/build_c leaves it, it is made of the proved crate. It needs
 valgrind and a C compiler.
 """
@@ -19,8 +19,8 @@ import tempfile
 from instructions import TOP, by_function, counted
 
 MADE = f"{TOP}/bench/made"
-# What opens the world's book each time is called a few times.
-FEW = {"first": 2}
+# What opens a formatter of the world's book each time is called a few times.
+FEW = {"first-book": 2, "first": 20, "first-short": 20, "first-amount": 20}
 # The functions of the loop.
 LOOP = ("main", "call", "write_number")
 

@@ -126,6 +126,19 @@ static void call_others(legumeyet_book *book) {
     for (at = 0; at < 2; at++) expect_well(legumeyet_formatter_close(&formatters[at]));
 }
 
+/* Formatters of a tag alone, by the world's book. */
+static void call_alone(void) {
+    legumeyet_formatter it = {0};
+    size_t place = 0;
+    TWICE(legumeyet_formatter_open_world(TEXT("en-AU-u-nu-thai-rg-dezzzz"), NULL, 0, NULL, 0, &it));
+    TWICE(legumeyet_formatter_format(&it, TEXT("5"), NULL, 0, out, sizeof out, &length));
+    expect_text("\xe0\xb9\x95");
+    TWICE(legumeyet_formatter_open_world_skeleton(TEXT("de"), TEXT("currency/EUR"), &place, &it));
+    TWICE(legumeyet_formatter_format(&it, TEXT("-1234.5"), NULL, 0, out, sizeof out, &length));
+    expect_text("-1.234,50\xc2\xa0\xe2\x82\xac");
+    expect_well(legumeyet_formatter_close(&it));
+}
+
 static void call_all(const char *path) {
     legumeyet_book book = {0};
     size_t row;
@@ -136,6 +149,7 @@ static void call_all(const char *path) {
     for (row = 0; row < sizeof ROWS / sizeof *ROWS; row++) call_row(&book, row);
     call_words(&book);
     call_others(&book);
+    call_alone();
 }
 
 int main(int count, char **words) {

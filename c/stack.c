@@ -158,6 +158,23 @@ static void *with_own_tables(void *given) {
 
 static void *formatters(void *given) { return formatters_of(&world, given); }
 
+/* Of tags alone. */
+static void *alone(void *given) {
+    legumeyet_formatter it = {0};
+    size_t at, row, place = 0;
+    const char *tag;
+    for (at = 0; (tag = legumeyet_world_locale(at)) != NULL; at += STEP)
+        for (row = 0; row < sizeof FORMATS / sizeof *FORMATS; row++) {
+            if (FORMATS[row].skeleton != NULL) {
+                WELL(legumeyet_formatter_open_world_skeleton(LEGUMEYET_TEXT(tag), LEGUMEYET_TEXT(FORMATS[row].skeleton), &place, &it));
+            } else {
+                WELL(legumeyet_formatter_open_world(LEGUMEYET_TEXT(tag), LEGUMEYET_WORDS(FORMATS[row].words), LEGUMEYET_TEXT(FORMATS[row].unit), &it));
+            }
+        }
+    WELL(legumeyet_formatter_close(&it));
+    return given;
+}
+
 /* Skeletons with a word of each kind, and with faults. */
 static void *skeletons(void *given) {
     static const char *const TEXTS[] = {"currency/CHF precision-currency-cash sign-accounting-except-zero unit-width-iso-code group-min2 integer-width/*000",
@@ -247,7 +264,7 @@ int main(int words_count, char **words) {
         void *(*work)(void *);
         size_t promised;
     } ROWS[] = {{"books", books, PROMISED}, {"deep JSON", deep, PROMISED_DEEP}, {"formatters", formatters, PROMISED}, {"skeletons", skeletons, PROMISED},
-                {"with own tables", with_own_tables, PROMISED}, {"lines", lines, PROMISED}, {"long lines", long_lines, PROMISED}};
+                {"with own tables", with_own_tables, PROMISED}, {"of tags alone", alone, PROMISED}, {"lines", lines, PROMISED}, {"long lines", long_lines, PROMISED}};
     size_t own, row;
     int wrong = words_count != 2;
     path = words_count == 2 ? words[1] : "";

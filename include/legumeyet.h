@@ -381,6 +381,17 @@ int32_t legumeyet_formatter_open_skeleton(legumeyet_book *book, const uint8_t *t
     size_t skeleton_length, size_t *place, legumeyet_formatter *formatter);
 
 /*
+ * Open a formatter of a tag alone, by the world's book: the one that the call of the same name without `world` opens by that book, and refused
+ * with the same numbers. They read only what the tag asks for, so they take a hundredth of the time of legumeyet_book_open_world: who opens few
+ * formatters needs no book; a kept one is for who opens hundreds, or reads many texts back.
+ * Return as legumeyet_formatter_open and legumeyet_formatter_open_skeleton, but for LEGUMEYET_CLOSED.
+ */
+int32_t legumeyet_formatter_open_world(const uint8_t *tag, size_t tag_length, const legumeyet_format *format, size_t format_words,
+    const uint8_t *unit, size_t unit_length, legumeyet_formatter *formatter);
+int32_t legumeyet_formatter_open_world_skeleton(const uint8_t *tag, size_t tag_length, const uint8_t *skeleton, size_t skeleton_length,
+    size_t *place, legumeyet_formatter *formatter);
+
+/*
  * Writes the normal text of a skeleton, one for all that ask for the same format: of `K  sign-auto` the text `compact-short`.
  * Returns 0; LEGUMEYET_SKELETON_UNKNOWN to LEGUMEYET_SKELETON_UNSUPPORTED, with `place` as above; LEGUMEYET_TOO_SMALL.
  */

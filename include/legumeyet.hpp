@@ -990,21 +990,26 @@ class Book : inner::Owned<legumeyet_book, legumeyet_book_close> {
 
 namespace inner {
 
-// The world's book, kept, which a process opens at the first formatter of a tag without a book. A forked child opens its own, since a thread that is
-// not in it may have had the book's lock.
+// The world's book, kept, which a process opens for answers, and once it has opened a few formatters of tags without a book. A forked child opens
+// its own, since a thread that is not in it may have had the book's lock.
 class World {
     Book book;
     std::mutex lock;
     const pid_t process = getpid();
 
+    // How many formatters are opened of their tags alone, each in some hundredth of the time that the book takes.
+    static constexpr unsigned FEW = 16;
+    inline static std::atomic<World *> shared{nullptr};
+    inline static std::atomic<unsigned> alone{0};
+
+    static bool is_mine(const World *found) noexcept { return found != nullptr && found->process == getpid(); }
     static Result<World *> of_process() {
-        static std::atomic<World *> shared{nullptr};
         World *found = shared.load();
-        if (found != nullptr && found->process == getpid()) return found;
+        if (is_mine(found)) return found;
         Result<Book> opened = Book::try_world();
         if (!opened) return opened.error();
         auto made = std::make_unique<World>(*std::move(opened));
-        while (found == nullptr || found->process != getpid())
+        while (!is_mine(found))
             if (shared.compare_exchange_weak(found, made.get())) return made.release();
         return found;
     }
@@ -1019,6 +1024,11 @@ class World {
         const Code code = (*world)->book.try_keep();
         if (code != Code::Ok) return code;
         return call((*world)->book);
+    }
+    // Calls with no book for the first formatters, while the process has none, and else with it.
+    template <class Call> static auto opening(Call call) -> decltype(call(static_cast<Book *>(nullptr))) {
+        if (!is_mine(shared.load()) && alone.fetch_add(1) < FEW) return call(static_cast<Book *>(nullptr));
+        return with([&](Book &world) { return call(&world); });
     }
 };
 
@@ -1062,22 +1072,32 @@ class Answers : inner::Owned<legumeyet_answers, legumeyet_answers_close> {
 #endif
 };
 
-// The formatter of a format, or of a skeleton, for a locale tag. It may outlive its book. One for which no book is given is of the world's,
-// which the process opens once and keeps.
+// The formatter of a format, or of a skeleton, for a locale tag. It may outlive its book. One for which no book is given is of the world's: of the
+// first ones of a process only what the tag asks for is read, and then the process opens the book once and keeps it.
 class NumberFormatter : public inner::Formatter<inner::Owned<legumeyet_formatter, legumeyet_formatter_close>> {
     friend class SharedNumberFormatter;
 
   protected:
     using Text = inner::Text;
     struct Closed { explicit Closed() = default; };
-    // A formatter of any class.
-    template <class Self> static Result<Self> opened(Book &book, Text tag, const Format &format, Options options = OWN) noexcept {
+    // A formatter of any class, of a book, or where there is none of a tag alone.
+    template <class Self> static Result<Self> opened(Book *book, Text tag, const Format &format, Options options = OWN) noexcept {
         const auto words = static_cast<legumeyet_format>(format);
-        const uint8_t *code = inner::bytes(format.currency);
         Self found{Closed()};
         found.own = options;
         return inner::opened_by(found, found.handle, [&](legumeyet_formatter *it) {
-            return legumeyet_formatter_open(&book.handle, tag.bytes(), tag.size(), LEGUMEYET_WORDS(words), code, format.currency.size(), it);
+            const auto open = [&](auto call, auto... by) {
+                return call(by..., tag.bytes(), tag.size(), LEGUMEYET_WORDS(words), inner::bytes(format.currency), format.currency.size(), it);
+            };
+            return book == nullptr ? open(legumeyet_formatter_open_world) : open(legumeyet_formatter_open, &book->handle);
+        });
+    }
+    static Result<NumberFormatter> opened_by_skeleton(Book *book, Text tag, Text skeleton, std::size_t *place) noexcept {
+        NumberFormatter found{Closed()};
+        std::size_t at = 0, *const fault = place != nullptr ? place : &at;
+        return inner::opened_by(found, found.handle, [&](legumeyet_formatter *it) {
+            const auto open = [&](auto call, auto... by) { return call(by..., tag.bytes(), tag.size(), skeleton.bytes(), skeleton.size(), fault, it); };
+            return book == nullptr ? open(legumeyet_formatter_open_world_skeleton) : open(legumeyet_formatter_open_skeleton, &book->handle);
         });
     }
 
@@ -1085,21 +1105,17 @@ class NumberFormatter : public inner::Formatter<inner::Owned<legumeyet_formatter
     explicit NumberFormatter(Closed) noexcept {}
     // Of a format, and with options of its own, which its calls look at. Code::Table of compact or scientific numbers with a unit.
     static Result<NumberFormatter> try_open(Book &book, Text tag, const Format &format, Options options = OWN) noexcept {
-        return opened<NumberFormatter>(book, tag, format, options);
+        return opened<NumberFormatter>(&book, tag, format, options);
     }
     static Result<NumberFormatter> try_open(Text tag, const Format &format, Options options = OWN) {
-        return inner::World::with([&](Book &book) { return try_open(book, tag, format, options); });
+        return inner::World::opening([&](Book *book) { return opened<NumberFormatter>(book, tag, format, options); });
     }
     // Of a skeleton, the text by which ICU asks for a format: docs/skeletons.md of the repository. `place` is as of try_normal_skeleton.
     static Result<NumberFormatter> try_skeleton(Book &book, Text tag, Text skeleton, std::size_t *place = nullptr) noexcept {
-        NumberFormatter found{Closed()};
-        std::size_t at = 0, *const fault = place != nullptr ? place : &at;
-        return inner::opened_by(found, found.handle, [&](legumeyet_formatter *it) {
-            return legumeyet_formatter_open_skeleton(&book.handle, tag.bytes(), tag.size(), skeleton.bytes(), skeleton.size(), fault, it);
-        });
+        return opened_by_skeleton(&book, tag, skeleton, place);
     }
     static Result<NumberFormatter> try_skeleton(Text tag, Text skeleton, std::size_t *place = nullptr) {
-        return inner::World::with([&](Book &book) { return try_skeleton(book, tag, skeleton, place); });
+        return inner::World::opening([&](Book *book) { return opened_by_skeleton(book, tag, skeleton, place); });
     }
 
 #ifdef __cpp_exceptions
@@ -1132,10 +1148,10 @@ template <class Kind> class Face : public NumberFormatter {
     explicit Face(Closed closed) noexcept : NumberFormatter(closed) {}
 
     template <class... Choices> static Result<Kind> try_open(Book &book, Text tag, const Choices &...choices) noexcept {
-        return opened<Kind>(book, tag, Kind::format_of(choices...));
+        return opened<Kind>(&book, tag, Kind::format_of(choices...));
     }
     template <class... Choices> static Result<Kind> try_open(Text tag, const Choices &...choices) {
-        return World::with([&](Book &book) { return try_open(book, tag, choices...); });
+        return World::opening([&](Book *book) { return opened<Kind>(book, tag, Kind::format_of(choices...)); });
     }
 #ifdef __cpp_exceptions
     template <class K = Kind, class = decltype(K::format_of())> explicit Face(Text tag) : NumberFormatter(tag, K::format_of()) {}

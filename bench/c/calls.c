@@ -1,6 +1,6 @@
 /*
- * Makes a call so many times, for bench/calls.py, which counts the instructions of one. The world's book is opened first, but for `first`, and is
- * kept for the kinds that end with `-k` or `-s`, and for those of categories.
+ * Makes a call so many times, for bench/calls.py, which counts the instructions of one. The world's book is opened first, but for those of `first`
+ * and of a tag alone, and is kept for the kinds that end with `-k` or `-s`, and for those of categories.
  *
  * usage: calls KIND COUNT
  */
@@ -27,7 +27,7 @@ static const struct {
     const char *name, *tag, *code, *number;
     legumeyet_format format;
     legumeyet_options options;
-    int is_kept, is_asked, is_shared;
+    int is_kept, is_asked, is_shared, is_first, is_alone;
 } KINDS[] = {
     {.name = "text", .tag = "de", .number = "1234567"},
     {.name = "text-k", .tag = "de", .number = "1234567", .is_kept = 1},
@@ -47,13 +47,20 @@ static const struct {
     {.name = "ordinal-en", .tag = "en", .number = "1234567", .format = {.plurals = LEGUMEYET_PLURALS_ORDINAL}, .is_kept = 1},
     {.name = "open-k", .tag = "de", .is_kept = 1},
     {.name = "open", .tag = "de"},
-    {.name = "first", .tag = "de", .number = "1234567"},
+    {.name = "text-a", .tag = "de", .number = "1234567", .is_alone = 1},
+    {.name = "first-book", .tag = "de", .number = "1234567", .is_first = 1},
+    {.name = "first", .tag = "de", .number = "1234567", .is_first = 1, .is_alone = 1},
+    {.name = "first-short", .tag = "de", .number = "1234567", .format = {.notation = LEGUMEYET_NOTATION_COMPACT}, .is_first = 1, .is_alone = 1},
+    {.name = "first-amount", .tag = "de", .number = "1234567", .code = "EUR", .format = {.unit = LEGUMEYET_UNIT_CURRENCY}, .is_first = 1, .is_alone = 1},
 };
 
 static void open_formatter(size_t kind) {
     const char *tag = KINDS[kind].tag, *code = KINDS[kind].code == NULL ? "" : KINDS[kind].code;
     const legumeyet_format format = KINDS[kind].format;
-    well("open", legumeyet_formatter_open(&book, LEGUMEYET_TEXT(tag), LEGUMEYET_WORDS(format), LEGUMEYET_TEXT(code), &it));
+    if (KINDS[kind].is_alone)
+        well("alone", legumeyet_formatter_open_world(LEGUMEYET_TEXT(tag), LEGUMEYET_WORDS(format), LEGUMEYET_TEXT(code), &it));
+    else
+        well("open", legumeyet_formatter_open(&book, LEGUMEYET_TEXT(tag), LEGUMEYET_WORDS(format), LEGUMEYET_TEXT(code), &it));
 }
 
 static void write_number(size_t kind) {
@@ -64,15 +71,14 @@ static void write_number(size_t kind) {
                                          : legumeyet_formatter_format(&it, number, number_length, options, words, out, ROOM, &length));
 }
 
-/* The call of a kind: of those without a number a formatter is opened; of the last its book too. */
-static void call(size_t kind, int is_first) {
-    if (is_first) well("a book", legumeyet_book_open_world(&book));
-    if (is_first || KINDS[kind].number == NULL) open_formatter(kind);
+/* The call of a kind: of those without a number a formatter is opened; of the first ones the book of the formatter too. */
+static void call(size_t kind) {
+    if (KINDS[kind].is_first && !KINDS[kind].is_alone) well("a book", legumeyet_book_open_world(&book));
+    if (KINDS[kind].is_first || KINDS[kind].number == NULL) open_formatter(kind);
     if (KINDS[kind].number != NULL) write_number(kind);
 }
 
 int main(int count_of_words, char **words) {
-    const int is_first = count_of_words == 3 && strcmp(words[1], "first") == 0;
     size_t kind = 0, count = sizeof KINDS / sizeof *KINDS;
     while (kind < count && (count_of_words != 3 || strcmp(words[1], KINDS[kind].name) != 0)) kind++;
     if (count_of_words == 1)
@@ -80,12 +86,12 @@ int main(int count_of_words, char **words) {
     else if (kind == count)
         return 2;
     if (count_of_words == 1) return 0;
-    if (!is_first) well("a book", legumeyet_book_open_world(&book));
+    if (!KINDS[kind].is_first && !KINDS[kind].is_alone) well("a book", legumeyet_book_open_world(&book));
     if (KINDS[kind].is_kept) well("kept", legumeyet_book_keep(&book));
-    if (!is_first && KINDS[kind].number != NULL) open_formatter(kind);
+    if (!KINDS[kind].is_first && KINDS[kind].number != NULL) open_formatter(kind);
     if (KINDS[kind].is_shared) well("shared", legumeyet_formatter_share(&it, &shared));
     number_length = KINDS[kind].number == NULL ? 0 : strlen(KINDS[kind].number);
-    for (long at = atol(words[2]); at > 0; at--) call(kind, is_first);
+    for (long at = atol(words[2]); at > 0; at--) call(kind);
     printf("%.*s\n", (int)length, (const char *)out);
     return 0;
 }

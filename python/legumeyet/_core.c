@@ -1141,18 +1141,21 @@ static PyObject *open_book(PyObject *module, PyObject *arguments) {
     return Py_BuildValue("");
 }
 
-/* open_formatter(formatter or rules, book, tag, words of a format or None, code of a currency or None or else a skeleton, options). */
+/* open_formatter(formatter or rules, book or None, tag, words of a format or None, code of a currency or None or else a skeleton, options): of None
+   by the world's book, of which only what the tag asks for is read. */
 static PyObject *open_formatter(PyObject *module, PyObject *arguments) {
     struct shared *shared = shared_of(module);
     struct request tag = {.what = LINE}, text = {.what = LINE};
     struct open *it, *book;
-    PyObject *words, *given;
+    PyObject *words, *given, *by;
     legumeyet_formatter made = {0};
     legumeyet_format asked = {0};
     size_t place = 0;
     int32_t number = -1;
-    if (!PyArg_ParseTuple(arguments, "OO!OOOO!", &it, shared->objects[BOOK], &book, &tag.given, &words, &text.given, &PyDict_Type, &given))
-        return NULL;
+    if (!PyArg_ParseTuple(arguments, "OOOOOO!", &it, &by, &tag.given, &words, &text.given, &PyDict_Type, &given)) return NULL;
+    if (by != Py_None && !PyObject_TypeCheck(by, (PyTypeObject *)shared->objects[BOOK]))
+        return PyErr_Format(PyExc_TypeError, "a formatter is opened of a book, and not %R", Py_TYPE(by));
+    book = by == Py_None ? NULL : (struct open *)by;
     const bool are_rules = PyObject_TypeCheck(it, (PyTypeObject *)shared->objects[RULES]);
     if (!are_rules && !PyObject_TypeCheck(it, (PyTypeObject *)shared->objects[FORMATTER]))
         return PyErr_Format(PyExc_TypeError, "a formatter or rules are opened, and not %R", Py_TYPE(it));
@@ -1161,9 +1164,10 @@ static PyObject *open_formatter(PyObject *module, PyObject *arguments) {
                                           &asked.grouping, &asked.plurals))
         return NULL;
     if (may_be_opened(shared, it, are_rules ? RULES : FORMATTER) && take_options(shared, given, &tag.options, false) && take_text(&tag, tag.given) &&
-        (!has_text || take_text(&text, text.given)) && is_ready(book) && is_ready(it))
-        number = is_skeleton
-            ? legumeyet_formatter_open_skeleton(&book->handle.book, tag.at, tag.length, text.at, text.length, &place, &made)
+        (!has_text || take_text(&text, text.given)) && (book == NULL || is_ready(book)) && is_ready(it))
+        number = is_skeleton && book == NULL ? legumeyet_formatter_open_world_skeleton(tag.at, tag.length, text.at, text.length, &place, &made)
+            : is_skeleton ? legumeyet_formatter_open_skeleton(&book->handle.book, tag.at, tag.length, text.at, text.length, &place, &made)
+            : book == NULL ? legumeyet_formatter_open_world(tag.at, tag.length, LEGUMEYET_WORDS(asked), text.at, text.length, &made)
             : legumeyet_formatter_open(&book->handle.book, tag.at, tag.length, LEGUMEYET_WORDS(asked), text.at, text.length, &made);
     if (number == LEGUMEYET_OK) {
         close_handle(it);

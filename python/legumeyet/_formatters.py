@@ -2,6 +2,7 @@
 import os
 import sys
 from decimal import Decimal
+from itertools import count
 from types import TracebackType
 from typing import TYPE_CHECKING, Any, Dict, Literal, NamedTuple, NoReturn, Optional, Tuple, Type, TypeVar, Union, overload
 
@@ -105,6 +106,8 @@ class Format(NamedTuple):
 COMPACT, PERCENT, CURRENCY = 1, 1, 2
 SCIENTIFIC = {"scientific": 2, "engineering": 3}  # notations
 kept_world: Dict[str, "Book"] = {}  # one process has one, which threads may open at once
+FEW = 16  # so many formatters are opened of their tags alone, each in some hundredth of the time that the world's book takes
+alone = count()
 
 
 class Open:
@@ -183,7 +186,12 @@ def world() -> Book:
     return book
 
 
-def named_by(book: Union[Book, Text], tag: Optional[Text]) -> Tuple[Book, Text]:
+def usual_book() -> Optional[Book]:
+    """The book of formatters for which none is given: none for the first ones, which are opened of their tags alone, and then the world's."""
+    return None if "book" not in kept_world and next(alone) < FEW else world()
+
+
+def named_by(book: Union[Book, Text], tag: Optional[Text]) -> Tuple[Optional[Book], Text]:
     """The book and the tag that a formatter is opened of: both are given, or only a tag, which is of the world's book."""
     if isinstance(book, Book):
         if tag is None:
@@ -191,12 +199,13 @@ def named_by(book: Union[Book, Text], tag: Optional[Text]) -> Tuple[Book, Text]:
         return book, tag
     if tag is not None:
         raise TypeError(f"a book is a Book, and not {type(book).__name__}")
-    return world(), book
+    return usual_book(), book
 
 
 class NumberFormatter(Open, _core.NumberFormatter):
-    """The formatter of a locale tag and a number skeleton, the text by which ICU asks for a format: of the world's book, which the process
-    opens once and keeps, or of another one, which it may outlive. It writes as the skeleton says; options that a call is given take the
+    """The formatter of a locale tag and a number skeleton, the text by which ICU asks for a format: of the world's book, or of another one, which
+    it may outlive. Of the first formatters of a process without a book only what their tags ask for is read, and then it opens the world's once
+    and keeps it. It writes as the skeleton says; options that a call is given take the
     place of all that it says of rounding, digits and signs. docs/skeletons.md of the repository has the words.
 
     The formatters of plain, compact and scientific numbers, of percents and of amounts are such formatters too, and have options in place of a
@@ -215,10 +224,10 @@ class NumberFormatter(Open, _core.NumberFormatter):
     __slots__ = ("_names", "__weakref__")
 
     def __init__(self, tag: Text, skeleton: Text, *, book: Optional[Book] = None) -> None:
-        _core.open_formatter(self, world() if book is None else book, tag, None, skeleton, {})
+        _core.open_formatter(self, usual_book() if book is None else book, tag, None, skeleton, {})
         self._names = tag, skeleton
 
-    def _open(self, book: Book, tag: Text, format: Format, options: Dict[str, Any], *currency: Text) -> None:
+    def _open(self, book: Optional[Book], tag: Text, format: Format, options: Dict[str, Any], *currency: Text) -> None:
         """Opens it by the words of a format, with options of its own."""
         _core.open_formatter(self, book, tag, format, currency[0] if currency else None, options)
         self._names = tag, *currency

@@ -2,7 +2,7 @@
 from typing import TYPE_CHECKING, Literal, Optional, Tuple
 
 from . import _core
-from ._formatters import COMPACT, CURRENCY, SCIENTIFIC, Book, Format, Open, Text, world
+from ._formatters import COMPACT, CURRENCY, SCIENTIFIC, Book, Format, Open, Text, usual_book
 from ._options import Fact, Options, Width, known, number_of
 
 if TYPE_CHECKING:
@@ -45,7 +45,7 @@ class PluralRules(Open, _core.PluralRules):
     ) -> None:
         plurals, compact, unit = known("type", TYPES, type), known("notation", NOTATIONS, notation), 0 if currency is None else CURRENCY
         format, own = Format(compact, number_of(Width, width), unit, plurals=plurals), dict(**options)
-        _core.open_formatter(self, world() if book is None else book, tag, format, currency, own)
+        _core.open_formatter(self, usual_book() if book is None else book, tag, format, currency, own)
         self._names = tag, type
 
     @property

@@ -1099,7 +1099,7 @@ class Calls(unittest.TestCase):
         self.refused(4, _core.open_answers, Answers(), kept, -1)
         self.assertRaises(TypeError, _core.NumberFormatter.format, self.book, 1)
         for words in (
-            (self.book, self.book, "en", None, "", {}), (self.english, None, "en", None, "", {}), (self.english, self.book, None, None, "", {}),
+            (self.book, self.book, "en", None, "", {}), (self.english, 5, "en", None, "", {}), (self.english, self.book, None, None, "", {}),
             (self.english, self.book, "en", None, None, {}), (self.english, self.book, "en", (0, 0, 0, 0, 0, 0), None, {}),
             (self.english, self.book, "en", (0, 0, 0, 0, 0, 0, "0"), None, {}), (self.english, self.book, "en", None, "", None),
         ):

@@ -3,6 +3,7 @@ pub mod AskedLemmas
 pub mod CategoryLemmas
 pub mod DirectLemmas
 pub mod GroupingLemmas
+pub mod KnownSmallBooks
 pub mod KnownWriting
 pub mod LentSent
 pub mod LentSteps
@@ -12,5 +13,6 @@ pub mod RangeLemmas
 pub mod ReadingLemmas
 pub mod Sent
 pub mod SkeletonLemmas
+pub mod SmallBookLemmas
 pub mod TellingLemmas
 pub mod WordedLemmas

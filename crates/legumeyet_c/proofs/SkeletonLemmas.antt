@@ -20,7 +20,7 @@ abbrev pub asked_for : Result NumberSkeleton SkeletonError → Result AskedForma
 asked_for read = result_map_both numbers_by Skeleton read
 
 -- no fault of a tag has a place
-tag_fault_place : (book : BookTables) (asked : AskedFormat) (tag : List ℕ) (error : CallError) (place : ℕ) → IsTagFault (format_found book asked tag) tag error → place_of_error error place ≡ place
+pub tag_fault_place : (book : BookTables) (asked : AskedFormat) (tag : List ℕ) (error : CallError) (place : ℕ) → IsTagFault (format_found book asked tag) tag error → place_of_error error place ≡ place
 tag_fault_place book asked tag Memory place fault = refl
 tag_fault_place book asked tag Closed place fault = refl
 tag_fault_place book asked tag TooSmall place fault = refl

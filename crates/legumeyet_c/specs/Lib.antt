@@ -12,6 +12,7 @@ pub mod Opened
 pub mod Opening
 pub mod Owned
 pub mod Reading
+pub mod SmallBooks
 pub mod Telling
 pub mod Views
 pub mod Worded

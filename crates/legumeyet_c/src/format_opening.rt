@@ -78,7 +78,7 @@ fn find_kept(
 }
 
 // The same, with the errors of calls; where the book is kept, its tables are borrowed.
-fn find_for(
+pub(crate) fn find_for(
     alloc: Global,
     book: &Book,
     kept: Option<&'static Book>,

@@ -113,6 +113,14 @@ fn boxed<T: Drop>(alloc: Global, value: T) -> Option<Box<T>>
 }
 
 impl FormatPlace {
+    // Whether the tables are its own.
+    fn is_own(&self) -> bool {
+        match self {
+            FormatPlace::Own(_, _) => true,
+            FormatPlace::Kept(_, _) => false,
+        }
+    }
+
     // What numbers are written with by the tables, borrowed for a call. It does not allocate.
     fn lent(&self) -> NumberFormatter<'_>
         ensures { result ≡ tables_at self.now }
@@ -234,6 +242,22 @@ impl HeldFormatter {
             (λ texts. asked_plainly (text_tables texts.now) ≡ asked_for self.now.wording self.now.options) }
     {
         self.texts.as_ref()
+    }
+
+    // The same, made for a call, where the tables are its own and its options show numbers as they are given. It does not
+    // allocate.
+    pub(crate) fn made_texts(&self) -> Option<TextTables<'_>>
+        ensures { IfSome result
+            (λ texts. asked_plainly (text_tables texts) ≡ asked_for self.now.wording self.now.options) }
+    {
+        if !self.as_given || self.plurals.is_some() || !self.place.is_own() {
+            return None;
+        }
+        let borrowed = self.lent();
+        match borrowed.texts(self.options()) {
+            Some(texts) => Some(texts),
+            None => None,
+        }
     }
 
     // The rules, borrowed for a call, where words are written. It does not allocate.

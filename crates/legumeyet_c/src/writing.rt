@@ -15,6 +15,7 @@ use crate::content::Content;
 use crate::direct::put_digits;
 use crate::format_writer::{FormatWriter, write_given};
 use crate::handles::FormatterHandle;
+use crate::own_texts::answer_own_text;
 use fixed_decimal::Decimal;
 use icu_decimal_direct::TextDigits;
 use legumeyet_c_values::{GivenNumber, NumberWriter, status_of};
@@ -69,7 +70,7 @@ fn answer_text_once(
 }
 
 // The same, where no tables that texts are put with are kept: the word of a category at once, where it can be.
-fn answer_unkept_text(
+pub(crate) fn answer_unkept_text(
     alloc: Global,
     content: Option<&Content>,
     text: &[u8],
@@ -104,7 +105,7 @@ pub(crate) fn answer_text(
         out.new length.old length.new) result }
 {
     let Some(texts) = texts_asked(content, words) else {
-        return answer_unkept_text(alloc, content, text, words, out, length);
+        return answer_own_text(alloc, content, text, words, out, length);
     };
     match TextDigits::of(text) {
         Some(digits) => status_of(put_digits(texts, &digits, out, length)),

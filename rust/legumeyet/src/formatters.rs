@@ -4,7 +4,7 @@ use crate::column::lines_of;
 use crate::number::Of;
 use crate::options::{words_of, Words};
 use crate::owned::{annotated, written, written_to, Owned, Shared};
-use crate::world::with_book;
+use crate::world::opening;
 use crate::{
     sys, Book, Column, ColumnError, CurrencyDigits, CurrencyOptions, Error, Format, Grouping, Number, Options, Parts, SkeletonError,
     Symbols, Width, WriteError,
@@ -417,18 +417,22 @@ fn opened(book: Option<&Book>, tag: &str, format: &Format<'_>) -> Result<Owned, 
 
 /// The same by the words of the format and the code of its currency.
 pub(crate) fn opened_by(book: Option<&Book>, tag: &str, (words, code): ([i32; 7], &str)) -> Result<Owned, Error> {
-    with_book(book, |book| {
-        let (book, tag_at, code_at) = (book.0.at(), tag.as_ptr(), code.as_ptr());
+    opening(book, |book| {
+        let (tag_at, code_at, (at, count)) = (tag.as_ptr(), code.as_ptr(), (words.as_ptr(), words.len()));
         // SAFETY: a text is memory of its length, no other call has the book's handle, and `open` passes a closed one.
         let call = |formatter| unsafe {
-            sys::legumeyet_formatter_open(book, tag_at, tag.len(), words.as_ptr(), words.len(), code_at, code.len(), formatter)
+            match book {
+                Some(book) => sys::legumeyet_formatter_open(book.0.at(), tag_at, tag.len(), at, count, code_at, code.len(), formatter),
+                None => sys::legumeyet_formatter_open_world(tag_at, tag.len(), at, count, code_at, code.len(), formatter),
+            }
         };
         Owned::open(sys::legumeyet_formatter_close, call)
     })
 }
 
 impl NumberFormatter {
-    /// The formatter of a tag and a format. `None` in place of a book is the world's, which the process opens once and keeps.
+    /// The formatter of a tag and a format. `None` in place of a book is the world's. Of the first formatters of a process without a book only
+    /// what their tags ask for is read, and then the process opens the book once and keeps it.
     ///
     /// # Errors
     ///
@@ -445,11 +449,15 @@ impl NumberFormatter {
     /// A [`SkeletonError`]: one of the errors of a skeleton, 201 to 207, with the place, or [`Error::TAG`], [`Error::TABLE`] or
     /// [`Error::MEMORY`].
     pub fn skeleton<'b>(book: impl Into<Option<&'b Book>>, tag: &str, skeleton: &str) -> Result<NumberFormatter, SkeletonError> {
-        with_book(book.into(), |book| {
-            let (book, tag_at, at, mut place) = (book.0.at(), tag.as_ptr(), skeleton.as_ptr(), 0);
-            // SAFETY: as for `opened`.
+        opening(book.into(), |book| {
+            let (tag_at, at, mut place) = (tag.as_ptr(), skeleton.as_ptr(), 0);
+            // SAFETY: as for `opened_by`.
             let call = |formatter| unsafe {
-                sys::legumeyet_formatter_open_skeleton(book, tag_at, tag.len(), at, skeleton.len(), &mut place, formatter)
+                let (tags, texts) = (tag.len(), skeleton.len());
+                match book {
+                    Some(book) => sys::legumeyet_formatter_open_skeleton(book.0.at(), tag_at, tags, at, texts, &mut place, formatter),
+                    None => sys::legumeyet_formatter_open_world_skeleton(tag_at, tags, at, texts, &mut place, formatter),
+                }
             };
             let opened = Owned::open(sys::legumeyet_formatter_close, call);
             opened.map(NumberFormatter).map_err(|error| SkeletonError::at(error, place))
@@ -461,7 +469,7 @@ impl NumberFormatter {
 macro_rules! opens {
     ($type:ident($($more:ident: $what:ty)?), $usual:ident, $format:expr) => {
         impl $type {
-            /// The formatter of a tag, of the world's book, which the process opens once and keeps, with
+            /// The formatter of a tag, of the world's book, as [`NumberFormatter::new`] without a book, with
             #[doc = concat!("`Grouping::", stringify!($usual), "`.")]
             ///
             /// # Errors
@@ -515,7 +523,7 @@ impl FromStr for PercentFormatter {
 }
 
 impl CurrencyFormatter {
-    /// The formatter of a tag and a code, of the world's book, which the process opens once and keeps.
+    /// The formatter of a tag and a code, of the world's book, as [`NumberFormatter::new`] without a book.
     ///
     /// # Errors
     ///

@@ -165,8 +165,8 @@ selects!(PluralRules: owned);
 selects!(SharedPluralRules: shared);
 
 impl PluralRules {
-    /// The rules of a tag. `None` in place of a book is the world's, which the process opens once and keeps, and in place of options those
-    /// by which a number stays as it is.
+    /// The rules of a tag. `None` in place of a book is the world's, as of [`NumberFormatter::new`](crate::NumberFormatter::new), and in place of
+    /// options those by which a number stays as it is.
     ///
     /// # Errors
     ///

@@ -58,6 +58,8 @@ extern "C" {
     pub fn legumeyet_book_found_locale(book: *mut Handle, tag: *const u8, tag_length: usize, out: *mut u8, room: usize, length: *mut usize) -> i32;
     pub fn legumeyet_formatter_open(book: *mut Handle, tag: *const u8, tag_length: usize, format: *const i32, format_words: usize, unit: *const u8, unit_length: usize, formatter: *mut Handle) -> i32;
     pub fn legumeyet_formatter_open_skeleton(book: *mut Handle, tag: *const u8, tag_length: usize, skeleton: *const u8, skeleton_length: usize, place: *mut usize, formatter: *mut Handle) -> i32;
+    pub fn legumeyet_formatter_open_world(tag: *const u8, tag_length: usize, format: *const i32, format_words: usize, unit: *const u8, unit_length: usize, formatter: *mut Handle) -> i32;
+    pub fn legumeyet_formatter_open_world_skeleton(tag: *const u8, tag_length: usize, skeleton: *const u8, skeleton_length: usize, place: *mut usize, formatter: *mut Handle) -> i32;
     pub fn legumeyet_skeleton_normal(skeleton: *const u8, skeleton_length: usize, place: *mut usize, out: *mut u8, room: usize, length: *mut usize) -> i32;
     pub fn legumeyet_formatter_close(formatter: *mut Handle) -> i32;
     pub fn legumeyet_formatter_share(formatter: *mut Handle, shared: *mut SharedHandle) -> i32;

@@ -2,7 +2,7 @@ use crate::{owned::written_bytes, sys, Book, Error};
 use std::ffi::{CStr, CString};
 use std::process;
 use std::ptr;
-use std::sync::atomic::{AtomicPtr, Ordering};
+use std::sync::atomic::{AtomicPtr, AtomicU32, Ordering};
 use std::sync::{Mutex, PoisonError};
 
 /// The world's book of a process. It is never given back.
@@ -13,14 +13,22 @@ struct World {
 
 static WORLD: AtomicPtr<World> = AtomicPtr::new(ptr::null_mut());
 
+/// How many formatters are opened of their tags alone, each in some hundredth of the time that the book takes.
+const FEW: u32 = 16;
+static ALONE: AtomicU32 = AtomicU32::new(0);
+
+/// What is stored, where it is of a process.
+fn mine(at: *mut World, process: u32) -> Option<&'static World> {
+    // SAFETY: what is stored is never given back.
+    unsafe { at.as_ref() }.filter(|it| it.process == process)
+}
+
 /// The world's book of this process, which the first call opens. A forked child opens its own, since a thread that is not in it may have
 /// had the book's lock.
 fn of_process() -> Result<&'static World, Error> {
     let process = process::id();
-    // SAFETY: what is stored is never given back.
-    let mine = |at: *mut World| unsafe { at.as_ref() }.filter(|it| it.process == process);
     let mut found = WORLD.load(Ordering::Acquire);
-    if let Some(world) = mine(found) {
+    if let Some(world) = mine(found, process) {
         return Ok(world);
     }
     let made = Box::into_raw(Box::new(World { process, book: Mutex::new(Book::world()?) }));
@@ -30,12 +38,25 @@ fn of_process() -> Result<&'static World, Error> {
             Ok(_) => return Ok(unsafe { &*made }),
             Err(other) => found = other,
         }
-        if let Some(world) = mine(found) {
+        if let Some(world) = mine(found, process) {
             // SAFETY: it was not stored, so nobody else has it.
             drop(unsafe { Box::from_raw(made) });
             return Ok(world);
         }
     }
+}
+
+/// Whether a formatter for which no book is given is opened of its tag alone: the first ones are, while the process has no book.
+fn opens_alone() -> bool {
+    mine(WORLD.load(Ordering::Acquire), process::id()).is_none() && ALONE.fetch_add(1, Ordering::Relaxed) < FEW
+}
+
+/// Calls with the book by which a formatter is opened, one call at a time, or with none where it is opened of its tag alone.
+pub(crate) fn opening<T, E: From<Error>>(book: Option<&Book>, call: impl FnOnce(Option<&Book>) -> Result<T, E>) -> Result<T, E> {
+    if book.is_none() && opens_alone() {
+        return call(None);
+    }
+    with_book(book, |book| call(Some(book)))
 }
 
 /// Calls with a book, or with the world's of this process, which is kept, one call at a time.
