@@ -162,7 +162,9 @@ static void formats(Book &book) {
     const auto [text, parts] = powers.format_parts("-0.00012");
     expect(text + ' ' + std::to_string(parts.size()), "-1.2E-4 7");
     expect(Kind{parts[4].kind} == Kind::ExponentSeparator && Kind{parts[5].kind} == Kind::ExponentMinusSign && Kind{parts[6].kind} == Kind::ExponentInteger ? "exponent" : "", "exponent");
-    expect_code(powers.try_read("1.2E6").error(), Code::Unreadable);
+    expect(powers.read("1.20E6") + ' ' + thousands.read("-120,0E-6"), "1200000 -0.0001200");
+    expect_code(powers.try_read("12E5").error(), Code::NotWritten);
+    expect_code(powers.try_read_lenient("1.2E6").error(), Code::Unreadable);
     expect_code(powers.try_format_exact("1.2").error(), Code::Exponent);
     const auto name = [](CurrencyFormatter it) { return it.format(5); };
     expect(name({"en", "USD"}) + name({book, "en", "USD", CurrencyStyle::Accounting}), "$5.00$5.00");

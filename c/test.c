@@ -637,8 +637,17 @@ static const struct {
     {SHORT, "950", LEGUMEYET_UNREADABLE, LEGUMEYET_UNREADABLE, NULL, NULL},
     {LONG, "\xff", LEGUMEYET_UTF8, LEGUMEYET_UTF8, NULL, NULL},
     {HUNDREDTHS, "1.23K", LEGUMEYET_UNREADABLE, LEGUMEYET_UNREADABLE, NULL, NULL},
-    {SCIENTIFIC, "1.2E6", LEGUMEYET_UNREADABLE, LEGUMEYET_UNREADABLE, NULL, NULL},
-    {ARABIC_POWERS, "1.2E6", LEGUMEYET_UNREADABLE, LEGUMEYET_UNREADABLE, NULL, NULL},
+    {SCIENTIFIC, "1.2345E6", WELL, LEGUMEYET_UNREADABLE, "1234500", NULL},
+    {SCIENTIFIC, "-1.20E-3", WELL, LEGUMEYET_UNREADABLE, "-0.00120", NULL},
+    {SCIENTIFIC, "0E0", WELL, LEGUMEYET_UNREADABLE, "0", NULL},
+    {SCIENTIFIC, "12.3E4", LEGUMEYET_NOT_WRITTEN, LEGUMEYET_UNREADABLE, NULL, NULL},
+    {SCIENTIFIC, "1.2e6", LEGUMEYET_NOT_WRITTEN, LEGUMEYET_UNREADABLE, NULL, NULL},
+    {SCIENTIFIC, " 1.2E6", LEGUMEYET_NOT_WRITTEN, LEGUMEYET_UNREADABLE, NULL, NULL},
+    {SCIENTIFIC, "1E99999", LEGUMEYET_NOT_WRITTEN, LEGUMEYET_UNREADABLE, NULL, NULL},
+    {ARABIC_POWERS, ARABIC_POWER, WELL, LEGUMEYET_UNREADABLE, "0.00012", NULL},
+    {ARABIC_POWERS, "1.2E6", LEGUMEYET_NOT_WRITTEN, LEGUMEYET_UNREADABLE, NULL, NULL},
+    {ENGINEERING, "120E-6", WELL, LEGUMEYET_UNREADABLE, "0.000120", NULL},
+    {ENGINEERING, "1.2E-4", LEGUMEYET_NOT_WRITTEN, LEGUMEYET_UNREADABLE, NULL, NULL},
     {ENGINEERING, "\xff", LEGUMEYET_UTF8, LEGUMEYET_UTF8, NULL, NULL},
     {PERCENT, "-12.50%", WELL, WELL, "-12.50", "-12.50"},
     {PERCENT, "12.5 %", LEGUMEYET_NOT_WRITTEN, WELL, NULL, "12.5"},
@@ -831,14 +840,15 @@ static void nulls(void) {
     legumeyet_interval none;
     size_t row, count = 77;
     for (row = 0; row < FORMATS; row++) {
-        const int is_read = row != BAD && row != SHORT && row != LONG && row != HUNDREDTHS && row < SCIENTIFIC;
+        const int is_read = row != BAD && row != SHORT && row != LONG && row != HUNDREDTHS;
         const int32_t unread = is_read ? LEGUMEYET_NOT_WRITTEN : LEGUMEYET_UNREADABLE;
+        const int32_t untyped = row < SCIENTIFIC ? unread : LEGUMEYET_UNREADABLE;
         expect_error("a number", CALL(by[row], format, NOTHING, NOTHING, out, ROOM, &length), LEGUMEYET_NUMBER);
         expect_error("parts", CALL(by[row], format_parts, NOTHING, NOTHING, out, ROOM, &length, &none, 1, &count), LEGUMEYET_NUMBER);
         expect_error("what is shown", CALL(by[row], shown, NOTHING, NOTHING, out, ROOM, &length), LEGUMEYET_NUMBER);
         expect_error("an exact form", CALL(by[row], format_exact, NOTHING, NOTHING, out, ROOM, &length), LEGUMEYET_NUMBER);
         expect_error("a text", CALL(by[row], read, NOTHING, out, ROOM, &length), unread);
-        expect_error("a typed text", CALL(by[row], read_lenient, NOTHING, out, ROOM, &length), unread);
+        expect_error("a typed text", CALL(by[row], read_lenient, NOTHING, out, ROOM, &length), untyped);
         expect("no parts", (int64_t)count, 77);
     }
     expect("a book", legumeyet_book_open(NOTHING, &closed_book), LEGUMEYET_BOOK_JSON);

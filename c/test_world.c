@@ -57,7 +57,7 @@ static int32_t open_plain(const char *tag, legumeyet_formatter *formatter) {
     return legumeyet_formatter_open(&world, LEGUMEYET_TEXT(tag), NULL, 0, NULL, 0, formatter);
 }
 
-/* A formatter writes, and reads what it writes where that has all digits. */
+/* A formatter writes, and reads what it writes, but compact text. */
 static void expect_back(const char *tag, legumeyet_formatter *it, bool is_read) {
     const int32_t wanted = is_read ? LEGUMEYET_OK : LEGUMEYET_UNREADABLE;
     expect(tag, legumeyet_formatter_format_i64(it, -12345678, -2, NULL, 0, out, ROOM / 2, &length), LEGUMEYET_OK);
@@ -74,7 +74,7 @@ static void opens(size_t count) {
             expect(tag, legumeyet_formatter_open(&world, LEGUMEYET_TEXT(tag), LEGUMEYET_WORDS(ASKED[row].words), LEGUMEYET_TEXT(ASKED[row].unit), &formatters[row][at]), LEGUMEYET_OK);
     }
     for (at = 0; at < count; at++)
-        for (row = 0; row < FORMATS; row++) expect_back(legumeyet_world_locale(at), &formatters[row][at], ASKED[row].words.notation == LEGUMEYET_NOTATION_STANDARD);
+        for (row = 0; row < FORMATS; row++) expect_back(legumeyet_world_locale(at), &formatters[row][at], ASKED[row].words.notation != LEGUMEYET_NOTATION_COMPACT);
 }
 
 static void closes(size_t count) {

@@ -14,7 +14,6 @@
  *     fwrite(out, 1, length, stdout);                            // 1.234.567,891
  *     legumeyet_formatter_close(&german);
  *     legumeyet_book_close(&world);
- *
  * Texts are UTF-8, a pointer and a length in bytes; no NUL is written after one, and it may have a NUL inside, where a symbol of its book
  * has one. A pointer to a text of length 0, to no words, to no numbers, or to a room of 0, may be NULL, so `NULL, 0` asks how much room a
  * text needs. No other pointer may be NULL, but where a call says so.
@@ -68,7 +67,7 @@ enum {
     LEGUMEYET_LIMIT = 8,        /* a digit of the number is beyond the magnitudes -32768 to 32767 */
     LEGUMEYET_RANGE = 9,        /* what a number is shown as, compact or scientific, or an exact form, has a digit beyond these magnitudes */
     LEGUMEYET_UTF8 = 10,        /* the text is not UTF-8 */
-    LEGUMEYET_UNREADABLE = 11,  /* two numbers may have one text, by the symbols, or of compact numbers or words; or numbers are scientific */
+    LEGUMEYET_UNREADABLE = 11,  /* two numbers may have one text, by the symbols, or of compact numbers or words; or typed ones are scientific */
     LEGUMEYET_NOT_WRITTEN = 12, /* the formatter writes no number so, as `98,7654` in English */
     LEGUMEYET_EXPONENT = 13,    /* numbers of the magnitude of an exact form have another exponent, as 3 that of `1.2c5`; scientific ones any */
     LEGUMEYET_CODE = 14,        /* the text is no code of a currency, three letters `A` to `Z`, as `eur`; or no currency is asked for */
@@ -230,7 +229,6 @@ typedef struct { void *content; bool is_open; } legumeyet_answers;              
  *
  *     legumeyet_format money = {.unit = LEGUMEYET_UNIT_CURRENCY, .currency_style = LEGUMEYET_STYLE_ACCOUNTING};
  *     legumeyet_formatter_open(&world, LEGUMEYET_TEXT("en"), LEGUMEYET_WORDS(money), LEGUMEYET_TEXT("USD"), &accounting);
- *
  * A call takes a struct of words by its address and by how many words it has, which are those of the header that the program was compiled
  * with: words may be added at the end. A word past the count is 0, and one that the library does not know has to be 0. So a program runs with
  * an older and with a newer library. LEGUMEYET_OPTION of a number that is not in the list of its word, also where it counts for nothing.
@@ -478,13 +476,12 @@ int32_t legumeyet_formatter_tell(legumeyet_formatter *formatter, uint32_t fact, 
 
 /*
  * Reads a text back as the one number that the formatter writes so, and writes it as digits: in English `-1,234.50` as `-1234.50`, and with
- * euros `-€1,234.50`. How many digits the currency has is not looked at: `€1.5` is 1.5. A formatter of a kept book keeps what it makes of its
- * tables at the first call that reads, until it is closed. Another one, or one to which memory for that is refused, makes it for each text.
- * Returns 0; LEGUMEYET_CLOSED; LEGUMEYET_UTF8; LEGUMEYET_UNREADABLE, as always of compact and scientific numbers and `plurals`;
- * LEGUMEYET_NOT_WRITTEN, as of `$1.00` with euros; LEGUMEYET_MEMORY, never of a plain number of sixteen digits at most; LEGUMEYET_TOO_SMALL.
+ * euros `-€1,234.50`. How many digits the format shows is not looked at: `€1.5` is 1.5, and scientific `1.20E6` 1200000. A formatter of a kept
+ * book keeps what it makes of its tables at the first call that reads. Another one, or one refused memory for that, makes it for each text.
+ * Returns 0; LEGUMEYET_CLOSED; LEGUMEYET_UTF8; LEGUMEYET_UNREADABLE, as always of compact numbers and `plurals`; LEGUMEYET_NOT_WRITTEN, as of
+ * `$1.00` with euros; LEGUMEYET_MEMORY, never of a plain or scientific number of sixteen digits at most; LEGUMEYET_TOO_SMALL.
  */
-int32_t legumeyet_formatter_read(legumeyet_formatter *formatter, const uint8_t *text, size_t text_length, uint8_t *out, size_t room,
-    size_t *length);
+int32_t legumeyet_formatter_read(legumeyet_formatter *formatter, const uint8_t *text, size_t text_length, uint8_t *out, size_t room, size_t *length);
 
 /*
  * Reads a text that somebody typed: as legumeyet_formatter_read does what the formatter writes, and other texts by folding. In English
@@ -496,8 +493,8 @@ int32_t legumeyet_formatter_read(legumeyet_formatter *formatter, const uint8_t *
  * those of plain numbers too: `€ 1.234,50` and `1 234,50` are 1234.50 in `de-AT`. What the formatter does not write, and the two read as
  * different numbers, is refused. Nothing is dropped or guessed, and digits are grouped wholly, by the sizes of the locale, or not at all.
  * docs/reading.md and docs/units.md of the repository have the rules.
- * Returns as legumeyet_formatter_read; LEGUMEYET_UNREADABLE also where two numbers may have one text once symbols, affixes and unit are
- * folded, but not of a plain number as it is written; LEGUMEYET_MEMORY of any text that the formatter does not write.
+ * Returns as legumeyet_formatter_read; LEGUMEYET_UNREADABLE also of all scientific numbers, and where two numbers may have one text once
+ * symbols, affixes and unit are folded, but not of a plain number as it is written; LEGUMEYET_MEMORY of any text that is not written so.
  */
 int32_t legumeyet_formatter_read_lenient(legumeyet_formatter *formatter, const uint8_t *text, size_t text_length, uint8_t *out, size_t room,
     size_t *length);
@@ -509,7 +506,6 @@ int32_t legumeyet_formatter_read_lenient(legumeyet_formatter *formatter, const u
  *     size_t ends[3], count = 0;
  *     legumeyet_formatter_format_doubles(&english, numbers, 3, NULL, 0, out, sizeof out, ends, 3, &count);
  *     // `1,234.5-70.25`, and the ends 7, 9 and 13
- *
  * `count` is how many numbers were written, from the first on. The text at `at` ends at `ends[at]` of `out`, and begins where the one
  * before it ends, the first at 0. Each text is the one that the call for one number writes, with the same options.
  *
@@ -537,11 +533,9 @@ int32_t legumeyet_formatter_format_texts(legumeyet_formatter *formatter, const u
  *     static legumeyet_shared_formatter german;
  *     legumeyet_formatter_share(&opened, &german);
  *     legumeyet_shared_formatter_format(&german, LEGUMEYET_TEXT("1234.5"), NULL, 0, out, sizeof out, &length);
- *
  * A shared formatter stays for the rest of the program: its memory is never given back. So share one for the program, not one a request. The
- * handle of a shared formatter may be copied by `=`, as to another thread: each copy is a handle of its own. That which shares a formatter by a
- * handle, and that which closes it, which frees nothing, write to it. They come before and after all other calls on this very handle, ordered
- * as above. It is not cast to the handle of a formatter that is not shared.
+ * handle may be copied by `=`, as to another thread: each copy is a handle of its own, and is not cast to that of a formatter not shared. What
+ * shares by a handle, and what closes it, which frees nothing, write to it: before and after all other calls on this very handle, as above.
  */
 
 /*
@@ -572,8 +566,7 @@ int32_t legumeyet_shared_formatter_format_exact(const legumeyet_shared_formatter
 int32_t legumeyet_shared_formatter_format_range(const legumeyet_shared_formatter *formatter, const uint8_t *first, size_t first_length,
     const uint8_t *second, size_t second_length, const legumeyet_options *options, size_t option_words, uint8_t *out, size_t room,
     size_t *length);
-int32_t legumeyet_shared_formatter_tell(const legumeyet_shared_formatter *formatter, uint32_t fact, uint8_t *out, size_t room,
-    size_t *length);
+int32_t legumeyet_shared_formatter_tell(const legumeyet_shared_formatter *formatter, uint32_t fact, uint8_t *out, size_t room, size_t *length);
 int32_t legumeyet_shared_formatter_read(const legumeyet_shared_formatter *formatter, const uint8_t *text, size_t text_length, uint8_t *out,
     size_t room, size_t *length);
 int32_t legumeyet_shared_formatter_read_lenient(const legumeyet_shared_formatter *formatter, const uint8_t *text, size_t text_length,
@@ -586,10 +579,7 @@ int32_t legumeyet_shared_formatter_format_integers(const legumeyet_shared_format
 int32_t legumeyet_shared_formatter_format_texts(const legumeyet_shared_formatter *formatter, const uint8_t *numbers, size_t numbers_length,
     const legumeyet_options *options, size_t option_words, uint8_t *out, size_t room, size_t *ends, size_t ends_room, size_t *count);
 
-/*
- * Writes what a number of these calls means, in English: of LEGUMEYET_TAG `no locale tag`.
- * Returns 0; LEGUMEYET_OPTION, where `error` is 0, or none of the numbers above; LEGUMEYET_TOO_SMALL.
- */
+/* Writes what a number means, in English: of LEGUMEYET_TAG `no locale tag`. Returns 0; LEGUMEYET_OPTION, of 0 and others; LEGUMEYET_TOO_SMALL. */
 int32_t legumeyet_error_text(int32_t error, uint8_t *out, size_t room, size_t *length);
 
 /*

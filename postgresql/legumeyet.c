@@ -412,7 +412,7 @@ read_digits(legumeyet_formatter *formatter, const Asked *asked, const text *type
         ereport(ERROR, (errcode(ERRCODE_INVALID_PARAMETER_VALUE),
                         errmsg("cannot read numbers in format \"%s\" for locale tag \"%s\"", shown(asked->format, asked->format_length),
                                shown(asked->tag, asked->tag_length)),
-                        errdetail("Two numbers may have one text in it, as compact ones have, or it is scientific, which is not read yet.")));
+                        errdetail("Two numbers may have one text in it, as compact ones have, or it is scientific, which people do not type.")));
     if (error == LEGUMEYET_NOT_WRITTEN)
         return NULL;
     if (error != LEGUMEYET_OK)

@@ -63,7 +63,7 @@ REFUSED = [
     ("legumeyet_plural(1, 'en', 'ordinals')", "a type of plural categories is"), ("legumeyet_plural(1, 'en', '')", "a type of plural categories is"),
     ("legumeyet_plural('x', 'en')", "'x'"), ("legumeyet_plural(1, 'xx', 'ordinal')", "'xx'"), ("legumeyet_plural(x'31', 'en')", "a blob is no number"),
     ("legumeyet_read('1,23', 'en')", "'1,23'"), ("legumeyet_read('', 'en')", "''"), ("legumeyet_read(cast(x'31ff' as text), 'en')", "legumeyet: "),
-    ("legumeyet_read('1,2M', 'en', 'compact-short')", "'1,2M'"), ("legumeyet_read('1.2E6', 'en', 'scientific')", "'1.2E6'"), ("legumeyet_read_or_null('1', 'e')", "'e'"), ("legumeyet_read(x'31', 'en')", "a blob is no text"),
+    ("legumeyet_read('1,2M', 'en', 'compact-short')", "'1,2M'"), ("legumeyet_read('12E6', 'en', 'scientific')", "'12E6'"), ("legumeyet_read_or_null('1', 'e')", "'e'"), ("legumeyet_read(x'31', 'en')", "a blob is no text"),
     ("legumeyet_format(1, replace(hex(zeroblob(200)), '0', 'é'))", "é'"), ("legumeyet_format(1)", "wrong number of arguments"),
 ]
 NULLS = [

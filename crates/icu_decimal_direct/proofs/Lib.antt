@@ -7,3 +7,4 @@ pub mod ShownLemmas
 pub mod TextLemmas
 pub mod UnitLemmas
 pub mod Utf8Lemmas
+pub mod ZerosLemmas

@@ -35,7 +35,7 @@ ascii_at d below = eqb-true (slice_index ascii d) (48 + d) (agree_below_at (λ k
 pub ascii_run : (table : List ℕ) → table ≡ ascii → IsRun 48 table
 ascii_run table is = subst (IsRun 48) (sym is) (run_is 48 ascii (omega arith) ascii_at)
 
-own_byte : (c : ℕ) → digit_value c < 10 → 48 + digit_value c ≡ c
+pub own_byte : (c : ℕ) → digit_value c < 10 → 48 + digit_value c ≡ c
 own_byte c h = omega (arith, digit_value_digit c (digit_from_value c h))
 
 pub bytes_are : (bytes : List ℕ) → AreDigits bytes → chained (map (run_text 48) (map digit_value bytes)) ≡ bytes

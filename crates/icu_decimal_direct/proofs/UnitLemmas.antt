@@ -7,7 +7,7 @@ use Rattle.std.specs.Char.{digit_value}
 use Rattle.fixed_decimal.specs.NumberText.{AreDigits, spelled}
 use Rattle.fixed_decimal.specs.declared.Sign.{Sign}
 use Rattle.fixed_decimal.specs.declared.Sign.TheVariants.{None as NoSign, Negative, Positive}
-use Rattle.icu_decimal_plain.specs.PlainText.{Tables, unsigned_text, whole_text}
+use Rattle.icu_decimal_plain.specs.PlainText.{Tables, decimal_text, unsigned_text, whole_text}
 use Rattle.icu_decimal_direct.specs.Direct.{AreHeld}
 use Rattle.icu_decimal_direct.specs.FewDigits.{AreFewDigits, plain_number}
 use Rattle.icu_decimal_direct.specs.UnitTexts.{shown_down, text_for}
@@ -17,7 +17,7 @@ use Rattle.icu_decimal_direct.specs.declared.text_tables.Direct.{Direct}
 use Rattle.icu_decimal_direct.proofs.OperandsLemmas.{spelled_joined}
 use Rattle.icu_decimal_direct.proofs.ShownLemmas.{digits_both, digits_told, told_digits}
 use Rattle.icu_decimal_direct.proofs.TextLemmas.{put_both, put_whole}
-use Rattle.icu_decimal_direct.proofs.Utf8Lemmas.{utf8_between}
+use Rattle.icu_decimal_direct.proofs.Utf8Lemmas.{utf8_between, utf8_decimal}
 
 -- ---- zeros
 
@@ -101,6 +101,13 @@ pub utf8_shown : (t : Tables) (d : Direct) (sign : Sign) (integer fraction befor
 utf8_shown t d sign integer fraction before behind least held h few first last =
     subst (λ v. IsUtf8 (before ++ (unsigned_text t v ++ behind))) (shown_is sign integer fraction least h few)
     (utf8_between t d integer (fraction ++ replicate (least - length fraction) 48) before behind held (few_shown integer fraction least h few) first last)
+
+-- between the affixes of its sign alone
+pub utf8_down : (t : Tables) (d : Direct) (sign : Sign) (integer fraction : List ℕ) (least : ℕ) → AreHeld d t → AreFewDigits integer fraction → least ≤ 32
+    → IsUtf8 (decimal_text t (shown_down least (record { sign = sign; absolute = plain_number integer fraction })))
+utf8_down t d sign integer fraction least held h few =
+    subst (λ v. IsUtf8 (decimal_text t (record { sign = sign; absolute = v }))) (shown_is sign integer fraction least h few)
+    (utf8_decimal t d sign integer (fraction ++ replicate (least - length fraction) 48) held (few_shown integer fraction least h few))
 
 texts_utf8 : (a b c : List ℕ) (sign : Sign) → IsUtf8 a → IsUtf8 b → IsUtf8 c → IsUtf8 (text_for (record { none = a; minus = b; plus = c }) sign)
 texts_utf8 a b c NoSign p q r = p

@@ -14,11 +14,14 @@
 
 mod appending;
 mod choosing;
+mod leading_zeros;
 mod operands;
 mod putting;
 mod reading;
 mod short_putting;
 mod short_text;
+mod shown_putting;
+mod sign_choice;
 mod text_digits;
 mod text_tables;
 mod unit_choosing;

@@ -19,7 +19,7 @@ const ZEROS: &[u8; 32] = b"00000000000000000000000000000000";
 // Puts a number without its sign, with so many fraction digits at least, after the first `len` bytes, and returns how many
 // bytes there are then.
 #[inline(always)]
-fn put_shown<const N: usize>(
+pub(crate) fn put_shown<const N: usize>(
     out: &mut [u8; N],
     len: usize,
     tables: &TextTables<'_>,

@@ -265,7 +265,7 @@ carried_is_normal notation n is carry =
 
 -- ---- not changed
 
-normal_exponent : (notation : ScientificNotation) (n : Number) (e : ℤ) → IsNumber n → IsNormal notation n.count e → IsExponent notation n.count (pos 0)
+pub normal_exponent : (notation : ScientificNotation) (n : Number) (e : ℤ) → IsNumber n → IsNormal notation n.count e → IsExponent notation n.count (pos 0)
 normal_exponent notation n e is (inl z) = record { zero = λ _. refl; some = λ p f. absurd (no_first n.count p z.0 f) }
 normal_exponent notation n e is (inr some) = record {
   zero = λ _. refl;

@@ -25,6 +25,10 @@ signed = record { sign = shows.Always; least_digits = 0 }
 million : Number
 million = record { count = 12 * 10 ^ 32773; low = 32768; high = 32774 }
 
+-- 1000000
+rounded : Number
+rounded = record { count = 10 ^ 32774; low = 32768; high = 32774 }
+
 -- 12000
 thousand : Number
 thousand = record { count = 12 * 10 ^ 32771; low = 32768; high = 32772 }
@@ -40,6 +44,11 @@ thousandth = record { count = 12 * 10 ^ 32764; low = 32764; high = 32768 }
 zeros_shown : scientific_reading (english (codes "E")) Scientific as_usual (codes "1.20E6") ≡ decimal (record { sign = NoSign; absolute = million })
 unfolding million chars holding lib.Utf8.encode
 zeros_shown = refl
+
+-- to which 999999 is rounded with three significant digits
+zeros_rounded : scientific_reading (english (codes "E")) Scientific as_usual (codes "1.00E6") ≡ decimal (record { sign = NoSign; absolute = rounded })
+unfolding rounded chars holding lib.Utf8.encode
+zeros_rounded = refl
 
 below_one : scientific_reading (english (codes "E")) Scientific as_usual (codes "-1.2E-3") ≡ decimal (record { sign = Negative; absolute = thousandth })
 unfolding thousandth chars holding lib.Utf8.encode

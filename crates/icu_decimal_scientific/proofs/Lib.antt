@@ -1,6 +1,7 @@
 mod KnownCarry
 mod KnownProducts
 mod KnownReadings
+mod KnownShown
 mod KnownTexts
 pub mod KnownValues
 pub mod BareLemmas
@@ -20,4 +21,5 @@ pub mod ScientificReadingsLemmas
 pub mod ScientificTextLemmas
 pub mod ShownExponentLemmas
 pub mod ShownFormLemmas
+pub mod ShownLawLemmas
 pub mod SidesLemmas

@@ -30,7 +30,7 @@ use Rattle.icu_decimal_scientific.proofs.ShownExponentLemmas.{one_highest, too_m
 
 -- ---- the exponent of a decimal
 
-step_small : (notation : ScientificNotation) → step notation ≤ 3
+pub step_small : (notation : ScientificNotation) → step notation ≤ 3
 step_small Scientific = omega arith
 step_small Engineering = omega arith
 

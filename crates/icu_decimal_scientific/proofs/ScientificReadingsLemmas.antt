@@ -253,11 +253,11 @@ form_reads_back s notation o form v are readable number f =
       },
     ))
 
-shown_so : (o : ExponentOptions) (form : ScientificParts) → IsShownAs o form (shown_as o form)
+pub shown_so : (o : ExponentOptions) (form : ScientificParts) → IsShownAs o form (shown_as o form)
 shown_so o form = record { significand = refl; exponent = (shown_exponent_is_function o form.exponent (shown_exponent o form.exponent)).1 refl }
 
 -- an exponent with so few digits is a number
-shown_number : (o : ExponentOptions) (e : ℤ) (v : SignedValue Number) → IsShownExponent o e v → o.least_digits < 256 → size_of e < 100000 → IsNumber v.absolute
+pub shown_number : (o : ExponentOptions) (e : ℤ) (v : SignedValue Number) → IsShownExponent o e v → o.least_digits < 256 → size_of e < 100000 → IsNumber v.absolute
 shown_number o e v shown few small = record {
   low = let low = shown.low in omega (arith, low);
   ones = shown.high.keeps;

@@ -12,5 +12,6 @@ pub mod ScientificReading
 pub mod ScientificReadings
 pub mod ScientificReadingsLaws
 pub mod ScientificTextLaws
+pub mod ShownLaws
 pub mod ShownNumbers
 pub mod Steps

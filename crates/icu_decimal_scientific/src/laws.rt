@@ -3,6 +3,7 @@ ghost use Rattle.icu_decimal_scientific.specs.CarryLaws.{BeyondIsBelow, CarriedI
 ghost use Rattle.icu_decimal_scientific.specs.NotationLaws.{DecimalHasFormText, DecimalIsReadBack, FormHasProduct, FormIsWrittenAgain, OneProduct, ProductIsTheNumber, TextHasOneForm};
 ghost use Rattle.icu_decimal_scientific.specs.ScientificLaws.{BeyondHasNoForm, FormIsNormal, FormIsTheNumber, NormalFormIsTheForm, OneForm, OneNumber};
 ghost use Rattle.icu_decimal_scientific.specs.ScientificReadingsLaws.{DecimalReadsBack, FormReadsBack, HasOneDecimalReading, ProductIsFunction, ProductIsTested, ReadFormIsWrittenAgain, ReadIsDecimal};
+ghost use Rattle.icu_decimal_scientific.specs.ShownLaws.{NormalIsShown, NormalReadsBack, ShownIsNormal, ShownReadsBack, WithinIsDecimal};
 ghost use Rattle.icu_decimal_scientific.specs.ScientificTextLaws.{HasOneScientificReading, ReadIsWrittenAgain, ScientificIsText, TextsHaveOneNumber, TextsHaveOneValue, WrittenIsReadBack};
 
 /// A law: the significand times ten to the exponent is the number. 1.2 and 6 are the form of 1200000 alone, whatever
@@ -112,4 +113,16 @@ pub fn decimal_trips()
     ensures back { DecimalReadsBack }
     ensures decimal { ReadIsDecimal }
     ensures again { ReadFormIsWrittenAgain }
+{}
+
+/// A law: what is shown of a number whose significand is changed is normal, where the change keeps to the significands of
+/// the notation, as each rounding to significant digits does. The text of what is normal, and within the places of decimals,
+/// is read as the value shown. In English with `E` 999999 is `1.00E6` with three digits, and this is read as 1000000; 9.99
+/// and 32767 are `1.0E32768` with two digits, which is no decimal.
+pub fn shown_is_read_back()
+    ensures normal { ShownIsNormal }
+    ensures within { WithinIsDecimal }
+    ensures shown { NormalIsShown }
+    ensures any { NormalReadsBack }
+    ensures back { ShownReadsBack }
 {}

@@ -243,14 +243,27 @@ fn act_asked<W: Write>(
     }
 }
 
-// Why texts are not read beside such numbers, where some are to be read.
-fn reading_fault(matches: &ArgMatches<'_>, numbers: &NumbersAsked) -> Option<OptionFault> {
-    if matches.get_strs("read").is_none() && matches.get_strs("read-exact").is_none() {
+// Why the texts of an option are not read beside such numbers, where it is given.
+fn reading_fault_of(
+    matches: &ArgMatches<'_>,
+    numbers: &NumbersAsked,
+    option: &str,
+    task: Task,
+) -> Option<OptionFault> {
+    if matches.get_strs(option).is_none() {
         return None;
     }
-    match numbers.reading(Task::Read) {
+    match numbers.reading(task) {
         Ok(_) => None,
         Err(fault) => Some(fault),
+    }
+}
+
+// Why texts are not read beside such numbers, where some are to be read.
+fn reading_fault(matches: &ArgMatches<'_>, numbers: &NumbersAsked) -> Option<OptionFault> {
+    match reading_fault_of(matches, numbers, "read", Task::ReadLenient) {
+        Some(fault) => Some(fault),
+        None => reading_fault_of(matches, numbers, "read-exact", Task::Read),
     }
 }
 

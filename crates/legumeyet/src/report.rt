@@ -241,7 +241,7 @@ fn tell_form(rt: &HostRuntime, words: &NumberWords<'_>, option: &str, why: &str)
 }
 
 /// Why scientific texts are refused.
-pub const UNREAD: &str = "texts in scientific notation are not read yet";
+pub const UNREAD: &str = "texts in scientific notation are not read as people type them";
 
 const COARSE: &str =
     "significands are rounded left of the point only with a mode, as in 2,half-even; --digits 2 shows two digits after it";
@@ -328,7 +328,7 @@ pub fn tell_option(rt: &HostRuntime, words: &NumberWords<'_>, fault: OptionFault
         OptionFault::Coarse => tell_word(rt, "--round", words.chosen.round, COARSE),
         OptionFault::Scientific => {
             let option = name_of_notation(words);
-            let _ = eprintln!(rt; "error: {option} takes no --read and no --read-exact: {UNREAD}");
+            let _ = eprintln!(rt; "error: {option} takes no --read, but --read-exact: {UNREAD}");
         }
         OptionFault::Categories => tell_form(
             rt,

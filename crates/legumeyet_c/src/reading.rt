@@ -135,12 +135,12 @@ fn ready_after<R: FormatReading>(alloc: Global, formatter: &mut Handle)
 }
 
 /// Reads a text back as the one number that the formatter writes so, and writes it as digits: in English `-1,234.50` as
-/// `-1234.50`, and with euros `-€1,234.50` too. How many digits the currency has is not looked at: `€1.5` is 1.5.
+/// `-1234.50`, and with euros `-€1,234.50` too. How many digits the currency has is not looked at: `€1.5` is 1.5. In
+/// scientific notation `1.20E6` is 1200000, however many digits the formatter shows.
 ///
 /// Returns 0; 2, the handle is closed; 10, the text is not UTF-8; 11, two numbers may have one text under the tables, and
-/// of every text where the formatter writes compact or scientific numbers; 12, no number is written so, as `98,7654`; 1,
-/// out of memory, which a text with sixteen digits at most never takes where the formatter has no unit; 3, the digits need
-/// more room.
+/// of every text where the formatter writes compact numbers; 12, no number is written so, as `98,7654`; 1, out of memory,
+/// which a text with sixteen digits at most never takes where the formatter has no unit; 3, the digits need more room.
 #[unsafe(no_mangle)]
 pub extern "C" fn legumeyet_formatter_read(
     alloc: Global,
@@ -165,7 +165,7 @@ pub extern "C" fn legumeyet_formatter_read(
 /// digits are not those of ASCII, a text in these is read too, by the tables that the book has for them.
 ///
 /// Returns as `legumeyet_formatter_read`; 11 also where the tables are not readable once they are folded and the text is
-/// not the formatter's own; 1 also where it is not.
+/// not the formatter's own, and of every text where the formatter writes scientific numbers; 1 also where it is not.
 #[unsafe(no_mangle)]
 pub extern "C" fn legumeyet_formatter_read_lenient(
     alloc: Global,

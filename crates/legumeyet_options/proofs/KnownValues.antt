@@ -28,7 +28,7 @@ use Rattle.locale_numbers_formats.specs.declared.SkeletonError.TheVariants as sk
 use Rattle.locale_numbers_formats.specs.declared.TrailingZeros.{TrailingZeros}
 use Rattle.locale_numbers_formats.specs.declared.TrailingZeros.TheVariants.{Keep, Trim}
 use Rattle.locale_numbers_requests.specs.declared.Task.{Task}
-use Rattle.locale_numbers_requests.specs.declared.Task.TheVariants.{Write, Read, Category}
+use Rattle.locale_numbers_requests.specs.declared.Task.TheVariants.{Write, Read, ReadLenient, Category}
 use Rattle.legumeyet_options.specs.Digits.{DigitsSaid, is_coarse, options_by, round_said}
 use Rattle.legumeyet_options.specs.NumberWords.{NumbersSaid, numbers_asked, reading_asked}
 use Rattle.legumeyet_options.specs.declared.fault.OptionFault.TheVariants as fault
@@ -212,9 +212,13 @@ plural_of_scientific : numbers_asked (record (scientific_with no_digits) { rule_
     ≡ Ok (record (scientific notation.Scientific (options_by Usual Keep (pos 0))) { task = Category Cardinal })
 plural_of_scientific = refl
 
--- no text of theirs is read yet; beside compact numbers plain ones are
-scientific_reading : reading_asked Read (scientific notation.Scientific (options_by Usual Keep (pos 0))) ≡ Err fault.Scientific
+-- their texts are read as a program wrote them, and not as people type them; beside compact numbers plain ones are read
+scientific_reading : reading_asked Read (scientific notation.Scientific (options_by Usual Keep (pos 0)))
+    ≡ Ok (record (scientific notation.Scientific (options_by Usual Keep (pos 0))) { task = Read })
 scientific_reading = refl
+
+scientific_typed : reading_asked ReadLenient (scientific notation.Scientific (options_by Usual Keep (pos 0))) ≡ Err fault.Scientific
+scientific_typed = refl
 
 compact_reading : reading_asked Read (short (Compact Short) (options_by Usual Keep (pos 0))) ≡ Ok (record (written unit.None Usual Keep 0 false) { task = Read })
 compact_reading = refl

@@ -187,12 +187,20 @@ plain_reading task format = record {
   is_coarse = false;
 }
 
--- of scientific ones none is read yet
+-- in scientific notation as a program wrote them, with the same exponents
+abbrev pub exact_reading : Task → NumberFormat → Result NumbersAsked OptionFault
+exact_reading Read format = Ok (record { task = Read; format = format_read format; is_coarse = false })
+exact_reading ReadLenient format = Err fault.Scientific
+exact_reading Write format = Err fault.Scientific
+exact_reading WriteExact format = Err fault.Scientific
+exact_reading (Category rule_type) format = Err fault.Scientific
+exact_reading RangeCategory format = Err fault.Scientific
+
 abbrev pub reading_in : Notation → Task → NumberFormat → Result NumbersAsked OptionFault
 reading_in Standard task format = Ok (plain_reading task format)
 reading_in (Compact width) task format = Ok (plain_reading task format)
 reading_in (CompactDigits width options) task format = Ok (plain_reading task format)
-reading_in (Scientific style options) task format = Err fault.Scientific
+reading_in (Scientific style options) task format = exact_reading task format
 
 abbrev pub reading_asked : Task → NumbersAsked → Result NumbersAsked OptionFault
 reading_asked task asked = reading_in asked.format.shape.notation task asked.format

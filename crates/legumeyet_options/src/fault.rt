@@ -41,7 +41,7 @@ pub enum OptionFault {
     DigitsOfRead,
     /// `--round` rounds significands left of the point, without a mode.
     Coarse,
-    /// No text in scientific notation is read yet.
+    /// What people type is not read in scientific notation.
     Scientific,
     /// `--plural` or `--ordinal` beside an exact form or a number that is read.
     Categories,

@@ -41,8 +41,8 @@ Reading:
   --read takes what people type: with all separators between groups or with none, with spaces around
   it, with the digits of the locale or, where the locale has others, 0 to 9. Nothing is guessed: 1.23
   is no number under de. --read-exact takes a text only as it is written under the tag and the
-  grouping, so that each number has one text: for texts that a program wrote. Texts in scientific
-  notation are not read yet.
+  grouping, so that each number has one text: for texts that a program wrote. In scientific notation
+  only --read-exact reads.
 
 Money and percents:
   --currency EUR writes an amount: 1.234,50 € under de. The code is three capitals; one that the book

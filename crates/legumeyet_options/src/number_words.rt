@@ -2,7 +2,7 @@
 
 ghost use Rattle.std.specs.Prelude.{◌≡◌, option_map};
 ghost use Rattle.locale_numbers_formats.specs.Skeletons.{skeleton_of};
-ghost use Rattle.legumeyet_options.specs.NumberWords.{after, asked_by, asked_for, categories_asked, first_fault, form_asked, grouping_asked, is_coarse_round, notation_asked, numbers_asked, numbers_said, percent_unit, plain_reading, reading_asked, sign_asked, significand_fault, skeleton_asked, task_fault, unit_asked, words_asked};
+ghost use Rattle.legumeyet_options.specs.NumberWords.{after, asked_by, asked_for, categories_asked, exact_reading, first_fault, form_asked, grouping_asked, is_coarse_round, notation_asked, numbers_asked, numbers_said, percent_unit, plain_reading, reading_asked, sign_asked, significand_fault, skeleton_asked, task_fault, unit_asked, words_asked};
 
 use crate::digits::{DigitWords, is_coarse};
 use crate::fault::OptionFault;
@@ -62,7 +62,7 @@ impl NumbersAsked {
     /// patterns and without a rounding, but that an amount has the digits of its currency where it is written so. It does
     /// not allocate.
     ///
-    /// `Scientific`: the numbers are written in scientific notation, and no text in it is read yet.
+    /// `Scientific`: the numbers are written in scientific notation, in which texts are read only by the task `Read`.
     pub fn reading(&self, task: Task) -> Result<NumbersAsked, OptionFault>
         ensures value { result ≡ reading_asked task self.now }
     {
@@ -70,7 +70,7 @@ impl NumbersAsked {
             Notation::Standard | Notation::Compact(_) | Notation::CompactDigits(_, _) => {
                 Ok(plain_reading(task, self.format))
             }
-            Notation::Scientific(_, _) => Err(OptionFault::Scientific),
+            Notation::Scientific(_, _) => exact_reading(task, self.format),
         }
     }
 
@@ -91,6 +91,24 @@ impl NumbersAsked {
             | Task::Category(_)
             | Task::RangeCategory => Err(OptionFault::Categories),
         }
+    }
+}
+
+// What is asked of texts in scientific notation that are read beside numbers of a format.
+fn exact_reading(task: Task, format: NumberFormat) -> Result<NumbersAsked, OptionFault>
+    ensures { result ≡ exact_reading task format }
+{
+    match task {
+        Task::Read => Ok(NumbersAsked {
+            task,
+            format: format_read(format),
+            is_coarse: false,
+        }),
+        Task::Write
+        | Task::WriteExact
+        | Task::ReadLenient
+        | Task::Category(_)
+        | Task::RangeCategory => Err(OptionFault::Scientific),
     }
 }
 

@@ -1,5 +1,5 @@
 -- The digits of a text are of the number that the text is read as, which some formats leave as it is given, but for the digits of a currency.
-use Rattle.std.proofs.Common.{◌≡◌, ◌≤◌, ◌&&◌, ℕ, ℤ, Bool, List, Option, None, Some, IfSome, Result, Ok, Err, true, refl, sym, ap, ◌∙◌, arith}
+use Rattle.std.proofs.Common.{◌≡◌, ◌-◌, ◌≤◌, ◌&&◌, ℕ, ℤ, Bool, List, Option, None, Some, IfSome, Result, Ok, Err, true, refl, sym, ap, ◌∙◌, arith}
 use Rattle.std.proofs.lemmas.Bool.{and_parts}
 use Rattle.std.proofs.lemmas.Bool.Decides.{nat_tests}
 use Rattle.std.specs.Prelude.{if◌then◌else◌, neg_ℤ}
@@ -15,9 +15,11 @@ use Rattle.icu_dimension_fractions.specs.Fractions.{fraction_for}
 use Rattle.icu_dimension_fractions.specs.declared.CurrencyUsage.TheVariants as usage
 use Rattle.icu_dimension_fractions.specs.declared.FractionInfo.{FractionInfo}
 use Rattle.locale_numbers_answers.specs.Answers.{written_found, written_to}
+use Rattle.locale_numbers_answers.specs.DigitChange.{ChangesSo, digits_changed}
 use Rattle.locale_numbers_answers.specs.NumberAnswer.{number_answer}
 use Rattle.locale_numbers_answers.specs.NumberReading.{number, reading_of}
 use Rattle.locale_numbers_answers.specs.UnitFractions.{has_digits_of}
+use Rattle.locale_numbers_answers.specs.declared.DigitChange.{DigitChange}
 use Rattle.locale_numbers_answers.proofs.NumberBounds.{amount_is_decimal, reading_is_decimal}
 use Rattle.locale_numbers_answers.proofs.NumberReadingLemmas.{signed_number}
 use Rattle.locale_numbers_answers.proofs.TextLemmas.{number_is_text}
@@ -242,3 +244,13 @@ plain_so format tables is options value usual =
 pub unit_so : (format : FormatTables) (u : UnitTexts) → has_digits_of (fractions_in format) u ≡ true → (options : NumberOptions) (value : SignedValue Number) (text : List ℕ) → reading_of text ≡ number value
     → IsShownBy u value → changed options (fractions_in format) value ≡ as_usual format value → changed options (fractions_in format) value ≡ shown_down u.least value
 unit_so format u digits options value text reads shown usual = usual ∙ put_so (fractions_in format) u digits value (reading_is_decimal text value reads) shown
+
+-- ---- options that round no digit away
+
+-- a number that plain tables write is answered as it is put
+pub plain_changed : (format : FormatTables) (t : Tables) → format ≡ plain_tables t → (options : NumberOptions) (change : DigitChange) → ChangesSo options change
+    → (text : List ℕ) (value : SignedValue Number) → reading_of text ≡ number value → 32768 - change.most ≤ value.absolute.low
+    → number_answer format (changed options (fractions_in format) value) ≡ number_answer (plain_tables t) (digits_changed change value)
+plain_changed format t is options change so text value reads shows =
+    ap (λ (f : FormatTables). number_answer f (changed options (fractions_in f) value)) is
+    ∙ ap (number_answer (plain_tables t)) (so.same value (reading_is_decimal text value reads) shows)

@@ -8,7 +8,6 @@ use Rattle.icu_decimal_direct.specs.TextTables.{text_tables}
 use Rattle.icu_decimal_direct.specs.HeldUnits.{unit_texts}
 use Rattle.icu_decimal_direct.specs.declared.text_tables.TextTables.{TextTables}
 use Rattle.icu_decimal_direct.specs.declared.unit_text_tables.UnitTextTables.{UnitTextTables}
-use Rattle.icu_dimension.specs.UnitReading.{ReaderTexts}
 use Rattle.icu_locale_core.specs.TagPreferences.{Preferences}
 use Rattle.icu_plurals.specs.declared.PluralRange.{PluralRange}
 use Rattle.icu_plurals.specs.declared.PluralRuleType.{PluralRuleType}
@@ -17,7 +16,7 @@ use Rattle.locale_numbers_answers.specs.UnitFractions.{has_digits_of}
 use Rattle.locale_numbers_book.specs.Book.{BookTables}
 use Rattle.locale_numbers_book.specs.FoundFormats.{found_for, second_for}
 use Rattle.locale_numbers_book.specs.FoundRules.{plural_rules_for}
-use Rattle.locale_numbers_formatter.specs.FormatReading.{reader_of}
+use Rattle.locale_numbers_formatter.specs.FormatReading.{FormatReader, reader_of, reads_between}
 use Rattle.locale_numbers_formatter.specs.FormatText.{FormatTables, fractions_in, plain_tables}
 use Rattle.locale_numbers.specs.FormatterKeys.{finds_rules, rules_for}
 use Rattle.locale_numbers.specs.declared.formatter_key.FormatterKey.{FormatterKey}
@@ -48,13 +47,13 @@ KnowsTexts format texts = IfSome texts (λ known. format ≡ plain_tables (text_
 
 -- what texts with a unit are put with, where that is known: the affixes that are read, and the digits of the currency
 abbrev pub KnowsAffixes : FormatTables → Option UnitTextTables → Type 0
-KnowsAffixes format texts = IfSome texts (λ known. reader_of format ≡ Some (texts_read (unit_texts known)))
+KnowsAffixes format texts = IfSome texts (λ known. reader_of format ≡ Some (reads_between (texts_read (unit_texts known))))
 
 abbrev pub KnowsDigits : FormatTables → Option UnitTextTables → Type 0
 KnowsDigits format texts = IfSome texts (λ known. has_digits_of (fractions_in format) (unit_texts known) ≡ true)
 
 -- what reads, where that is known, reads what is written
-abbrev pub KnowsReader : FormatTables → Option (Option ReaderTexts) → Type 0
+abbrev pub KnowsReader : FormatTables → Option (Option FormatReader) → Type 0
 KnowsReader format reader = IfSome reader (λ known. known ≡ reader_of format)
 
 -- the rules that a book has, where some are needed

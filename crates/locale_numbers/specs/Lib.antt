@@ -92,12 +92,15 @@ pub use Rattle.locale_numbers_requests.specs.UnitWord
 -- Of the inner crates: formats, and what numbers of each are written and read with.
 pub use Rattle.locale_numbers_formats.specs.AmountRounding
 pub use Rattle.locale_numbers_formats.specs.Changed
+pub use Rattle.locale_numbers_formats.specs.ExponentWords
 pub use Rattle.locale_numbers_formats.specs.IncrementWords
 pub use Rattle.locale_numbers_formats.specs.Marks
 pub use Rattle.locale_numbers_formats.specs.Rounded
+pub use Rattle.locale_numbers_formats.specs.Runs
 pub use Rattle.locale_numbers_formats.specs.SkeletonErrors
 pub use Rattle.locale_numbers_formats.specs.SkeletonFormats
 pub use Rattle.locale_numbers_formats.specs.Skeletons
+pub use Rattle.locale_numbers_formats.specs.StemTable
 pub use Rattle.locale_numbers_formats.specs.Stems
 pub use Rattle.locale_numbers_formats.specs.WordTable
 pub use Rattle.locale_numbers_formatter.specs.CompactDigits

@@ -43,7 +43,7 @@ pub(crate) fn cut_text(line: &[u8]) -> (&[u8], &[u8])
 }
 
 // Whether numbers of a notation are written with all their digits.
-fn is_standard(notation: Notation) -> bool
+pub(crate) fn is_standard(notation: Notation) -> bool
     ensures { result ≡ is_standard notation }
 {
     match notation {

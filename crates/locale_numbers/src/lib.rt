@@ -17,6 +17,7 @@ mod answering;
 mod answers;
 mod cached_formatters;
 mod category_line;
+mod changed_line;
 mod exact_line;
 mod fault;
 mod formatter_key;

@@ -14,21 +14,21 @@ ghost use Rattle.locale_numbers_answers.specs.NumberReading.{number, reading_of}
 ghost use Rattle.locale_numbers_answers.specs.UnitAnswer.{texts_read};
 ghost use Rattle.locale_numbers_answers.specs.UnitFractions.{has_digits_of};
 ghost use Rattle.locale_numbers_formats.specs.Changed.{MayGrowBy, changed};
-ghost use Rattle.locale_numbers_formatter.specs.FormatReading.{reader_of};
+ghost use Rattle.locale_numbers_formatter.specs.FormatReading.{reader_of, reads_between};
 ghost use Rattle.locale_numbers_formatter.specs.FormatText.{MayLengthen, fractions_in};
 ghost use Rattle.locale_numbers.specs.FormatterKeys.{key_text, rules_for};
 ghost use Rattle.locale_numbers.specs.Front.{as_usual, if_text, is_as_it_is, key_if_text};
 ghost use Rattle.locale_numbers.specs.KeptFormatters.{StillKeeps, found_by};
 ghost use Rattle.locale_numbers.specs.declared.formatter_key.FormatterKey.{FormatterKey};
 
+use crate::changed_line::answer_other_number;
 use crate::formatter_key::FormatterKey;
 use crate::formatters::Formatters;
 use crate::kept_formatter::KeptFormatter;
 use fixed_decimal::{Decimal, ParseError};
 use icu_decimal_direct::{TextDigits, UnitTextTables};
 use locale_numbers_answers::{
-    read_number, write_digits_answer, write_number_answer, write_refusal, write_refusal_or_shape,
-    write_unit_digits_answer,
+    read_number, write_digits_answer, write_number_answer, write_refusal, write_unit_digits_answer,
 };
 use locale_numbers_cache::Hashed;
 use locale_numbers_formats::NumberOptions;
@@ -58,7 +58,7 @@ fn write_by_formatter(
 
 // Writes the answer to a number, changed by the options, by the formatter of a key, after what `out` holds; or the word
 // `table`, where it has none.
-fn write_by_key<'a, F: Formatters<'a>>(
+pub(crate) fn write_by_key<'a, F: Formatters<'a>>(
     formatters: &mut F,
     key: &Hashed<FormatterKey>,
     options: NumberOptions,
@@ -92,7 +92,7 @@ fn write_by_key<'a, F: Formatters<'a>>(
 
 // Writes the answer to the number of a text with these digits, changed by the options, by a formatter, after what `out`
 // holds: `value` is read again.
-fn write_digits_read(
+pub(crate) fn write_digits_read(
     kept: &KeptFormatter<'_>,
     options: NumberOptions,
     value: &mut Decimal,
@@ -123,7 +123,7 @@ fn unit_tables_for<'l, 'a>(
     digits: &TextDigits<'_>,
 ) -> Option<&'l UnitTextTables<'a>>
     ensures known { IfSome result (λ tables.
-        reader_of kept.now.formatter ≡ Some (texts_read (unit_texts tables.now))) }
+        reader_of kept.now.formatter ≡ Some (reads_between (texts_read (unit_texts tables.now)))) }
     ensures digits { IfSome result (λ tables.
         has_digits_of (fractions_in kept.now.formatter) (unit_texts tables.now) ≡ true) }
     ensures shown { IfSome result (λ tables. IsShownBy (unit_texts tables.now) (number_spelled digits.now)) }
@@ -283,10 +283,5 @@ pub(crate) fn answer_number<'a, F: Formatters<'a>>(
     if let Some(digits) = digits_as_they_are(is_as_given, text) {
         return answer_digits(value, formatters, key, options, text, &digits, out);
     }
-    match read_number(value, text) {
-        Ok(()) => write_by_key(formatters, key, options, value, out),
-        Err(ParseError::Syntax) => write_refusal_or_shape(out, text, Refusal::Number),
-        Err(ParseError::Limit) => write_refusal(out, Refusal::Limit),
-        Err(ParseError::Memory) => Err(AllocError),
-    }
+    answer_other_number(value, formatters, key, options, text, out)
 }

@@ -1,6 +1,7 @@
 -- Known values of scientific formats: answers under English tables.
 use Rattle.std.proofs.Common.{◌≡◌, List, ◌∷◌, ◌++◌, codes, ◌+◌, ◌%◌, ◌^◌, ◌==◌, cond, Option, Ok, refl, sym, ap, subst, lit≤}
 use Rattle.std.specs.Prelude.{pos}
+use Rattle.std.specs.Str.{chars}
 use Rattle.fixed_decimal.specs.CompactText.{CompactValue}
 use Rattle.fixed_decimal.specs.Number.{IsNumber, Number}
 use Rattle.fixed_decimal.specs.Shifts.{rise}
@@ -63,14 +64,21 @@ no_form =
     ap (λ e. cond ((10 ^ 32769 + 1) % 10 ^ rise e == 0) (written (text_and_value (scientific_tables english) (record { sign = NoSign; absolute = ten_and_least }))) (refused refusal.Range))
     (sym (exponent_known Scientific ten_and_least (pos 1) is_number exponent_is))
 
--- no exponent is given for it, and no text is read
+-- no exponent is given for it, and no typed text is read
 module _ (s : ScientificFormat) where
   no_exact_form : (form : CompactValue) → exact_answer (scientific_tables s) form ≡ codes "err" ++ tab ∷ codes "exponent"
   no_exact_form form = refl
 
   module _ (format : NumberFormat) (second : FormatTables → Option FormatTables) (rules : PluralRuleType → Option (Rules × List PluralRange)) where
-    text_read : answer_by task.Read format (Ok (scientific_tables s)) second rules (codes "1E6") ≡ codes "err" ++ tab ∷ codes "unreadable"
-    text_read = refl
-
     text_typed : answer_by task.ReadLenient format (Ok (scientific_tables s)) second rules (codes "1E6") ≡ codes "err" ++ tab ∷ codes "unreadable"
     text_typed = refl
+
+-- a text is read where it is written so
+module _ (format : NumberFormat) (second : FormatTables → Option FormatTables) (rules : PluralRuleType → Option (Rules × List PluralRange)) where
+  text_read : answer_by task.Read format (Ok (scientific_tables english)) second rules (codes "1.2E6") ≡ codes "ok" ++ tab ∷ codes "1200000"
+  unfolding chars bare ending exponent_in holding lib.Utf8.encode
+  text_read = refl
+
+  small_mark : answer_by task.Read format (Ok (scientific_tables english)) second rules (codes "1.2e6") ≡ codes "err" ++ tab ∷ codes "not-written"
+  unfolding chars bare ending exponent_in holding lib.Utf8.encode
+  small_mark = refl

@@ -2,6 +2,7 @@ pub mod AmountLemmas
 pub mod AnswerLineLemmas
 pub mod CompactAnswerLemmas
 pub mod CompactReadingLemmas
+pub mod DigitChangeLemmas
 pub mod ExponentLemmas
 mod KnownCategories
 pub mod KnownCompactAnswers

@@ -24,7 +24,7 @@ use Rattle.locale_numbers_formats.proofs.ChangedLemmas.{same_fields, whole_below
 use Rattle.locale_numbers_answers.specs.UnitFractions.{has_digits_of, is_one}
 
 -- a count that is shown within the places is below the limit
-under_limit : (n k : ℕ) → n < 10 ^ k → k ≤ 65536 → n < count_limit
+pub under_limit : (n k : ℕ) → n < 10 ^ k → k ≤ 65536 → n < count_limit
 unfolding count_limit
 under_limit n k less most = lt_of_lt_of_le less (pow-le-pow_right {n = 10} (omega arith) {i = k} {j = 65536} most)
 
@@ -59,7 +59,7 @@ amount_put : (f : Fraction) (v : SignedValue Number) → IsNumber v.absolute →
 amount_put f v is one shows = sym (amount_is f v (shown_down f.digits v) (record { sign = refl; size = put_size f v.absolute is one shows }))
 
 -- no digits at least change nothing
-as_it_is : (v : SignedValue Number) → IsNumber v.absolute → shown_down 0 v ≡ v
+pub as_it_is : (v : SignedValue Number) → IsNumber v.absolute → shown_down 0 v ≡ v
 as_it_is v is =
     let low = is.low in
     ap (λ (n : Number). record { sign = v.sign; absolute = n })

@@ -3,6 +3,7 @@ pub mod AnswerLine
 pub mod NumberAnswer
 pub mod UnitAnswer
 pub mod UnitFractions
+pub mod DigitChange
 pub mod ReadAnswer
 pub mod CategoryAnswer
 pub mod Answers

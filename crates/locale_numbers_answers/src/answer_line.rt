@@ -1,9 +1,9 @@
 //! The two kinds of answer.
 
-ghost use Rattle.std.specs.Prelude.{◌≡◌, true, ◌≤◌, ◌++◌, is_some, IsOk, OnOk, OnErr, string_bytes, string_capacity};
+ghost use Rattle.std.specs.Prelude.{◌≡◌, true, ◌≤◌, ◌++◌, IsOk, OnOk, OnErr, string_bytes, string_capacity};
 ghost use Rattle.writeable.specs.AnnotatedText.{text_of};
 ghost use Rattle.locale_numbers_lines.specs.Growth.{Grows};
-ghost use Rattle.locale_numbers_formatter.specs.FormatReading.{text_by_reader};
+ghost use Rattle.locale_numbers_formatter.specs.FormatReading.{is_joined, text_by_reader};
 ghost use Rattle.locale_numbers_answers.specs.AnswerLine.{if_text, refused, written};
 ghost use Rattle.locale_numbers_answers.specs.AnswerSink.{HasRoom};
 
@@ -73,7 +73,7 @@ pub(crate) fn write_joined(
     value: &Decimal,
     out: &mut String,
 ) -> Result<(), AllocError>
-    requires { is_some reader.now ≡ true }
+    requires { is_joined reader.now ≡ true }
     ensures text { OnOk result
         (string_bytes out.new ≡ string_bytes out.old ++ written (text_by_reader reader.now value.now)) }
     ensures err { OnErr result (Grows (string_bytes out.old) (string_bytes out.new)) }

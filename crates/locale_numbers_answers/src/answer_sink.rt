@@ -1,12 +1,12 @@
 //! The buffer of answers as a sink, so that no text is copied.
 
-ghost use Rattle.std.specs.Prelude.{◌≡◌, true, ◌+◌, ◌<◌, ◌≤◌, ◌++◌, length, IfOk, is_some, IsOk, OnOk, OnErr, string_bytes, string_capacity};
+ghost use Rattle.std.specs.Prelude.{◌≡◌, true, ◌+◌, ◌<◌, ◌≤◌, ◌++◌, length, IfOk, IsOk, OnOk, OnErr, string_bytes, string_capacity};
 ghost use Rattle.writeable.specs.AnnotatedText.{text_of};
 ghost use Rattle.icu_decimal.specs.CompactText.{compact_decimal_text, value_shown};
 ghost use Rattle.icu_decimal.specs.HeldCompact.{compact_tables_of};
 ghost use Rattle.icu_decimal.specs.ShownChoice.{CanShow};
 ghost use Rattle.locale_numbers_lines.specs.Growth.{Grows};
-ghost use Rattle.locale_numbers_formatter.specs.FormatReading.{text_by_reader};
+ghost use Rattle.locale_numbers_formatter.specs.FormatReading.{is_joined, text_by_reader};
 ghost use Rattle.locale_numbers_answers.specs.AnswerSink.{HasRoom};
 
 use fixed_decimal::Decimal;
@@ -168,7 +168,7 @@ pub(crate) fn write_between(
     value: &Decimal,
     out: &mut String,
 ) -> Result<(), AllocError>
-    requires { is_some reader.now ≡ true }
+    requires { is_joined reader.now ≡ true }
     ensures text { OnOk result (string_bytes out.new ≡ string_bytes out.old ++ text_by_reader reader.now value.now) }
     ensures err { OnErr result (Grows (string_bytes out.old) (string_bytes out.new)) }
     ensures room { HasRoom out.old (text_by_reader reader.now value.now) → IsOk result }

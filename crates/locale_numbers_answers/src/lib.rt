@@ -18,6 +18,7 @@ mod answer_line;
 mod answer_sink;
 mod category_answer;
 mod compact_answer;
+mod digit_change;
 mod exact_answer;
 pub mod laws;
 mod number_answer;
@@ -29,9 +30,11 @@ pub use answer_line::{write_refusal, write_refusal_or_shape};
 pub use category_answer::{
     shown_category, shown_range_category, write_category_answer, write_range_category_answer,
 };
+pub use digit_change::DigitChange;
 pub use exact_answer::{read_compact, write_exact_answer};
 pub use number_answer::{
-    read_number, write_digits_answer, write_number_answer, write_unit_digits_answer,
+    read_number, write_changed_digits_answer, write_digits_answer, write_number_answer,
+    write_unit_digits_answer,
 };
 pub use read_answer::{write_lenient_answer, write_read_answer};
 pub use unit_tables::unit_text_tables;

@@ -1,6 +1,6 @@
 //! The answer to a number by a formatter: its text, and the value shown where that is another.
 
-ghost use Rattle.std.specs.Prelude.{◌≡◌, true, ◌++◌, IfSome, Some, IsOk, OnOk, OnErr, IsErrOf, string_bytes};
+ghost use Rattle.std.specs.Prelude.{◌≡◌, ◌≤◌, true, ◌++◌, IfSome, Some, IsOk, OnOk, OnErr, IsErrOf, string_bytes};
 ghost use Rattle.std.specs.Str.{is_utf8};
 ghost use Rattle.icu_decimal.specs.HeldTables.{tables_of};
 ghost use Rattle.icu_decimal_direct.specs.HeldUnits.{unit_texts};
@@ -9,11 +9,12 @@ ghost use Rattle.icu_decimal_direct.specs.TextTables.{text_tables};
 ghost use Rattle.icu_decimal_direct.specs.UnitTexts.{IsShownBy, shown_down};
 ghost use Rattle.icu_dimension.specs.HeldFormatters.{code_of, currency_settings_of, settings_of_percent, sign_of};
 ghost use Rattle.locale_numbers_lines.specs.Growth.{Grows};
-ghost use Rattle.locale_numbers_formatter.specs.FormatReading.{reader_of};
+ghost use Rattle.locale_numbers_formatter.specs.FormatReading.{reader_of, reads_between};
 ghost use Rattle.locale_numbers_formatter.specs.FormatText.{MayLengthen, plain_tables, unit_tables};
 ghost use Rattle.locale_numbers_formatter.specs.HeldFormats.{currency_format, percent_format};
 ghost use Rattle.locale_numbers_answers.specs.AnswerMemory.{ReadsMore};
 ghost use Rattle.locale_numbers_answers.specs.AnswerSink.{HasRoom};
+ghost use Rattle.locale_numbers_answers.specs.DigitChange.{digits_changed};
 ghost use Rattle.locale_numbers_answers.specs.NumberAnswer.{number_answer};
 ghost use Rattle.locale_numbers_answers.specs.NumberReading.{number, beyond, nothing, reading_of};
 ghost use Rattle.locale_numbers_answers.specs.UnitAnswer.{texts_read};
@@ -21,6 +22,7 @@ ghost use Rattle.locale_numbers_answers.specs.UnitAnswer.{texts_read};
 use crate::answer_line::{write_joined, write_ok};
 use crate::answer_sink::write_piece;
 use crate::compact_answer::{write_compact, write_compact_digits};
+use crate::digit_change::DigitChange;
 use crate::scientific_answer::write_scientific;
 use fixed_decimal::{Decimal, ParseError};
 use icu_decimal::DecimalFormatter;
@@ -147,8 +149,11 @@ pub fn write_number_answer(
     }
 }
 
-// The bytes that an answer may have whose text is put directly, and those of one with a unit.
+// The bytes that an answer may have whose text is put directly, those of one that is changed, and those of one with a unit.
+// The second is another, so that each way is compiled by itself.
 const ROOM: usize = 139;
+
+const CHANGED_ROOM: usize = 140;
 
 const UNIT_ROOM: usize = 195;
 
@@ -176,6 +181,36 @@ pub fn write_digits_answer(
     write_piece(out, unsafe { str::from_utf8_unchecked(&answer[..end]) })
 }
 
+/// Writes the answer that is the number of a text, changed by options that round no digit away, put directly with these
+/// tables, after what `out` holds.
+///
+/// With those of `en`, and two fraction digits at least and `Show(Always)`, the digits of 5 are answered by `ok`, a tab and
+/// `+5.00`. The condition is that 32 digits at most are shown at least. Where there is room, it does not allocate.
+/// `AllocError`: out of memory; `out` is then as before.
+pub fn write_changed_digits_answer(
+    tables: &TextTables<'_>,
+    change: DigitChange,
+    digits: &TextDigits<'_>,
+    out: &mut String,
+) -> Result<(), AllocError>
+    requires { change.least ≤ 32 }
+    ensures text { OnOk result (string_bytes out.new ≡ string_bytes out.old
+        ++ number_answer (plain_tables (text_tables tables.now)) (digits_changed change (number_spelled digits.now))) }
+    ensures err { OnErr result (string_bytes out.new ≡ string_bytes out.old) }
+    ensures room { HasRoom out.old
+        (number_answer (plain_tables (text_tables tables.now)) (digits_changed change (number_spelled digits.now)))
+        → IsOk result }
+{
+    plain_is_layered();
+    let signed = change.signed(digits);
+    let mut answer = [0; CHANGED_ROOM];
+    answer[0] = b'o';
+    answer[1] = b'k';
+    answer[2] = b'\t';
+    let end = tables.put_shown(&signed, change.least, &mut answer, 3);
+    write_piece(out, unsafe { str::from_utf8_unchecked(&answer[..end]) })
+}
+
 /// Writes the answer that is the number of a text with its unit, put directly with these tables, after what `out` holds.
 ///
 /// With those of `en` and euros the digits of -1234.5 are answered by `ok`, a tab and `-€1,234.50`. The conditions are that
@@ -187,7 +222,7 @@ pub fn write_unit_digits_answer(
     digits: &TextDigits<'_>,
     out: &mut String,
 ) -> Result<(), AllocError>
-    requires known { reader_of _formatter.now ≡ Some (texts_read (unit_texts tables.now)) }
+    requires known { reader_of _formatter.now ≡ Some (reads_between (texts_read (unit_texts tables.now))) }
     requires shown { IsShownBy (unit_texts tables.now) (number_spelled digits.now) }
     ensures text { OnOk result (string_bytes out.new ≡ string_bytes out.old
         ++ number_answer _formatter.now (shown_down (unit_texts tables.now).least (number_spelled digits.now))) }

@@ -5,7 +5,7 @@ ghost use Rattle.icu_decimal.specs.BorrowedTables.{borrowed_tables};
 ghost use Rattle.icu_decimal_direct.specs.HeldUnits.{unit_texts};
 ghost use Rattle.icu_dimension.specs.HeldFormatters.{code_of, currency_settings_of, settings_of_percent, sign_of};
 ghost use Rattle.icu_dimension.specs.UnitReading.{pair_for};
-ghost use Rattle.locale_numbers_formatter.specs.FormatReading.{reader_of};
+ghost use Rattle.locale_numbers_formatter.specs.FormatReading.{reader_of, reads_between};
 ghost use Rattle.locale_numbers_formatter.specs.FormatText.{fractions_in, unit_tables};
 ghost use Rattle.locale_numbers_formatter.specs.HeldFormats.{currency_format, percent_format};
 ghost use Rattle.locale_numbers_answers.specs.UnitAnswer.{texts_read};
@@ -62,7 +62,7 @@ fn with_affixes<'a>(
 fn of_percents<'a>(alloc: Global, formatter: &PercentFormatter<'a>) -> Option<UnitTextTables<'a>>
     ensures known { IfSome result (λ tables.
         reader_of (unit_tables (percent_format (sign_of formatter.now) (settings_of_percent formatter.now)))
-        ≡ Some (texts_read (unit_texts tables))) }
+        ≡ Some (reads_between (texts_read (unit_texts tables)))) }
     ensures digits { IfSome result (λ tables. has_digits_of None (unit_texts tables) ≡ true) }
 {
     match formatter.reader(alloc) {
@@ -90,7 +90,7 @@ fn is_one(increment: FractionIncrement) -> bool
 fn of_amounts<'a>(alloc: Global, formatter: &CurrencyFormatter<'a>) -> Option<UnitTextTables<'a>>
     ensures known { IfSome result (λ tables.
         reader_of (unit_tables (currency_format (code_of formatter.now) (currency_settings_of formatter.now)))
-        ≡ Some (texts_read (unit_texts tables))) }
+        ≡ Some (reads_between (texts_read (unit_texts tables)))) }
     ensures digits { IfSome result (λ tables.
         has_digits_of (Some (currency_settings_of formatter.now).fractions) (unit_texts tables) ≡ true) }
 {
@@ -119,7 +119,8 @@ pub fn unit_text_tables<'a>(
     alloc: Global,
     formatter: &NumberFormatter<'a>,
 ) -> Option<UnitTextTables<'a>>
-    ensures known { IfSome result (λ tables. reader_of formatter.now ≡ Some (texts_read (unit_texts tables))) }
+    ensures known { IfSome result
+        (λ tables. reader_of formatter.now ≡ Some (reads_between (texts_read (unit_texts tables)))) }
     ensures digits { IfSome result (λ tables. has_digits_of (fractions_in formatter.now) (unit_texts tables) ≡ true) }
 {
     match formatter.kind() {

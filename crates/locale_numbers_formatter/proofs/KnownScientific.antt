@@ -47,10 +47,10 @@ abbrev settings_of : SymbolStrings → List ℕ → List ℕ → ScientificSetti
 settings_of strings digits separator =
     record { tables = tables_of strings digits; separator = separator; exponents = record (tables_of strings digits) { strategy = Never } }
 
-abbrev english : ScientificSettings
+abbrev pub english : ScientificSettings
 english = settings_of english_strings (codes "0123456789") (codes "E")
 
-abbrev format_in : ScientificSettings → ScientificNotation → NumberOptions → ScientificFormat
+abbrev pub format_in : ScientificSettings → ScientificNotation → NumberOptions → ScientificFormat
 format_in settings notation options =
     record { settings = settings; style = record { notation = notation; exponents = record { sign = sign.Auto; least_digits = 0 } }; options = options }
 
@@ -202,7 +202,7 @@ unfolding holding lib.Utf8.encode
 swedish_text = ap (λ f. text_of_shown (form_with_power (format_in swedish Scientific unchanged) f)) (small_shown swedish)
 
 -- Egyptian Arabic: its own digits, U+061C before the signs, and U+0623 and U+0633 before exponents
-abbrev arabic : ScientificSettings
+abbrev pub arabic : ScientificSettings
 arabic = settings_of (record english_strings { minus_sign_prefix = 216 ∷ 156 ∷ 45 ∷ []; decimal_separator = 217 ∷ 171 ∷ [] })
     (1632 ∷ 1633 ∷ 1634 ∷ 1635 ∷ 1636 ∷ 1637 ∷ 1638 ∷ 1639 ∷ 1640 ∷ 1641 ∷ []) (216 ∷ 163 ∷ 216 ∷ 179 ∷ [])
 
@@ -335,7 +335,7 @@ becomes_one_so : unsigned (number (10 ^ 32768) 32766 32768) ≡ changed (digits 
 unfolding count_limit
 becomes_one_so = sym (changed_so 2 32768 32768 32768 (unsigned one) tops_of_one next_of_one high_of_one)
 
-abbrev digits_english : ℕ → ScientificFormat
+abbrev pub digits_english : ℕ → ScientificFormat
 digits_english least = format_in english Scientific (digits least)
 
 carried_shown : form_shown (digits_english 1) nines ≡ parts (unsigned one) (pos 6)

@@ -3,6 +3,7 @@ pub mod DivisionLemmas
 pub mod ExactFormLemmas
 pub mod KnownOperands
 mod KnownScientific
+mod KnownScientificReadings
 mod KnownValues
 pub mod JoinedUnitLemmas
 pub mod LayerLemmas
@@ -12,5 +13,6 @@ pub mod PairLemmas
 pub mod ReadBackLemmas
 pub mod ScientificLemmas
 pub mod ShownOperandsLemmas
+pub mod SignificandLemmas
 pub mod TypedLemmas
 pub mod UnitLayerLemmas

@@ -25,4 +25,5 @@ pub mod FormattedNumbers
 -- Statements of laws.
 pub mod Laws
 pub mod ReadingLaws
+pub mod SignificandLaws
 pub mod OwnUnitLaws

@@ -1,14 +1,17 @@
 //! Laws of the text by layers: it is the text of each format as it is defined in its own crate. No call is made: each clause
 //! is the law.
 
-ghost use Rattle.locale_numbers_formatter.specs.ReadingLaws.{FormatReadIsWrittenAgain, FormatReadsBack, PlainReadsByPairs, ReadersReadFormats};
+ghost use Rattle.locale_numbers_formatter.specs.ReadingLaws.{FormatReadIsWrittenAgain, FormatReadsBack, PlainReadsByPairs, ReadersReadFormats, ScientificFormIsWritten, ScientificReadsBack};
+ghost use Rattle.locale_numbers_formatter.specs.SignificandLaws.{PartsKeepSignificands, ShownFormReadsBack};
 ghost use Rattle.locale_numbers_formatter.specs.OwnUnitLaws.{OtherUnitsInTurnStay, OwnUnitTextIsFirsts, UnitInTurnIsAscii, UnitInTurnIsNativeSo};
 ghost use Rattle.locale_numbers_formatter.specs.Laws.{CompactIsLayered, CompactPartsAreLayered, CompactValueIsShown, ExactFormatIsText, ExactIsLayered, ExactPartsAreLayered, FormatIsText, PlainIsLayered, PlainPartsAreLayered, ScientificIsLayered, ScientificPartsAreLayered, ScientificValueIsShown, UnitIsLayered, UnitPartsAreLayered};
 
 use icu_decimal::laws::compact::{exact_texts_are_of_events, sign_round_unsigned};
 use icu_decimal::laws::reading::plain_reading_is_the_reading;
 use icu_decimal::laws::text::text_law;
-use icu_decimal_scientific::laws::text_law as scientific_text_law;
+use icu_decimal_scientific::laws::{
+    decimal_trips, shown_is_read_back, text_law as scientific_text_law,
+};
 use icu_dimension::laws::units::{both_trips, text_law as unit_text_law};
 use icu_dimension_lenient::laws::functions_answer_readings;
 
@@ -70,9 +73,9 @@ pub fn plain_reads_by_pairs()
     functions_answer_readings();
 }
 
-/// A law: what a readable format writes of a number is read as that number, with its sign and the digits shown, and what
-/// is read as a number is what the format writes of it. In English -1234.50 is written `-€1,234.50`, and this is read as
-/// -1234.50.
+/// A law: what a readable format of plain numbers, percents or amounts writes of a number is read as that number, with its
+/// sign and the digits shown, and what is read as a number is what the format writes of it. In English -1234.50 is written
+/// `-€1,234.50`, and this is read as -1234.50.
 pub fn written_reads_back()
     ensures written { ReadersReadFormats }
     ensures back { FormatReadsBack }
@@ -80,6 +83,27 @@ pub fn written_reads_back()
 {
     both_trips();
     functions_answer_readings();
+}
+
+/// A law: what a readable format of scientific numbers writes of a number is read as the value shown, where that is normal
+/// and a decimal. What is read as a number is the text of a normal significand and exponent, which are that number. In
+/// English with three digits 999999 is written `1.00E6`, and this is read as 1000000; so is `1E6`.
+pub fn scientific_reads_back()
+    ensures back { ScientificReadsBack }
+    ensures form { ScientificFormIsWritten }
+{
+    shown_is_read_back();
+    decimal_trips();
+}
+
+/// A law: options that round to significant digits, to parts of one, or not at all, leave a significand one, so that what a
+/// readable format of scientific numbers writes with them is read as the value shown, but where this is no decimal. By two
+/// digits 9.99 is `1.0E1`, and this is read as 10; rounded to tens 12.3 is `0E1`, which is not read.
+pub fn significands_are_kept()
+    ensures keeps { PartsKeepSignificands }
+    ensures back { ShownFormReadsBack }
+{
+    shown_is_read_back();
 }
 
 /// A law: what the first of two readers' formatter writes of a number with its unit, under any grouping, and reads as that

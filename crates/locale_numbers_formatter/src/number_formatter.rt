@@ -511,8 +511,9 @@ impl<'a> NumberFormatter<'a> {
         }
     }
 
-    /// What reads what this formatter writes: that of `en` and `EUR` reads `€1.50` as 1.50, and those of compact and of
-    /// scientific numbers read nothing. It borrows only what the formatter borrows, so both can be kept beside each other.
+    /// What reads what this formatter writes: that of `en` and `EUR` reads `€1.50` as 1.50, that of scientific numbers
+    /// `1.2E6` as 1200000, and those of compact numbers read nothing. It borrows only what the formatter borrows, so both
+    /// can be kept beside each other.
     ///
     /// It puts the affixes of a unit together: it allocates for each one that is not empty, and without a unit it always
     /// succeeds. `AllocError`: out of memory.
@@ -522,11 +523,12 @@ impl<'a> NumberFormatter<'a> {
     {
         match &self.kind {
             FormatterKind::Plain(formatter) => Ok(NumberReader::of_plain(*formatter)),
-            FormatterKind::Compact(_)
-            | FormatterKind::CompactDigits(_)
-            | FormatterKind::Scientific(_) => Ok(NumberReader::of_nothing()),
+            FormatterKind::Compact(_) | FormatterKind::CompactDigits(_) => {
+                Ok(NumberReader::of_nothing())
+            }
             FormatterKind::Percent(formatter) => read_percents(alloc, formatter),
             FormatterKind::Currency(formatter) => read_amounts(alloc, formatter),
+            FormatterKind::Scientific(formatter) => Ok(NumberReader::of_scientific(formatter)),
         }
     }
 

@@ -32,13 +32,3 @@ returns-in-Some-clause-counted g c =
     on_ok_by c.answer_digits.result
     (λ counted more. ap (λ key. g.F.Formatters.keeping_over c.args.formatters.now (key ∷ more)) (keyed_so c.args.key.now c.args.text.now (number_spelled c.in-Some.digits) c.in-Some.ensures.reads) ∙ counted more)
     c.answer_digits.ensures.counted
-
-pub returns-in-Ok-clause-room : goal.returns-in-Ok-clause-room
-returns-in-Ok-clause-room g c = λ room quiet more small short.
-    let key = c.args.key.now in
-    let found = found_for key.shape (g.F.Formatters.book c.args.formatters.now) key.preferences in
-    c.write_by_key.ensures.room
-    (subst (λ answer. HasRoom c.args.out.now answer) (answered_so found c.args.options c.args.text.now c.read_number.new.value c.in-Ok.ensures.value) room)
-    quiet
-    (λ grows. small (subst (λ reading. MayGrowFound found c.args.options.rounding reading) (sym c.in-Ok.ensures.value) grows))
-    short
