@@ -9,7 +9,7 @@ from look_up import locale_of
 HERE = os.path.dirname(os.path.realpath(__file__))
 NODE = [os.environ.get("NODE") or "node", f"{HERE}/node_peer.js"]
 NOT_IN_NODE = "a locale that Node does not have: there the answer is that of a shorter tag, or of English"
-NOT_IN_ICU = "a locale that ICU4C does not have: there the answer is that of the tag cut from the right"
+NOT_IN_ICU = "a locale that ICU4C does not have: there the answer is that of the tag cut from the right, or of root"
 VERSION = "another version of CLDR: under a book of the data that ICU4C has, the answer is its own"
 
 

@@ -320,8 +320,12 @@ def causes_in_icu(program, peer, found):
         path, locales = book_of_peer(folder, "--units")
         book, ours = read_book(path, True), [program, path, CAPACITY]
         again = asked(ours, found)
+        other = [it for it in again if not agrees(it)]
         taken = {it.tag: taken_by_icu(it.tag, locales) for it in found}
-        named = causes(book, ours, peer, [it for it in again if not agrees(it)], taken)
+        named = causes(book, ours, peer, other, taken)
+        # (a locale that it does not have, in another script than the language usually has, may be root there)
+        rest = [it for it in other if named.get(it) is None and taken[it.tag] != it.tag]
+        named.update(causes(book, ours, peer, rest, dict.fromkeys(taken, "und")))
         return {it: VERSION if agrees(its) else named.get(its) for it, its in zip(found, again)}
 
 

@@ -1,9 +1,9 @@
-"""The words of numbers: patterns of names and names of currencies, and units of measurement, of the locales of a book."""
+"""The words of numbers: patterns of names, names of currencies, and units of measurement, of the locales of a book."""
 import collections
 
 from chained import Chained, in_chain_order
 from cldr import CATEGORIES, Fault, tag_of
-from look_up import PLACEHOLDER, is_code
+from look_up import PLACEHOLDER, UND, is_code
 
 WIDTHS = ("long", "narrow", "short")
 # The units of ECMA-402, and those with a unit behind another one that have words of their own.
@@ -32,7 +32,8 @@ def is_pattern(texts):
 
 class WordEntries:
     """Makes patterns, names and units of one locale after the other: an entry is there only where the chain of its locale would find
-    another one. A currency without a name has its code."""
+    another one. A currency without a name has its code. A pattern says that the words of its language are there, so none is found
+    under `und`."""
 
     def __init__(self, cldr, book):
         self.cldr, self.book = cldr, book
@@ -67,7 +68,7 @@ class WordEntries:
             asked = {category for category, _ in self.cldr.plural_rules(name)} | {"other"}
             pattern = self.pattern(tag, chain, asked)
             if pattern:
-                self.patterns.settle(along, pattern, "")
+                self.patterns.settle([locale, *(it for it in along[1:] if it != UND)], pattern, "")
             for code, words in self.names_of(tag, chain, asked):
                 self.names.settle(along, words, code, usual=[["other", code]])
             for width in WIDTHS:
@@ -126,18 +127,15 @@ class WordEntries:
         """The locales that have an entry."""
         return self.patterns.locales() | self.names.locales() | self.units.locales()
 
-    def pattern_array(self):
-        """The array of patterns, which more of a book has."""
-        return [[tag, slots] for tag, _, slots in self.patterns.entries()]
-
     def of_languages(self):
-        """Names and units of each language: those of its locales and of what their chains lead to."""
+        """Patterns, names and units of each language: those of its locales and of what their chains lead to."""
         locales = collections.defaultdict(set)
         for locale, along in self.along.items():
             locales[locale.language].update(along)
         for language, its in sorted(locales.items()):
+            patterns = [[tag, slots] for tag, _, slots in self.patterns.entries(*(its - {UND} or its))]
             names = [[tag, code, slots] for tag, code, slots in self.names.entries(*its)]
-            yield language, [names, self.tables(its)]
+            yield language, [patterns, names, self.tables(its)]
 
     def tables(self, locales):
         """The units of these locales: of each width a table."""

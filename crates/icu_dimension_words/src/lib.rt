@@ -38,5 +38,5 @@ mod word;
 pub use lenient_reader::LenientWordReader;
 pub use number_in_words::NumberInWords;
 pub use plural_words::{CategoryWords, PluralWords, WordPair};
-pub use tables::{WordTables, named_number};
+pub use tables::{WordTables, format_in_words, named_number};
 pub use word::WordKind;

@@ -175,3 +175,19 @@ impl<'b> WordTables<'b> {
         self.format(value).write_to_string(alloc)
     }
 }
+
+/// The number with its words as it is written, as by [`WordTables::format`], of tables and words that the caller has: a
+/// type that owns its words returns it so. -5 is `-5 kilometers` in English. It does not allocate.
+pub fn format_in_words<'l>(
+    decimals: &'l DecimalTables<'l>,
+    rules: &'l PluralRules,
+    words: &'l PluralWords,
+    kind: WordKind,
+    value: &'l Decimal,
+) -> NumberInWords<'l>
+    ensures { result ≡ words_formatted
+        (record { tables = borrowed_tables decimals.now; rules = rules.now; words = words.now; kind = kind }) value.now }
+{
+    let tables = WordTables::new(decimals, rules, words, kind);
+    NumberInWords::new(decimals.format(value), tables.word_for(value), kind)
+}

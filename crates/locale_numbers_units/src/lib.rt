@@ -23,6 +23,7 @@ pub use array::UnitArray;
 pub use currency_digits::CurrencyDigits;
 pub use currency_symbols::CurrencySymbols;
 pub use locale_numbers_tables::BookError;
+pub use patterns::{pattern_at, pattern_or_null_at};
 pub use percents::Percents;
 pub use tables::table_of;
 pub use units::{UnitArrays, Units};

@@ -94,7 +94,10 @@ fn pattern_or_null(alloc: Global, value: &Value) -> Result<Option<Option<UnitPat
     }
 }
 
-/// The pattern at a place of an entry, or none.
+/// The pattern at a place of an entry: at place 1 of `["other",["¤","K"],null]` that of `¤` before and `K` after it.
+///
+/// A pattern is two texts in which the place of the unit is once, or three such pairs: without a sign, with a minus and
+/// with a plus. `Ok(None)`: there is none. It allocates. `AllocError`: out of memory.
 pub fn pattern_at(
     alloc: Global,
     entry: &Value,
@@ -108,7 +111,10 @@ pub fn pattern_at(
     }
 }
 
-/// The pattern at a place of an entry, which may be null, or none.
+/// The pattern at a place of an entry, which may be null: at place 2 of `["other",["¤","K"],null]` `Some(None)`.
+///
+/// `Ok(None)`: there is neither null nor a pattern, as `pattern_at` says. It allocates only for a pattern.
+/// `AllocError`: out of memory.
 pub fn pattern_or_null_at(
     alloc: Global,
     entry: &Value,

@@ -1,23 +1,36 @@
--- Arrays one after the other: `specs/Files.antt`.
-use Rattle.std.proofs.Common.{◌≡◌, ℕ, List, [], ◌∷◌, ◌++◌, length, refl, sym, ap, ◌∙◌, arith}
-use Rattle.serde_json.specs.Data.{Items, item, no_items}
-use Rattle.serde_json.specs.View.{items_view, view}
+-- The arrays of a file, taken out of it one after the other: `specs/Files.antt`.
+use Rattle.std.proofs.Common.{◌≡◌, ℕ, suc, List, [], ◌∷◌, drop, Option, Some, refl, sym, ap, ◌∙◌}
+use Rattle.serde_json.specs.Data.{Data, Items, null, boolean, number, string, array, object}
+use Rattle.serde_json.specs.Find.{as_array}
+use Rattle.serde_json.specs.View.{items_view}
 use Rattle.serde_json.specs.declared.value.Value.{Value}
-use Rattle.locale_numbers_words.specs.Files.{all_at, appended}
+use Rattle.locale_numbers_plurals.specs.Form.{items_at}
 
-pub appended_view : (xs ys : List Value) → items_view (xs ++ ys) ≡ appended (items_view xs) (items_view ys)
-appended_view [] ys = refl
-appended_view (x ∷ xs) ys = ap (item (view x)) (appended_view xs ys)
+next_at : (place : ℕ) (values : List Value) → items_at place (array (items_view (drop 1 values))) ≡ items_at (suc place) (array (items_view values))
+next_at place [] = refl
+next_at place (value ∷ values) = refl
 
-pub appended_assoc : (a b c : Items) → appended (appended a b) c ≡ appended a (appended b c)
-appended_assoc no_items b c = refl
-appended_assoc (item value rest) b c = ap (item value) (appended_assoc rest b c)
+of_file : (place : ℕ) (file : Data) (is : Items) → Some is ≡ as_array file → items_at place (array is) ≡ items_at place file
+of_file place null is items = absurd (cc)
+of_file place (boolean b) is items = absurd (cc)
+of_file place (number n) is items = absurd (cc)
+of_file place (string s) is items = absurd (cc)
+of_file place (array js) is items = let same : is ≡ js = cc in ap (λ x. items_at place (array x)) same
+of_file place (object ms) is items = absurd (cc)
 
-pub appended_none : (a : Items) → appended a no_items ≡ a
-appended_none no_items = refl
-appended_none (item value rest) = ap (item value) (appended_none rest)
+module _ (file : Data) (given values after : List Value) (found : Items) (whole : Some (items_view given) ≡ as_array file) (start : values ≡ given) (first : after ≡ drop 1 values) where
+  pub second_of : found ≡ items_at 0 (array (items_view after)) → found ≡ items_at 1 file
+  second_of is =
+      is ∙ ap (λ vs. items_at 0 (array (items_view vs))) first
+      ∙ next_at 0 values
+      ∙ ap (λ vs. items_at 1 (array (items_view vs))) start
+      ∙ of_file 1 file (items_view given) whole
 
--- after the last file all is there
-pub at_end : (place : ℕ) (a total : Items) (xs : List Value) → length xs ≡ 0 → appended a (all_at place (items_view xs)) ≡ total → a ≡ total
-at_end place a total [] none is = sym (appended_none a) ∙ is
-at_end place a total (x ∷ xs) none is = absurd (omega (arith, none))
+  pub third_of : (more : List Value) → more ≡ drop 1 after → found ≡ items_at 0 (array (items_view more)) → found ≡ items_at 2 file
+  third_of more second is =
+      is ∙ ap (λ vs. items_at 0 (array (items_view vs))) second
+      ∙ next_at 0 after
+      ∙ ap (λ vs. items_at 1 (array (items_view vs))) first
+      ∙ next_at 1 values
+      ∙ ap (λ vs. items_at 2 (array (items_view vs))) start
+      ∙ of_file 2 file (items_view given) whole

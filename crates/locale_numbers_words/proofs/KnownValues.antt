@@ -5,15 +5,16 @@ use Rattle.std.specs.Str.{chars, is_utf8}
 use Rattle.serde_json.specs.Data.{Data, array, string, item, no_items}
 use Rattle.icu_decimal.specs.declared.plurals.PluralCategory.TheVariants.{One, Few, Other}
 use Rattle.icu_dimension_words.specs.Words.{Word, around, bare}
-use Rattle.locale_numbers_words.specs.declared.error.WordsError.TheVariants.{Duplicate, Measure}
+use Rattle.locale_numbers_words.specs.declared.error.WordsError.TheVariants.{Duplicate, Measure, Shape}
 use Rattle.locale_numbers_words.specs.Categories.{Values, of_category, only, values_in}
 use Rattle.locale_numbers_words.specs.Entries.{UnitTexts, code_in, is_placed, keyed, placeholder, same_names, texts_with, unit_in, width_in}
 use Rattle.locale_numbers_words.specs.Faults.{said_fault}
-use Rattle.locale_numbers_words.specs.Files.{all_at, is_file}
+use Rattle.locale_numbers_words.specs.Files.{is_file}
 use Rattle.locale_numbers_words.specs.FoundWords.{named, with_name, words_of, words_per}
 use Rattle.locale_numbers_words.specs.PlainTexts.{is_plain}
 use Rattle.locale_numbers_words.specs.SlotTexts.{name_in, pair_of, word_in}
 use Rattle.locale_numbers_words.specs.UnitNames.{is_unit_name, per_parts}
+use Rattle.locale_numbers_words.specs.Words.{file_fault, no_words}
 
 abbrev two : Data → Data → Data
 two first second = array (item first (item second no_items))
@@ -179,13 +180,18 @@ without_tab = refl
 abbrev empty : Data
 empty = array no_items
 
-two_arrays : is_file (two empty empty) ≡ true
+two_arrays : is_file (two empty empty) ≡ false
 two_arrays = refl
 
-three_arrays : is_file (three empty empty empty) ≡ false
+three_arrays : is_file (three empty empty empty) ≡ true
 three_arrays = refl
 
--- the names of two files, one after the other
-names_of_files : all_at 0 (item (two (array (item (text (codes "a")) no_items)) empty) (item (two (array (item (text (codes "b")) no_items)) empty) no_items))
-    ≡ item (text (codes "a")) (item (text (codes "b")) no_items)
-names_of_files = refl
+no_array : is_file (three empty empty (text [])) ≡ false
+no_array = refl
+
+-- a file without entries says nothing after any words, and two arrays are no file
+says_nothing : file_fault no_words (three empty empty empty) ≡ None
+says_nothing = refl
+
+no_file : file_fault no_words (two empty empty) ≡ Some Shape
+no_file = refl

@@ -19,9 +19,10 @@ fn are_plain(values: &[Value]) -> bool
     true
 }
 
-// Whether none is in a text, nor in the texts of an array, and of the arrays in it.
+/// Whether no tab and no line feed is in a text, nor in the texts of an array, and of the arrays in it: true of
+/// `["en",[["other"," K"]]]`, false where ` K` is a tab. It does not allocate.
 #[cycle(plain)]
-pub(crate) fn is_plain(value: &Value) -> bool
+pub fn is_plain(value: &Value) -> bool
     ensures { result ≡ is_plain (view value.now) }
 {
     match value {

@@ -263,8 +263,10 @@ impl<T: Drop> Slots<T> {
     }
 }
 
-// The category that a slot names.
-fn category(slot: &Value) -> Option<PluralCategory>
+/// The category that a slot names at its place 0: `Few` of `["few",..]`.
+///
+/// `None`: no text is there, or none of the six words of categories. It does not allocate.
+pub fn category(slot: &Value) -> Option<PluralCategory>
     ensures { result ≡ field_at category_in 0 (view slot.now) }
 {
     let word = text_at(slot, 0)?;
@@ -345,8 +347,10 @@ fn values<T: SlotValue>(alloc: Global, items: &[Value]) -> Result<Option<ByCateg
     }
 }
 
-// The items of the array at a place of an entry.
-pub(crate) fn array_at(entry: &Value, place: usize) -> Option<&[Value]>
+/// The items of the array at a place of an entry: at place 1 of `["und",[["other",[""," ¤"]]]]` the one slot.
+///
+/// `None`: no array is there. It does not allocate.
+pub fn array_at(entry: &Value, place: usize) -> Option<&[Value]>
     ensures { option_map (λ items. items_view items.now) result ≡ field_at as_array place (view entry.now) }
 {
     let items = entry.get(place)?.as_array()?;

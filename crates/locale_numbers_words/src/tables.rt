@@ -1,6 +1,6 @@
-//! Arrays of words as tables.
+//! Arrays of words, added to tables.
 
-ghost use Rattle.std.specs.Prelude.{◌≡◌, [], IfErr, IfOk, IsErrOf, None, OnOk, Some, true};
+ghost use Rattle.std.specs.Prelude.{◌≡◌, IfErr, IfOk, IsErrOf, None, OnOk, Some, true};
 ghost use Rattle.serde_json.specs.View.{items_view, view};
 ghost use Rattle.locale_numbers_tables.specs.Allocation.{begins_with};
 ghost use Rattle.locale_numbers_tables.specs.Keys.{table_at};
@@ -9,7 +9,7 @@ ghost use Rattle.locale_numbers_words.specs.Faults.{IsTold, agrees, first_fault_
 use crate::entry::WordArray;
 use crate::error::WordsError;
 use indexmap::IndexMap;
-use locale_numbers_tables::{Seed, Table, add};
+use locale_numbers_tables::{Seed, add};
 use serde_json::Value;
 use std::alloc::Global;
 
@@ -117,23 +117,28 @@ fn add_entry<A: WordArray>(
     }
 }
 
-// Adds what the entries of an array say to an empty table.
-fn fill<A: WordArray>(
+// Adds what the entries of an array say to a table; each entry is dropped once it is read.
+pub(crate) fn fill<A: WordArray>(
     alloc: Global,
     seed: Seed,
     table: &mut IndexMap<A::Key, A::Said, Seed>,
     entries: Vec<Value>,
 ) -> Result<(), WordsError>
-    requires { table.old.entries ≡ [] }
     ensures value { OnOk result
-        (table.new.entries ≡ table_after A.Key.eq A.key_in A.said_in [] (items_view entries.items)) }
+        (table.new.entries
+        ≡ table_after A.Key.eq A.key_in A.said_in table.old.entries (items_view entries.items)) }
     ensures sound { OnOk result
-        (first_fault_after A.Key.eq A.key_in A.said_in A.fault_in [] (items_view entries.items) ≡ None) }
+        (first_fault_after A.Key.eq A.key_in A.said_in A.fault_in table.old.entries (items_view entries.items)
+        ≡ None) }
     ensures fault { IfErr result
-        (λ fault. IsTold (first_fault_after A.Key.eq A.key_in A.said_in A.fault_in [] (items_view entries.items)) fault) }
+        (λ fault. IsTold
+        (first_fault_after A.Key.eq A.key_in A.said_in A.fault_in table.old.entries (items_view entries.items))
+        fault) }
+
+    // A fault of the first entry that is found before anything is allocated is never reported as out of memory.
     ensures room { IsErrOf result WordsError.Memory → begins_with A.may_grow (items_view entries.items) ≡ true }
 {
-    let count = entries.len();
+    let count = table.len().saturating_add(entries.len());
     for entry in entries {
         match add_entry::<A>(alloc, seed, table, entry, count) {
             Ok(()) => {}
@@ -141,27 +146,4 @@ fn fill<A: WordArray>(
         }
     }
     Ok(())
-}
-
-// The table that the entries of an array of words make, hashed by this seed; each entry is dropped once it is read.
-pub(crate) fn table_of<A: WordArray>(
-    alloc: Global,
-    seed: Seed,
-    entries: Vec<Value>,
-) -> Result<Table<A::Key, A::Said>, WordsError>
-    ensures value { IfOk result
-        (λ table. table.map.entries ≡ table_after A.Key.eq A.key_in A.said_in [] (items_view entries.items)) }
-    ensures sound { OnOk result
-        (first_fault_after A.Key.eq A.key_in A.said_in A.fault_in [] (items_view entries.items) ≡ None) }
-    ensures fault { IfErr result
-        (λ fault. IsTold (first_fault_after A.Key.eq A.key_in A.said_in A.fault_in [] (items_view entries.items)) fault) }
-
-    // A fault of the first entry that is found before anything is allocated is never reported as out of memory.
-    ensures room { IsErrOf result WordsError.Memory → begins_with A.may_grow (items_view entries.items) ≡ true }
-{
-    let mut map: IndexMap<A::Key, A::Said, Seed> = IndexMap::with_hasher(alloc, seed);
-    match fill::<A>(alloc, seed, &mut map, entries) {
-        Ok(()) => Ok(Table { map }),
-        Err(fault) => Err(fault),
-    }
 }

@@ -42,8 +42,11 @@ fn are_name_bytes(bytes: &[u8]) -> bool
     bytes.iter().all(|b| b.is_ascii_lowercase() || b.is_ascii_digit() || *b == b'-')
 }
 
-// Whether a text is the name of a unit.
-fn is_unit_name(name: &str) -> bool
+/// Whether a text is the name of a unit, as `kilometer-per-hour`: 1 to 32 small letters, digits and hyphens, with `-per-` at
+/// most once. `Kilometer` is none. It does not allocate.
+///
+/// Source: UTS 35, part 2 (general), unit identifiers.
+pub fn is_unit_name(name: &str) -> bool
     ensures { result ≡ is_unit_name name.now }
 {
     let bytes = name.as_bytes();

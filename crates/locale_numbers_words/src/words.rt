@@ -1,32 +1,31 @@
 //! The tables of words, and what is found in them.
 
-ghost use Rattle.std.specs.Prelude.{◌≡◌, IfErr, IfOk, IsErrOf, option_and_then, true, unwrap_or};
+ghost use Rattle.std.specs.Prelude.{◌≡◌, IfErr, IfOk, IsErrOf, None, OnOk, option_and_then, true, unwrap_or};
 ghost use Rattle.std.specs.Option.{option_copied};
-ghost use Rattle.serde_json.specs.View.{items_view};
+ghost use Rattle.serde_json.specs.View.{items_view, view};
 ghost use Rattle.icu_decimal.specs.Identifiers.{of_both};
 ghost use Rattle.locale_numbers_tables.specs.Keys.{same_data_locale, same_key, table_at};
 ghost use Rattle.locale_numbers_words.specs.Categories.{only};
 ghost use Rattle.locale_numbers_words.specs.Entries.{unit_at, width_text};
 ghost use Rattle.locale_numbers_words.specs.Faults.{IsTold};
 ghost use Rattle.locale_numbers_words.specs.FoundWords.{currency_words, named, names_for, parts_words, patterns_for, unit_for, unit_words, words_of};
-ghost use Rattle.locale_numbers_words.specs.Words.{AreWords, words_fault, words_may_grow};
+ghost use Rattle.locale_numbers_words.specs.Words.{file_fault, file_may_grow, no_words, words_after, words_fault, words_may_grow, words_with};
 
 use crate::by_category::ByCategory;
 use crate::error::WordsError;
-use crate::files::WordArrays;
-use crate::names::CurrencyNames;
-use crate::patterns::NamePatterns;
-use crate::tables::table_of;
+use crate::files::{WordArrays, word_arrays_of};
+use crate::filling::fill_all;
 use crate::texts::{CurrencyName, TextPair};
 use crate::unit_name::per_parts;
 use crate::unit_words::{UnitTable, UnitWords};
-use crate::units::UnitTables;
 use crate::width::UnitWidth;
 use icu_decimal::provider::DataIdentifier;
 use icu_dimension_fractions::CurrencyCode;
 use icu_dimension_words::PluralWords;
 use icu_locale_core::DataLocale;
+use indexmap::IndexMap;
 use locale_numbers_tables::{Seed, Table};
+use serde_json::Value;
 use std::alloc::{AllocError, Global};
 use std::marker::Model;
 
@@ -61,41 +60,76 @@ impl Drop for Words {
 }
 
 impl Words {
-    /// The words that three arrays are, their tables hashed by this seed. Without entries they are words too.
-    ///
-    /// - Shape to Measure: the first faulty entry decides, in the order of the arrays, and in an entry the least number:
-    ///   `Code` of the names `[["en","usd",[["other","dollars"]]]]`. An entry that says what an earlier one of its key
-    ///   says counts once, and is no `Duplicate`.
-    /// - Memory: out of memory.
-    #[tactic(auto, using(crate::proofs::WordsLemmas::or_second, crate::proofs::WordsLemmas::or_third))]
-    pub fn from_arrays(alloc: Global, seed: Seed, arrays: WordArrays) -> Result<Words, WordsError>
-        ensures value { IfOk result
-            (AreWords (items_view arrays.patterns.items) (items_view arrays.names.items)
+    /// No words, their tables hashed by this seed. It does not allocate.
+    pub fn new(alloc: Global, seed: Seed) -> Words
+        ensures { result ≡ no_words }
+    {
+        Words {
+            patterns: Table {
+                map: IndexMap::with_hasher(alloc, seed),
+            },
+            names: Table {
+                map: IndexMap::with_hasher(alloc, seed),
+            },
+            units: Table {
+                map: IndexMap::with_hasher(alloc, seed),
+            },
+        }
+    }
+
+    // Adds what the entries of three arrays say.
+    fn add_arrays(
+        &mut self,
+        alloc: Global,
+        seed: Seed,
+        arrays: WordArrays,
+    ) -> Result<(), WordsError>
+        ensures value { OnOk result
+            (self.new
+            ≡ words_after self.old (items_view arrays.patterns.items) (items_view arrays.names.items)
             (items_view arrays.units.items)) }
+        ensures sound { OnOk result
+            (words_fault self.old (items_view arrays.patterns.items) (items_view arrays.names.items)
+            (items_view arrays.units.items) ≡ None) }
         ensures fault { IfErr result
             (λ fault. IsTold
-            (words_fault (items_view arrays.patterns.items) (items_view arrays.names.items)
+            (words_fault self.old (items_view arrays.patterns.items) (items_view arrays.names.items)
             (items_view arrays.units.items)) fault) }
-
-        // A fault that is found before anything is allocated is never reported as out of memory.
         ensures room { IsErrOf result WordsError.Memory
             → words_may_grow (items_view arrays.patterns.items) (items_view arrays.names.items)
             (items_view arrays.units.items) ≡ true }
     {
-        let WordArrays {
-            patterns,
-            names,
-            units,
-        } = arrays;
-        let patterns = table_of::<NamePatterns>(alloc, seed, patterns)?;
-        let names = table_of::<CurrencyNames>(alloc, seed, names)?;
-        match table_of::<UnitTables>(alloc, seed, units) {
-            Ok(units) => Ok(Words {
-                patterns,
-                names,
-                units,
-            }),
-            Err(fault) => Err(fault),
+        fill_all(
+            alloc,
+            seed,
+            &mut self.patterns.map,
+            &mut self.names.map,
+            &mut self.units.map,
+            arrays,
+        )
+    }
+
+    /// Adds the words of a file to these: an array of name patterns, one of names of currencies, and one of units, as
+    /// `[[["de",[["other",[""," ¤"]]]]],[],[]]`. The tables of units are hashed by this seed.
+    ///
+    /// After an error some of its entries may be there, so the words are to be dropped. It allocates.
+    ///
+    /// - Shape: the value is not three arrays.
+    /// - Shape to Measure: else the first faulty entry decides, in the order of the arrays, and in an entry the least
+    ///   number: `Code` of the names `[["en","usd",[["other","dollars"]]]]`. An entry that says what an earlier one of its
+    ///   key says, in this file or before it, counts once, and is no `Duplicate`.
+    /// - Memory: out of memory.
+    pub fn add_file(&mut self, alloc: Global, seed: Seed, file: Value) -> Result<(), WordsError>
+        ensures value { OnOk result (self.new ≡ words_with self.old (view file)) }
+        ensures sound { OnOk result (file_fault self.old (view file) ≡ None) }
+        ensures fault { IfErr result (λ fault. IsTold (file_fault self.old (view file)) fault) }
+
+        // A fault that is found before anything is allocated is never reported as out of memory.
+        ensures room { IsErrOf result WordsError.Memory → file_may_grow (view file) ≡ true }
+    {
+        match word_arrays_of(alloc, file) {
+            Some(arrays) => self.add_arrays(alloc, seed, arrays),
+            None => Err(WordsError::Shape),
         }
     }
 

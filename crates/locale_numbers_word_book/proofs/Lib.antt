@@ -1,0 +1,4 @@
+pub mod BookTextLemmas
+pub mod WordBookLemmas
+pub mod WordLocaleLemmas
+pub mod WordTextLemmas
