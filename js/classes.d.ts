@@ -180,7 +180,7 @@ declare abstract class Formatter<Options, Call> extends Open {
   shown(number: Num, options?: Call): string;
   /** The text of a value as `shown` gives it, its digits as they are: `-1.20c6` is `-1.20M` in short English. No scientific number is written so. */
   formatExact(value: string, options?: Call): string;
-  /** The digits of the one number that is written so: `-1,234.50` is `-1234.50` in English. No compact or scientific number is read. */
+  /** The digits of the one number that is written so: `-1,234.50` is `-1234.50` in English, and `1.20E6` is `1200000` by a formatter of scientific numbers. No compact number is read. */
   read(text: string): string;
   /** The digits of the number that was typed so: in English also `1234.5`, `.5` and ` 5`; `12.5`, `12.5 %` and `%12.5`; `5 €` and `EUR 5`. */
   readLenient(text: string): string;

@@ -1,4 +1,6 @@
 // The options of Intl.NumberFormat and Intl.PluralRules, read and checked by the steps of ECMA-402: in its order, with its defaults and its errors.
+import { USUAL_COMPACT } from "./compact-digits.js";
+
 const MATCHERS = ["lookup", "best fit"];
 const STYLES = ["decimal", "percent", "currency", "unit"];
 const CURRENCY_DISPLAYS = ["code", "symbol", "narrowSymbol", "name"];
@@ -13,8 +15,6 @@ const MODES = ["ceil", "floor", "expand", "trunc", "halfCeil", "halfFloor", "hal
 const PRIORITIES = ["auto", "morePrecision", "lessPrecision"];
 const ZEROS = ["auto", "stripIfInteger"];
 const TYPES = ["cardinal", "ordinal"];
-// The digits of compact numbers where no option says them.
-const OF_COMPACT = { minimumFractionDigits: 0, maximumFractionDigits: 0, minimumSignificantDigits: 1, maximumSignificantDigits: 2 };
 const [MOST_INTEGER, MOST_FRACTION, MOST_SIGNIFICANT] = [21, 100, 21];
 const CODE = /^[a-z]{3}$/i;
 const SYSTEM = /^[a-z\d]{3,8}(?:-[a-z\d]{3,8})*$/i;
@@ -24,6 +24,11 @@ const UNITS = (
   "liter megabit megabyte meter microsecond mile mile-scandinavian milliliter millimeter millisecond minute month nanosecond ounce percent petabyte pound second " +
   "stone terabit terabyte week yard year"
 ).split(" ");
+
+/** Whether compact numbers have the digits that they have without an option. */
+export function hasUsualDigits(resolved) {
+  return resolved.minimumIntegerDigits === 1 && Object.entries(USUAL_COMPACT).every(([name, value]) => resolved[name] === value);
+}
 
 /** The options as an object, of which each is read once. */
 function objectOf(options) {
@@ -125,13 +130,14 @@ function digitsOf(options, usual, notation) {
   const isUsual = !isEither && !hasSignificant && !hasFraction && notation === "compact";
   const significant = isEither || hasSignificant ? significantOf(given) : {};
   const fraction = isEither || (!hasSignificant && !isUsual) ? fractionOf(given, roundingIncrement === 1 ? usual : [usual[0], usual[0]]) : {};
-  const counts = { minimumIntegerDigits, ...(isUsual ? OF_COMPACT : { ...fraction, ...significant }) };
+  const { roundingPriority: ofUsual, ...usualCounts } = USUAL_COMPACT;
+  const counts = { minimumIntegerDigits, ...(isUsual ? usualCounts : { ...fraction, ...significant }) };
   if (roundingIncrement !== 1) {
     if (isEither || isUsual || hasSignificant) throw new TypeError("roundingIncrement is of fraction digits, and not of significant ones");
     const { minimumFractionDigits: least, maximumFractionDigits: most } = counts;
     if (least !== most) throw new RangeError("roundingIncrement asks for as many fraction digits at least as at most");
   }
-  return { counts, rounding: { roundingIncrement, roundingMode, roundingPriority: isUsual ? "morePrecision" : roundingPriority, trailingZeroDisplay } };
+  return { counts, rounding: { roundingIncrement, roundingMode, roundingPriority: isUsual ? ofUsual : roundingPriority, trailingZeroDisplay } };
 }
 
 // When separators are written. The words "true" and "false" say nothing.
@@ -170,6 +176,8 @@ export function readNumberFormat(options, fractionDigits) {
 export function readPluralRules(options) {
   const given = readMatcher(options);
   const type = word(given, "type", TYPES, "cardinal");
-  const { counts, rounding } = digitsOf(given, [0, 3], "standard");
-  return { first: { type, ...counts }, last: rounding };
+  const notation = word(given, "notation", NOTATIONS, "standard");
+  const width = word(given, "compactDisplay", WIDTHS, "short");
+  const { counts, rounding } = digitsOf(given, [0, 3], notation);
+  return { first: { type, notation, ...(notation === "compact" ? { compactDisplay: width } : {}), ...counts }, last: rounding };
 }

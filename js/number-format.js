@@ -1,28 +1,18 @@
 // NumberFormat, which stands in for Intl.NumberFormat: its options, defaults, calls and errors, over the formatters of the library. What these cannot
 // write is refused by its name; but NaN and infinity, which are no numbers to them, are written here.
-import { USUAL_COMPACT } from "./compact-digits.js";
-import { CompactDecimalFormatter, CurrencyFormatter, DecimalFormatter, PercentFormatter, ScientificFormatter, isWithoutTables } from "./formatters.js";
-import { readMatcher, readNumberFormat } from "./intl-options.js";
+import { CompactDecimalFormatter, CurrencyFormatter, DecimalFormatter, PercentFormatter, ScientificFormatter } from "./formatters.js";
+import { baseNameOf, foundOf, supportedOf, systemOf, tagsAsked } from "./intl-locales.js";
+import { hasUsualDigits, readNumberFormat } from "./intl-options.js";
 import { intlParts, withSymbol } from "./intl-parts.js";
 import { intlDigits, timesHundred } from "./intl-numbers.js";
 import { magnitudeOf } from "./numbers.js";
 import { SCIENTIFIC } from "./options.js";
 import { INFINITY, NAN } from "./specials.js";
-import { canonicalTags, isUndetermined, machineTag } from "./tags.js";
 
 const DIGITS = [
   "minimumIntegerDigits", "minimumFractionDigits", "maximumFractionDigits", "minimumSignificantDigits", "maximumSignificantDigits",
   "roundingIncrement", "roundingMode", "roundingPriority", "trailingZeroDisplay",
 ];
-// The numbering systems of ten digits, each with the number of its zero in Unicode.
-const ZERO_DIGITS =
-  "adlm:1e950 ahom:11730 arab:660 arabext:6f0 bali:1b50 beng:9e6 bhks:11c50 brah:11066 cakm:11136 cham:aa50 deva:966 diak:11950 fullwide:ff10 gara:10d40 " +
-  "gong:11da0 gonm:11d50 gujr:ae6 gukh:16130 guru:a66 hanidec:3007 hmng:16b50 hmnp:1e140 java:a9d0 kali:a900 kawi:11f50 khmr:17e0 knda:ce6 krai:16d70 " +
-  "lana:1a80 lanatham:1a90 laoo:ed0 latn:30 lepc:1c40 limb:1946 mathbold:1d7ce mathdbl:1d7d8 mathmono:1d7f6 mathsanb:1d7ec mathsans:1d7e2 mlym:d66 " +
-  "modi:11650 mong:1810 mroo:16a60 mtei:abf0 mymr:1040 mymrepka:116da mymrpao:116d0 mymrshan:1090 mymrtlng:a9f0 nagm:1e4f0 newa:11450 nkoo:7c0 olck:1c50 " +
-  "onao:1e5f1 orya:b66 osma:104a0 outlined:1ccf0 rohg:10d30 saur:a8d0 segment:1fbf0 shrd:111d0 sind:112f0 sinh:de6 sora:110f0 sund:1bb0 sunu:11bf0 " +
-  "takr:116c0 talu:19d0 tamldec:be6 telu:c66 thai:e50 tibt:f20 tirh:114d0 tnsa:16ac0 tols:11de0 vaii:a620 wara:118e0 wcho:1e2f0";
-const SYSTEMS = new Map(Array.from(ZERO_DIGITS.matchAll(/(\w+):(\w+)/g), ([, name, zero]) => [name, String.fromCodePoint(parseInt(zero, 16))]));
 const WITHOUT_LETTERS = ["XXX", "EUR"]; // currencies whose symbols, `¤` and `€`, have no letter, each in most locales
 const LEGACY = Symbol("IntlLegacyConstructedSymbol");
 
@@ -36,11 +26,6 @@ function lackOf(resolved) {
   if (style === "unit") return "style unit";
   if (currencyDisplay === "narrowSymbol" || currencyDisplay === "name") return `currencyDisplay ${currencyDisplay}`;
   return notation !== "standard" && style !== "decimal" ? `notation ${notation} with style ${style}` : null;
-}
-
-// Whether compact numbers have the digits that they have without an option.
-function hasUsualDigits(resolved) {
-  return resolved.minimumIntegerDigits === 1 && Object.entries(USUAL_COMPACT).every(([name, value]) => resolved[name] === value);
 }
 
 // In compact numbers the engines' `auto` is `min2`.
@@ -81,40 +66,12 @@ function withOneZero({ formatter, resolved }, digits) {
 
 const textOf = (parts) => parts.map(({ value }) => value).join("");
 
-// What is made of a tag; null where there are no tables for it.
-function madeOf(make, tag) {
-  try {
-    return make(tag);
-  } catch (error) {
-    if (isWithoutTables(error)) return null;
-    throw error;
-  }
-}
-
-/**
- * What is made of the first of these tags that there are tables for, by which tag, and the locale that resolvedOptions tells. A numbering system that is asked
- * for, by an option or else by the tag, is taken where there are digits of it.
- */
-function foundOf(tags, asked, make) {
-  for (const tag of tags) {
-    const { baseName, numberingSystem: named } = new Intl.Locale(tag);
-    if (isUndetermined(baseName)) continue; // whose tables are there, and are those of no locale
-    const systems = [asked, named].filter((it) => SYSTEMS.has(it));
-    for (const own of [...systems.map((it) => `${baseName}-u-nu-${it}`), baseName]) {
-      const made = madeOf(make, own);
-      if (made !== null) return { made, tag: own, locale: own === `${baseName}-u-nu-${named}` ? own : baseName };
-    }
-  }
-  throw new RangeError(`there are no tables for ${tags.join(", ")}`);
-}
-
 /**
  * A formatter of what is asked for as of Intl.NumberFormat, and what resolvedOptions tells. Where `isAlone`, the locale of the machine stands in for those
  * that there are no tables for.
  */
 function openedOf(locales, options, isAlone) {
-  const requested = canonicalTags(locales);
-  const tags = isAlone || requested.length === 0 ? [...requested, machineTag()] : requested.slice(0, 1);
+  const tags = tagsAsked(locales, isAlone);
   const fractionDigits = (currency) => foundOf(tags, undefined, (tag) => new CurrencyFormatter(tag, { currency })).made.resolvedOptions().currencyFractionDigits;
   const { system, resolved } = readNumberFormat(options, fractionDigits);
   const lack = lackOf(resolved);
@@ -123,11 +80,7 @@ function openedOf(locales, options, isAlone) {
   return { formatter, tag, locale, resolved };
 }
 
-function systemOf(formatter) {
-  const [zero] = formatter.symbols().digits;
-  for (const [name, its] of SYSTEMS) if (its === zero) return name;
-  return "latn";
-}
+const systemFor = (formatter) => systemOf(formatter.symbols().digits[0]);
 
 // The parts of the number that a compact text has beside its word, where its own parts do not have them.
 function partsBeside({ formatter, tag, resolved }, digits) {
@@ -138,9 +91,9 @@ function partsBeside({ formatter, tag, resolved }, digits) {
 
 // The first symbol of those that a locale has a key of.
 function symbolOf(table, tag, system, usual) {
-  const { baseName } = new Intl.Locale(tag);
-  const { language, script } = new Intl.Locale(baseName).maximize();
-  const own = [`${language}-${script}-${system}`, baseName, `${language}-${script}`].find((it) => Object.hasOwn(table, it));
+  const name = baseNameOf(tag);
+  const { language, script } = new Intl.Locale(name).maximize();
+  const own = [`${language}-${script}-${system}`, name, `${language}-${script}`].find((it) => Object.hasOwn(table, it));
   return own === undefined ? usual : table[own];
 }
 
@@ -157,7 +110,7 @@ function betweenOf(parts, type) {
  * @param {number} number
  */
 function specialParts({ formatter, tag, resolved: { style, currency, currencySign, currencyDisplay, signDisplay } }, number) {
-  const system = systemOf(formatter);
+  const system = systemFor(formatter);
   const [type, symbol] = Number.isNaN(number) ? ["nan", symbolOf(NAN, tag, system, "NaN")] : ["infinity", symbolOf(INFINITY, tag, system, "∞")];
   const partsOf = (more) => {
     const like = formatterOf(tag, { style, currencySign, signDisplay, useGrouping: false, notation: "standard", ...more });
@@ -173,11 +126,6 @@ function specialParts({ formatter, tag, resolved: { style, currency, currencySig
     if (isUnitFirst === place.isUnitFirst && !isLetter) return [...own.slice(0, place.start), ...parts.slice(start, end), ...own.slice(place.end)];
   }
   return own;
-}
-
-function isSupported(tag) {
-  const { baseName } = new Intl.Locale(tag);
-  return !isUndetermined(baseName) && madeOf((it) => new DecimalFormatter(it), baseName) !== null;
 }
 
 /**
@@ -212,7 +160,7 @@ export function numberFormatOver(Engine) {
     #otherwise(what, name, values) {
       if (Engine === null) throw refused(what);
       const { locale, resolved } = this.#opened;
-      this.#other ??= new Engine(locale, { numberingSystem: systemOf(this.#opened.formatter), ...resolved });
+      this.#other ??= new Engine(locale, { numberingSystem: systemFor(this.#opened.formatter), ...resolved });
       return this.#other[name](...values);
     }
 
@@ -272,14 +220,12 @@ export function numberFormatOver(Engine) {
       const it = NumberFormat.#unwrapped(this);
       if (!NumberFormat.#isOwn(it)) return Reflect.apply(Engine.prototype.resolvedOptions, it, []);
       const { formatter, locale, resolved } = it.#opened;
-      return { locale, numberingSystem: systemOf(formatter), ...resolved };
+      return { locale, numberingSystem: systemFor(formatter), ...resolved };
     }
 
     /** Those of the locales that there are tables for. */
     static supportedLocalesOf(locales, options = undefined) {
-      const requested = canonicalTags(locales);
-      readMatcher(options);
-      return requested.filter((it) => isSupported(it) || (Engine !== null && Engine.supportedLocalesOf(it).length > 0));
+      return supportedOf(locales, options, Engine, (it) => new DecimalFormatter(it));
     }
   }
   for (const name of Engine === null ? [] : ["formatRange", "formatRangeToParts"]) if (!(name in Engine.prototype)) delete NumberFormat.prototype[name];
@@ -296,4 +242,4 @@ export function numberFormatOver(Engine) {
 }
 
 /** Writes numbers as Intl.NumberFormat does, with its options and its defaults. */
-export const NumberFormat = numberFormatOver(null);
+export const NumberFormat = /* @__PURE__ */ numberFormatOver(null);

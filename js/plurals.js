@@ -16,8 +16,8 @@ const DIGITS = OF_DIGITS.filter((it) => !["signDisplay", "position"].includes(it
 const USUAL = { minimumIntegerDigits: 1, roundingIncrement: 1, roundingMode: "halfExpand", roundingPriority: "auto", trailingZeroDisplay: "auto" };
 // The options that give compact numbers digits of their own, as does a roundingPriority.
 const PRECISIONS = Object.keys(USUAL_COMPACT).filter((it) => it !== "roundingPriority");
-// Numbers that have among them each category of a language.
-const SAMPLES = [...Array.from({ length: 101 }, (_, number) => String(number)), "1000000", "0.1", "1.5"];
+/** Numbers that have among them each category of a language. */
+export const SAMPLES = [...Array.from({ length: 101 }, (_, number) => String(number)), "1000000", "0.1", "1.5"];
 
 // The counts of digits that are given, and those that Intl has in place of others.
 function countsOf(found, name, least, most) {

@@ -30,9 +30,12 @@ export function isUndetermined(tag) {
   return /^und(?:-|$)/.test(tag);
 }
 
-/** The tag of the machine's locale. */
+let machine;
+
+/** The tag of the machine's locale, which a formatter of the engine is made for once. */
 export function machineTag() {
-  return new Engine().resolvedOptions().locale;
+  machine ??= new Engine().resolvedOptions().locale;
+  return machine;
 }
 
 /**

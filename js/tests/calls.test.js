@@ -173,7 +173,10 @@ test("scientific numbers", () => {
   assert.deepEqual(types(new NumberFormatter("ar-EG", { skeleton: "scientific/*ee/sign-always" }).formatToParts("1200000")), ["integer ١", "decimal ٫", "fraction ٢", "exponentSeparator أس", "exponentPlusSign \u061c+", "exponentInteger ٠٦"]);
   for (const exact of ["1.2", "1.2c6"]) refuses(ErrorNumber.EXPONENT, () => powers.formatExact(exact));
   refuses(ErrorNumber.NUMBER, () => powers.formatExact("1.2e6"));
-  for (const read of ["read", "readLenient"]) refuses(ErrorNumber.UNREADABLE, () => powers[read]("1.2E6"));
+  assert.deepEqual(["1.2345E6", "-1.20E-3", "0E0", "1E-400"].map((it) => powers.read(it)), ["1234500", "-0.00120", "0", `0.${"0".repeat(399)}1`]);
+  assert.equal(new ScientificFormatter("ar-EG", { notation: "engineering" }).read("\u061c-١٢٠أس\u061c-٦"), "-0.000120");
+  for (const text of ["12.3E4", "1.2e6", " 1.2E6", "1.2E06", "1E99999", "1.2"]) refuses(ErrorNumber.NOT_WRITTEN, () => powers.read(text));
+  refuses(ErrorNumber.UNREADABLE, () => powers.readLenient("1.2E6"));
   refuses(ErrorNumber.RANGE, () => powers.format(`1${"0".repeat(300)}.${"0".repeat(32767)}1`));
   refuses(ErrorNumber.NUMBER, () => powers.shown(NaN));
   assert.deepEqual(powers.resolvedOptions(), { locale: "en", useGrouping: "auto", signDisplay: "auto", notation: "scientific" });

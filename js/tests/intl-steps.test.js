@@ -161,7 +161,9 @@ each("what are words and numbers by conversion", ({ NumberFormat, isOwn, resolve
   for (const name of ["minimumSignificantDigits", "maximumSignificantDigits"]) throwsOwn(RangeError, () => new NumberFormat("en", { [name]: 0 }), name);
 });
 
-each("options that are no object", ({ NumberFormat, resolved }) => {
+each("options that are no object, and inherited ones", ({ NumberFormat, resolved }) => {
+  assert.equal(resolved(Object.create({ style: "percent" })).style, "percent");
+  assert.equal(resolved(Object.assign(() => {}, { style: "percent" })).style, "percent");
   for (const none of [undefined, {}, Object.create(null), [], 5, "x", true, Symbol("x"), 1n, () => {}]) assert.deepEqual(new NumberFormat("en", none).resolvedOptions(), resolved());
   throwsOwn(TypeError, () => new NumberFormat("en", null));
   throwsOwn(TypeError, () => NumberFormat.supportedLocalesOf("en", null));
@@ -177,7 +179,7 @@ each("options that are no object", ({ NumberFormat, resolved }) => {
   }
 });
 
-each("locales", ({ NumberFormat, resolved }) => {
+each("locales", ({ NumberFormat, resolved, text }) => {
   const machine = new Intl.NumberFormat().resolvedOptions().locale;
   for (const none of [undefined, [], {}, 5, true, "xx", ["xx", "tlh"], "und", "und-Latn"]) assert.equal(new NumberFormat(none).resolvedOptions().locale, machine, String(none));
   for (const wrong of [null, [5], [null], [undefined]]) throwsOwn(TypeError, () => new NumberFormat(wrong), String(wrong));
@@ -186,6 +188,10 @@ each("locales", ({ NumberFormat, resolved }) => {
   assert.equal(resolved({}, new Intl.Locale("hi", { numberingSystem: "deva" })).locale, "hi-u-nu-deva");
   assert.equal(resolved({}, "DE-at-u-co-phonebk-x-foo").locale, "de-AT");
   assert.equal(resolved({}, "iw").locale, "he");
+  // whose variant engines have as a keyword
+  assert.deepEqual([12345.6, Infinity].map((it) => text(it, {}, "en-US-posix")), ["12345.6", "INF"]);
+  assert.equal(text(12, {}, new Intl.Locale("en-US-posix", { numberingSystem: "thai" })), "๑๒");
+  assert.deepEqual(NumberFormat.supportedLocalesOf("en-US-posix"), Intl.getCanonicalLocales("en-US-posix"));
   throwsOwn(RangeError, () => new NumberFormat("de_DE", null)); // locales come first
   assert.deepEqual(NumberFormat.supportedLocalesOf(["xx", "de-AT", "en-u-nu-thai", "und", "de-AT", "zh-TW"]), ["de-AT", "en-u-nu-thai", "zh-TW"]);
   assert.deepEqual(NumberFormat.supportedLocalesOf(undefined), []);

@@ -56,6 +56,8 @@ test("numbers, and what they select", () => {
   assert.deepEqual([1, "1.50", "15e-1", 2, "100e-2"].map((n) => formatted("en", exact, { n })), ["=1", "=1.5", "=1.5", "other", "=1"]);
   const others = ".input {$n :number} .local $m = {$n :offset subtract=1} .match $m 0 {{you}} one {{you and {$m} other}} * {{you and {$m} others}}";
   assert.deepEqual([1, "2", 3n, "2.5", 0].map((n) => formatted("en", others, { n })), ["you", "you and 1 other", "you and 2 others", "you and 1.5 others", "you and -1 other"]);
+  const whole = ".input {$n :integer} .match $n 0 {{none}} 1 {{=1}} one {{one}} * {{{$n}}}";
+  assert.deepEqual([1.2, "1.2", "0.5", 0.4, 1n, "9007199254740993.5", -1.5].map((n) => formatted("en", whole, { n })), ["=1", "=1", "=1", "none", "=1", "9,007,199,254,740,994", "-2"]);
   const shown = ".input {$n :number minimumFractionDigits=1} .match $n one {{one: {$n}}} * {{other: {$n}}}";
   assert.equal(formatted("en", shown, { n: 1 }), "other: 1.0");
 });
@@ -66,6 +68,8 @@ test("options", () => {
     ["en", "{$n :number maximumSignificantDigits=2}", "12345", "12,000"], ["en", "{$n :percent}", 0.256, "26%"], ["en", "{$n :percent maximumFractionDigits=1}", "0.2561", "25.6%"], ["en", "{$n :currency currency=EUR}", "1234567890123456789.5", "€1,234,567,890,123,456,789.50"],
     ["de", "{$n :currency currency=EUR fractionDigits=0}", 5.5, "6\u00a0€"], ["ja", "{$n :currency currency=JPY currencyDisplay=code}", 5, "JPY\u00a05"], ["en", "{$n :currency currency=USD currencySign=accounting fractionDigits=auto}", -5, "($5.00)"],
     ["en", ".local $m = {$n :number minimumFractionDigits=2} {$m :number signDisplay=always}", 1, "+1.00"], ["en", ".local $m = {$n :number minimumFractionDigits=2} {$m :integer}", 1.5, "2"], ["hi", "{$n :number numberingSystem=deva}", 12, "१२"],
+    ["en", ".local $m = {$n :integer} {$m :number minimumFractionDigits=1}", 1.25, "1.0"], ["en", ".local $m = {$n :number roundingMode=floor} {$m :integer}", "1.9", "1"], ["en", ".local $m = {$n :integer} {$m :offset add=1}", 1.4, "2"],
+    ["en", ".local $m = {$n :currency currency=USD fractionDigits=0} {$m :currency fractionDigits=auto}", 5, "$5.00"], ["en", "{$n :currency currency=USD notation=standard compactDisplay=short}", 5, "$5.00"], ["en", "{$n :number maximumSignificantDigits=1 maximumFractionDigits=1 roundingPriority=morePrecision}", 1.25, "1.3"],
   ];
   for (const [tag, message, n, wanted] of rows) {
     const errors = [];
@@ -82,8 +86,11 @@ test("what is refused", () => {
   const rows = [
     ["{$n :number}", "x", "{$n}", ["bad-operand"]], ["{$n :number}", undefined, "{$n}", ["bad-operand"]], ["{$n :number}", "1,5", "{$n}", ["bad-operand"]], ["{$n :number}", true, "{$n}", ["bad-operand"]], ["{$n :currency}", 1, "{$n}", ["bad-operand"]],
     ["{$n :number minimumFractionDigits=x}", 1, "1", ["bad-option"]], ["{$n :number minimumFractionDigits=-1}", 1, "1", ["bad-option"]], ["{$n :number minimumFractionDigits=101}", 1, "1", ["bad-option"]], ["{$n :number signDisplay=plus}", 1, "1", ["bad-option"]],
-    ["{$n :number select=all}", 1, "1", ["bad-option"]], ["{$n :currency currency=EURO}", 1, "{$n}", ["bad-option", "bad-operand"]], ["{$n :unit unit=meter}", 1, "{$n}", ["RangeError"]], ["{$n :number style=percent}", 1, "1", []],
+    ["{$n :number select=all}", 1, "1", ["bad-option"]], ["{$n :currency currency=EURO}", 1, "{$n}", ["bad-option", "bad-operand"]], ["{$n :unit unit=meter}", 1, "{$n}", ["unsupported-operation"]], ["{$n :unit}", 1, "{$n}", ["bad-operand"]], ["{$n :number style=percent}", 1, "1", []],
     ["{$n :offset}", 1, "{$n}", ["bad-option"]], ["{$n :offset add=1 subtract=1}", 1, "{$n}", ["bad-option"]], ["{$n :offset add=x}", 1, "{$n}", ["bad-option"]], ["{$n :offset add=1}", "9007199254740993", "9,007,199,254,740,994", []],
+    ["{$n :number minimumFractionDigits=3 maximumFractionDigits=1}", 1, "{$n}", ["bad-option"]], ["{$n :number roundingIncrement=5 maximumFractionDigits=1}", 1, "{$n}", ["bad-option"]], ["{$n :number roundingIncrement=3}", 1, "1", ["bad-option"]],
+    ["{$n :number numberingSystem=none}", 1, "1", ["bad-option"]], ["{$n :number useGrouping=true}", 1234, "1,234", ["bad-option"]], ["{$n :currency currency=USD currencyDisplay=name}", 1, "$1.00", ["unsupported-operation"]],
+    ["{$n :currency currency=USD currencyDisplay=words}", 1, "$1.00", ["bad-option"]], ["{$n :currency currency=USD notation=compact}", 1000, "$1,000.00", ["unsupported-operation"]],
     [".input {$n :number select=$how} .match $n one {{one}} * {{other}}", 1, "other", ["bad-option", "bad-selector"]],
   ];
   for (const [message, n, wanted, types] of rows) {
@@ -100,6 +107,10 @@ test("what a message formatter is given", () => {
   const [{ parts, ...others }, ...more] = it.toParts();
   assert.deepEqual([others, more], [{ type: "number", dir: "rtl", locale: "ar-EG" }, []]);
   assert.equal(parts.map(({ value }) => value).join(""), String(it));
-  assert.equal(functions.number({ locales: ["ar"], dir: "auto" }, {}, 1).dir, "auto");
-  assert.equal(functions.unit({ locales: ["pl"] }, { unit: "meter" }, 5).selectKey(new Set(["few", "many"])), "many");
+  const isolated = functions.number({ locales: ["ar"], dir: "auto" }, {}, 1);
+  assert.deepEqual([isolated.dir, "dir" in isolated.toParts()[0]], ["auto", false]);
+  const errors = [];
+  const told = functions.number({ locales: ["en"], onError: (error) => errors.push(error.type) }, {}, { valueOf: () => "1.50", options: { minimumFractionDigits: -1, signDisplay: "always" } });
+  assert.deepEqual([String(told), told.valueOf(), errors], ["+1.5", "1.50", ["bad-option"]]);
+  assert.deepEqual([1.5, "1.50", 2n].map((n) => functions.integer({ locales: ["en"] }, {}, n).valueOf()), [2, "2", 2n]);
 });

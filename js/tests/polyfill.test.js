@@ -68,6 +68,24 @@ test("what is put in later stays", () => {
   assert.ok(isEngine());
 });
 
+test("one that is put in twice, and one that the engine has not", () => {
+  install(["NumberFormat", "NumberFormat"])();
+  assert.ok(isEngine());
+  const described = Object.getOwnPropertyDescriptor(Intl, "PluralRules");
+  delete Intl.PluralRules;
+  try {
+    restore = install();
+    assert.deepEqual({ ...Object.getOwnPropertyDescriptor(Intl, "PluralRules"), value: null }, { ...described, value: null });
+    assert.equal(new Intl.PluralRules("pl").select(5), "many");
+    assert.throws(() => new Intl.PluralRules("pl", { type: "x" }), RangeError);
+    assert.deepEqual(Intl.PluralRules.supportedLocalesOf(["pl", "xx"]), ["pl"]);
+    restore();
+    assert.ok(!("PluralRules" in Intl));
+  } finally {
+    Object.defineProperty(Intl, "PluralRules", described);
+  }
+});
+
 // Whether the engine made it: only then its own calls take it.
 function isOfEngine(it, Type = EngineNumbers) {
   try {
@@ -136,10 +154,14 @@ test("plural rules", { skip: !hasRanges }, () => {
     assert.throws(() => ours.selectRange(NaN, 1), RangeError);
     const found = ours.resolvedOptions();
     for (const [name, value] of Object.entries(theirs.resolvedOptions())) assert.deepEqual(name === "pluralCategories" ? [...found[name]].sort() : found[name], name === "pluralCategories" ? [...value].sort() : value, name);
-    assert.deepEqual(Object.keys(found).slice(0, 3), ["locale", "type", "minimumIntegerDigits"]);
+    assert.deepEqual(Object.keys(found).slice(0, 4), ["locale", "type", "notation", "minimumIntegerDigits"]);
   }
   assert.equal(new Intl.PluralRules("xx").resolvedOptions().locale, new EngineRules("xx").resolvedOptions().locale);
   assert.ok(new Intl.PluralRules("xx") instanceof Intl.PluralRules);
+  assert.equal(new Intl.PluralRules("pl").selectRange(1, Infinity), new EngineRules("pl").selectRange(1, Infinity));
+  const far = 10n ** 33000n; // which the library refuses: the engine says what it has of infinity
+  assert.deepEqual([new Intl.PluralRules("pl").select(far), new Intl.PluralRules("pl").selectRange(1, far)], ["other", "other"]);
+  assert.equal(new Intl.PluralRules("fr", { notation: "compact" }).select(1500000n), "many");
   assert.equal(new Intl.PluralRules("en-u-nu-thai").select(1), "one");
   assert.throws(() => Intl.PluralRules("en"), TypeError);
   assert.throws(() => new Intl.PluralRules("en", { type: "x" }), RangeError);
@@ -151,7 +173,7 @@ test("plural rules", { skip: !hasRanges }, () => {
 test("plural rules read their options once, in order", () => {
   restore = install();
   const inOrder = [
-    "localeMatcher", "type", "minimumIntegerDigits", "minimumFractionDigits", "maximumFractionDigits", "minimumSignificantDigits", "maximumSignificantDigits", "roundingIncrement", "roundingMode", "roundingPriority", "trailingZeroDisplay",
+    "localeMatcher", "type", "notation", "compactDisplay", "minimumIntegerDigits", "minimumFractionDigits", "maximumFractionDigits", "minimumSignificantDigits", "maximumSignificantDigits", "roundingIncrement", "roundingMode", "roundingPriority", "trailingZeroDisplay",
   ];
   const log = [];
   new Intl.PluralRules("en", new Proxy({}, { get: (_, name) => void log.push(name) }));

@@ -77,7 +77,8 @@ test("skeletons as the other formatters have them", () => {
       for (const number of ["0", "-1234.565", "1650", "12.5", "999999.995"]) {
         const text = theirs.format(number);
         assert.deepEqual([ours.format(number), ours.formatToParts(number), ours.shown(number)], [text, theirs.formatToParts(number), theirs.shown(number)], `${locale} ${skeleton} ${number}`);
-        if (![CompactDecimalFormatter, ScientificFormatter].includes(Type)) assert.deepEqual([ours.read(text), ours.readLenient(text)], [theirs.read(text), theirs.readLenient(text)]);
+        if (Type !== CompactDecimalFormatter) assert.equal(ours.read(text), theirs.read(text));
+        if (![CompactDecimalFormatter, ScientificFormatter].includes(Type)) assert.equal(ours.readLenient(text), theirs.readLenient(text));
       }
     }
   }

@@ -6,6 +6,9 @@ import type { CurrencyCallOptions, CurrencyFormatterOptions, DecimalFormatterOpt
 import { load, loadSync, memorySize, setWorld } from "legumeyet/core";
 import { FieldText } from "legumeyet/field";
 import { CurrencyFormatter as Inside, init } from "legumeyet/inline";
+import { NumberFormat as NumbersOfIntl, PluralRules as PluralsOfIntl } from "legumeyet/intl";
+import type { PluralRulesOptions as OptionsOfIntl, ResolvedPluralRulesOptions as ResolvedOfIntl } from "legumeyet/intl";
+import { PluralRules as PluralsOfCore } from "legumeyet/intl/core";
 import locales from "legumeyet/locales";
 import { MessageFunctionError, functions } from "legumeyet/messages";
 import type { MessageFunction, MessageNumber } from "legumeyet/messages";
@@ -50,8 +53,17 @@ class Own extends NumberFormat {}
 const ofMessages: MessageFunction = functions.currency;
 const ofMessage: MessageNumber = ofMessages({ locales: ["en"], onError: (error: MessageFunctionError) => void error.type }, { currency: "EUR" }, 5);
 texts.push(String(ofMessage), ofMessage.selectKey?.(new Set(["one"])) ?? "", ofMessage.toParts()[0]?.parts[0]?.value ?? "");
+// (the form in which the package messageformat takes functions)
+interface MessageValue { readonly type: string; readonly locale?: string; readonly dir?: "ltr" | "rtl" | "auto"; readonly options?: Readonly<object>; selectKey?: (keys: Set<string>) => string | null; toParts?: () => { type: string }[]; toString?: () => string; valueOf?: () => unknown }
+interface MessageContext { readonly dir: "ltr" | "rtl" | "auto" | undefined; readonly literalOptionKeys: Set<string>; readonly locales: string[]; onError(error: unknown): void }
+const registered: Record<string, (context: MessageContext, options: Record<string, unknown>, operand?: unknown) => MessageValue> = functions;
+texts.push(...Object.keys(registered));
 const ofIntl: NumberFormatPart[] = NumberFormat("de").formatToParts(5n);
 texts.push(...[1, "2", 3n].map(byIntl.format), byIntl.resolvedOptions().currency ?? "", ofIntl[0]?.type ?? "", new Own().format(5), ...NumberFormat.supportedLocalesOf("de", { localeMatcher: "best fit" }), new NumbersOfPage("de").formatRange(1, 2));
+const intlRules: OptionsOfIntl = { type: "ordinal", notation: "compact", compactDisplay: "long", maximumFractionDigits: 1, roundingMode: "trunc", localeMatcher: "lookup" };
+const resolvedRules: ResolvedOfIntl = new PluralsOfIntl(["de", new Intl.Locale("en")], intlRules).resolvedOptions();
+class OwnRules extends PluralsOfIntl {}
+texts.push(resolvedRules.pluralCategories[0] ?? "", new OwnRules("pl").select(5n), new PluralsOfCore("pl").selectRange("1", 2), ...PluralsOfIntl.supportedLocalesOf("de", { localeMatcher: "lookup" }), NumbersOfIntl("de", asIntl).format(5));
 const restore: () => void = install(["NumberFormat", "PluralRules"]);
 restore();
 const { value, text, caret } = new FieldText(german).edited("1", 1, { front: 0, back: 0 });
@@ -136,3 +148,11 @@ new NumberFormat("de", { signDisplay: "keep" });
 byIntl.format(null);
 // @ts-expect-error
 install(["DateTimeFormat"]);
+// @ts-expect-error
+new PluralsOfIntl("de", { book: new Book("[]") });
+// @ts-expect-error
+new PluralsOfIntl("de").select(null);
+// @ts-expect-error
+PluralsOfIntl("de");
+// @ts-expect-error
+new NumbersOfIntl("de", { fallback: "en" });

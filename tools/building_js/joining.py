@@ -10,7 +10,7 @@ JOINED = {
         "instance.js", "open.js", "sharing.js", "tags.js", "books.js", "small-books.js", "numbers.js", "columns.js", "facts.js", "compact-digits.js",
         "options.js", "rounding.js", "skeletons.js", "formatters.js", "answers.js",
     ),
-    "number-format.js": ("intl-numbers.js", "intl-parts.js", "intl-options.js", "specials.js", "number-format.js"),
+    "number-format.js": ("intl-numbers.js", "intl-parts.js", "intl-options.js", "intl-locales.js", "specials.js", "number-format.js"),
 }
 # Modules that only hand on, of which the lines take the place of what hands these on.
 HANDING_ON = ("common.js", "classes.js")

@@ -12,16 +12,18 @@ from .module import OF_PAGE, WHOLE
 from .sections import HEAD
 
 NAME = "legumeyet"
-LEFT_OUT = ("module/", "tests/", "example.js")
+LEFT_OUT = ("module/", "tests/", "example.js", "intl-example.js")
 LOCALES = TOP / "books/world-locales.txt"
 LOCALES_TEXT = "// The tags of the locales of the world's book, in order.\nexport default {tags};\n"
 INSIDE_TEXT = "// The files of the package in base64, by gzip.\n{texts}"
 
 
-def stamped_manifest(text):
+def stamped_manifest(text, homepage):
     """package.json, with the version of packages, in the form that npm takes: what follows a `+` says that a file was changed."""
     manifest = json.loads(text)
     manifest["version"] = version()
+    if homepage:
+        manifest["homepage"] = homepage
     return json.dumps(manifest, indent=2, ensure_ascii=False).encode() + b"\n"
 
 
@@ -30,10 +32,10 @@ def packed(data):
     return base64.b64encode(gzip.compress(data, 9, mtime=0)).decode()
 
 
-def files_of(modules):
+def files_of(modules, homepage=None):
     """The files of the package, by their paths. The modules are in a folder."""
     files = with_joined({name: data for name, data in committed("js").items() if not name.startswith(LEFT_OUT)})
-    files["package.json"] = stamped_manifest(files["package.json"])
+    files["package.json"] = stamped_manifest(files["package.json"], homepage)
     for name in (WHOLE, OF_PAGE):
         files[name] = (modules / name).read_bytes()
         if not files[name].startswith(HEAD):
