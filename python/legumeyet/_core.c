@@ -1053,11 +1053,12 @@ static PyMethodDef formatter_methods[] = {
      "[('MINUS_SIGN', '-'), ('CURRENCY', '$'), ('INTEGER', '1,234')]"},
     {"read", CALL(read_back),
      "read($self, text, /, *, lenient=False)\n--\n\n"
-     "The number that is written so, with all digits that are shown; how many digits a currency has is not looked at. With lenient also the\n"
-     "number of a text that somebody typed: without separators, with blanks around it, in ASCII digits, with the unit or its code before or\n"
-     "after the number, or without it. A separator is never dropped: digits are grouped wholly, or not at all. Another unit is none.\n\n"
-     "Raises Error 10 where the text is not UTF-8, 11 where two numbers may have one text, as in compact form, and of scientific numbers, 12 where\n"
-     "no number is written so, 2 where the formatter is closed, 1 where memory was refused.\n\n"
+     "The number that is written so, with all digits that are shown; how many digits a currency has, or a scientific number is shown with, is not\n"
+     "looked at. With lenient also the number of a text that somebody typed: without separators, with blanks around it, in ASCII digits, with the\n"
+     "unit or its code before or after the number, or without it. A separator is never dropped: digits are grouped wholly, or not at all. Another\n"
+     "unit is none.\n\n"
+     "Raises Error 10 where the text is not UTF-8, 11 where two numbers may have one text, as in compact form, and with lenient of scientific\n"
+     "numbers, 12 where no number is written so, 2 where the formatter is closed, 1 where memory was refused.\n\n"
      ">>> german, dollars = DecimalFormatter('de'), CurrencyFormatter('en', 'USD', accounting=True)\n"
      ">>> german.read('-1.234,50'), dollars.read('($1,234.50)')\n"
      "(Decimal('-1234.50'), Decimal('-1234.50'))\n"

@@ -229,6 +229,7 @@ class Calls(unittest.TestCase):
             self.assertEqual(powers.format_all([number] * 2), [text] * 2)
             self.assertEqual(Decimal(powers.shown(number)), Decimal(str(number)))
             self.assertEqual(powers.shown(number), text.lower())
+            self.assertEqual((powers.read(text), engineering.read(multiple)), (Decimal(str(number)),) * 2)
         self.assertEqual((powers.format(12345, exponent=-2), powers.format_all([5, -250], exponent=3)), ("1.2345E2", ["5E3", "-2.5E5"]))
         for options, text in [
             ({"position": -2}, "1.00E1"), ({"maximum_significant_digits": 2}, "1E1"), ({"minimum_significant_digits": 6}, "9.99500E0"),
@@ -241,7 +242,7 @@ class Calls(unittest.TestCase):
         self.assertEqual([(it.kind, text[it.start : it.end]) for it in parts][-3:], [(9, "أس"), (10, "\u061c-"), (12, "٤")])
         for number, call, words in [
             (7, powers.format, ("5.",)), (9, powers.format, (f"1{'0' * 300}.{'0' * 32767}1",)), (7, powers.format_exact, ("1.2e6",)),
-            (13, powers.format_exact, ("1.2",)), (13, powers.format_exact, ("1.2c6",)), (11, powers.read, ("1.2E6",)),
+            (13, powers.format_exact, ("1.2",)), (13, powers.format_exact, ("1.2c6",)), (12, powers.read, ("12E5",)), (12, powers.read, ("1E99999",)),
             (11, functools.partial(powers.read, lenient=True), ("1.2E6",)), (6, ScientificFormatter, (self.book, "en")), (5, ScientificFormatter, ("de_DE",)),
         ]:
             self.refused(number, call, *words)

@@ -35,7 +35,9 @@ class Functions(unittest.TestCase):
         self.assertEqual([sentence("en", "currency", it, {"1": "one dollar", "*": "{}"}, currency="USD") for it in (1, 1.5)], ["one dollar", "$1.50"])
         percents = {"1": "all", "one": "{} one", "*": "{} other"}
         self.assertEqual([sentence("en", "percent", it, percents) for it in ("0.01", 0.5, 1)], ["1% one", "50% other", "all"])
-        self.assertEqual(functions["unit"]("pl", {"unit": "meter"}, 5).select_key({"few", "many"}), "many")
+        whole = {"0": "none", "1": "=1", "one": "one", "*": "{}"}
+        texts = ["=1", "=1", "=1", "none", "9,007,199,254,740,994", "-2"]
+        self.assertEqual([sentence("en", "integer", it, whole) for it in (1.2, "1.2", "0.5", 0.4, "9007199254740993.5", -1.5)], texts)
 
     def test_options(self):
         for tag, name, operand, text, options in [
@@ -52,20 +54,58 @@ class Functions(unittest.TestCase):
             self.assertEqual(errors, [])
         two = functions["number"]("en", {"minimumFractionDigits": 2}, 1)
         self.assertEqual([str(functions["number"]("en", {"signDisplay": "always"}, two)), str(functions["integer"]("en", {}, two))], ["+1.00", "1"])
-        self.assertEqual(two.format_parts()[0], "1.00")
+        self.assertEqual((two.format_parts()[0], two.options, two.number, two.type), ("1.00", {"minimumFractionDigits": 2}, 1, "number"))
+        whole = functions["integer"]("en", {}, functions["number"]("en", {"roundingMode": "floor"}, "1.9"))
+        self.assertEqual((str(whole), whole.number, str(functions["offset"]("en", {"add": 1}, whole))), ("1", 1, "2"))
+        self.assertEqual(str(functions["number"]("en", {"minimumFractionDigits": 1}, whole)), "1.0")
+        dollars = functions["currency"]("en", {"currency": "USD", "fractionDigits": 0}, 5)
+        self.assertEqual([str(dollars), str(functions["currency"]("en", {"fractionDigits": "auto"}, dollars))], ["$5", "$5.00"])
+
+    def test_operands(self):
+        class Four:
+            def __index__(self):
+                return 4
+
+        class Half(float):
+            def __repr__(self):
+                return "a half"
+
+        for operand, text in [(Four(), "4"), (Half(0.5), "0.5"), (10**20, "100,000,000,000,000,000,000"), (Decimal("1.250"), "1.25"), ("-4.20", "-4.2"), ("0.42e+1", "4.2"), (1e21, "1,000,000,000,000,000,000,000")]:
+            self.assertEqual(str(functions["number"]("en", {}, operand)), text)
+
+    def test_tags(self):
+        for tag, system, text, dir in [
+            ("ar-EG", None, "١٢", "rtl"), ("ar-EG", "latn", "12", "rtl"), ("ar-EG-u-nu-latn", "arab", "١٢", "rtl"), ("hi-u-co-standard-x-own", "deva", "१२", "ltr"), ("ks-Deva", "latn", "12", "ltr"), ("uz-Arab", "latn", "12", "rtl"), ("en", "latn", "12", "ltr"),
+        ]:
+            number = functions["number"](tag, {} if system is None else {"numberingSystem": system}, 12)
+            self.assertEqual((str(number).strip("\u200e\u200f\u061c"), number.dir, number.tag), (text, dir, tag))
 
     def test_refused(self):
-        for operand in ("x", "", None, True, float("nan"), Decimal("Infinity"), "1,5", [1], "+1"):
+        for operand in ("x", "", None, True, float("nan"), Decimal("Infinity"), "1,5", [1], "+1", "01", "1e999999999999999999999", "1e40000", "1e-40000", Decimal("NaN")):
             with self.assertRaises(MessageFunctionError) as caught:
                 functions["number"]("en", {}, operand)
             self.assertEqual(caught.exception.type, "bad-operand")
-        for name, value in [("minimumFractionDigits", "x"), ("minimumFractionDigits", -1), ("maximumFractionDigits", "101"), ("signDisplay", "plus"), ("select", "all"), ("numberingSystem", "x")]:
+        for name, value in [("minimumFractionDigits", "x"), ("minimumFractionDigits", -1), ("maximumFractionDigits", "101"), ("signDisplay", "plus"), ("select", "all"), ("numberingSystem", "x"), ("numberingSystem", "none"), ("useGrouping", "true"), ("roundingIncrement", 3)]:
             errors = []
             self.assertEqual(str(functions["number"]("en", {name: value}, 1, errors.append)), "1")
             self.assertEqual([it.type for it in errors], ["bad-option"])
-        for name, options in [("offset", {}), ("offset", {"add": 1, "subtract": 1}), ("offset", {"add": "x"}), ("currency", {}), ("currency", {"currency": "EURO"}), ("number", {"minimumFractionDigits": 2, "maximumFractionDigits": 1})]:
-            self.assertRaises(MessageFunctionError, functions[name], "en", options, 1)
-        self.assertRaises(MessageFunctionError, str, functions["unit"]("en", {"unit": "meter"}, 1))
+        for name, value, type in [("currencyDisplay", "name", "unsupported-operation"), ("currencyDisplay", "never", "unsupported-operation"), ("currencyDisplay", "words", "bad-option"), ("notation", "compact", "unsupported-operation"), ("notation", "standard", None)]:
+            errors = []
+            self.assertEqual(str(functions["currency"]("en", {"currency": "USD", name: value}, 1000, errors.append)), "$1,000.00")
+            self.assertEqual([it.type for it in errors], [] if type is None else [type])
+        for name, options, type in [
+            ("offset", {}, "bad-option"), ("offset", {"add": 1, "subtract": 1}, "bad-option"), ("offset", {"add": "x"}, "bad-option"), ("currency", {}, "bad-operand"), ("currency", {"currency": "EURO"}, "bad-operand"),
+            ("number", {"minimumFractionDigits": 2, "maximumFractionDigits": 1}, "bad-option"), ("number", {"minimumSignificantDigits": 2, "maximumSignificantDigits": 1}, "bad-option"),
+            ("number", {"roundingIncrement": 5, "maximumFractionDigits": 1}, "bad-option"), ("number", {"roundingIncrement": 5, "maximumSignificantDigits": 1}, "bad-option"),
+            ("unit", {}, "bad-operand"), ("unit", {"unit": "meter"}, "unsupported-operation"),
+        ]:
+            with self.assertRaises(MessageFunctionError) as caught:
+                functions[name]("en", options, 1)
+            self.assertEqual(caught.exception.type, type)
+        errors = []
+        number = functions["number"]("en", {"select": "ordinal"}, 2, errors.append, literals=set())
+        self.assertEqual((str(number), [it.type for it in errors]), ("2", ["bad-option"]))
+        self.assertRaises(MessageFunctionError, number.select_key, {"two"})
 
 
 if __name__ == "__main__":

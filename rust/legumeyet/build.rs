@@ -1,11 +1,11 @@
-//! Links the library in the folder that LEGUMEYET_LIBRARY names, statically; without it that of the crate, where it has one for the target,
+//! Links the library in the folder that `LEGUMEYET_LIBRARY` names, statically; without it that of the crate, where it has one for the target,
 //! else the shared one that pkg-config finds, and else that of the machine.
 
 use std::env;
 use std::path::{Path, PathBuf};
 use std::process::Command;
 
-/// The folder of a path: LEGUMEYET_LIBRARY may name the library's file, as it may for Python.
+/// The folder of a path: `LEGUMEYET_LIBRARY` may name the library's file, as it may for Python.
 fn folder_of(path: &Path) -> PathBuf {
     if path.is_file() {
         path.parent().unwrap_or(path).to_path_buf()
@@ -14,13 +14,15 @@ fn folder_of(path: &Path) -> PathBuf {
     }
 }
 
-/// The folder with the library that LEGUMEYET_LIBRARY names, if it is set.
+/// The folder with the library that `LEGUMEYET_LIBRARY` names, if it is set.
 fn named_folder() -> Option<PathBuf> {
     // LEGUMEYET_LIB is the older name
     let names = ["LEGUMEYET_LIBRARY", "LEGUMEYET_LIB"];
-    names.iter().for_each(|name| println!("cargo:rerun-if-env-changed={name}"));
-    let named = names.iter().find_map(|name| env::var_os(name).filter(|it| !it.is_empty()))?;
-    let folder = folder_of(Path::new(&named));
+    for name in names {
+        println!("cargo:rerun-if-env-changed={name}");
+    }
+    let given = names.iter().find_map(|name| env::var_os(name).filter(|it| !it.is_empty()))?;
+    let folder = folder_of(Path::new(&given));
     let is_there = folder.is_absolute() && folder.join("liblegumeyet.a").is_file();
     assert!(is_there, "LEGUMEYET_LIBRARY is the absolute path of a folder that has liblegumeyet.a, and {} is not", folder.display());
     Some(folder)
@@ -45,9 +47,11 @@ fn words_of(text: &str) -> Vec<String> {
     words
 }
 
-/// What pkg-config says for the linker, where it knows the library: PKG_CONFIG names another command, and PKG_CONFIG_PATH folders.
+/// What pkg-config says for the linker, where it knows the library: `PKG_CONFIG` names another command, and `PKG_CONFIG_PATH` folders.
 fn said_by_pkg_config() -> Option<String> {
-    ["PKG_CONFIG", "PKG_CONFIG_PATH", "PKG_CONFIG_LIBDIR"].iter().for_each(|name| println!("cargo:rerun-if-env-changed={name}"));
+    for name in ["PKG_CONFIG", "PKG_CONFIG_PATH", "PKG_CONFIG_LIBDIR"] {
+        println!("cargo:rerun-if-env-changed={name}");
+    }
     if env::var_os("HOST") != env::var_os("TARGET") {
         return None;
     }
@@ -57,18 +61,15 @@ fn said_by_pkg_config() -> Option<String> {
 }
 
 fn main() {
-    match named_folder().or_else(own_folder) {
-        Some(folder) => {
-            println!("cargo:rerun-if-changed={}", folder.join("liblegumeyet.a").display());
-            println!("cargo:rustc-link-search=native={}", folder.display());
-            println!("cargo:rustc-link-lib=static=legumeyet");
-        }
-        None => {
-            let said = said_by_pkg_config().unwrap_or_default();
-            for folder in words_of(&said).iter().filter_map(|it| it.strip_prefix("-L")) {
-                println!("cargo:rustc-link-search=native={folder}");
-            }
-            println!("cargo:rustc-link-lib=legumeyet");
-        }
+    if let Some(folder) = named_folder().or_else(own_folder) {
+        println!("cargo:rerun-if-changed={}", folder.join("liblegumeyet.a").display());
+        println!("cargo:rustc-link-search=native={}", folder.display());
+        println!("cargo:rustc-link-lib=static=legumeyet");
+        return;
     }
+    let said = said_by_pkg_config().unwrap_or_default();
+    for folder in words_of(&said).iter().filter_map(|it| it.strip_prefix("-L")) {
+        println!("cargo:rustc-link-search=native={folder}");
+    }
+    println!("cargo:rustc-link-lib=legumeyet");
 }

@@ -4,7 +4,7 @@ use legumeyet::{DecimalFormatter, Error};
 
 fn main() -> Result<(), Error> {
     for tag in ["de", "hi", "ar-EG"] {
-        println!("{}", DecimalFormatter::new(tag)?.format("1234567.891", None)?);
+        println!("{}", DecimalFormatter::new(tag)?.format("1234567.891")?);
     }
     Ok(())
 }

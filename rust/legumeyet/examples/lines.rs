@@ -78,7 +78,7 @@ fn text_for(book: &Book, fields: &[&str]) -> Option<Result<String, Error>> {
     let (grouping, options) = (grouping.parse().ok()?, options_of(sign, rounding)?);
     let plain = || DecimalFormatter::from_book(book, tag, grouping);
     match form {
-        "plain" => Some(plain().and_then(|it| it.format(number, &options))),
+        "plain" => Some(plain().and_then(|it| it.format_with(number, &options))),
         "read" => Some(plain().and_then(|it| it.read(number))),
         "plural" | "ordinal" | "range-plural" => Some(category_for(book, tag, form, number, &options)),
         _ => {

@@ -23,27 +23,32 @@ pub struct Column {
 
 impl Column {
     /// How many texts there are.
+    #[must_use]
     pub fn len(&self) -> usize {
         self.ends.len()
     }
 
     /// Whether there is none.
+    #[must_use]
     pub fn is_empty(&self) -> bool {
         self.ends.is_empty()
     }
 
     /// The text at a place, where there is one.
+    #[must_use]
     pub fn get(&self, at: usize) -> Option<&str> {
         let start = at.checked_sub(1).map_or(Some(0), |before| self.ends.get(before).copied())?;
         self.texts.get(start..*self.ends.get(at)?)
     }
 
     /// The texts, in order.
+    #[must_use]
     pub fn iter(&self) -> Texts<'_> {
         Texts { column: self, places: 0..self.len() }
     }
 
     /// All texts, with nothing between.
+    #[must_use]
     pub fn as_str(&self) -> &str {
         &self.texts
     }
@@ -146,6 +151,7 @@ pub struct ColumnError {
 
 impl ColumnError {
     /// The place of the number.
+    #[must_use]
     pub fn at(&self) -> usize {
         self.column.len()
     }

@@ -28,7 +28,7 @@ impl Error {
     pub const LIMIT: Error = Error(8);
     /// A digit of what is shown, compact or scientific, or of an exact form, is beyond the magnitudes -32768 to 32767.
     pub const RANGE: Error = Error(9);
-    /// Two numbers may have one text: under the symbols, or since they are compact. No scientific number is read yet.
+    /// Two numbers may have one text: under the symbols, or since they are compact. People type no scientific number.
     pub const UNREADABLE: Error = Error(11);
     /// No number is written so.
     pub const NOT_WRITTEN: Error = Error(12);
@@ -80,6 +80,7 @@ impl Error {
     pub const SKELETON_UNSUPPORTED: Error = Error(207);
 
     /// The number, 1 to 99 of a call, 100 and more of a book, 200 and more of a skeleton.
+    #[must_use]
     pub fn number(self) -> i32 {
         self.0
     }

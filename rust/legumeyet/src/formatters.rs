@@ -2,7 +2,7 @@
 
 use crate::column::lines_of;
 use crate::number::Of;
-use crate::options::{words_of, Words};
+use crate::options::{words_of, Words, OWN};
 use crate::owned::{annotated, written, written_to, Owned, Shared};
 use crate::world::opening;
 use crate::{
@@ -33,17 +33,31 @@ pub(crate) use writes;
 
 /// What a formatter does by the functions of a module of `sys`. Each call takes options, and without them those of the formatter.
 macro_rules! calls {
-    ($type:ident: $of:ident, $format:ident) => {
+    ($type:ident: $of:ident) => {
         writes!($type: $of);
 
         impl $type {
-            /// The text of a number. `None` in place of options are those of the formatter itself.
+            /// The words of options, or without them those of the formatter.
+            fn words(&self, options: Option<&Options>) -> Words {
+                options.map_or(self.1, words_of)
+            }
+
+            /// The text of a number, by the formatter's own options.
             ///
             /// # Errors
             ///
             /// [`Error::OPTION`], [`Error::NUMBER`], [`Error::LIMIT`], [`Error::RANGE`] of a compact or scientific number, or [`Error::MEMORY`].
-            pub fn $format<'a>(&self, number: impl Into<Number<'a>>, options: impl Into<Option<&'a Options>>) -> Result<String, Error> {
-                let (number, options) = (number.into(), words_of(options.into()));
+            pub fn format<'a>(&self, number: impl Into<Number<'a>>) -> Result<String, Error> {
+                self.format_with(number, None)
+            }
+
+            /// The text of a number by options, which replace the formatter's own wholly; `None` are these.
+            ///
+            /// # Errors
+            ///
+            /// As of [`Self::format`].
+            pub fn format_with<'a>(&self, number: impl Into<Number<'a>>, options: impl Into<Option<&'a Options>>) -> Result<String, Error> {
+                let (number, options) = (number.into(), self.words(options.into()));
                 written(|out, room, length| self.call(&number, &options, out, room, length))
             }
 
@@ -51,15 +65,14 @@ macro_rules! calls {
             ///
             /// # Errors
             ///
-            #[doc = concat!("[`WriteError::Number`] as of [`Self::", stringify!($format), "`],")]
-            /// or [`WriteError::Write`] where what takes the text fails.
+            /// [`WriteError::Number`] as of [`Self::format`], or [`WriteError::Write`] where what takes the text fails.
             pub fn write_to<'a>(
                 &self,
                 into: &mut impl fmt::Write,
                 number: impl Into<Number<'a>>,
                 options: impl Into<Option<&'a Options>>,
             ) -> Result<(), WriteError> {
-                let (number, options) = (number.into(), words_of(options.into()));
+                let (number, options) = (number.into(), self.words(options.into()));
                 written_to(into, |out, room, length| self.call(&number, &options, out, room, length))
             }
 
@@ -69,7 +82,7 @@ macro_rules! calls {
             ///
             /// [`Error::OPTION`], [`Error::LIMIT`], [`Error::RANGE`] of a compact or scientific number, or [`Error::MEMORY`].
             pub fn format_i64<'a>(&self, mantissa: i64, exponent: i16, options: impl Into<Option<&'a Options>>) -> Result<String, Error> {
-                let (words, count) = words_of(options.into());
+                let (words, count) = self.words(options.into());
                 // SAFETY: as for `call`.
                 written(|out, room, length| unsafe {
                     sys::$of::format_i64(self.0.at(), mantissa, exponent, words.as_ptr(), count, out, room, length)
@@ -80,13 +93,13 @@ macro_rules! calls {
             ///
             /// # Errors
             ///
-            #[doc = concat!("As of [`Self::", stringify!($format), "`].")]
+            /// As of [`Self::format`].
             pub fn format_parts<'a>(
                 &self,
                 number: impl Into<Number<'a>>,
                 options: impl Into<Option<&'a Options>>,
             ) -> Result<(String, Parts), Error> {
-                let (number, (words, count)) = (number.into(), words_of(options.into()));
+                let (number, (words, count)) = (number.into(), self.words(options.into()));
                 let digits = number.digits();
                 let (at, len, words) = (digits.as_ptr(), digits.len(), words.as_ptr());
                 // SAFETY: as for `call`; the memory for parts has the room that is passed.
@@ -100,9 +113,9 @@ macro_rules! calls {
             ///
             /// # Errors
             ///
-            #[doc = concat!("As of [`Self::", stringify!($format), "`].")]
+            /// As of [`Self::format`].
             pub fn shown<'a>(&self, number: impl Into<Number<'a>>, options: impl Into<Option<&'a Options>>) -> Result<String, Error> {
-                let (number, (words, count)) = (number.into(), words_of(options.into()));
+                let (number, (words, count)) = (number.into(), self.words(options.into()));
                 let digits = number.digits();
                 let (at, len, words) = (digits.as_ptr(), digits.len(), words.as_ptr());
                 // SAFETY: as for `call`.
@@ -116,7 +129,7 @@ macro_rules! calls {
             ///
             /// [`Error::OPTION`], [`Error::NUMBER`], [`Error::LIMIT`], [`Error::RANGE`], [`Error::EXPONENT`] or [`Error::MEMORY`].
             pub fn format_exact<'a>(&self, number: &str, options: impl Into<Option<&'a Options>>) -> Result<String, Error> {
-                let (words, count) = words_of(options.into());
+                let (words, count) = self.words(options.into());
                 let (at, len, words) = (number.as_ptr(), number.len(), words.as_ptr());
                 // SAFETY: as for `call`.
                 written(|out, room, length| unsafe { sys::$of::format_exact(self.0.at(), at, len, words, count, out, room, length) })
@@ -136,9 +149,9 @@ macro_rules! calls {
             ///
             /// # Errors
             ///
-            #[doc = concat!("A [`ColumnError`] of the first number that is refused, as of [`Self::", stringify!($format), "`].")]
+            /// A [`ColumnError`] of the first number that is refused, as of [`Self::format`].
             pub fn format_doubles<'a>(&self, numbers: &[f64], options: impl Into<Option<&'a Options>>) -> Result<Column, ColumnError> {
-                let (words, count) = words_of(options.into());
+                let (words, count) = self.words(options.into());
                 Column::written(numbers.len(), |done, out, room, ends, ends_room, wrote| {
                     let (at, len, words) = (numbers[done..].as_ptr(), numbers.len() - done, words.as_ptr());
                     // SAFETY: as for `call`; `ends` is memory of its room.
@@ -157,7 +170,7 @@ macro_rules! calls {
                 exponent: i16,
                 options: impl Into<Option<&'a Options>>,
             ) -> Result<Column, ColumnError> {
-                let (words, count) = words_of(options.into());
+                let (words, count) = self.words(options.into());
                 Column::written(mantissas.len(), |done, out, room, ends, ends_room, wrote| {
                     let (at, len, words) = (mantissas[done..].as_ptr(), mantissas.len() - done, words.as_ptr());
                     // SAFETY: as for `format_doubles`.
@@ -169,13 +182,13 @@ macro_rules! calls {
             ///
             /// # Errors
             ///
-            #[doc = concat!("A [`ColumnError`] of the first number that is refused, as of [`Self::", stringify!($format), "`].")]
+            /// A [`ColumnError`] of the first number that is refused, as of [`Self::format`].
             pub fn format_all<'a, N: Into<Number<'a>>>(
                 &self,
                 numbers: impl IntoIterator<Item = N>,
                 options: impl Into<Option<&'a Options>>,
             ) -> Result<Column, ColumnError> {
-                let ((lines, begins), (words, count)) = (lines_of(numbers), words_of(options.into()));
+                let ((lines, begins), (words, count)) = (lines_of(numbers), self.words(options.into()));
                 Column::written(begins.len(), |done, out, room, ends, ends_room, wrote| {
                     let (from, words) = (&lines[begins.get(done).map_or(lines.len(), |at| *at)..], words.as_ptr());
                     // SAFETY: as for `format_doubles`.
@@ -193,7 +206,7 @@ macro_rules! reads {
     ($type:ident: $of:ident) => {
         impl $type {
             /// The number that is written so, as digits: in English `-1,234.50` is `-1234.50`, and `-€1,234.50` with euros. How many digits
-            /// the currency has is not looked at.
+            /// the currency has, or a scientific number is shown with, is not looked at: `1.20E6` is `1200000`.
             ///
             /// # Errors
             ///
@@ -236,25 +249,22 @@ macro_rules! tells {
     };
 }
 
-/// The call by the formatter's own options.
-macro_rules! formats {
-    ($type:ident: $of:ident) => {
-        impl $type {
-            /// The text of a number, by the formatter's own options.
-            ///
-            /// # Errors
-            ///
-            /// As of [`Self::format_with`].
-            pub fn format<'a>(&self, number: impl Into<Number<'a>>) -> Result<String, Error> {
-                self.format_with(number, None)
+/// What `Debug` shows: what kind of formatter it is.
+macro_rules! shows {
+    ($($type:ident)*) => {
+        $(
+            impl fmt::Debug for $type {
+                fn fmt(&self, out: &mut fmt::Formatter<'_>) -> fmt::Result {
+                    out.debug_tuple(stringify!($type)).field(&self.0).finish()
+                }
             }
-        }
+        )*
     };
 }
 
-/// A formatter, and the shared one that is made of it: with the name of the call that writes a number by options, and which others they have.
+/// A formatter, and the shared one that is made of it, with the calls that they have beside those of all.
 macro_rules! formatters {
-    ($(#[$about:meta])* $type:ident: $format:ident $(, $more:ident)*; $(#[$about_shared:meta])* $shared:ident) => {
+    ($(#[$about:meta])* $type:ident $(: $($more:ident),*)?; $(#[$about_shared:meta])* $shared:ident) => {
         $(#[$about])*
         ///
         /// It may move to another thread, and is used by one thread at a time:
@@ -263,26 +273,32 @@ macro_rules! formatters {
         /// fn is_shared<T: Sync>() {}
         #[doc = concat!("is_shared::<legumeyet::", stringify!($type), ">();")]
         /// ```
-        #[derive(Debug)]
-        pub struct $type(Owned);
+        pub struct $type(Owned, Words);
 
         $(#[$about_shared])*
-        #[derive(Clone, Copy, Debug)]
-        pub struct $shared(Shared);
+        #[derive(Clone, Copy)]
+        pub struct $shared(Shared, Words);
 
-        calls!($type: owned, $format);
-        calls!($shared: shared, $format);
-        $(
+        calls!($type: owned);
+        calls!($shared: shared);
+        shows!($type $shared);
+        $($(
             $more!($type: owned);
             $more!($shared: shared);
-        )*
+        )*)?
 
         impl $type {
+            /// The formatter with these options as its own, which are those of each call that is given none.
+            #[must_use]
+            pub fn options(self, options: &Options) -> $type {
+                $type(self.0, words_of(options))
+            }
+
             /// Shares the formatter: any number of threads use it at once, and it stays for the rest of the program: its memory is never
             /// given back. So share those that a program uses until it ends, and not one for each request.
             #[must_use = "it stays for the rest of the program"]
             pub fn share(self) -> $shared {
-                $shared(Shared::of(&self.0))
+                $shared(Shared::of(&self.0), self.1)
             }
         }
     };
@@ -291,8 +307,9 @@ macro_rules! formatters {
 formatters! {
     /// The formatter of a [`Format`], or of a *number skeleton*, the text by which ICU asks for a format. It may outlive the book.
     ///
-    /// `format` writes by the options that the skeleton says. Each other call takes options, which replace those wholly, or `None`. Without
-    /// a skeleton a number stays as it is, and an amount of money has the digits of its currency.
+    /// `format` writes by the formatter's own options: those that the skeleton says, or without one those of [`NumberFormatter::options`], or
+    /// else a number stays as it is, and an amount of money has the digits of its currency. Each other call takes options, which replace those
+    /// wholly, or `None`.
     ///
     /// # Examples
     ///
@@ -311,7 +328,7 @@ formatters! {
     /// assert_eq!(thread::spawn(move || shared.format(5)).join().unwrap()?, "CHF\u{a0}5.00");
     /// # Ok::<(), Box<dyn std::error::Error>>(())
     /// ```
-    NumberFormatter: format_with, formats, reads, tells;
+    NumberFormatter: reads, tells;
     /// A formatter that any number of threads use at once: what [`NumberFormatter::share`] makes, with its calls.
     SharedNumberFormatter
 }
@@ -322,20 +339,25 @@ formatters! {
     /// # Examples
     ///
     /// ```
-    /// use legumeyet::{DecimalFormatter, Error, Kind, Options};
+    /// use legumeyet::{DecimalFormatter, Error, Kind, Options, Rounding, Sign};
     ///
-    /// let (german, as_given) = (DecimalFormatter::new("de")?, Options::default());
-    /// assert_eq!(german.format("-1234.50", &as_given)?, "-1.234,50");
-    /// assert_eq!(german.format_i64(-123450, -2, &as_given)?, "-1.234,50");
-    /// assert_eq!(german.format_parts(-5, &as_given)?, ("-5".into(), vec![(Kind::MinusSign, 0..1), (Kind::Integer, 1..2)]));
+    /// let german = DecimalFormatter::new("de")?;
+    /// assert_eq!(german.format("-1234.50")?, "-1.234,50");
+    /// assert_eq!(german.format_i64(-123_450, -2, None)?, "-1.234,50");
+    /// assert_eq!(german.format_parts(-5, None)?, ("-5".into(), vec![(Kind::MinusSign, 0..1), (Kind::Integer, 1..2)]));
     /// assert_eq!(german.symbols()?.decimal_separator, ",");
     /// assert_eq!(german.read("-1.234,50")?, "-1234.50");
     /// assert_eq!(german.read_lenient(" 1234,50 ")?, "1234.50");
     /// assert_eq!(german.read_lenient("1.23"), Err(Error::NOT_WRITTEN));
-    /// assert_eq!(german.format("1,5", &as_given), Err(Error::NUMBER));
+    /// assert_eq!(german.format("1,5"), Err(Error::NUMBER));
+    /// let tenths = Options::default().rounded(Rounding::HalfEven, -1);
+    /// assert_eq!(german.format_with(1234.56, &tenths)?, "1.234,6");
+    /// let german = german.options(&tenths);
+    /// assert_eq!(german.format(1234.56)?, "1.234,6");
+    /// assert_eq!(german.format_with(1234.56, &Options::default().sign(Sign::Always))?, "+1.234,56");
     /// # Ok::<(), Error>(())
     /// ```
-    DecimalFormatter: format, reads;
+    DecimalFormatter: reads;
     /// A formatter of plain numbers that any number of threads use at once: what [`DecimalFormatter::share`] makes, with its calls.
     SharedDecimalFormatter
 }
@@ -346,16 +368,16 @@ formatters! {
     /// # Examples
     ///
     /// ```
-    /// use legumeyet::{CompactDecimalFormatter, Options, Width};
+    /// use legumeyet::{CompactDecimalFormatter, Width};
     ///
     /// let english = CompactDecimalFormatter::new("en", Width::Short)?;
-    /// assert_eq!(english.format("-1172700", &Options::default())?, "-1.2M");
-    /// assert_eq!(english.shown("-1172700", &Options::default())?, "-1.2c6");
-    /// assert_eq!(english.format_exact("-1.20c6", &Options::default())?, "-1.20M");
-    /// assert_eq!(CompactDecimalFormatter::new("hi", Width::Long)?.format("1234567", &Options::default())?, "12 लाख");
+    /// assert_eq!(english.format("-1172700")?, "-1.2M");
+    /// assert_eq!(english.shown("-1172700", None)?, "-1.2c6");
+    /// assert_eq!(english.format_exact("-1.20c6", None)?, "-1.20M");
+    /// assert_eq!(CompactDecimalFormatter::new("hi", Width::Long)?.format("1234567")?, "12 लाख");
     /// # Ok::<(), legumeyet::Error>(())
     /// ```
-    CompactDecimalFormatter: format;
+    CompactDecimalFormatter;
     /// A formatter of compact numbers that any number of threads use at once: what [`CompactDecimalFormatter::share`] makes, with its calls.
     SharedCompactDecimalFormatter
 }
@@ -368,15 +390,15 @@ formatters! {
     /// # Examples
     ///
     /// ```
-    /// use legumeyet::{Options, PercentFormatter};
+    /// use legumeyet::PercentFormatter;
     ///
     /// let turkish: PercentFormatter = "tr".parse()?;
-    /// assert_eq!(turkish.format(-12.5, &Options::default())?, "-%12,5");
+    /// assert_eq!(turkish.format(-12.5)?, "-%12,5");
     /// assert_eq!(turkish.read("%1.234,50")?, "1234.50");
     /// assert_eq!(turkish.read_lenient("1234,5 %")?, "1234.5");
     /// # Ok::<(), legumeyet::Error>(())
     /// ```
-    PercentFormatter: format, reads;
+    PercentFormatter: reads;
     /// A formatter of percents that any number of threads use at once: what [`PercentFormatter::share`] makes, with its calls.
     SharedPercentFormatter
 }
@@ -393,19 +415,18 @@ formatters! {
     /// ```
     /// use legumeyet::{CurrencyFormatter, CurrencyOptions, CurrencyStyle, Error, Options, Rounding};
     ///
-    /// let as_given = Options::default();
     /// let yen = CurrencyFormatter::new("en", "JPY")?;
-    /// assert_eq!((yen.format(2.5, &as_given)?.as_str(), yen.currency_digits()?.fraction), ("¥2", 0));
-    /// assert_eq!(CurrencyFormatter::new("en", "CHF")?.format(2.345, &as_given.rounding(Rounding::Cash))?, "CHF\u{a0}2.35");
+    /// assert_eq!((yen.format(2.5)?.as_str(), yen.currency_digits()?.fraction), ("¥2", 0));
+    /// assert_eq!(CurrencyFormatter::new("en", "CHF")?.format_with(2.345, &Options::default().rounding(Rounding::Cash))?, "CHF\u{a0}2.35");
     /// let in_accounts = CurrencyOptions::default().style(CurrencyStyle::Accounting);
     /// let dollars = CurrencyFormatter::with_options("en", "USD", &in_accounts)?;
-    /// assert_eq!(dollars.format(-5, &as_given)?, "($5.00)");
+    /// assert_eq!(dollars.format(-5)?, "($5.00)");
     /// assert_eq!(dollars.read("($1,234.50)")?, "-1234.50");
     /// assert_eq!(dollars.read_lenient("-1234.5 USD")?, "-1234.5");
     /// assert_eq!(CurrencyFormatter::new("en", "usd").unwrap_err(), Error::CODE);
     /// # Ok::<(), Error>(())
     /// ```
-    CurrencyFormatter: format, reads, tells;
+    CurrencyFormatter: reads, tells;
     /// A formatter of amounts of money that any number of threads use at once: what [`CurrencyFormatter::share`] makes, with its calls.
     SharedCurrencyFormatter
 }
@@ -438,7 +459,7 @@ impl NumberFormatter {
     ///
     /// [`Error::CODE`], [`Error::TAG`], [`Error::TABLE`], also of compact or scientific numbers with a unit, or [`Error::MEMORY`].
     pub fn new<'b>(book: impl Into<Option<&'b Book>>, tag: &str, format: &Format<'_>) -> Result<NumberFormatter, Error> {
-        opened(book.into(), tag, format).map(NumberFormatter)
+        opened(book.into(), tag, format).map(|it| NumberFormatter(it, OWN))
     }
 
     /// The formatter of a tag and a skeleton, as `currency/EUR .00`, with the options that this says. Without words it is plain numbers with
@@ -460,7 +481,7 @@ impl NumberFormatter {
                 }
             };
             let opened = Owned::open(sys::legumeyet_formatter_close, call);
-            opened.map(NumberFormatter).map_err(|error| SkeletonError::at(error, place))
+            opened.map(|it| NumberFormatter(it, OWN)).map_err(|error| SkeletonError::at(error, place))
         })
     }
 }
@@ -485,7 +506,7 @@ macro_rules! opens {
             ///
             /// As of [`Self::new`].
             pub fn with_grouping(tag: &str $(, $more: $what)?, grouping: Grouping) -> Result<$type, Error> {
-                opened(None, tag, &$format.grouping(grouping)).map($type)
+                opened(None, tag, &$format.grouping(grouping)).map(|it| $type(it, OWN))
             }
 
             /// The formatter of a book's tag.
@@ -494,7 +515,7 @@ macro_rules! opens {
             ///
             /// As of [`Self::new`].
             pub fn from_book(book: &Book, tag: &str $(, $more: $what)?, grouping: Grouping) -> Result<$type, Error> {
-                opened(Some(book), tag, &$format.grouping(grouping)).map($type)
+                opened(Some(book), tag, &$format.grouping(grouping)).map(|it| $type(it, OWN))
             }
         }
     };
@@ -538,7 +559,7 @@ impl CurrencyFormatter {
     ///
     /// As of [`Self::new`].
     pub fn with_options(tag: &str, code: &str, options: &CurrencyOptions) -> Result<CurrencyFormatter, Error> {
-        opened(None, tag, &options.of(code)).map(CurrencyFormatter)
+        opened(None, tag, &options.of(code)).map(|it| CurrencyFormatter(it, OWN))
     }
 
     /// The formatter of a book's tag and a code.
@@ -547,7 +568,7 @@ impl CurrencyFormatter {
     ///
     /// As of [`Self::new`].
     pub fn from_book(book: &Book, tag: &str, code: &str, options: &CurrencyOptions) -> Result<CurrencyFormatter, Error> {
-        opened(Some(book), tag, &options.of(code)).map(CurrencyFormatter)
+        opened(Some(book), tag, &options.of(code)).map(|it| CurrencyFormatter(it, OWN))
     }
 }
 

@@ -44,11 +44,11 @@ pub type Parts = Vec<(Kind, Range<usize>)>;
 /// # Examples
 ///
 /// ```
-/// use legumeyet::{Book, DecimalFormatter, Error, Grouping, Options};
+/// use legumeyet::{Book, DecimalFormatter, Error, Grouping};
 ///
 /// let world = Book::world()?;
 /// let german = DecimalFormatter::from_book(&world, "de", Grouping::Never)?;
-/// assert_eq!(german.format(1234.5, &Options::default())?, "1234,5");
+/// assert_eq!(german.format(1234.5)?, "1234,5");
 /// assert_eq!(world.answer(b"de\tplain\tauto\tkeep\t-\t1234.5")?, "ok\t1.234,5");
 /// let own = Book::from_json(br#"[[["en","","latn","-","","+","",".",",",3,3,1]],[["latn","0123456789"]],[],[],[]]"#)?;
 /// assert_eq!(own.locales()?, ["en"]);
@@ -146,12 +146,14 @@ impl FromStr for Book {
 }
 
 /// The version of the library.
+#[must_use]
 pub fn version() -> u32 {
     // SAFETY: it reads nothing.
     unsafe { sys::legumeyet_version() }
 }
 
 /// The minor version of the library, which rises when something is added.
+#[must_use]
 pub fn minor() -> u32 {
     // SAFETY: it reads nothing.
     unsafe { sys::legumeyet_minor() }

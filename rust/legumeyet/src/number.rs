@@ -7,14 +7,14 @@ use std::borrow::Cow;
 /// # Examples
 ///
 /// ```
-/// use legumeyet::{DecimalFormatter, Error, Options};
+/// use legumeyet::{DecimalFormatter, Error};
 ///
-/// let (german, as_given) = (DecimalFormatter::new("de")?, Options::default());
-/// assert_eq!(german.format("1234.50", &as_given)?, "1.234,50");
-/// assert_eq!(german.format(-1234, &as_given)?, "-1.234");
-/// assert_eq!(german.format(u128::MAX, &as_given)?, "340.282.366.920.938.463.463.374.607.431.768.211.455");
-/// assert_eq!(german.format(0.1, &as_given)?, "0,1");
-/// assert_eq!(german.format(f64::NAN, &as_given), Err(Error::NUMBER));
+/// let german = DecimalFormatter::new("de")?;
+/// assert_eq!(german.format("1234.50")?, "1.234,50");
+/// assert_eq!(german.format(-1234)?, "-1.234");
+/// assert_eq!(german.format(u128::MAX)?, "340.282.366.920.938.463.463.374.607.431.768.211.455");
+/// assert_eq!(german.format(0.1)?, "0,1");
+/// assert_eq!(german.format(f64::NAN), Err(Error::NUMBER));
 /// # Ok::<(), legumeyet::Error>(())
 /// ```
 #[derive(Clone, Debug)]

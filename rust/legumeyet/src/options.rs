@@ -428,7 +428,7 @@ pub enum TrailingZeros {
 /// let either = Options::default().maximum_significant_digits(2).rounded(Rounding::HalfEven, 0);
 /// let english = DecimalFormatter::new("en")?;
 /// for (priority, text) in [(RoundingPriority::MorePrecision, "123"), (RoundingPriority::LessPrecision, "120")] {
-///     assert_eq!(english.format(123.4, &either.rounding_priority(priority))?, text);
+///     assert_eq!(english.format_with(123.4, &either.rounding_priority(priority))?, text);
 /// }
 /// # Ok::<(), legumeyet::Error>(())
 /// ```
@@ -454,13 +454,13 @@ pub enum RoundingPriority {
 ///
 /// let german = DecimalFormatter::new("de")?;
 /// let tenths = Options::default().rounded(Rounding::HalfEven, -1);
-/// assert_eq!(german.format("9.65", &tenths.sign(Sign::Always))?, "+9,6");
+/// assert_eq!(german.format_with("9.65", &tenths.sign(Sign::Always))?, "+9,6");
 /// let at_most_two = Options::default().rounded(Rounding::HalfEven, -2).trailing_zeros(TrailingZeros::Trim);
-/// assert_eq!(german.format(1.995, &at_most_two)?, "2");
-/// assert_eq!(german.format(1.995, &at_most_two.minimum_fraction_digits(1))?, "2,0");
+/// assert_eq!(german.format_with(1.995, &at_most_two)?, "2");
+/// assert_eq!(german.format_with(1.995, &at_most_two.minimum_fraction_digits(1))?, "2,0");
 /// let twentieths = Options::default().rounded(Rounding::HalfEven, -2).increment(Increment::Five);
-/// assert_eq!(german.format("1.23", &twentieths)?, "1,25");
-/// assert_eq!(german.format(12345, &Options::default().maximum_significant_digits(3))?, "12.300");
+/// assert_eq!(german.format_with("1.23", &twentieths)?, "1,25");
+/// assert_eq!(german.format_with(12345, &Options::default().maximum_significant_digits(3))?, "12.300");
 /// # Ok::<(), legumeyet::Error>(())
 /// ```
 #[derive(Clone, Copy, Debug, Default, PartialEq, Eq, Hash)]
@@ -498,16 +498,17 @@ impl Options {
     }
 }
 
-/// The words of options, as legumeyet.h has them, and how many there are: none for those of a formatter itself.
+/// The words of options, as legumeyet.h has them, and how many there are.
 pub(crate) type Words = ([i32; 10], usize);
 
-pub(crate) fn words_of(options: Option<&Options>) -> Words {
-    options.map_or(([0; 10], 0), |it| {
-        let (sign, rounding, increment, zeros) = (it.sign as i32, it.rounding as i32, it.increment as i32, it.trailing_zeros as i32);
-        let least = [it.minimum_integer_digits, it.minimum_fraction_digits, it.minimum_significant_digits].map(i32::from);
-        let most = it.maximum_significant_digits.into();
-        ([sign, rounding, it.position.into(), increment, zeros, least[0], least[1], least[2], most, it.rounding_priority as i32], 10)
-    })
+/// No words: the options are those of the formatter in C.
+pub(crate) const OWN: Words = ([0; 10], 0);
+
+pub(crate) fn words_of(it: &Options) -> Words {
+    let (sign, rounding, increment, zeros) = (it.sign as i32, it.rounding as i32, it.increment as i32, it.trailing_zeros as i32);
+    let least = [it.minimum_integer_digits, it.minimum_fraction_digits, it.minimum_significant_digits].map(i32::from);
+    let most = it.maximum_significant_digits.into();
+    ([sign, rounding, it.position.into(), increment, zeros, least[0], least[1], least[2], most, it.rounding_priority as i32], 10)
 }
 
 #[cfg(test)]

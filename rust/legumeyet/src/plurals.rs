@@ -3,7 +3,7 @@
 use crate::facts::Fact;
 use crate::formatters::{opened_by, writes};
 use crate::number::Of;
-use crate::options::{words_of, Words};
+use crate::options::{words_of, Words, OWN};
 use crate::owned::{Owned, Shared};
 use crate::{sys, Book, Error, Format, Number, Options, PluralRuleType, UnknownWord};
 use std::fmt;
@@ -199,7 +199,7 @@ impl PluralRules {
         let said = Fact::Categories
             .told(|fact, out, room, length| unsafe { sys::legumeyet_formatter_tell(rules.at(), fact, out, room, length) })?;
         let categories = said.split(' ').flat_map(PluralCategory::from_str).fold(0, |all, it| all | 1 << it as u8);
-        Ok(PluralRules(rules, Known { options: words_of(options.into()), categories }))
+        Ok(PluralRules(rules, Known { options: options.into().map_or(OWN, words_of), categories }))
     }
 
     /// Shares the rules: any number of threads use them at once, and they stay for the rest of the program.

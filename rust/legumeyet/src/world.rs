@@ -97,6 +97,7 @@ pub fn world_locales() -> impl Iterator<Item = &'static str> {
 /// assert_eq!(tag_of_locale_name("C"), "en");
 /// ```
 #[allow(clippy::missing_panics_doc)] // it does not panic: there is room, and the text is UTF-8
+#[must_use]
 pub fn tag_of_locale_name(name: &str) -> String {
     // no name that C gives has a NUL inside
     let name = CString::new(name.split('\0').next().unwrap_or_default()).unwrap_or_default();

@@ -2,7 +2,7 @@
 
 use legumeyet::{
     world_locales, Book, CompactDecimalFormatter, CurrencyFormatter, CurrencyOptions, DecimalFormatter, Error, Format, Grouping,
-    NumberFormatter, Options, PercentFormatter, PluralCategory, PluralRuleType, PluralRules, Width,
+    NumberFormatter, PercentFormatter, PluralCategory, PluralRuleType, PluralRules, Width,
 };
 use std::thread;
 
@@ -14,8 +14,8 @@ fn first_and_later_ones_are_the_same() {
     let world = Book::world().unwrap();
     for tag in world_locales().step_by(25).take(MANY) {
         let (own, twin) = (DecimalFormatter::new(tag).unwrap(), DecimalFormatter::from_book(&world, tag, Grouping::Auto).unwrap());
-        let text = own.format("-1234567.5", &Options::default()).unwrap();
-        assert_eq!(text, twin.format("-1234567.5", &Options::default()).unwrap(), "{tag}");
+        let text = own.format("-1234567.5").unwrap();
+        assert_eq!(text, twin.format("-1234567.5").unwrap(), "{tag}");
         assert_eq!(own.read(&text), twin.read(&text), "{tag}");
     }
 }
@@ -23,9 +23,9 @@ fn first_and_later_ones_are_the_same() {
 #[test]
 fn each_format() {
     let german = PercentFormatter::new("de").unwrap();
-    assert_eq!(german.format(12.5, &Options::default()).unwrap(), "12,5\u{a0}%");
-    assert_eq!(CompactDecimalFormatter::new("de", Width::Long).unwrap().format(1_234_567, &Options::default()).unwrap(), "1,2 Millionen");
-    assert_eq!(CurrencyFormatter::new("de-AT", "EUR").unwrap().format(1234.5, &Options::default()).unwrap(), "€\u{a0}1.234,50");
+    assert_eq!(german.format(12.5).unwrap(), "12,5\u{a0}%");
+    assert_eq!(CompactDecimalFormatter::new("de", Width::Long).unwrap().format(1_234_567).unwrap(), "1,2 Millionen");
+    assert_eq!(CurrencyFormatter::new("de-AT", "EUR").unwrap().format(1234.5).unwrap(), "€\u{a0}1.234,50");
     assert_eq!(NumberFormatter::new(None, "sv", &Format::scientific()).unwrap().format("0.00012").unwrap(), "1,2×10^\u{2212}4");
     assert_eq!(NumberFormatter::skeleton(None, "en", "percent .00").unwrap().format(5).unwrap(), "5.00%");
     let rules = PluralRules::new(None, "pl", PluralRuleType::Cardinal, None).unwrap();
@@ -52,7 +52,7 @@ fn in_threads() {
         .map(|at| {
             thread::spawn(move || {
                 let tags: Vec<_> = world_locales().skip(at).step_by(60).collect();
-                tags.iter().map(|tag| DecimalFormatter::new(tag).unwrap().format(1234.5, &Options::default()).unwrap().len()).sum::<usize>()
+                tags.iter().map(|tag| DecimalFormatter::new(tag).unwrap().format(1234.5).unwrap().len()).sum::<usize>()
             })
         })
         .collect();

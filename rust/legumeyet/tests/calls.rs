@@ -4,7 +4,8 @@
 
 use legumeyet::{
     Book, CompactDecimalFormatter, CurrencyFormatter, CurrencyOptions, CurrencyStyle, CurrencyWidth, DecimalFormatter, Error, Grouping,
-    Increment, Kind, OpenError, Options, PercentFormatter, Rounding, RoundingPriority, Sign, TrailingZeros, UnknownWord, Width, WriteError,
+    Increment, Kind, NumberFormatter, OpenError, Options, PercentFormatter, Rounding, RoundingPriority, Sign, TrailingZeros, UnknownWord,
+    Width, WriteError,
 };
 use std::{collections::HashMap, env, fmt, fs, io, process, thread};
 
@@ -29,33 +30,33 @@ fn numbers() {
     let english = english();
     let long = "1".repeat(1000);
     for (number, want) in [("-987654.321", "-987,654.321"), ("+5.0", "+5.0"), ("-0", "-0")] {
-        assert_eq!(english.format(number, &Options::default()).unwrap(), want);
+        assert_eq!(english.format(number).unwrap(), want);
     }
-    assert_eq!(english.format(&long, &Options::default()).unwrap().len(), 1333);
+    assert_eq!(english.format(&long).unwrap().len(), 1333);
     assert_eq!(english.format_i64(i64::MIN, 0, &Options::default()).unwrap(), "-9,223,372,036,854,775,808");
     assert_eq!(english.format_i64(500, -2, &Options::default()).unwrap(), "5.00");
-    assert_eq!(english.format_i64(-123456, 1, &Options::default()).unwrap(), "-1,234,560");
+    assert_eq!(english.format_i64(-123_456, 1, &Options::default()).unwrap(), "-1,234,560");
     let rounded = Options::default().sign(Sign::Always).rounded(Rounding::HalfEven, -1);
-    assert_eq!(english.format("9.65", &rounded).unwrap(), "+9.6");
+    assert_eq!(english.format_with("9.65", &rounded).unwrap(), "+9.6");
     for (number, error) in [("5.", Error::NUMBER), ("", Error::NUMBER), ("1\0", Error::NUMBER), ("1e40000", Error::LIMIT)] {
-        assert_eq!(english.format(number, &Options::default()), Err(error), "{number}");
+        assert_eq!(english.format(number), Err(error), "{number}");
     }
-    assert_eq!(english.format("9".repeat(40000), &Options::default()), Err(Error::LIMIT));
+    assert_eq!(english.format("9".repeat(40000)), Err(Error::LIMIT));
     assert_eq!(english.format_i64(10, i16::MAX, &Options::default()), Err(Error::LIMIT));
 }
 
 #[test]
 fn numbers_of_all_types() {
     let (english, short, as_given) = (english(), compact(Width::Short), Options::default());
-    assert_eq!(english.format(i128::MIN, &as_given).unwrap().len(), 52);
-    for text in [english.format(-1i8, &as_given), english.format(-1isize, &as_given), english.format(-1.0f32, &as_given)] {
+    assert_eq!(english.format(i128::MIN).unwrap().len(), 52);
+    for text in [english.format(-1i8), english.format(-1isize), english.format(-1.0f32)] {
         assert_eq!(text.unwrap(), "-1");
     }
-    assert_eq!(english.format(u64::MAX, &as_given).unwrap(), "18,446,744,073,709,551,615");
-    assert_eq!(english.format(1234usize, &as_given).unwrap(), "1,234");
+    assert_eq!(english.format(u64::MAX).unwrap(), "18,446,744,073,709,551,615");
+    assert_eq!(english.format(1234usize).unwrap(), "1,234");
     let text = String::from("1.50");
-    assert_eq!(english.format(&text, &as_given).unwrap(), "1.50");
-    assert_eq!(english.format(text, &as_given).unwrap(), "1.50");
+    assert_eq!(english.format(&text).unwrap(), "1.50");
+    assert_eq!(english.format(text).unwrap(), "1.50");
     for (number, text) in [
         (0.1, "0.1"),
         (5.0, "5"),
@@ -64,16 +65,16 @@ fn numbers_of_all_types() {
         (1e-7, "0.0000001"),
         (0.1 + 0.2, "0.30000000000000004"),
     ] {
-        assert_eq!(english.format(number, &as_given).unwrap(), text);
+        assert_eq!(english.format(number).unwrap(), text);
     }
-    assert_eq!(english.format(0.1f32, &as_given).unwrap(), "0.1");
-    assert_eq!(english.format(f64::MAX, &as_given).unwrap().len(), 411);
+    assert_eq!(english.format(0.1f32).unwrap(), "0.1");
+    assert_eq!(english.format(f64::MAX).unwrap().len(), 411);
     for number in [f64::NAN, f64::INFINITY, f64::NEG_INFINITY] {
-        assert_eq!(english.format(number, &as_given), Err(Error::NUMBER));
+        assert_eq!(english.format(number), Err(Error::NUMBER));
         assert_eq!(short.shown(number, &as_given), Err(Error::NUMBER));
     }
-    assert_eq!(short.format(-1172700, &as_given).unwrap(), "-1.2M");
-    assert_eq!(short.format(1250.5, &as_given).unwrap(), "1.3K");
+    assert_eq!(short.format(-1_172_700).unwrap(), "-1.2M");
+    assert_eq!(short.format(1250.5).unwrap(), "1.3K");
     assert_eq!(short.shown(u64::MAX, &as_given).unwrap(), "18446744073710c6");
     assert_eq!(english.format_parts(-5, &as_given).unwrap().1, [(Kind::MinusSign, 0..1), (Kind::Integer, 1..2)]);
     assert_eq!(english.format_parts(u64::MAX, &as_given).unwrap().0, "18,446,744,073,709,551,615");
@@ -135,7 +136,7 @@ fn reads() {
     for (text, number) in [("-1,234.50", "-1234.50"), ("+5", "+5"), ("-0", "-0")] {
         assert_eq!(english.read(text).unwrap(), number);
     }
-    assert_eq!(english.read(&english.format(&long, &Options::default()).unwrap()).unwrap(), long);
+    assert_eq!(english.read(&english.format(&long).unwrap()).unwrap(), long);
     for text in ["98,7654", "1234", "", "1\0", "٣"] {
         assert_eq!(english.read(text), Err(Error::NOT_WRITTEN), "{text}");
     }
@@ -190,6 +191,34 @@ fn reads_units_leniently() {
 }
 
 #[test]
+fn own_options() {
+    let cents = Options::default().rounded(Rounding::HalfEven, -2).sign(Sign::Always);
+    let own = english().options(&cents);
+    assert_eq!(own.format(1234.567).unwrap(), "+1,234.57");
+    assert_eq!(own.format_with(1234.567, None).unwrap(), "+1,234.57");
+    assert_eq!(own.format_with(1234.567, &Options::default()).unwrap(), "1,234.567");
+    assert_eq!(own.format_i64(5, 0, None).unwrap(), "+5.00");
+    assert_eq!(own.format_parts(5, None).unwrap().0, "+5.00");
+    assert_eq!(own.shown("5", None).unwrap(), "+5.00");
+    let mut line = String::new();
+    own.write_to(&mut line, 0.125, None).unwrap();
+    assert_eq!(line, "+0.12");
+    assert_eq!(own.format_doubles(&[0.5, 2.0], None).unwrap().as_str(), "+0.50+2.00");
+    assert_eq!(own.format_integers(&[1, 2], -1, None).unwrap().as_str(), "+0.10+0.20");
+    assert_eq!(own.format_all(["1", "2"], None).unwrap().as_str(), "+1.00+2.00");
+    let shared = own.share();
+    assert_eq!(shared.format(5).unwrap(), "+5.00");
+    assert_eq!(shared.format_with(5, &Options::default()).unwrap(), "5");
+    assert_eq!(shared.read("5.00").unwrap(), "5.00");
+    let percents = NumberFormatter::skeleton(None, "en", "percent .0").unwrap();
+    assert_eq!(percents.format(5).unwrap(), "5.0%");
+    assert_eq!(percents.options(&cents).format(5).unwrap(), "+5.00%");
+    let dollars = CurrencyFormatter::new("en", "USD").unwrap().options(&Options::default().rounding(Rounding::None));
+    assert_eq!(dollars.format(5).unwrap(), "$5");
+    assert_eq!(compact(Width::Short).options(&Options::default().sign(Sign::Always)).format(1650).unwrap(), "+1.6K");
+}
+
+#[test]
 fn newer_options() {
     let english = english();
     let trimmed = Options::default().rounded(Rounding::HalfEven, -2).trailing_zeros(TrailingZeros::Trim);
@@ -204,10 +233,13 @@ fn newer_options() {
         (2499.0, Options::default().rounded(Rounding::HalfEven, 0).increment(Increment::FiveThousand), "0"),
         (7.0, Options::default().minimum_integer_digits(3), "007"),
     ] {
-        assert_eq!(english.format(number, &options).unwrap(), text);
+        assert_eq!(english.format_with(number, &options).unwrap(), text);
     }
-    assert_eq!(english.format(1, &Options::default().minimum_integer_digits(32768)), Err(Error::OPTION));
-    assert_eq!(english.format(1, &Options::default().rounded(Rounding::HalfEven, i16::MAX).increment(Increment::Ten)), Err(Error::OPTION));
+    assert_eq!(english.format_with(1, &Options::default().minimum_integer_digits(32768)), Err(Error::OPTION));
+    assert_eq!(
+        english.format_with(1, &Options::default().rounded(Rounding::HalfEven, i16::MAX).increment(Increment::Ten)),
+        Err(Error::OPTION)
+    );
     assert_eq!(["25", "2500"].map(|it| it.parse::<Increment>().unwrap()), [Increment::TwentyFive, Increment::TwoThousandFiveHundred]);
     let increments = [1, 2, 5, 10, 20, 25, 50, 100, 200, 250, 500, 1000, 2000, 2500, 5000];
     assert_eq!(increments.map(|it: i32| it.to_string().parse::<Increment>().unwrap() as i32), increments);
@@ -226,7 +258,7 @@ fn significant_digits() {
     let all = none.rounded(Rounding::HalfEven, -3).trailing_zeros(TrailingZeros::TrimAll).minimum_fraction_digits(2);
     for (number, options, text) in [
         (12345.0, most, "12,300"),
-        (-0.012345, most, "-0.0123"),
+        (-0.012_345, most, "-0.0123"),
         (5.0, least, "5.00"),
         (0.0, least, "0.00"),
         (12345.678, least, "12,345.678"),
@@ -242,7 +274,7 @@ fn significant_digits() {
         (1.9996, all, "2"),
         (1.5, all, "1.50"),
     ] {
-        assert_eq!(english.format(number, &options).unwrap(), text, "{number} {options:?}");
+        assert_eq!(english.format_with(number, &options).unwrap(), text, "{number} {options:?}");
     }
     for wrong in [
         most.minimum_significant_digits(4),
@@ -252,7 +284,7 @@ fn significant_digits() {
         most.rounding_priority(RoundingPriority::MorePrecision),
         none.rounded(Rounding::Floor, 0).rounding_priority(RoundingPriority::LessPrecision),
     ] {
-        assert_eq!(english.format(1, &wrong), Err(Error::OPTION), "{wrong:?}");
+        assert_eq!(english.format_with(1, &wrong), Err(Error::OPTION), "{wrong:?}");
     }
     assert_eq!(["more", "less", "auto"].map(|it| it.parse::<RoundingPriority>().unwrap().to_string()), ["more", "less", "auto"]);
     assert_eq!((TrailingZeros::TrimAll.to_string(), "on-aligned".parse()), ("trim-all".to_string(), Ok(Grouping::OnAligned)));
@@ -262,17 +294,17 @@ fn significant_digits() {
 fn compact_numbers() {
     let (short, nines) = (compact(Width::Short), "9".repeat(32768));
     for (number, text, value) in [("-1172700", "-1.2M", "-1.2c6"), ("950", "950", "950"), ("12345678901", "12,346M", "12346c6")] {
-        assert_eq!(short.format(number, &Options::default()).unwrap(), text);
+        assert_eq!(short.format(number).unwrap(), text);
         assert_eq!(short.shown(number, &Options::default()).unwrap(), value);
         assert_eq!(short.format_exact(value, &Options::default()).unwrap(), text);
     }
     assert_eq!(compact(Width::Long).format_i64(165, 1, &Options::default()).unwrap(), "1.6 thousand");
     let rounded = Options::default().sign(Sign::Always).rounded(Rounding::Trunc, 6);
-    assert_eq!(short.format("1250000", &rounded).unwrap(), "+1M");
+    assert_eq!(short.format_with("1250000", &rounded).unwrap(), "+1M");
     assert_eq!(short.format_parts("-1650", &Options::default()).unwrap(), ("-1.6K".to_string(), vec![(Kind::MinusSign, 0..1)]));
-    assert_eq!(short.format("5.", &Options::default()), Err(Error::NUMBER));
+    assert_eq!(short.format("5."), Err(Error::NUMBER));
     assert_eq!(short.format_i64(10, i16::MAX, &Options::default()), Err(Error::LIMIT));
-    assert_eq!(short.format(&nines, &Options::default()), Err(Error::RANGE));
+    assert_eq!(short.format(&nines), Err(Error::RANGE));
     assert_eq!(short.shown(&nines, &Options::default()), Err(Error::RANGE));
     assert_eq!(short.format_parts(&nines, &Options::default()), Err(Error::RANGE));
     for (number, error) in [("1.2e6", Error::NUMBER), ("1c256", Error::LIMIT), ("1.2c5", Error::EXPONENT)] {
@@ -333,8 +365,8 @@ fn kept() {
     let short = CompactDecimalFormatter::from_book(&book, "en", Width::Short, Grouping::Min2).unwrap();
     assert_eq!(book.answer(b"en\tplain\tauto\tkeep\t-\t1234").unwrap(), "ok\t1,234");
     drop(book);
-    assert_eq!(english.format("-987654.321", &Options::default()).unwrap(), "-987,654.321");
-    assert_eq!(short.format("-1172700", &Options::default()).unwrap(), "-1.2M");
+    assert_eq!(english.format("-987654.321").unwrap(), "-987,654.321");
+    assert_eq!(short.format("-1172700").unwrap(), "-1.2M");
 }
 
 #[test]
@@ -343,35 +375,33 @@ fn threads() {
     let workers: Vec<_> = (0..4)
         .map(|_| {
             let formatter = DecimalFormatter::from_book(&book, "en", Grouping::Auto).unwrap();
-            thread::spawn(move || (0..1000).all(|_| formatter.format("1234", &Options::default()).unwrap() == "1,234"))
+            thread::spawn(move || (0..1000).all(|_| formatter.format("1234").unwrap() == "1,234"))
         })
         .collect();
     let short = CompactDecimalFormatter::from_book(&book, "en", Width::Short, Grouping::Min2).unwrap();
     thread::spawn(move || drop(book)).join().unwrap();
-    assert!(thread::spawn(move || short.format("1650", &Options::default()).unwrap() == "1.6K").join().unwrap());
+    assert!(thread::spawn(move || short.format("1650").unwrap() == "1.6K").join().unwrap());
     assert!(workers.into_iter().all(|it| it.join().unwrap()));
 }
 
 #[test]
 fn world() {
-    let workers: Vec<_> = (0..8)
-        .map(|_| thread::spawn(|| DecimalFormatter::new("de").unwrap().format("1234567.891", &Options::default()).unwrap()))
-        .collect();
+    let workers: Vec<_> = (0..8).map(|_| thread::spawn(|| DecimalFormatter::new("de").unwrap().format("1234567.891").unwrap())).collect();
     assert!(workers.into_iter().all(|it| it.join().unwrap() == "1.234.567,891"));
     let book = Book::world().unwrap();
     for (tag, text) in [("hi", "12,34,567.891"), ("ar-EG", "١٬٢٣٤٬٥٦٧٫٨٩١"), ("de-AT", "1\u{a0}234\u{a0}567,891")] {
-        assert_eq!(DecimalFormatter::new(tag).unwrap().format("1234567.891", &Options::default()).unwrap(), text);
+        assert_eq!(DecimalFormatter::new(tag).unwrap().format("1234567.891").unwrap(), text);
         let own = DecimalFormatter::from_book(&book, tag, Grouping::Auto).unwrap();
-        assert_eq!(own.format_i64(1234567891, -3, &Options::default()).unwrap(), text);
+        assert_eq!(own.format_i64(1_234_567_891, -3, &Options::default()).unwrap(), text);
     }
     let never = DecimalFormatter::with_grouping("de", Grouping::Never).unwrap();
-    assert_eq!(never.format("1234", &Options::default()).unwrap(), "1234");
+    assert_eq!(never.format("1234").unwrap(), "1234");
     let aligned = DecimalFormatter::with_grouping("es", Grouping::OnAligned).unwrap();
-    assert_eq!(aligned.format("1234", &Options::default()).unwrap(), "1.234");
+    assert_eq!(aligned.format("1234").unwrap(), "1.234");
     let long = CompactDecimalFormatter::new("hi", Width::Long).unwrap();
-    assert_eq!(long.format("1234567", &Options::default()).unwrap(), "12 लाख");
+    assert_eq!(long.format("1234567").unwrap(), "12 लाख");
     let never = CompactDecimalFormatter::with_grouping("en", Width::Short, Grouping::Never).unwrap();
-    assert_eq!(never.format("12345678901234567", &Options::default()).unwrap(), "12346T");
+    assert_eq!(never.format("12345678901234567").unwrap(), "12346T");
     assert_eq!(DecimalFormatter::new("de_DE").err(), Some(Error::TAG));
     assert_eq!(CompactDecimalFormatter::new("xx", Width::Short).err(), Some(Error::TABLE));
     let locales: Vec<_> = legumeyet::world_locales().collect();
@@ -388,7 +418,7 @@ extern "C" {
 /// A child of a process with threads opens a book of its own.
 #[test]
 fn forks() {
-    let text = |tag| DecimalFormatter::new(tag).and_then(|it| it.format("1234567.891", &Options::default()));
+    let text = |tag| DecimalFormatter::new(tag).and_then(|it| it.format("1234567.891"));
     assert_eq!(text("de"), Ok("1.234.567,891".to_string()));
     // SAFETY: the child ends by `_exit`, and the pointer is to memory of this function.
     let status = unsafe {
@@ -448,11 +478,11 @@ fn amounts() {
         formatter.write_to(&mut written, number, &as_given).unwrap();
         assert_eq!(written, text);
         assert_eq!(formatter.format_parts(number, &as_given).unwrap().0, text);
-        assert_eq!(formatter.format(formatter.read(text).unwrap(), &as_given).unwrap(), text);
+        assert_eq!(formatter.format(formatter.read(text).unwrap()).unwrap(), text);
     }
     let dollars = CurrencyFormatter::with_options("en", "USD", &CurrencyOptions::default().style(CurrencyStyle::Accounting)).unwrap();
-    assert_eq!(dollars.format(-5, &as_given).unwrap(), "($5.00)");
-    assert_eq!(dollars.format(u64::MAX, &as_given.sign(Sign::Always)).unwrap(), "+$18,446,744,073,709,551,615.00");
+    assert_eq!(dollars.format(-5).unwrap(), "($5.00)");
+    assert_eq!(dollars.format_with(u64::MAX, &as_given.sign(Sign::Always)).unwrap(), "+$18,446,744,073,709,551,615.00");
     assert_eq!(dollars.format_i64(-500, -2, &as_given).unwrap(), "($5.00)");
     assert_eq!(dollars.read("($1,234.5)").unwrap(), "-1234.5");
     assert_eq!(
@@ -467,7 +497,7 @@ fn amounts() {
         ]
     );
     let codes = CurrencyOptions::default().width(CurrencyWidth::Code).grouping(Grouping::Never);
-    assert_eq!(CurrencyFormatter::with_options("en", "USD", &codes).unwrap().format(1234, &as_given).unwrap(), "USD\u{a0}1234.00");
+    assert_eq!(CurrencyFormatter::with_options("en", "USD", &codes).unwrap().format(1234).unwrap(), "USD\u{a0}1234.00");
 }
 
 #[test]
@@ -479,14 +509,14 @@ fn roundings_of_amounts() {
         (as_given.rounding(Rounding::None), "CHF\u{a0}2.345"),
         (as_given.rounded(Rounding::Floor, -1), "CHF\u{a0}2.3"),
     ] {
-        assert_eq!(francs.format(2.345, &options).unwrap(), text);
+        assert_eq!(francs.format_with(2.345, &options).unwrap(), text);
     }
     let percents = PercentFormatter::new("en").unwrap();
     for rounding in [Rounding::Cash, Rounding::None] {
         let options = as_given.rounding(rounding);
-        assert_eq!(percents.format("1.25", &options).unwrap(), "1.25%");
-        assert_eq!(english().format("1.25", &options).unwrap(), "1.25");
-        assert_eq!(compact(Width::Short).format(1250, &options).unwrap(), "1.2K");
+        assert_eq!(percents.format_with("1.25", &options).unwrap(), "1.25%");
+        assert_eq!(english().format_with("1.25", &options).unwrap(), "1.25");
+        assert_eq!(compact(Width::Short).format_with(1250, &options).unwrap(), "1.2K");
     }
 }
 
@@ -495,12 +525,12 @@ fn percents() {
     let as_given = Options::default();
     for (tag, number, text) in [("de", "12.5", "12,5\u{a0}%"), ("tr", "-12.50", "-%12,50"), ("en", "1234", "1,234%")] {
         let formatter = PercentFormatter::new(tag).unwrap();
-        assert_eq!(formatter.format(number, &as_given).unwrap(), text);
+        assert_eq!(formatter.format(number).unwrap(), text);
         assert_eq!(formatter.read(text).unwrap(), number);
     }
     let turkish: PercentFormatter = "tr".parse().unwrap();
     assert_eq!(turkish.format_parts(5, &as_given).unwrap().1, [(Kind::PercentSign, 0..1), (Kind::Integer, 1..2)]);
-    assert_eq!(PercentFormatter::with_grouping("en", Grouping::Never).unwrap().format(1234.5, &as_given).unwrap(), "1234.5%");
+    assert_eq!(PercentFormatter::with_grouping("en", Grouping::Never).unwrap().format(1234.5).unwrap(), "1234.5%");
     assert_eq!("e".parse::<PercentFormatter>().err(), Some(Error::TAG));
 }
 
@@ -515,9 +545,9 @@ fn units_that_are_refused() {
     let euros = CurrencyFormatter::from_book(&loose, "de", "EUR", &options).unwrap();
     let turkish = PercentFormatter::from_book(&loose, "tr", Grouping::Auto).unwrap();
     drop(loose);
-    assert_eq!(euros.format(1234.5, &Options::default()).unwrap(), "1.234,50\u{a0}€");
+    assert_eq!(euros.format(1234.5).unwrap(), "1.234,50\u{a0}€");
     assert_eq!(euros.read_lenient("EUR 1234,5").unwrap(), "1234.5");
-    assert_eq!(thread::spawn(move || turkish.format(12.5, &Options::default())).join().unwrap().unwrap(), "%12,5");
+    assert_eq!(thread::spawn(move || turkish.format(12.5)).join().unwrap().unwrap(), "%12,5");
     assert_eq!(PercentFormatter::from_book(&kept, "en", Grouping::Auto).err(), Some(Error::TABLE));
     assert_eq!(CurrencyFormatter::from_book(&kept, "en", "EUR", &options).err(), Some(Error::TABLE));
     for code in ["eur", "EURO", "EU", "", "EÜ", "A1B", "\0\0\0"] {
@@ -528,13 +558,13 @@ fn units_that_are_refused() {
     for text in ["5.00", "$5.00", "€5,00", ""] {
         assert_eq!(euros.read(text), Err(Error::NOT_WRITTEN), "{text}");
     }
-    assert_eq!(euros.format(f64::NAN, &as_given), Err(Error::NUMBER));
+    assert_eq!(euros.format(f64::NAN), Err(Error::NUMBER));
     assert_eq!(euros.format_parts("5.", &as_given).err(), Some(Error::NUMBER));
     assert_eq!(euros.format_i64(10, i16::MAX, &as_given), Err(Error::LIMIT));
     let mut short = Short(String::new(), 4);
     assert_eq!(euros.write_to(&mut short, 5, &as_given), Err(WriteError::Write(fmt::Error)));
     drop(kept);
-    assert_eq!(thread::spawn(move || euros.format(5, &as_given)).join().unwrap().unwrap(), "€5.00");
+    assert_eq!(thread::spawn(move || euros.format(5)).join().unwrap().unwrap(), "€5.00");
 }
 
 #[test]

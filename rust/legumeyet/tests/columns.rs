@@ -14,7 +14,7 @@ fn numbers() {
     assert_eq!(column.iter().collect::<Vec<_>>(), ["1,234.5", "-7", "-0", "0.1"]);
     assert_eq!((column.len(), &column[1], column.get(4), column.as_str()), (4, "-7", None, "1,234.5-7-00.1"));
     assert_eq!(column.iter().len(), 4);
-    let of_cents = english.format_integers(&[123456, 5, i64::MIN], -2, &AS_GIVEN()).unwrap();
+    let of_cents = english.format_integers(&[123_456, 5, i64::MIN], -2, &AS_GIVEN()).unwrap();
     assert_eq!(of_cents.iter().collect::<Vec<_>>(), ["1,234.56", "0.05", "-92,233,720,368,547,758.08"]);
     let all = english.format_all(["1e3", "-0.50"], &AS_GIVEN()).unwrap();
     assert_eq!(all.into_iter().collect::<Vec<_>>(), ["1,000", "-0.50"]);
@@ -36,11 +36,11 @@ fn empty_and_long() {
     assert_eq!(english.format_doubles(&[f64::MAX; 500], &AS_GIVEN()).unwrap().as_str().len(), 500 * 411);
     let long = "1".repeat(30_000);
     let column = english.format_all(vec![long.as_str(); 20], &AS_GIVEN()).unwrap();
-    let one = english.format(&long, &AS_GIVEN()).unwrap();
+    let one = english.format_with(&long, &AS_GIVEN()).unwrap();
     assert!(column.len() == 20 && column.iter().all(|text| text == one));
     let many: Vec<f64> = (0..10_000).map(|it| f64::from(it) * 1234.5 - 5e6).collect();
     let column = english.format_doubles(&many, &AS_GIVEN()).unwrap();
-    assert!(column.iter().zip(&many).all(|(text, number)| text == english.format(*number, &AS_GIVEN()).unwrap()));
+    assert!(column.iter().zip(&many).all(|(text, number)| text == english.format_with(*number, &AS_GIVEN()).unwrap()));
 }
 
 #[test]
@@ -64,13 +64,13 @@ fn refused() {
 #[test]
 fn other_formatters() {
     let compact = CompactDecimalFormatter::new("en", Width::Short).unwrap();
-    assert_eq!(compact.format_doubles(&[-1172700.0, 950.0], &AS_GIVEN()).unwrap().as_str(), "-1.2M950");
+    assert_eq!(compact.format_doubles(&[-1_172_700.0, 950.0], &AS_GIVEN()).unwrap().as_str(), "-1.2M950");
     assert_eq!(compact.share().format_integers(&[11727], 2, &AS_GIVEN()).unwrap().as_str(), "1.2M");
     let percents = PercentFormatter::new("tr").unwrap();
     assert_eq!(percents.format_doubles(&[12.5], &AS_GIVEN()).unwrap().as_str(), "%12,5");
     assert_eq!(percents.share().format_all(["5"], &AS_GIVEN()).unwrap().as_str(), "%5");
     let euros = CurrencyFormatter::new("en", "EUR").unwrap();
-    assert_eq!(euros.format_integers(&[-123450], -2, &AS_GIVEN()).unwrap().as_str(), "-€1,234.50");
+    assert_eq!(euros.format_integers(&[-123_450], -2, &AS_GIVEN()).unwrap().as_str(), "-€1,234.50");
     let shared = euros.share();
     let texts = thread::scope(|scope| {
         let write = |at: i64| shared.format_integers(&vec![at; 5000], 0, &AS_GIVEN()).unwrap();

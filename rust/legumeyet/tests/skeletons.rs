@@ -199,23 +199,23 @@ fn own_options_and_given_ones() {
 
 #[test]
 fn formats() {
-    let (book, as_given) = (Book::world().unwrap(), Options::default());
+    let book = Book::world().unwrap();
     let new = |format: &Format<'_>| NumberFormatter::new(&book, "en", format).unwrap();
-    let codes = CurrencyOptions::default().style(CurrencyStyle::Accounting).width(CurrencyWidth::Code).grouping(Grouping::Never);
+    let by_code = CurrencyOptions::default().style(CurrencyStyle::Accounting).width(CurrencyWidth::Code).grouping(Grouping::Never);
     let in_accounts = Format::currency("USD").currency_style(CurrencyStyle::Accounting).currency_width(CurrencyWidth::Code);
     let euros = CurrencyFormatter::new("en", "EUR").unwrap();
     for number in ["-1234.5", "0", "12345678901234567", "+5.00", "0.001"] {
         let plain = DecimalFormatter::new("en").unwrap();
-        assert_eq!(new(&Format::default()).format(number), plain.format(number, &as_given));
+        assert_eq!(new(&Format::default()).format(number), plain.format(number));
         let long = CompactDecimalFormatter::new("en", Width::Long).unwrap();
-        assert_eq!(new(&Format::compact(Width::Long)).format(number), long.format(number, None));
+        assert_eq!(new(&Format::compact(Width::Long)).format(number), long.format(number));
         let auto = CompactDecimalFormatter::with_grouping("en", Width::Short, Grouping::Auto).unwrap();
-        assert_eq!(new(&Format::compact(Width::Short).grouping(Grouping::Auto)).format(number), auto.format(number, None));
+        assert_eq!(new(&Format::compact(Width::Short).grouping(Grouping::Auto)).format(number), auto.format(number));
         let percents = PercentFormatter::with_grouping("en", Grouping::Min2).unwrap();
-        assert_eq!(new(&Format::percent().grouping(Grouping::Min2)).format(number), percents.format(number, None));
-        assert_eq!(new(&Format::currency("EUR")).format(number), euros.format(number, None));
-        let coded = CurrencyFormatter::with_options("en", "USD", &codes).unwrap();
-        assert_eq!(new(&in_accounts.grouping(Grouping::Never)).format(number), coded.format(number, None));
+        assert_eq!(new(&Format::percent().grouping(Grouping::Min2)).format(number), percents.format(number));
+        assert_eq!(new(&Format::currency("EUR")).format(number), euros.format(number));
+        let coded = CurrencyFormatter::with_options("en", "USD", &by_code).unwrap();
+        assert_eq!(new(&in_accounts.grouping(Grouping::Never)).format(number), coded.format(number));
     }
     assert_eq!(Format::compact(Width::Short).notation, Notation::Compact(Width::Short));
     assert_eq!(Format::currency("EUR").unit, Unit::Currency("EUR"));
@@ -266,7 +266,14 @@ fn scientific_numbers() {
     assert_eq!(powers.format_doubles(&[1.5e20, -0.25], None).unwrap().as_str(), "1.5E20-2.5E-1");
     assert_eq!(powers.format_exact("1.2c6", None), Err(Error::EXPONENT));
     assert_eq!(powers.format_exact("1.2e6", None), Err(Error::NUMBER));
-    assert_eq!((powers.read("1.2E6"), powers.read_lenient("1.2E6")), (Err(Error::UNREADABLE), Err(Error::UNREADABLE)));
+    for (text, number) in [("1.2345E6", "1234500"), ("-1.20E-3", "-0.00120"), ("0E0", "0")] {
+        assert_eq!(powers.read(text).as_deref(), Ok(number));
+    }
+    assert_eq!(of("en", "engineering/*ee").read("120E-06").as_deref(), Ok("0.000120"));
+    for text in ["12.3E4", "1.2e6", " 1.2E6", "1E99999"] {
+        assert_eq!(powers.read(text), Err(Error::NOT_WRITTEN));
+    }
+    assert_eq!(powers.read_lenient("1.2E6"), Err(Error::UNREADABLE));
     assert_eq!(powers.format(format!("1{0}.{0}1", "0".repeat(30000)).as_str()), Err(Error::RANGE));
     assert_eq!(powers.share().format(1200).as_deref(), Ok("1.2E3"));
 }
