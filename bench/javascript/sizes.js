@@ -1,7 +1,7 @@
 // Prints the bytes of each file that a page loads: as it is, by gzip -9, and by brotli -11. `small` is the module of a page of English and German, with
 // their book inside, and `two` that book by itself; `classes` and `field` are the modules as they are, each by itself. Where esbuild is on the PATH,
 // `bundle` is one file of the classes, `page` the module of the page with one file of its classes, and `all` the module of all calls, that book and
-// `bundle`, all without NumberFormat; `intl` is `bundle` with it.
+// `bundle`, all without NumberFormat; `intl` is one file of what is in Intl's place alone, with what loads the library.
 // usage: node sizes.js PACKAGE
 import { spawnSync } from "node:child_process";
 import { readFileSync } from "node:fs";
@@ -29,15 +29,17 @@ const small = Buffer.from(pageModule(read("page.wasm"), String(read("world.json"
 const rows = { module: [module], small: [small], world: [read("world.json")], two: [two], classes: classes.map(read), field: fields.map(read) };
 const OF_INTL = "NumberFormat";
 
-// One file of what a module exports, or of all but what is of Intl.
-async function bundleOf(name, isWhole = false) {
-  const names = Object.keys(await import(new URL(name, pathToFileURL(`${folder}/`)))).filter((it) => isWhole || it !== OF_INTL);
-  return spawnSync("esbuild", ["--bundle", "--minify", "--format=esm"], { input: `export { ${names} } from "./${name}";`, cwd: folder, maxBuffer: 1e8 });
+const bundle = (input) => spawnSync("esbuild", ["--bundle", "--minify", "--format=esm"], { input, cwd: folder, maxBuffer: 1e8 });
+
+// One file of what a module exports, but for what is of Intl.
+async function bundleOf(name) {
+  const names = Object.keys(await import(new URL(name, pathToFileURL(`${folder}/`)))).filter((it) => it !== OF_INTL);
+  return bundle(`export { ${names} } from "./${name}";`);
 }
 
 const bundled = await bundleOf("core.js");
 if (bundled.status === 0) {
-  const [ofPage, ofIntl] = await Promise.all([bundleOf("page.js"), bundleOf("core.js", true)]);
+  const [ofPage, ofIntl] = [await bundleOf("page.js"), bundle('export { load, setWorld } from "./core.js"; export * from "./intl-core.js";')];
   Object.assign(rows, { bundle: [bundled.stdout], page: [small, ofPage.stdout], all: [module, two, bundled.stdout], intl: [ofIntl.stdout] });
 }
 for (const [name, files] of Object.entries(rows)) {

@@ -20,57 +20,52 @@ impl Table for Calls {
     }
 }
 
+// The answer of a row: a call, rules, and what else the call is passed.
 fn answer(fields: &[&str], out: &mut String) -> Result<(), Stop> {
-    match fields {
-        [call, rules, number, exponent] if *call == "category" => {
-            category(rules, number, exponent, out)
-        }
-        [call, rules, i, f, v] if *call == "digits" => digits(rules, i, f, v, out),
-        [call, rules] if *call == "categories" => categories(rules, out),
-        [call, rules, ranges, start, end] if *call == "range" => {
-            range(rules, ranges, start, end, out)
-        }
+    let [call, rules, passed @ ..] = fields else {
+        return Err(Stop::Unknown);
+    };
+    let rules = rules_of(rules, out)?;
+    let answered = answer_by(call, &rules, passed, out);
+    drop(rules);
+    answered
+}
+
+// The answer of a call of these rules.
+fn answer_by(
+    call: &str,
+    rules: &PluralRules,
+    passed: &[&str],
+    out: &mut String,
+) -> Result<(), Stop> {
+    match call {
+        "category" => put_category(rules, passed, out),
+        "digits" => put_by_digits(rules, passed, out),
+        "categories" => put_categories(rules, out),
+        "range" => put_range_of(rules, passed, out),
         _ => Err(Stop::Unknown),
     }
 }
 
-fn put_category(
-    rules: &PluralRules,
-    number: &str,
-    exponent: &str,
-    out: &mut String,
-) -> Result<(), Stop> {
+// Writes the category of a number with an exponent.
+fn put_category(rules: &PluralRules, passed: &[&str], out: &mut String) -> Result<(), Stop> {
+    let [number, exponent] = passed else {
+        return Err(Stop::Unknown);
+    };
     let operands = operands_of(*out.allocator(), number, exponent)?;
     put_text(out, rules.category_for(&operands).as_str())
 }
 
-// The category of a number with an exponent.
-fn category(rules: &str, number: &str, exponent: &str, out: &mut String) -> Result<(), Stop> {
-    let rules = rules_of(rules, out)?;
-    let put = put_category(&rules, number, exponent, out);
-    drop(rules);
-    put
-}
-
-fn put_by_digits(
-    rules: &PluralRules,
-    i: &str,
-    f: &str,
-    v: &str,
-    out: &mut String,
-) -> Result<(), Stop> {
+// Writes the category of a number by its digits.
+fn put_by_digits(rules: &PluralRules, passed: &[&str], out: &mut String) -> Result<(), Stop> {
+    let [i, f, v] = passed else {
+        return Err(Stop::Unknown);
+    };
     let operands = operands_by(i, f, v)?;
     put_text(out, rules.category_for(&operands).as_str())
 }
 
-// The category of a number by its digits.
-fn digits(rules: &str, i: &str, f: &str, v: &str, out: &mut String) -> Result<(), Stop> {
-    let rules = rules_of(rules, out)?;
-    let put = put_by_digits(&rules, i, f, v, out);
-    drop(rules);
-    put
-}
-
+// Writes the categories that numbers may have.
 fn put_categories(rules: &PluralRules, out: &mut String) -> Result<(), Stop> {
     for category in rules.categories() {
         put_after(out, " ", category.as_str())?;
@@ -78,14 +73,7 @@ fn put_categories(rules: &PluralRules, out: &mut String) -> Result<(), Stop> {
     Ok(())
 }
 
-// The categories that numbers may have.
-fn categories(rules: &str, out: &mut String) -> Result<(), Stop> {
-    let rules = rules_of(rules, out)?;
-    let put = put_categories(&rules, out);
-    drop(rules);
-    put
-}
-
+// Writes the category of a range of two numbers.
 fn put_range(
     rules: &PluralRules,
     ranges: &[PluralRange],
@@ -100,23 +88,13 @@ fn put_range(
     put_text(out, rules.category_for_range(&start, &end).as_str())
 }
 
-fn put_range_of(
-    rules: &PluralRules,
-    ranges: &str,
-    start: &str,
-    end: &str,
-    out: &mut String,
-) -> Result<(), Stop> {
+// The same, of ranges that a field says.
+fn put_range_of(rules: &PluralRules, passed: &[&str], out: &mut String) -> Result<(), Stop> {
+    let [ranges, start, end] = passed else {
+        return Err(Stop::Unknown);
+    };
     let ranges = ranges_of(*out.allocator(), ranges)?;
     let put = put_range(rules, ranges.as_slice(), start, end, out);
     drop(ranges);
-    put
-}
-
-// The category of a range of two numbers.
-fn range(rules: &str, ranges: &str, start: &str, end: &str, out: &mut String) -> Result<(), Stop> {
-    let rules = rules_of(rules, out)?;
-    let put = put_range_of(&rules, ranges, start, end, out);
-    drop(rules);
     put
 }
